@@ -9,6 +9,7 @@ mod kind;
 mod laws;
 mod limits;
 mod members;
+mod pair;
 mod past;
 mod primary;
 mod proc_set;
@@ -24,6 +25,7 @@ pub use laws::{
 };
 pub use limits::{FRAME_BYTES, MAX, MAX_NEW, MOST_PROCESSORS, WINDOW};
 pub use members::Members;
+pub use pair::paired;
 pub use past::{Past, past_of, seen, told, told_both};
 pub use primary::is_primary_below;
 pub use proc_set::ProcSet;

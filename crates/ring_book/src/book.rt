@@ -110,7 +110,9 @@ impl<O: Object, K: BookName<O::Alloc>> Book<O, K> {
         ensures numbered { (i : ℕ) (l : LineView O.Alloc) → slice_get self.now.lines i ≡ Some l → l.number ≡ i }
         ensures few { K.name.group.count ≤ 16 }
     {
+        // A law: no effect at run time. The proof takes from it that such lines are a run of the group.
         lines_law::<O>();
+        // No effect at run time. The proof sees what `Book` promises of itself only where the body reads a field.
         let _lines = &self.lines;
     }
 
@@ -121,7 +123,9 @@ impl<O: Object, K: BookName<O::Alloc>> Book<O, K> {
         ensures node { cell.now.journal ≡ steps_of cell.now.me self.now.lines →
             cell.now.node ≡ (run O.sequential (world_opening K.name.group) (events_of self.now.lines)).nodes cell.now.me }
     {
+        // A law: no effect at run time. The proof takes from it that such lines are a run of the group.
         lines_law::<O>();
+        // No effect at run time. The proof sees what the book and the cell promise of themselves only where the body reads fields.
         let _lines = &self.lines;
         let _me = cell.me;
     }
@@ -211,6 +215,7 @@ impl<O: Object, K: BookName<O::Alloc>> Book<O, K> {
         ensures ok { IfOk result (λ calls. calls.items ≡ order_in (run O.sequential (world_opening K.name.group) (events_of self.now.lines))) }
         ensures refused { IfErr result (λ fault. fault ≡ Memory) }
     {
+        // A law: no effect at run time. The proof takes from it that such lines are a run of the group.
         lines_law::<O>();
         order(
             *self.lines.allocator(),

@@ -1,6 +1,8 @@
 //! What a node's lock holds.
 
-ghost use Rattle.std.specs.Prelude.{◌≡◌, OnErr, MatchResult};
+ghost use Rattle.std.specs.Prelude.{◌≡◌, ◌+◌, ◌≤◌, length, OnErr, MatchResult};
+ghost use Rattle.std.specs.List.{AllByRecursion};
+ghost use Rattle.ring_book_lines.specs.Runs.{LineFits};
 ghost use Rattle.ring_book_lines.specs.declared.input.LineInput.TheVariants.{Called, Came};
 ghost use Rattle.ring_rules.specs.NodeLimits.{InputFits};
 ghost use Rattle.ring_payload.specs.Calls.{CallFits};
@@ -20,6 +22,7 @@ use ring_rules::Input;
 use ring_session::Ticket;
 use ring_wire::Frame;
 use rtrb::Producer;
+use std::alloc::Allocator;
 use std::marker::{Model, PhantomData};
 
 /// A node, and the sending end of its journal, which has room for one step.
@@ -78,26 +81,19 @@ impl<O: Object, K: BookName<O::Alloc>> Cell<O, K> {
         if self.ahead {
             return Err(Fault::Stranger);
         }
+        // A law: no effect at run time. The proof takes from it that a node keeps the limits along a step, and what it sends keeps them.
         node_fits_law::<O>();
         let mut outs = Outs::new(self.alloc);
         match self.node.step_into(&input, &mut outs) {
             Ok(()) => {
-                let Outs {
-                    sends,
-                    answers,
-                    committed,
-                    dropped: _,
-                    restored: _,
-                } = outs;
-                let frames = Frames::new(self.alloc, sends, &mut self.text);
                 let places = self.node.committed_len() as usize;
-                self.journal.push_reserved(Step::came(
+                self.journal.push_reserved(step_of(
+                    self.alloc,
                     self.me,
                     LineInput::Came(input, at),
-                    frames,
-                    answers,
-                    committed,
+                    outs,
                     places,
+                    &mut self.text,
                 ));
                 self.ahead = true;
                 Ok(())
@@ -131,22 +127,21 @@ impl<O: Object, K: BookName<O::Alloc>> Cell<O, K> {
         if self.ahead {
             return Err(Fault::Stranger);
         }
+        // A law: no effect at run time. The proof takes from it that a node keeps the limits along a step, and what it sends keeps them.
         node_fits_law::<O>();
-        let heard = HeardFrame::new(frame, bytes);
         let mut outs = Outs::new(self.alloc);
         match self.node.hear_into(frame, &mut outs) {
             Ok(()) => {
-                let Outs {
-                    sends,
-                    answers,
-                    committed,
-                    dropped: _,
-                    restored: _,
-                } = outs;
-                let frames = Frames::new(self.alloc, sends, &mut self.text);
                 let places = self.node.committed_len() as usize;
-                self.journal.push_reserved(Step::heard(
-                    self.me, heard, at, frames, answers, committed, places,
+                let heard = HeardFrame::new(frame, bytes);
+                self.journal.push_reserved(step_on_frame(
+                    self.alloc,
+                    self.me,
+                    heard,
+                    at,
+                    outs,
+                    places,
+                    &mut self.text,
                 ));
                 self.ahead = true;
                 Ok(())
@@ -178,6 +173,7 @@ impl<O: Object, K: BookName<O::Alloc>> Cell<O, K> {
         if self.ahead {
             return Err(Fault::Stranger);
         }
+        // Laws: no effect at run time. The proof takes from them that the node keeps the limits, and the call those of snapshots.
         node_fits_law::<O>();
         call_keeps_law(&call);
         let ticket = self.node.submit_on(&call)?;
@@ -187,4 +183,71 @@ impl<O: Object, K: BookName<O::Alloc>> Cell<O, K> {
         self.ahead = true;
         Ok(ticket)
     }
+}
+
+/// The step of a node to which the input came, that gave these, and then has so many places committed. Its frames are spelled in
+/// `text`, which has room for every frame.
+fn step_of<A: Allocator + Copy + Drop>(
+    alloc: A,
+    me: Proc,
+    input: LineInput<A>,
+    outs: Outs<A>,
+    places: usize,
+    text: &mut BytesMut<A>,
+) -> Step<A>
+    requires input { LineFits input }
+    requires sends { AllByRecursion (λ s. FrameFits s.frame) outs.sends.items }
+    requires room { 8192 ≤ length text.old.items + text.old.spare }
+    ensures step { result ≡ record {
+      node = me;
+      input = input;
+      frames = outs.sends.items;
+      answers = outs.answers.items;
+      calls = outs.committed.items;
+      committed = places;
+    } }
+    ensures room { 8192 ≤ length text.new.items + text.new.spare }
+{
+    let Outs {
+        sends,
+        answers,
+        committed,
+        dropped: _,
+        restored: _,
+    } = outs;
+    let frames = Frames::new(alloc, sends, text);
+    Step::came(me, input, frames, answers, committed, places)
+}
+
+/// The same where a frame came that stands there in the book.
+fn step_on_frame<A: Allocator + Copy + Drop>(
+    alloc: A,
+    me: Proc,
+    frame: HeardFrame<A>,
+    at: FrameRef,
+    outs: Outs<A>,
+    places: usize,
+    text: &mut BytesMut<A>,
+) -> Step<A>
+    requires sends { AllByRecursion (λ s. FrameFits s.frame) outs.sends.items }
+    requires room { 8192 ≤ length text.old.items + text.old.spare }
+    ensures step { result ≡ record {
+      node = me;
+      input = Came (Comes frame) at;
+      frames = outs.sends.items;
+      answers = outs.answers.items;
+      calls = outs.committed.items;
+      committed = places;
+    } }
+    ensures room { 8192 ≤ length text.new.items + text.new.spare }
+{
+    let Outs {
+        sends,
+        answers,
+        committed,
+        dropped: _,
+        restored: _,
+    } = outs;
+    let frames = Frames::new(alloc, sends, text);
+    Step::heard(me, frame, at, frames, answers, committed, places)
 }

@@ -1,9 +1,10 @@
 //! How a book and its cells are made.
 
-ghost use Rattle.std.specs.Prelude.{◌≡◌, ◌≤◌, IfOk, IfErr};
+ghost use Rattle.std.specs.Prelude.{◌≡◌, ◌+◌, ◌-◌, ◌<◌, ◌≤◌, [], length, drop, IfOk, IfErr, OnOk};
+ghost use Rattle.std.specs.List.{AllByRecursion};
 ghost use Rattle.ring_base.specs.declared.fault.Fault.TheVariants.{Memory};
 ghost use Rattle.ring_book_lines.specs.Machines.{node_machine};
-ghost use Rattle.ring_book.specs.Openings.{new_book, new_cells};
+ghost use Rattle.ring_book.specs.Openings.{AllStart, AllStartEnds, new_book, new_cell, new_cells, rings_of};
 
 use crate::book::Book;
 use crate::cell::Cell;
@@ -15,6 +16,7 @@ use ring_book_lines::{Step, node_fits_law};
 use ring_node::Node;
 use ring_object::Object;
 use rtrb::{Consumer, Producer, RingBuffer};
+use std::alloc::Allocator;
 use std::collections::VecDeque;
 use std::marker::{Model, PhantomData};
 
@@ -52,14 +54,7 @@ impl<O: Object> Opening<O> {
         let mut nodes = VecDeque::new(alloc);
         let mut writers = VecDeque::new(alloc);
         let mut ends = Vec::new(alloc);
-        for i in 0..group.count() {
-            let proc = Proc::new(i + 1);
-            let (writer, end) = RingBuffer::new(alloc, 1)?;
-            let node = Node::new(alloc, group, proc)?;
-            nodes.push_back(node)?;
-            writers.push_back(writer)?;
-            ends.push(end)?;
-        }
+        open_all(alloc, group, &mut nodes, &mut writers, &mut ends)?;
         Ok(Opening {
             alloc,
             group,
@@ -78,38 +73,155 @@ impl<O: Object> Opening<O> {
         ensures ok { IfOk result (λ r. (r.0 ≡ new_book) × (r.1.items ≡ new_cells (node_machine O.sequential K.name.group) K.name.group.count)) }
         ensures refused { IfErr result (λ fault. fault ≡ Memory) }
     {
+        let text = BytesMut::with_capacity(self.alloc, FRAME_BYTES)?;
+        let told = no_answers(self.alloc, self.nodes.len())?;
         let Opening {
             alloc,
             group: _,
-            mut nodes,
-            mut writers,
+            nodes,
+            writers,
             ends,
         } = self;
-        let count = nodes.len();
-        let text = BytesMut::with_capacity(alloc, FRAME_BYTES)?;
-        let mut cells = Vec::new(alloc);
-        let mut told = Vec::new(alloc);
-        for i in 0..count {
-            let room = BytesMut::with_capacity(alloc, FRAME_BYTES)?;
-            let Some(node) = nodes.pop_front() else {
-                unreachable!()
-            };
-            let Some(journal) = writers.pop_front() else {
-                unreachable!()
-            };
-            node_fits_law::<O>();
-            let cell = Cell {
-                me: Proc::new(i as u8 + 1),
-                ahead: false,
-                node,
-                journal,
-                alloc,
-                text: room,
-                of: PhantomData,
-            };
-            cells.push(cell)?;
-            told.push(Told::new(alloc))?;
-        }
+        let cells = cells_of(alloc, nodes, writers)?;
         Ok((Book::new(alloc, ends, told, text), cells))
     }
+}
+
+/// Opens the nodes of the group and their journals, in lists that are empty, or answers `Memory`.
+fn open_all<O: Object>(
+    alloc: O::Alloc,
+    group: Fixed,
+    nodes: &mut VecDeque<Node<O>, O::Alloc>,
+    writers: &mut VecDeque<Producer<Step<O::Alloc>, O::Alloc>, O::Alloc>,
+    ends: &mut Vec<Consumer<Step<O::Alloc>, O::Alloc>, O::Alloc>,
+) -> Result<(), Fault>
+    requires nodes { nodes.old.items ≡ [] }
+    requires writers { writers.old.items ≡ [] }
+    requires ends { ends.old.items ≡ [] }
+    ensures start { OnOk result (AllStart (node_machine O.sequential group) 1 nodes.new.items writers.new.items) }
+    ensures ends { OnOk result (AllStartEnds writers.new.items ends.new.items) }
+    ensures count { OnOk result (length nodes.new.items ≡ group.count) }
+    ensures group { (1 ≤ group.count) × (group.count ≤ 16) }
+    ensures refused { IfErr result (λ fault. fault ≡ Memory) }
+{
+    for i in 0..group.count() {
+        open(alloc, group, Proc::new(i + 1), nodes, writers, ends)?;
+    }
+    Ok(())
+}
+
+/// Opens the next node and its journal, or answers `Memory`.
+fn open<O: Object>(
+    alloc: O::Alloc,
+    group: Fixed,
+    me: Proc,
+    nodes: &mut VecDeque<Node<O>, O::Alloc>,
+    writers: &mut VecDeque<Producer<Step<O::Alloc>, O::Alloc>, O::Alloc>,
+    ends: &mut Vec<Consumer<Step<O::Alloc>, O::Alloc>, O::Alloc>,
+) -> Result<(), Fault>
+    requires member { me ≤ group.count }
+    requires next { length nodes.old.items + 1 ≡ me }
+    requires start { AllStart (node_machine O.sequential group) 1 nodes.old.items writers.old.items }
+    requires ends { AllStartEnds writers.old.items ends.old.items }
+    ensures start { OnOk result (AllStart (node_machine O.sequential group) 1 nodes.new.items writers.new.items) }
+    ensures ends { OnOk result (AllStartEnds writers.new.items ends.new.items) }
+    ensures count { OnOk result (length nodes.new.items ≡ me) }
+    ensures refused { IfErr result (λ fault. fault ≡ Memory) }
+{
+    let node = Node::new(alloc, group, me)?;
+    nodes.push_back(node)?;
+    let (writer, end) = RingBuffer::new(alloc, 1)?;
+    writers.push_back(writer)?;
+    ends.push(end)?;
+    Ok(())
+}
+
+/// No answers yet, of so many nodes, or `Memory`.
+fn no_answers<A: Allocator + Copy + Drop>(alloc: A, count: usize) -> Result<Vec<Told<A>, A>, Fault>
+    ensures none { IfOk result (λ told. AllByRecursion (λ t. t.answers ≡ []) told.items) }
+    ensures count { IfOk result (λ told. length told.items ≡ count) }
+    ensures refused { IfErr result (λ fault. fault ≡ Memory) }
+{
+    let mut told = Vec::new(alloc);
+    for _ in 0..count {
+        told.push(Told::new(alloc))?;
+    }
+    Ok(told)
+}
+
+/// The cells of these nodes, which are the group's, with their journals, or `Memory`.
+fn cells_of<O: Object, K: BookName<O::Alloc>>(
+    alloc: O::Alloc,
+    mut nodes: VecDeque<Node<O>, O::Alloc>,
+    mut writers: VecDeque<Producer<Step<O::Alloc>, O::Alloc>, O::Alloc>,
+) -> Result<Vec<Cell<O, K>, O::Alloc>, Fault>
+    requires few { K.name.group.count ≤ 16 }
+    requires start { AllStart (node_machine O.sequential K.name.group) 1 nodes.items writers.items }
+    requires count { length nodes.items ≡ K.name.group.count }
+    requires rings { K.name.rings ≡ rings_of writers.items }
+    ensures ok { IfOk result (λ cells. cells.items ≡ new_cells (node_machine O.sequential K.name.group) K.name.group.count) }
+    ensures refused { IfErr result (λ fault. fault ≡ Memory) }
+{
+    let mut cells = Vec::new(alloc);
+    add_cells(alloc, &mut nodes, &mut writers, &mut cells)?;
+    Ok(cells)
+}
+
+/// Makes the cells of these nodes, which are the group's, with their journals, in a list that is empty, or answers `Memory`.
+fn add_cells<O: Object, K: BookName<O::Alloc>>(
+    alloc: O::Alloc,
+    nodes: &mut VecDeque<Node<O>, O::Alloc>,
+    writers: &mut VecDeque<Producer<Step<O::Alloc>, O::Alloc>, O::Alloc>,
+    cells: &mut Vec<Cell<O, K>, O::Alloc>,
+) -> Result<(), Fault>
+    requires few { K.name.group.count ≤ 16 }
+    requires start { AllStart (node_machine O.sequential K.name.group) 1 nodes.old.items writers.old.items }
+    requires count { length nodes.old.items ≡ K.name.group.count }
+    requires rings { K.name.rings ≡ rings_of writers.old.items }
+    requires empty { cells.old.items ≡ [] }
+    ensures ok { OnOk result (cells.new.items ≡ new_cells (node_machine O.sequential K.name.group) K.name.group.count) }
+    ensures refused { IfErr result (λ fault. fault ≡ Memory) }
+{
+    for i in 0..nodes.len() {
+        cells.push(next_cell(alloc, Proc::new(i as u8 + 1), nodes, writers)?)?;
+    }
+    Ok(())
+}
+
+/// The cell of the first of these nodes, which is this processor's, with the first journal, or `Memory`.
+fn next_cell<O: Object, K: BookName<O::Alloc>>(
+    alloc: O::Alloc,
+    me: Proc,
+    nodes: &mut VecDeque<Node<O>, O::Alloc>,
+    writers: &mut VecDeque<Producer<Step<O::Alloc>, O::Alloc>, O::Alloc>,
+) -> Result<Cell<O, K>, Fault>
+    requires member { (1 ≤ me) × (me ≤ K.name.group.count) }
+    requires few { K.name.group.count ≤ 16 }
+    requires some { 0 < length nodes.old.items }
+    requires start { AllStart (node_machine O.sequential K.name.group) me nodes.old.items writers.old.items }
+    requires rings { drop (me - 1) K.name.rings ≡ rings_of writers.old.items }
+    ensures cell { IfOk result (λ cell. cell ≡ new_cell (node_machine O.sequential K.name.group) me) }
+    ensures start { OnOk result (AllStart (node_machine O.sequential K.name.group) (me + 1) nodes.new.items writers.new.items) }
+    ensures rings { OnOk result (drop me K.name.rings ≡ rings_of writers.new.items) }
+    ensures count { OnOk result (length nodes.old.items ≡ length nodes.new.items + 1) }
+    ensures refused { IfErr result (λ fault. fault ≡ Memory) }
+{
+    let text = BytesMut::with_capacity(alloc, FRAME_BYTES)?;
+    let Some(node) = nodes.pop_front() else {
+        unreachable!()
+    };
+    let Some(journal) = writers.pop_front() else {
+        unreachable!()
+    };
+    // A law: no effect at run time. The proof takes from it that a node keeps the limits at its opening.
+    node_fits_law::<O>();
+    Ok(Cell {
+        me,
+        ahead: false,
+        node,
+        journal,
+        alloc,
+        text,
+        of: PhantomData,
+    })
 }

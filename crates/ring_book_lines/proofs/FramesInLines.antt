@@ -1,8 +1,11 @@
 -- Frames that stand in the lines, and where they stand among all frames.
 use Rattle.std.proofs.Common.{◌≡◌, ℕ, zero, suc, ◌+◌, ◌++◌, ◌≤◌, ◌∙◌, Bool, true, false, List, []}
 use Rattle.std.proofs.Common.{◌∷◌, Option, None, Some, length, take, slice_get, refl, ap, subst, sym, arith, length-append}
-use Rattle.std.specs.Prelude.{if◌then◌else◌, IsTrue, ◌↔◌}
+use Rattle.std.specs.Prelude.{if◌then◌else◌, IsTrue, ◌↔◌, IfSome, IsSomeAnd}
+use Rattle.std.specs.List.{AllByRecursion}
 use Rattle.std.specs.Option.{option_and_then}
+use Rattle.ring_base.proofs.Each.{each-get}
+use Rattle.ring_order_proof.specs.Limits.{SentFits}
 use Rattle.ring_base.specs.Processors.{has}
 use Rattle.ring_base.proofs.ListPlaces.{get-left}
 use Rattle.ring_core.specs.State.{Sent, Carried, frame_at}
@@ -103,3 +106,25 @@ pub same_frame : {A : Type 0} (f g : Frame A) (bytes text : List ℕ) (b : Bool)
     → IsTrue b ↔ (bytes ≡ text) → IsTrue b ↔ (f ≡ g)
 same_frame f g bytes text b h k first second same =
     ((λ t. one_frame f g h k (sym first ∙ (same.0 t ∙ second))), (λ e. same.1 (first ∙ (ap spelling_of e ∙ sym second))))
+
+-- a frame that stands there keeps the limits, where all do
+fits_if : {A : Type 0} (b : Bool) (s : Sent A) → SentFits s → IfSome (if b then Some s.frame else None) FrameFits
+fits_if true s h = h
+fits_if false s h = tt
+
+fits_for : {A : Type 0} (node : ℕ) (o : Option (Sent A)) → ((s : Sent A) → o ≡ Some s → SentFits s) → IfSome (option_and_then (frame_for node) o) FrameFits
+fits_for node None h = tt
+fits_for node (Some s) h = fits_if (has s.to node) s (h s refl)
+
+pub fits_there : {A : Type 0} (sends : List (Sent A)) (place node : ℕ) → AllByRecursion SentFits sends
+    → IfSome (option_and_then (frame_for node) (slice_get sends place)) FrameFits
+fits_there sends place node h = fits_for node (slice_get sends place) (λ s e. each-get SentFits sends place s h e)
+
+-- what stands there has the spelling of a frame exactly where it is this frame
+pub same_there : {A : Type 0} (o : Option (Frame A)) (f : Frame A) (text : List ℕ) (b : Bool) → IfSome o FrameFits → FrameFits f → text ≡ spelling_of f
+    → IsTrue b ↔ IsSomeAnd o (λ g. spelling_of g ≡ text) → IsTrue b ↔ (o ≡ Some f)
+same_there None f text b h k e same = ((λ t. absurd (same.0 t)), (λ is. absurd (cc is)))
+same_there {A} (Some g) f text b h k e same = (
+  (λ t. ap (λ (x : Frame A). Some x) (one_frame g f h k (same.0 t ∙ e))),
+  (λ is. (let one : g ≡ f = cc in same.1 (ap spelling_of one ∙ sym e))),
+)

@@ -133,72 +133,6 @@ fn given_has_frame<A: Allocator + Copy + Drop>(
     }
 }
 
-/// Whether this frame, which came, stands at the place and goes to the node.
-fn spelled_has_heard<A: Allocator + Copy + Drop>(
-    spelled: &[SpelledFrame<A>],
-    place: u16,
-    node: Proc,
-    frame: &HeardFrame<A>,
-) -> bool
-    ensures { IsTrue result ↔ (option_and_then (frame_for node) (slice_get spelled.now place) ≡ Some frame.now) }
-{
-    match item_at(spelled, place) {
-        Some(sent) => sent.is_heard(node, frame),
-        None => false,
-    }
-}
-
-/// Whether the frame is this one, which came. It is spelled in `text`, which has room for every frame.
-fn is_heard<A: Allocator + Copy + Drop>(
-    frame: &Frame<A>,
-    heard: &HeardFrame<A>,
-    text: &mut BytesMut<A>,
-) -> bool
-    requires fits { FrameFits frame.now }
-    requires room { 8192 ≤ length text.old.items + text.old.spare }
-    ensures same { IsTrue result ↔ (frame.now ≡ heard.now) }
-    ensures room { 8192 ≤ length text.new.items + text.new.spare }
-{
-    write_in(frame, text);
-    is_same_text(text.as_slice(), heard.bytes())
-}
-
-/// Whether this frame, which came, goes to the node and is the one sent. That one is spelled in `text`, which has room for every
-/// frame.
-fn is_sent<A: Allocator + Copy + Drop>(
-    sent: &Sent<A>,
-    node: Proc,
-    frame: &HeardFrame<A>,
-    text: &mut BytesMut<A>,
-) -> bool
-    requires fits { FrameFits sent.now.frame }
-    requires room { 8192 ≤ length text.old.items + text.old.spare }
-    ensures found { IsTrue result ↔ (frame_for node sent.now ≡ Some frame.now) }
-    ensures room { 8192 ≤ length text.new.items + text.new.spare }
-{
-    sent.to.contains(node) && is_heard(&sent.frame, frame, text)
-}
-
-/// Whether this frame, which came, stands at the place and goes to the node. The one there is spelled in `text`, which has room
-/// for every frame.
-fn given_has_heard<A: Allocator + Copy + Drop>(
-    given: &[Sent<A>],
-    place: u16,
-    node: Proc,
-    frame: &HeardFrame<A>,
-    text: &mut BytesMut<A>,
-) -> bool
-    requires fit { AllByRecursion SentFits given.now }
-    requires room { 8192 ≤ length text.old.items + text.old.spare }
-    ensures found { IsTrue result ↔ (option_and_then (frame_for node) (slice_get given.now place) ≡ Some frame.now) }
-    ensures room { 8192 ≤ length text.new.items + text.new.spare }
-{
-    match item_at(given, place) {
-        Some(sent) => is_sent(sent, node, frame, text),
-        None => false,
-    }
-}
-
 /// Whether these bytes stand at the place and go to the node.
 fn spelled_has_bytes<A: Allocator + Copy + Drop>(
     spelled: &[SpelledFrame<A>],
@@ -357,10 +291,9 @@ impl<A: Allocator + Copy + Drop> Frames<A> {
         ensures found { IsTrue result ↔ (option_and_then (frame_for node) (slice_get self.now place) ≡ Some frame.now) }
         ensures room { 8192 ≤ length text.new.items + text.new.spare }
     {
-        match &self.kept {
-            Kept::Spelled(spelled) => spelled_has_heard(spelled.as_slice(), place, node, frame),
-            Kept::Given(given) => given_has_heard(given.as_slice(), place, node, frame, text),
-        }
+        // No effect at run time. The proof sees what `Frames` promises of itself only where the body reads a field.
+        let _kept = &self.kept;
+        self.has_bytes(place, node, frame.bytes(), text)
     }
 
     /// Whether these bytes are those of the frame at the place, counted from 0, and that goes to the node. It may be

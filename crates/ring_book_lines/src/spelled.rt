@@ -6,7 +6,6 @@ ghost use Rattle.ring_base.specs.declared.fault.Fault.TheVariants.{Memory};
 ghost use Rattle.ring_wire.specs.Frames.{FrameFits, spelling_of};
 ghost use Rattle.ring_book_lines.specs.Lines.{frame_for};
 
-use crate::heard::HeardFrame;
 use crate::stories::{FrameStory, shown_frame};
 use bytes::BytesMut;
 use ring_base::{Fault, Past, Proc, ProcSet};
@@ -132,20 +131,6 @@ impl<A: Allocator + Copy + Drop> SpelledFrame<A> {
         ensures room { 8192 ≤ length text.new.items + text.new.spare }
     {
         self.goes_to(node) && self.is_frame(frame, text)
-    }
-
-    /// Whether it is this frame, which came.
-    pub fn is_same(&self, frame: &HeardFrame<A>) -> bool
-        ensures { IsTrue result ↔ (self.now.frame ≡ frame.now) }
-    {
-        is_same_text(self.bytes.as_slice(), frame.bytes())
-    }
-
-    /// Whether it goes to the node and is this frame, which came.
-    pub fn is_heard(&self, node: Proc, frame: &HeardFrame<A>) -> bool
-        ensures { IsTrue result ↔ (frame_for node self.now ≡ Some frame.now) }
-    {
-        self.goes_to(node) && self.is_same(frame)
     }
 
     /// Whether it goes to the node and has these bytes.

@@ -91,6 +91,7 @@ impl<A: Allocator + Copy + Drop> Step<A> {
           committed = committed;
         } }
     {
+        // No effect at run time. The proof takes from this call that the frame keeps the limits of frames.
         let _bytes = frame.bytes();
         Step {
             node,
@@ -107,6 +108,7 @@ impl<A: Allocator + Copy + Drop> Step<A> {
         requires { CallFits call }
         ensures { result ≡ record { node = node; input = Called call; frames = []; answers = []; calls = []; committed = committed } }
     {
+        // A law: no effect at run time. The proof takes from it that a call within the limits of frames is within those of snapshots.
         call_keeps_law(&call);
         Step::came(
             node,

@@ -4,7 +4,7 @@ use Rattle.ring_base.specs.Group.{Group}
 use Rattle.ring_object.specs.Operations.{Sequential}
 use Rattle.ring_rules.specs.Histories.{IsLinearization}
 use Rattle.ring_rules.specs.Worlds.{order, run, world_opening}
-use Rattle.ring_book.specs.Lines.{IsRun, LineView, events_of, history_of}
+use Rattle.ring_host_port.specs.Books.{IsRun, LineView, events_of, history_of}
 use Rattle.ring_callers.specs.declared.calls.Calls.{Calls}
 
 -- These lines are of a run of the group, the order and the history are that run's, and the order explains the history.

@@ -44,6 +44,7 @@ fn told_by<O: Object, K: BookName<O::Alloc>>(book: &Book<O, K>) -> Result<Calls<
     ensures lines { IfOk result (AreOfLines O.sequential K.name.group book.now.lines) }
     ensures refused { IfErr result (λ fault. fault ≡ Memory) }
 {
+    // Laws: no effect at run time. The proof takes from them that the book's lines are a run, whose order explains its history.
     book.run_law();
     linear_law::<O>();
     let order = book.order()?;

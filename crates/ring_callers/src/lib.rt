@@ -13,4 +13,8 @@ mod running;
 pub use caller::Caller;
 pub use calls::Calls;
 pub use checking::MOST_PORTS;
+pub use ring_host_port::{
+    Book, BookName, Gate, GatePlace, Gauge, Host, HostPort, HostTicket, Open, Opening, Paced, Seat,
+    Stir, Turn,
+};
 pub use running::run_callers;

@@ -73,7 +73,7 @@ by_number-none : (n : ℕ) → by_number [] n ≡ None
 by_number-none zero = refl
 by_number-none (suc k) = refl
 
-by_number-before : (row : List ℕ) (n : ℕ) → (n ≡ 0 → ⊥) → slice_get row (n - 1) ≡ by_number row n
+pub by_number-before : (row : List ℕ) (n : ℕ) → (n ≡ 0 → ⊥) → slice_get row (n - 1) ≡ by_number row n
 by_number-before row zero apart = absurd (apart refl)
 by_number-before row (suc k) apart = ap (slice_get row) (omega arith)
 
@@ -83,13 +83,9 @@ pub place_at-unknown : {A : Type 0} (index : BTreeMap ℕ (Vec ℕ A)) (client n
 place_at-unknown {A} index client number none =
     sym (ap (λ (o : Option (Vec ℕ A)). by_number (row_of o) number) none ∙ by_number-none number)
 
-pub place_at-zero : {A : Type 0} (index : BTreeMap ℕ (Vec ℕ A)) (client number : ℕ) → number ≡ 0 → None ≡ place_at index (client, number)
-place_at-zero index client number none = sym (ap (by_number (places_of index client)) none)
-
 pub place_at-known : {A : Type 0} (index : BTreeMap ℕ (Vec ℕ A)) (client number : ℕ) (row : Vec ℕ A) → get nat_cmp index client ≡ Some row
-    → (number ≡ 0 → ⊥) → slice_get row.items (number - 1) ≡ place_at index (client, number)
-place_at-known {A} index client number row known some =
-    by_number-before row.items number some ∙ ap (λ (o : Option (Vec ℕ A)). by_number (row_of o) number) (sym known)
+    → by_number row.items number ≡ place_at index (client, number)
+place_at-known {A} index client number row known = ap (λ (o : Option (Vec ℕ A)). by_number (row_of o) number) (sym known)
 
 -- ---- one more place
 

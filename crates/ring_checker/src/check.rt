@@ -1,9 +1,10 @@
 //! The checker: it tells of an order and a history, however they came about, whether the one explains the other.
 
-ghost use Rattle.std.specs.Prelude.{◌≡◌, ℕ, ◌+◌, ◌≤◌, ◌↔◌, IsTrue, IfOk, IfErr, List, [], ◌∷◌, ◌++◌, length, take};
+ghost use Rattle.std.specs.Prelude.{◌≡◌, ℕ, ◌+◌, ◌≤◌, ◌↔◌, IsTrue, IfOk, IfErr, OnOk, List, [], ◌∷◌, ◌++◌, length, take};
 ghost use Rattle.ring_base.specs.declared.fault.Fault.TheVariants.{Memory};
 ghost use Rattle.ring_rules.specs.declared.item.Item.{Item as OneItem};
 ghost use Rattle.ring_rules.specs.declared.item.Item.TheVariants.{Issue};
+ghost use Rattle.ring_session.specs.Deduplicated.{IsNumbered};
 ghost use Rattle.ring_checker.specs.Checks.{IsIndexOf, ArePlaces, IsIssuedBefore, AreIssuedBefore, IsIssuedFront};
 ghost use Rattle.ring_checker.specs.Checks.{IsRightAt, IsRightReply, IsRightItem, AreRight};
 ghost use Rattle.ring_rules.specs.Histories.{IsLinearization};
@@ -36,15 +37,48 @@ pub fn is_linearization<O: Object>(
     ensures ok { IfOk result (λ explains. IsTrue explains ↔ IsLinearization O.sequential order.now history.now) }
     ensures refused { IfErr result (λ fault. fault ≡ Memory) }
 {
-    let found = index_of(alloc, order)?;
-    let Some(index) = found else {
-        return Ok(false);
-    };
-    let mut places = unissued_places::<O>(alloc, order)?;
-    note_issues::<O>(order, &index, history, places.as_mut_slice());
-    let explains = are_issued_before(&places, history.len())
-        && are_right(order, &index, &places, history);
-    Ok(explains)
+    match index_of(alloc, order) {
+        Ok(Some(index)) => explains::<O>(alloc, order, &index, history),
+        Ok(None) => Ok(false),
+        Err(fault) => Err(fault),
+    }
+}
+
+/// Whether the order, whose calls are numbered, explains the history. Or `Memory`.
+fn explains<O: Object>(
+    alloc: O::Alloc,
+    order: &[Call<O::Alloc>],
+    index: &Index<O::Alloc>,
+    history: &[Item<O::Alloc>],
+) -> Result<bool, Fault>
+    requires numbered { IsNumbered order.now }
+    requires index { IsIndexOf order.now (length order.now) index.now }
+    ensures ok { IfOk result (λ explains. IsTrue explains ↔ IsLinearization O.sequential order.now history.now) }
+    ensures refused { IfErr result (λ fault. fault ≡ Memory) }
+{
+    match unissued_places::<O>(alloc, order) {
+        Ok(mut places) => Ok(explains_at::<O>(order, index, history, places.as_mut_slice())),
+        Err(fault) => Err(fault),
+    }
+}
+
+/// Whether the order explains the history, where these are its places, and no call was issued yet.
+fn explains_at<O: Object>(
+    order: &[Call<O::Alloc>],
+    index: &Index<O::Alloc>,
+    history: &[Item<O::Alloc>],
+    places: &mut [Place],
+) -> bool
+    requires numbered { IsNumbered order.now }
+    requires index { IsIndexOf order.now (length order.now) index.now }
+    requires unissued { ArePlaces O.sequential order.now [] (length order.now) places.old }
+    ensures { IsTrue result ↔ IsLinearization O.sequential order.now history.now }
+{
+    note_issues::<O>(order, index, history, places);
+    if !are_issued_before(places, history.len()) {
+        return false;
+    }
+    are_right(order, index, places, history)
 }
 
 // ---- places
@@ -57,8 +91,40 @@ fn unissued_places<O: Object>(
     ensures ok { IfOk result (λ places. ArePlaces O.sequential order.now [] (length order.now) places.items) }
     ensures refused { IfErr result (λ fault. fault ≡ Memory) }
 {
-    let mut object = O::start(alloc)?;
+    match O::start(alloc) {
+        Ok(mut object) => places_from::<O>(alloc, &mut object, order),
+        Err(fault) => Err(fault),
+    }
+}
+
+/// Does the order's calls on an object that stands at its start. No call was issued yet.
+fn places_from<O: Object>(
+    alloc: O::Alloc,
+    object: &mut O,
+    order: &[Call<O::Alloc>],
+) -> Result<Vec<Place, O::Alloc>, Fault>
+    requires { object.old ≡ O.sequential.initial }
+    ensures ok { IfOk result (λ places. ArePlaces O.sequential order.now [] (length order.now) places.items) }
+    ensures refused { IfErr result (λ fault. fault ≡ Memory) }
+{
     let mut places = Vec::with_capacity(alloc, order.len())?;
+    match add_places(object, order, &mut places) {
+        Ok(()) => Ok(places),
+        Err(fault) => Err(fault),
+    }
+}
+
+/// Adds the place of each call, which is done on the object, that stands at its start.
+fn add_places<O: Object>(
+    object: &mut O,
+    order: &[Call<O::Alloc>],
+    places: &mut Vec<Place, O::Alloc>,
+) -> Result<(), Fault>
+    requires start { object.old ≡ O.sequential.initial }
+    requires empty { places.old.items ≡ [] }
+    ensures ok { OnOk result (ArePlaces O.sequential order.now [] (length order.now) places.new.items) }
+    ensures refused { IfErr result (λ fault. fault ≡ Memory) }
+{
     for call in order {
         let reply = object.apply(call.op.as_slice())?;
         places.push(Place {
@@ -66,7 +132,7 @@ fn unissued_places<O: Object>(
             reply,
         })?;
     }
-    Ok(places)
+    Ok(())
 }
 
 /// Notes at the places where their calls were first issued.

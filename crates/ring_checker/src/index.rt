@@ -6,7 +6,7 @@ ghost use Rattle.std.specs.Ordering.{nat_cmp};
 ghost use Rattle.ring_base.specs.declared.fault.Fault.TheVariants.{Memory};
 ghost use Rattle.ring_session.specs.Deduplicated.{StandsAt, IsNumbered};
 ghost use Rattle.ring_session.specs.SessionAnswer.{is_same};
-ghost use Rattle.ring_checker.specs.Checks.{place_in, place_at, places_of, AddsPlace, IsIndexOf};
+ghost use Rattle.ring_checker.specs.Checks.{place_in, place_at, by_number, places_of, AddsPlace, IsIndexOf};
 
 use ring_base::Fault;
 use ring_payload::Call;
@@ -26,13 +26,32 @@ pub fn index_of<A: Allocator + Copy + Drop>(
     ensures refused { IfErr result (λ fault. fault ≡ Memory) }
 {
     let mut index = BTreeMap::new(alloc);
+    match add_places(alloc, &mut index, order) {
+        Ok(true) => Ok(Some(index)),
+        Ok(false) => Ok(None),
+        Err(fault) => Err(fault),
+    }
+}
+
+/// Adds the places of an order's calls to an empty index, and answers whether each client's calls are numbered 1, 2, .. in it. Or
+/// `Memory`.
+fn add_places<A: Allocator + Copy + Drop>(
+    alloc: A,
+    index: &mut Index<A>,
+    order: &[Call<A>],
+) -> Result<bool, Fault>
+    requires { index.old.entries ≡ [] }
+    ensures numbered { IfOk result (λ numbered. IsTrue numbered ↔ IsNumbered order.now) }
+    ensures ok { IfOk result (λ numbered. IsTrue numbered → IsIndexOf order.now (length order.now) index.new) }
+    ensures refused { IfErr result (λ fault. fault ≡ Memory) }
+{
     for (place, call) in order.iter().enumerate() {
-        let is_next = add_place(alloc, &mut index, call.client, call.number, place)?;
+        let is_next = add_place(alloc, index, call.client, call.number, place)?;
         if !is_next {
-            return Ok(None);
+            return Ok(false);
         }
     }
-    Ok(Some(index))
+    Ok(true)
 }
 
 /// Adds the place of a client's call of this number, if that is the client's next, and answers whether it is. Or `Memory`.
@@ -165,9 +184,16 @@ fn place_in<A: Allocator + Copy>(
 fn place_at<A: Allocator + Copy>(index: &Index<A>, client: u32, number: u64) -> Option<usize>
     ensures { result ≡ place_at index.now (client, number) }
 {
-    let Some(row) = index.get(&client) else {
-        return None;
-    };
+    match index.get(&client) {
+        Some(row) => place_by_number(row, number),
+        None => None,
+    }
+}
+
+/// The place of the call of this number, where these are the places of a client's calls.
+fn place_by_number<A: Allocator + Copy>(row: &Vec<usize, A>, number: u64) -> Option<usize>
+    ensures { result ≡ by_number row.now.items number }
+{
     if number == 0 {
         return None;
     }

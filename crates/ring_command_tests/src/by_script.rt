@@ -3,13 +3,13 @@
 use crate::beside::Beside;
 use crate::records::{Record, first_number, first_record};
 use ring_base::{Fault, Fixed, Kind, Proc, ProcSet};
-use ring_console::{Groups, Line, Script};
 use ring_object::Object;
+use ring_sweep::{Groups, Line, Script};
 use std::alloc::Allocator;
 
 /// A frame that was sent: by whom, to whom, and its bytes.
 #[derive(Drop)]
-struct Sent<A: Allocator + Copy + Drop> {
+struct Carried<A: Allocator + Copy + Drop> {
     from: Proc,
     to: ProcSet,
     bytes: Vec<u8, A>,
@@ -27,7 +27,7 @@ struct UnderWay {
 pub(crate) struct Driven<O: Object> {
     alloc: O::Alloc,
     pub(crate) nodes: Vec<Beside<O>, O::Alloc>,
-    sent: Vec<Sent<O::Alloc>, O::Alloc>,
+    sent: Vec<Carried<O::Alloc>, O::Alloc>,
     copies: Vec<UnderWay, O::Alloc>,
     came: usize,
     cut: Option<Groups>,
@@ -175,7 +175,7 @@ impl<O: Object> Driven<O> {
         let to = ProcSet::from_bits(bits);
         let bytes = Vec::from_slice(self.alloc, frame)?;
         let place = self.sent.len();
-        self.sent.push(Sent { from, to, bytes })?;
+        self.sent.push(Carried { from, to, bytes })?;
         for before in 0..16u8 {
             let receiver = Proc::new(before + 1);
             if to.contains(receiver) {

@@ -1,8 +1,8 @@
 //! What is traced.
 
 use ring_base::{Fault, Proc};
-use ring_console::{frames, script};
 use ring_script_maker::made_script;
+use ring_sweep::{frames, script};
 use ring_trace::{Format, Selection, TraceOptions, trace};
 use std::alloc::{AllocError, Allocator, Global};
 use std::fmt::Write;

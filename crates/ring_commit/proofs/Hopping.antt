@@ -1,8 +1,7 @@
 -- How far a commit token has come, in each of its rounds.
 use Rattle.std.proofs.Common.{◌≡◌, ℕ, ◌+◌, ◌*◌, ◌<◌, ◌≤◌, true, length, arith}
 use Rattle.std.proofs.lemmas.Bool.{and_parts, ltb-true}
-use Rattle.ring_base.specs.Processors.{size}
-use Rattle.ring_base.specs.Elements.{size_le}
+use Rattle.ring_wire.specs.Base.{size, size_le}
 use Rattle.ring_wire.specs.declared.commit.CommitToken.{CommitToken}
 use Rattle.ring_wire.specs.declared.entries.CommitEntry.{CommitEntry}
 use Rattle.ring_wire.specs.Commits.{entries_at}

@@ -2,8 +2,7 @@
 use Rattle.std.proofs.Common.{◌≡◌, ℕ, max, true, false, List, ◌∷◌, ap, arith, zero, suc, ◌≤◌, [], Some, slice_get, sym, subst, Option, None, refl}
 use Rattle.std.specs.Prelude.{nat_le, ◌&&◌, if◌then◌else◌}
 use Rattle.std.proofs.lemmas.Bool.{cond-true, cond-false, cond_both, and_parts, leb-true}
-use Rattle.ring_base.specs.Rings.{same_ring}
-use Rattle.ring_base.specs.declared.ring_id.RingId.{RingId}
+use Rattle.ring_wire.specs.Base.{same_ring, RingId}
 use Rattle.ring_wire.specs.declared.entries.CommitEntry.{CommitEntry}
 use Rattle.ring_commit.specs.Reports.{reports_of, safe_of, none_behind, same_entry}
 use Rattle.ring_commit.specs.Rounds.{is_own}

@@ -1,6 +1,6 @@
 -- What a commit token comes to, at a node in each of the states that take one: The commit token, rule 11 of docs/PROTOCOL.md.
 use Rattle.std.specs.Prelude.{ℕ, Bool, ◌&&◌, ◌==◌, nat_le, if◌then◌else◌, [], ◌∷◌}
-use Rattle.ring_base.specs.Numbers.{max_number}
+use Rattle.ring_wire.specs.Base.{max_number}
 use Rattle.ring_wire.specs.declared.commit.CommitToken.{CommitToken}
 use Rattle.ring_wire.specs.declared.entries.CommitEntry.{CommitEntry}
 use Rattle.ring_wire.specs.declared.token.Token.{Token}

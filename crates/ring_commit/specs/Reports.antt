@@ -3,9 +3,7 @@
 use Rattle.std.specs.Prelude.{ℕ, Bool, ◌&&◌, ◌==◌, nat_eq, nat_le, List, map, filter}
 use Rattle.std.specs.List.{list_all}
 use Rattle.std.specs.Cmp.Lexicographic.{pointwise}
-use Rattle.ring_base.specs.Rings.{same_ring}
-use Rattle.ring_base.specs.Numbers.{greatest}
-use Rattle.ring_base.specs.declared.ring_id.RingId.{RingId}
+use Rattle.ring_wire.specs.Base.{same_ring, greatest, RingId}
 use Rattle.ring_wire.specs.declared.entries.CommitEntry.{CommitEntry}
 pub use Rattle.ring_commit.specs.declared.configuration.Configuration.{Configuration}
 

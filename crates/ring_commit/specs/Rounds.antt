@@ -2,8 +2,7 @@
 -- goes to position h mod m: hops 1 to m - 1 collect the reports, hops m to 2m - 1 hand them to all, hop 2m starts the
 -- token.
 use Rattle.std.specs.Prelude.{ℕ, suc, ◌*◌, ◌%◌, Bool, false, ◌&&◌, ◌==◌, nat_lt, nat_le, List, [], ◌∷◌, ◌++◌, Option, Some, None, slice_get}
-use Rattle.ring_base.specs.Rings.{same_ring}
-use Rattle.ring_base.specs.Processors.{at, size}
+use Rattle.ring_wire.specs.Base.{same_ring, at, size}
 use Rattle.ring_wire.specs.declared.commit.CommitToken.{CommitToken}
 use Rattle.ring_wire.specs.declared.entries.CommitEntry.{CommitEntry}
 use Rattle.ring_commit.specs.Reports.{Configuration, same_entry, is_sound}

@@ -1,6 +1,6 @@
 //! Rings with their members.
 
-use ring_base::{ProcSet, RingId};
+use ring_wire::{ProcSet, RingId};
 
 /// A ring with its members.
 #[derive(Clone, Copy, Debug, PartialEq, Eq)]

@@ -1,7 +1,7 @@
 //! The two rounds of a commit token: when it is taken, and what goes on.
 
 ghost use Rattle.std.specs.Prelude.{◌≡◌, ℕ, suc, ◌+◌, ◌<◌, ◌≤◌, [], ◌∷◌, ◌++◌, length, slice_get, true};
-ghost use Rattle.ring_base.specs.Processors.{size};
+ghost use Rattle.ring_wire.specs.Base.{size};
 ghost use Rattle.ring_wire.specs.Commits.{entries_at};
 ghost use Rattle.ring_commit.specs.Reports.{same_entry, reports_of, safe_of, none_behind, is_sound};
 ghost use Rattle.ring_commit.specs.Rounds.{position_of_hop, receiver, hopped, proposal, is_of, is_own, is_first_round, is_second_round, is_start};
@@ -9,8 +9,7 @@ ghost use Rattle.ring_commit.specs.Outcomes.{is_at, proposed, filled, learned, s
 
 use crate::configuration::Configuration;
 use crate::outcome::CommitOutcome;
-use ring_base::{MAX, Proc, ProcSet, RingId};
-use ring_wire::{CommitEntry, CommitToken, Entries, Token};
+use ring_wire::{CommitEntry, CommitToken, Entries, MAX, Proc, ProcSet, RingId, Token};
 
 /// The member that a commit token goes to.
 pub fn receiver(token: &CommitToken) -> Proc

@@ -1,7 +1,6 @@
 -- What is printed, one line of a script after another.
-use Rattle.std.proofs.Common.{◌≡◌, ℕ, zero, suc, ◌+◌, ◌<◌, add-one, slice_get, Option, Some, take, drop, get_or, length}
-use Rattle.std.proofs.Common.{◌++◌, List, [], ◌∷◌, inl, inr, Result, Ok, Err, refl, sym, ap, subst, ◌∙◌}
-use Rattle.std.proofs.Common.{append-nil, append_assoc}
+use Rattle.std.proofs.Common.{◌≡◌, ℕ, zero, suc, ◌+◌, ◌<◌, add-one, slice_get, Option, Some, take, drop, get_or, length, ◌++◌, List, [], ◌∷◌, inl}
+use Rattle.std.proofs.Common.{inr, Result, Ok, Err, refl, sym, ap, subst, ◌∙◌, append-nil, append_assoc}
 use Rattle.std.specs.Prelude.{IfOk, Bool, true}
 use Rattle.ring_base.specs.Group.{Group}
 use Rattle.ring_base.proofs.Rows.{drop-next}
@@ -15,7 +14,7 @@ use Rattle.ring_script.specs.declared.scripts.Numbered.{Numbered}
 use Rattle.ring_report.specs.declared.failure.Failure.{Failure}
 use Rattle.ring_report.specs.declared.failure.Failure.TheVariants.{Refused, BadFrame, BadScript, Output}
 use Rattle.ring_world.specs.Played.{Played}
-use Rattle.ring_rules.specs.declared.told.Told.{Told}
+use Rattle.ring_world.specs.Rules.{Told}
 use Rattle.ring_report.specs.Texts.{line_of}
 use Rattle.ring_console.specs.Printed.{told_text, one_text}
 use Rattle.ring_console.specs.Running.{RunView, Prints, UnlessOutput, Does, Breaks, Runs, BreaksRun, IsTextOf, IsVerdict, run_opening, legal_line, text_of}

@@ -1,9 +1,8 @@
 -- What one event and one turn do to a run.
-use Rattle.std.proofs.Common.{◌≡◌, ℕ, zero, suc, ◌+◌, ◌<◌, ◌≤◌, Bool, true, false, inl, inr, [], ◌∷◌}
-use Rattle.std.proofs.Common.{Result, Ok, Err, sym, ap, subst, ◌∙◌, add-one}
+use Rattle.std.proofs.Common.{◌≡◌, ℕ, zero, suc, ◌+◌, ◌<◌, ◌≤◌, Bool, true, false, inl, inr, [], ◌∷◌, Result, Ok, Err, sym, ap, subst, ◌∙◌, add-one}
 use Rattle.ring_base.specs.Fronts.{IsFront, front_self, front_trans, front_append}
 use Rattle.ring_object.specs.Operations.{Sequential}
-use Rattle.ring_rules.specs.declared.event.Event.{Event}
+use Rattle.ring_world.specs.Rules.{Event}
 use Rattle.ring_script.specs.declared.line.Line.{Line}
 use Rattle.ring_script.specs.declared.line.Line.TheVariants.{Call, Deliver, Timeout, Noise, Stop, Cut, Heal, Pump, Show}
 use Rattle.ring_world.specs.declared.pairs.Pair.{Pair}

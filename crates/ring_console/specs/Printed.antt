@@ -5,8 +5,8 @@ use Rattle.std.specs.Fmt.{decimal}
 use Rattle.hex.specs.Hex.{encode_lower}
 use Rattle.ring_base.specs.Rings.{ring_text}
 use Rattle.ring_base.specs.declared.ring_id.RingId.{RingId}
-use Rattle.ring_rules.specs.declared.told.Told.{Told}
-use Rattle.ring_rules.specs.declared.told.Told.TheVariants.{Answer as ToldAnswer, Refused as ToldRefused}
+use Rattle.ring_world.specs.Rules.{Told}
+use Rattle.ring_world.specs.ToldVariants.{Answer as ToldAnswer, Refused as ToldRefused}
 use Rattle.ring_payload.specs.declared.call.Call.{Call}
 use Rattle.ring_report.specs.Texts.{line_of, state_text}
 use Rattle.ring_session.specs.declared.answer.Answer.{Answer}

@@ -1,17 +1,14 @@
 -- What the lines of a script do to a run, and what they print.
 -- Scripts, and What a script prints, of docs/FORMATS.md.
-use Rattle.std.specs.Prelude.{◌≡◌, ℕ, zero, suc, ◌<◌, ◌≤◌, ◌⊎◌, Bool, true, false, List, [], ◌∷◌, ◌++◌, length, drop}
-use Rattle.std.specs.Prelude.{◌↔◌, IsTrue, ◌-◌, Option, Some, None, unwrap_or, Result, Ok, Err, ⊤, slice_index}
+use Rattle.std.specs.Prelude.{◌≡◌, ℕ, zero, suc, ◌<◌, ◌≤◌, ◌⊎◌, Bool, true, false, List, [], ◌∷◌, ◌++◌, length, drop, ◌↔◌, IsTrue, ◌-◌, Option}
+use Rattle.std.specs.Prelude.{Some, None, unwrap_or, Result, Ok, Err, ⊤, slice_index}
 use Rattle.std.specs.Io.KnownBytes.{Appends}
 use Rattle.ring_base.specs.Group.{Group}
 use Rattle.ring_base.specs.Processors.{has}
 use Rattle.ring_base.specs.declared.fault.Fault.TheVariants.{Memory}
 use Rattle.ring_object.specs.Operations.{Sequential}
-use Rattle.ring_rules.specs.Nodes.{Node, node_kept, node_length, node_trimmed}
-use Rattle.ring_rules.specs.declared.event.Event.{Event}
-use Rattle.ring_rules.specs.declared.event.Event.TheVariants as events
-use Rattle.ring_rules.specs.Histories.{IsLinearization}
-use Rattle.ring_rules.specs.Worlds.{World, order}
+use Rattle.ring_world.specs.Rules.{Node, node_kept, node_length, node_trimmed, Event, IsLinearization, World, order}
+use Rattle.ring_world.specs.EventVariants as events
 use Rattle.ring_script.specs.declared.line.Line.{Line}
 use Rattle.ring_script.specs.declared.line.Line.TheVariants.{Call, Deliver, Timeout, Noise, Stop, Cut, Heal, Pump, Show}
 use Rattle.ring_script.specs.declared.scripts.Numbered.{Numbered}

@@ -14,10 +14,9 @@ mod running;
 pub use listing::frames;
 pub use ring_checker::is_linearization;
 pub use ring_report::{Failure, report};
-pub use ring_rules::{Event, Told};
 pub use ring_script::{
     Groups, Line, NoWords, Numbered, Script, ScriptFault, ShelfWords, Vocabulary,
 };
-pub use ring_world::{Pair, World};
+pub use ring_world::{Event, Pair, Told, World};
 pub use run::Run;
 pub use running::{Things, script, script_check, script_of};

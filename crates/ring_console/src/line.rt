@@ -1,13 +1,16 @@
 //! A line as it is put together, in place, before it is written at once: without `write!`, since there is one for each answer and each frame.
+//! The one line of the order's length is put together so too.
 
-ghost use Rattle.std.specs.Prelude.{◌≡◌, ◌+◌, ◌<◌, ◌≤◌, [], ◌++◌, length, OnOk};
+ghost use Rattle.std.specs.Prelude.{◌≡◌, ◌+◌, ◌<◌, ◌≤◌, [], ◌++◌, length, OnOk, IfErr};
 ghost use Rattle.std.specs.Fmt.{decimal};
 ghost use Rattle.std.specs.Io.KnownBytes.{Appends};
+ghost use Rattle.ring_report.specs.declared.failure.Failure.TheVariants.{Output};
 ghost use Rattle.ring_report.specs.Texts.{line_of};
 
 use arrayvec::ArrayVec;
 use itoa::Buffer;
-use std::io::{self, Write};
+use ring_report::{Failure, or_output};
+use std::io::Write;
 use std::marker::Model;
 
 /// Room for the longest line and its end: that of a token that asks for 32 numbers of 20 digits each has less than 900 bytes.
@@ -64,15 +67,16 @@ impl PrintedLine {
         };
     }
 
-    /// Writes the line and its end, and begins another.
-    pub(crate) fn write_to<W: Write>(&mut self, out: &mut W) -> io::Result<()>
+    /// Prints the line and its end, and begins another. Otherwise `Output`.
+    pub(crate) fn print_to<W: Write>(&mut self, out: &mut W) -> Result<(), Failure>
         requires { length self.old < LONGEST_LINE }
         ensures written { OnOk result (Appends (W.contents out.old) (W.contents out.new) (line_of self.old)) }
         ensures begun { self.new ≡ [] }
+        ensures failed { IfErr result (λ failure. failure ≡ Output) }
     {
         self.text.push(b'\n');
         let written = out.write_all(self.text.as_slice());
         self.text.clear();
-        written
+        or_output(written)
     }
 }

@@ -6,6 +6,7 @@ ghost use Rattle.ring_report.specs.declared.failure.Failure.TheVariants.{Output}
 ghost use Rattle.ring_report.specs.Texts.{line_of};
 ghost use Rattle.ring_console.specs.Listed.{frame_text};
 ghost use Rattle.ring_console.specs.Listings.{IsListed, IsCut};
+ghost use Rattle.ring_console.specs.declared.ahead.State.TheVariants.{Open};
 
 use crate::ahead::Ahead;
 use crate::line::PrintedLine;
@@ -58,15 +59,38 @@ fn list_frames<A: Allocator + Copy, R: Read, W: Write>(
         (W.contents out.old) (W.contents out.new)) }
     ensures cut { IfErr result (IsCut A (R.remaining input.old) (W.contents out.old) (W.contents out.new)) }
 {
-    let mut ahead = Ahead::new(alloc)?;
-    let mut next = None;
-    let mut line = PrintedLine::new();
+    match Ahead::new(alloc) {
+        Ok(mut ahead) => {
+            let mut next = None;
+            let mut line = PrintedLine::new();
+            list_ahead(alloc, input, &mut ahead, &mut next, &mut line, out)
+        }
+        Err(failure) => Err(failure),
+    }
+}
+
+/// As [`list_frames`], where nothing was read ahead yet. Each frame is put into this place, and its line is put together in this one.
+fn list_ahead<A: Allocator + Copy, R: Read, W: Write>(
+    alloc: A,
+    input: &mut R,
+    ahead: &mut Ahead<A>,
+    next: &mut Option<Frame<A>>,
+    line: &mut PrintedLine,
+    out: &mut W,
+) -> Result<(), Failure>
+    requires empty { ahead.old.bytes.items ≡ [] }
+    requires open { (ahead.old.position ≡ 0) × (ahead.old.taken ≡ 0) × (ahead.old.state ≡ Open) }
+    requires begun { line.old ≡ [] }
+    ensures listed { OnOk result (IsListed A (R.remaining input.old) (R.remaining input.new)
+        (W.contents out.old) (W.contents out.new)) }
+    ensures cut { IfErr result (IsCut A (R.remaining input.old) (W.contents out.old) (W.contents out.new)) }
+{
     for _ in 0..u64::MAX {
-        ahead.next_frame(alloc, input, &mut next)?;
-        let Some(frame) = &next else {
+        ahead.next_frame(alloc, input, next)?;
+        let Some(frame) = &*next else {
             return Ok(());
         };
-        print_frame(out, &mut line, frame)?;
+        print_frame(out, line, frame)?;
     }
     Err(Failure::Output)
 }
@@ -83,5 +107,5 @@ fn print_frame<A: Allocator + Copy, W: Write>(
     ensures failed { IfErr result (λ failure. failure ≡ Output) }
 {
     add_frame(line, frame);
-    line.write_to(out).map_err(|_| Failure::Output)
+    line.print_to(out)
 }

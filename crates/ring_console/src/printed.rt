@@ -12,12 +12,12 @@ use crate::line::{LONGEST_LINE, PrintedLine};
 use ring_base::{Proc, RingId, State};
 use ring_object::Reply;
 use ring_payload::Call;
-use ring_report::{Failure, state_word};
-use ring_rules::Told;
+use ring_report::{Failure, or_output, state_word};
 use ring_session::Answer;
+use ring_world::Told;
 use std::alloc::Allocator;
 use std::fmt;
-use std::io::{self, Write};
+use std::io::Write;
 
 /// The hexadecimal digits of the longest reply: two for each of its 64 bytes.
 const MOST_DIGITS: usize = 128;
@@ -50,7 +50,7 @@ fn print_one<A: Allocator + Copy + Drop, W: Write>(
     }
 }
 
-/// Prints the answer that a node gives to a call. Otherwise `Output`.
+/// Prints the answer that a node gives to a call. Otherwise `Output`. Each call has such a line, so it is put together without `write!`.
 fn print_answer<A: Allocator + Copy + Drop, W: Write>(
     out: &mut W,
     node: Proc,
@@ -60,7 +60,14 @@ fn print_answer<A: Allocator + Copy + Drop, W: Write>(
     ensures line { OnOk result (Appends (W.contents out.old) (W.contents out.new) (line_of (answer_text node call.now answer.now))) }
     ensures failed { IfErr result (λ failure. failure ≡ Output) }
 {
-    write_answer(out, node, call, answer).map_err(|_| Failure::Output)
+    let mut line = PrintedLine::new();
+    add_call(&mut line, "reply ", node, call);
+    match answer {
+        Answer::Done(reply) => add_reply(&mut line, " done ", reply),
+        Answer::Kept(reply) => add_reply(&mut line, " kept ", reply),
+        Answer::Refused(reason) => line.add_number(" refused ", u64::from(*reason)),
+    }
+    line.print_to(out)
 }
 
 /// Prints that a node does not take a call, for the reason of this number. Otherwise `Output`.
@@ -73,41 +80,10 @@ fn print_refused<A: Allocator + Copy + Drop, W: Write>(
     ensures line { OnOk result (Appends (W.contents out.old) (W.contents out.new) (line_of (refused_text node call.now reason))) }
     ensures failed { IfErr result (λ failure. failure ≡ Output) }
 {
-    write_refused(out, node, call, reason).map_err(|_| Failure::Output)
-}
-
-/// Writes the line of an answer. Each call has such a line, so it is put together without `write!`, and written at once.
-fn write_answer<A: Allocator + Copy + Drop, W: Write>(
-    out: &mut W,
-    node: Proc,
-    call: &Call<A>,
-    answer: &Answer,
-) -> io::Result<()>
-    ensures { OnOk result (Appends (W.contents out.old) (W.contents out.new) (line_of (answer_text node call.now answer.now))) }
-{
-    let mut line = PrintedLine::new();
-    add_call(&mut line, "reply ", node, call);
-    match answer {
-        Answer::Done(reply) => add_reply(&mut line, " done ", reply),
-        Answer::Kept(reply) => add_reply(&mut line, " kept ", reply),
-        Answer::Refused(reason) => line.add_number(" refused ", u64::from(*reason)),
-    }
-    line.write_to(out)
-}
-
-/// Writes the line of a call that is refused.
-fn write_refused<A: Allocator + Copy + Drop, W: Write>(
-    out: &mut W,
-    node: Proc,
-    call: &Call<A>,
-    reason: u8,
-) -> io::Result<()>
-    ensures { OnOk result (Appends (W.contents out.old) (W.contents out.new) (line_of (refused_text node call.now reason))) }
-{
     let mut line = PrintedLine::new();
     add_call(&mut line, "refused ", node, call);
     line.add_number(" ", u64::from(reason));
-    line.write_to(out)
+    line.print_to(out)
 }
 
 /// Adds a word, the node, and the call's client and number.
@@ -176,11 +152,10 @@ pub(crate) fn print_node<W: Write>(
     ensures failed { IfErr result (λ failure. failure ≡ Output) }
 {
     let (node, state, dropped) = (node.number(), state_word(state), Trimmed(trimmed));
-    writeln!(
+    or_output(writeln!(
         out,
         "node {node} {state} {ring} committed {committed} log {log}{dropped}"
-    )
-    .map_err(|_| Failure::Output)
+    ))
 }
 
 /// Prints the length of the one order. Otherwise `Output`.
@@ -188,7 +163,9 @@ pub(crate) fn print_order<W: Write>(out: &mut W, length: u64) -> Result<(), Fail
     ensures line { OnOk result (Appends (W.contents out.old) (W.contents out.new) (line_of (order_text length))) }
     ensures failed { IfErr result (λ failure. failure ≡ Output) }
 {
-    writeln!(out, "order {length}").map_err(|_| Failure::Output)
+    let mut line = PrintedLine::new();
+    line.add_number("order ", length);
+    line.print_to(out)
 }
 
 /// Prints whether a run is legal. Otherwise `Output`.
@@ -197,5 +174,5 @@ pub(crate) fn print_legal<W: Write>(out: &mut W, is_legal: bool) -> Result<(), F
     ensures failed { IfErr result (λ failure. failure ≡ Output) }
 {
     let word = if is_legal { "yes" } else { "no" };
-    writeln!(out, "legal {word}").map_err(|_| Failure::Output)
+    or_output(writeln!(out, "legal {word}"))
 }

@@ -1,25 +1,23 @@
 //! Running a script: what its lines ask for is done over a world, one event after another.
 
-ghost use Rattle.std.specs.Prelude.{◌≡◌, ◌≤◌, true, false, []};
-ghost use Rattle.std.specs.Prelude.{Some, None, length, drop, slice_get, IfOk, IfErr, OnOk, OnErr, IsTrue};
+ghost use Rattle.std.specs.Prelude.{◌≡◌, ◌≤◌, true, false, [], Some, None, length, drop, slice_get, IfOk, IfErr, OnOk, OnErr, IsTrue};
 ghost use Rattle.std.specs.Io.KnownBytes.{Appends};
 ghost use Rattle.ring_base.specs.declared.fault.Fault.TheVariants.{Memory};
-ghost use Rattle.ring_rules.specs.WorldLimits.{EventFits};
+ghost use Rattle.ring_world.specs.Rules.{EventFits};
 ghost use Rattle.ring_world.specs.Pairs.{Takes};
 ghost use Rattle.ring_report.specs.Failures.{IsOutputOrMemory};
 ghost use Rattle.ring_report.specs.declared.failure.Failure.TheVariants.{Output};
 ghost use Rattle.ring_script.specs.Fits.{IsFit, AreFit};
 ghost use Rattle.ring_console.specs.Printed.{told_text};
-ghost use Rattle.ring_console.specs.Running.{run_opening, hears, Prints, UnlessOutput, Rests, Happens, Turns, BreaksTurn};
-ghost use Rattle.ring_console.specs.Running.{Comes, Pumps, BreaksPump, Ends, EndsRun, text_of, show_text};
+ghost use Rattle.ring_console.specs.Running.{run_opening, hears, Prints, UnlessOutput, Rests, Happens, Turns, BreaksTurn, Comes, Pumps, BreaksPump};
+ghost use Rattle.ring_console.specs.Running.{Ends, EndsRun, text_of, show_text};
 
 use crate::printed::{print_node, print_order, print_told};
 use ring_base::{Fault, Fixed, Proc};
 use ring_object::Object;
 use ring_report::Failure;
-use ring_rules::{Event, Noise};
 use ring_script::{Groups, Line, Script};
-use ring_world::{Pair, Pump, World};
+use ring_world::{Event, Noise, Pair, Pump, World};
 use std::io::Write;
 use std::marker::Model;
 

@@ -8,7 +8,7 @@ ghost use Rattle.ring_script.specs.Fits.{AreFit};
 ghost use Rattle.ring_script.specs.Scripts.{IsAllOf, AnswersInputBy, AnswersInput};
 ghost use Rattle.ring_script.specs.declared.scripts.Script.{Script};
 ghost use Rattle.ring_report.specs.Failures.{IsOutputOrMemory};
-ghost use Rattle.ring_console.specs.Running.{Prints, IsTextOf, IsLegal, IsVerdict, legal_line};
+ghost use Rattle.ring_console.specs.Running.{Prints, run_opening, IsTextOf, IsLegal, IsVerdict, legal_line};
 
 use crate::printed::print_legal;
 use crate::run::Run;
@@ -81,10 +81,25 @@ pub fn script_of<T: Object, V: Vocabulary, R: Read, O: Write, E: Write>(
     ensures printed { result ≡ 0 → (script : Script T.Alloc) × (bytes : List ℕ) × IsAllOf (R.remaining input.old) bytes × AnswersInputBy V.forms (Ok script) bytes
         × Prints (O.contents out.old) (O.contents out.new) (IsTextOf T.sequential script.nodes is_checked script.lines.items true) }
 {
-    let script = match Script::read_by::<V, R>(alloc, input) {
-        Ok(script) => script,
-        Err(fault) => return report(err, Failure::from(fault)),
-    };
+    match Script::read_by::<V, R>(alloc, input) {
+        Ok(script) => print_run::<T, O, E>(alloc, script, is_checked, out, err),
+        Err(fault) => report(err, Failure::from(fault)),
+    }
+}
+
+/// Runs a script, as [`script_of`] does one that was read.
+fn print_run<T: Object, O: Write, E: Write>(
+    alloc: T::Alloc,
+    script: Script<T::Alloc>,
+    is_checked: bool,
+    out: &mut O,
+    err: &mut E,
+) -> u8
+    requires { AreFit script.lines.items }
+    ensures status { result ≤ 1 }
+    ensures quiet { result ≡ 0 → Keeps (E.contents err.old) (E.contents err.new) }
+    ensures printed { result ≡ 0 → Prints (O.contents out.old) (O.contents out.new) (IsTextOf T.sequential script.nodes is_checked script.lines.items true) }
+{
     match BufWriter::new(alloc, Lent { writer: out }) {
         Ok(mut buffer) => {
             let done = Run::<T>::print_script(alloc, script, is_checked, &mut buffer);
@@ -115,9 +130,28 @@ impl<O: Object> Run<O> {
             (IsTextOf O.sequential script.nodes is_checked script.lines.items is_legal)) }
         ensures failed { IfErr result IsOutputOrMemory }
     {
-        let mut run = Run::<O>::new(alloc, script.nodes)?;
-        run.take(script, out)?;
-        run.print_verdict(alloc, is_checked, out)
+        match Run::<O>::new(alloc, script.nodes) {
+            Ok(mut run) => run.print_whole(alloc, script, is_checked, out),
+            Err(fault) => Err(Failure::Refused(fault)),
+        }
+    }
+
+    /// As `print_script`, from the opening at which this run stands.
+    fn print_whole<W: Write>(
+        &mut self,
+        alloc: O::Alloc,
+        script: Script<O::Alloc>,
+        is_checked: bool,
+        out: &mut W,
+    ) -> Result<bool, Failure>
+        requires opening { self.old ≡ run_opening script.nodes }
+        requires fit { AreFit script.lines.items }
+        ensures ok { IfOk result (λ is_legal. Prints (W.contents out.old) (W.contents out.new)
+            (IsTextOf O.sequential script.nodes is_checked script.lines.items is_legal)) }
+        ensures failed { IfErr result IsOutputOrMemory }
+    {
+        self.take(script, out)?;
+        self.print_verdict(alloc, is_checked, out)
     }
 
     /// Prints whether the run is legal, where that is asked for. Answers what it printed of that, and true where it isn't asked

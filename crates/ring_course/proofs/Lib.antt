@@ -6,7 +6,9 @@
 --   life that is not sound stays so.
 -- EnteredDue: What is due as a ring is entered: the Head of the log before it, where the ring is primary.
 -- LogChanges: The committed places of a log that changes, and what is due by the calls that wait.
+-- DueBehind: What is due goes out one by one, and then all of it.
 -- Known: What is known of a log stays known, passed on to the replica.
+-- QuietHanding: What is handed on where nothing is told, passed on to the replica.
 pub mod Courses
 pub mod KnownOn
 pub mod Messages
@@ -14,4 +16,6 @@ pub mod KeptSound
 pub mod CourseGoesOn
 pub mod EnteredDue
 pub mod LogChanges
+pub mod DueBehind
 pub mod Known
+pub mod QuietHanding

@@ -27,7 +27,6 @@ use ring_wire::Message;
 use std::alloc::{AllocError, Allocator, Global};
 use std::collections::VecDeque;
 use std::marker::Model;
-use std::mem;
 
 /// A node's log as the outputs of its core come: where the exchange of its newest ring stands, how far that ring is
 /// safe, and how far the log reaches by each message that isn't safe yet. Contracts see the life that made it, what is
@@ -65,13 +64,13 @@ impl<A: Allocator + Copy + Drop> Clone for Course<A> {
             alloc: self.alloc,
             fixed: self.fixed,
             me: self.me,
-            held: self.held.clone()?,
             ring: self.ring,
-            stage: self.stage.clone()?,
             mark: self.mark,
-            reaches: copied(&self.reaches)?,
             fine: self.fine,
             life: self.life.clone()?,
+            reaches: copied(&self.reaches)?,
+            stage: self.stage.clone()?,
+            held: self.held.clone()?,
         })
     }
 }
@@ -289,7 +288,6 @@ impl<A: Allocator + Copy + Drop> Course<A> {
         ensures refused { IfErr result (λ fault. fault ≡ Memory) }
     {
         self.fine = false;
-        let life = heard(&self.life, message);
         let number = message.number;
         let setting = Setting {
             ring: self.ring,
@@ -297,21 +295,19 @@ impl<A: Allocator + Copy + Drop> Course<A> {
             me: self.me,
             committed,
         };
-        let stage = mem::replace(&mut self.stage, Stage::Apart);
-        let (stage, fits) = hear(
+        let fits = hear(
             self.alloc,
             &setting,
             pending,
-            stage,
+            &mut self.stage,
             message,
             &mut self.held,
             due,
         )?;
-        let places = reach_at(&stage, self.held.log());
+        let places = reach_at(&self.stage, self.held.log());
         self.reaches.push_back(Reach { number, places })?;
-        self.stage = stage;
         settle(&mut self.reaches, self.mark, &mut self.held);
-        self.life = life;
+        self.life = heard(&self.life, message);
         self.fine = fits;
         Ok(())
     }

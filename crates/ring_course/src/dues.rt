@@ -30,12 +30,13 @@ pub(crate) fn add_places<A: Allocator + Copy + Drop>(
     match (before, after) {
         (None, Some(wanted)) => {
             if setting.runs && wanted.owner == setting.me {
-                add_wanted(alloc, held, &wanted, due)?;
+                add_wanted(alloc, held, &wanted, due)
+            } else {
+                Ok(())
             }
         }
-        _ => {}
+        _ => Ok(()),
     }
-    Ok(())
 }
 
 /// Adds what is wanted, if it is held: the snapshot that is wanted is the one that is held, or else no place is dropped that is wanted.
@@ -54,16 +55,19 @@ fn add_wanted<A: Allocator + Copy + Drop>(
             let bytes = held.snapshot();
             if log.trimmed() == at && bytes.len() <= MOST_SNAPSHOT as usize {
                 add_snaps(alloc, at, bytes, due)?;
-                add_parts(alloc, log, wanted, due)?;
+                add_parts(alloc, log, wanted, due)
+            } else {
+                Ok(())
             }
         }
         None => {
             if log.trimmed() <= wanted.from {
-                add_parts(alloc, log, wanted, due)?;
+                add_parts(alloc, log, wanted, due)
+            } else {
+                Ok(())
             }
         }
     }
-    Ok(())
 }
 
 /// Adds the pieces of the snapshot of so many places.

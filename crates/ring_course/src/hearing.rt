@@ -20,40 +20,40 @@ use ring_session::Pending;
 use ring_wire::Message;
 use std::alloc::Allocator;
 
-/// What a message that is heard makes of what is held of the log, and of its exchange: answers where the exchange stands then, and whether
-/// the log may be so. Where it may not, the committed places stay, and nothing else is told of the log. What is to be
-/// handed to the core comes behind `due`. Refused with `Memory` alone.
+/// What a message that is heard makes of what is held of the log, and of where its exchange stands: answers whether the log may be so.
+/// Where it may not, the committed places stay, and nothing else is told of the log. What is to be handed to the core
+/// comes behind `due`. Refused with `Memory` alone.
 pub(crate) fn hear<A: Allocator + Copy + Drop>(
     alloc: A,
     setting: &Setting,
     pending: &[Pending<A>],
-    stage: Stage<A>,
+    stage: &mut Stage<A>,
     message: &Message<A>,
     held: &mut Holding<A>,
     due: &mut Vec<Payload<A>, A>,
-) -> Result<(Stage<A>, bool), Fault>
+) -> Result<bool, Fault>
     requires { is_log_length (log_length held.old.log) ≡ true }
-    ensures stage { IfOk result (λ r. r.0 ≡ (took setting.now pending.now held.old stage message.now).stage) }
-    ensures fits { IfOk result (λ r. r.1 ≡ (took setting.now pending.now held.old stage message.now).fits) }
-    ensures held { OnOk result ((took setting.now pending.now held.old stage message.now).fits ≡ true
-        → held.new ≡ (took setting.now pending.now held.old stage message.now).held) }
-    ensures due { OnOk result ((took setting.now pending.now held.old stage message.now).fits ≡ true
-        → due.new.items ≡ due.old.items ++ (took setting.now pending.now held.old stage message.now).due) }
+    ensures stage { OnOk result (stage.new ≡ (took setting.now pending.now held.old stage.old message.now).stage) }
+    ensures fits { IfOk result (λ fits. fits ≡ (took setting.now pending.now held.old stage.old message.now).fits) }
+    ensures held { OnOk result ((took setting.now pending.now held.old stage.old message.now).fits ≡ true
+        → held.new ≡ (took setting.now pending.now held.old stage.old message.now).held) }
+    ensures due { OnOk result ((took setting.now pending.now held.old stage.old message.now).fits ≡ true
+        → due.new.items ≡ due.old.items ++ (took setting.now pending.now held.old stage.old message.now).due) }
     ensures front { IsFront (committed_calls (told_log held.old)) (committed_calls (told_log held.new)) }
     ensures refused { IfErr result (λ fault. fault ≡ Memory) }
 {
     match stage {
-        Stage::Apart => Ok((Stage::Apart, true)),
-        Stage::Exchanging(mut exchange) => {
-            match exchange_on(alloc, setting, pending, &mut exchange, message, held, due)? {
-                None => Ok((Stage::Exchanging(exchange), true)),
-                Some(fits) => Ok((Stage::Adopted, fits)),
+        Stage::Apart => Ok(true),
+        Stage::Exchanging(exchange) => {
+            match exchange_on(alloc, setting, pending, exchange, message, held, due)? {
+                None => Ok(true),
+                Some(fits) => {
+                    *stage = Stage::Adopted;
+                    Ok(fits)
+                }
             }
         }
-        Stage::Adopted => {
-            let fits = append_calls(&message.payload, held)?;
-            Ok((Stage::Adopted, fits))
-        }
+        Stage::Adopted => append_calls(&message.payload, held),
     }
 }
 

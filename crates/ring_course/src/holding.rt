@@ -34,9 +34,9 @@ impl<A: Allocator + Copy> Clone for Holding<A> {
 
     fn clone(&self) -> Result<Holding<A>, AllocError> {
         Ok(Holding {
+            snapshot: self.snapshot.clone()?,
             log: self.log.clone()?,
             before: self.before.clone()?,
-            snapshot: self.snapshot.clone()?,
         })
     }
 }

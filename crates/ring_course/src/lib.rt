@@ -15,3 +15,4 @@ mod stage;
 pub use course::Course;
 pub use history::Life;
 pub use holding::Holding;
+pub use ring_rules::Input;

@@ -63,6 +63,7 @@ impl<O: Object> Driver<O> {
         ensures member { OnOk result (IsMember group number) }
         ensures refused { IfErr result (IsNotOpened group number) }
     {
+        // A law: no effect at run time. The proof takes from it that a node keeps the limits at its opening.
         node_fits_law::<O>();
         // No effect at run time. The proof reads from this call that a group has at most 16 processors.
         let _ = group.count();
@@ -87,6 +88,7 @@ impl<O: Object> Driver<O> {
         ensures err { OnErr result (self.new ≡ self.old) }
         ensures refused { IfErr result (IsRefused self.old number operation.now) }
     {
+        // A law: no effect at run time. The proof takes from it that a node keeps the limits where a call is submitted.
         node_fits_law::<O>();
         let call = Call::new(self.alloc, client, number, operation)?;
         self.node.submit(call)
@@ -126,6 +128,7 @@ impl<O: Object> Driver<O> {
         ensures err { OnErr result (self.new ≡ ended self.old) }
         ensures refused { IfErr result (λ fault. fault ≡ (if is_stopped self.old.node.core.state then StoppedFault else Memory)) }
     {
+        // A law: no effect at run time. The proof takes from it that a node keeps the limits along a step, and what it sends keeps them.
         node_fits_law::<O>();
         let outs = self.node.step(input)?;
         self.sends = VecDeque::from_vec(outs.sends);

@@ -1,5 +1,7 @@
 //! What a word of a line stands for.
 
+use ring_base::{FRAME_BYTES, MOST_PROCESSORS};
+use ring_script::{LONGEST_NAME, MOST_OPERATION, MOST_TURNS};
 use std::fmt;
 
 /// What a word stands for.
@@ -31,25 +33,16 @@ pub(crate) enum Part {
 /// The kinds of timeouts.
 pub(crate) const TIMEOUTS: [&str; 4] = ["retransmit", "join", "consensus", "loss"];
 
-/// A name has at most so many bytes.
-const LONGEST_NAME: usize = 64;
-
-/// A word of bytes has at most so many of them.
-const MOST_BYTES: usize = 8_192;
-
-/// An operation has at most so many bytes.
-const MOST_OPERATION: usize = 1_024;
-
 impl Part {
     /// The least and the greatest number that such a word may be, among so many nodes. None where it isn't a number within bounds.
     fn bounds(self, nodes: u8) -> Option<(u64, u64)> {
         match self {
-            Part::Count => Some((1, 16)),
+            Part::Count => Some((1, u64::from(MOST_PROCESSORS))),
             Part::Vote => Some((1, 255)),
             Part::Node => Some((1, u64::from(nodes))),
             Part::Client => Some((0, u64::from(u32::MAX))),
             Part::Number => Some((1, u64::MAX)),
-            Part::Turns => Some((1, 100_000)),
+            Part::Turns => Some((1, MOST_TURNS)),
             Part::Key => Some((0, 255)),
             Part::Value => Some((0, u64::MAX)),
             Part::Frame | Part::Timeout | Part::Bytes | Part::Operation | Part::Name => None,
@@ -65,7 +58,7 @@ impl Part {
         match self {
             Part::Frame => is_decimal(word) && word != "0",
             Part::Timeout => TIMEOUTS.iter().any(|kind| *kind == word),
-            Part::Bytes => are_bytes(word, MOST_BYTES),
+            Part::Bytes => are_bytes(word, FRAME_BYTES),
             Part::Operation => are_bytes(word, MOST_OPERATION),
             _ => is_name(word),
         }

@@ -7,12 +7,9 @@ use crate::nearest::{Meant, nearest};
 use crate::operation::operation_reason;
 use crate::part::{Part, TIMEOUTS, Wanted};
 use crate::shown::Shown;
-use ring_script::{Script, ScriptFault, ShelfWords, Vocabulary};
+use ring_script::{LONGEST_TEXT, Script, ScriptFault, ShelfWords, Vocabulary};
 use std::alloc::{AllocError, Global};
 use std::str::Split;
-
-/// A script has at most so many bytes.
-const LONGEST_TEXT: usize = 1_048_576;
 
 /// What is found wrong, if anything is.
 pub(crate) type Reason = Result<Option<String>, AllocError>;
@@ -25,7 +22,7 @@ pub fn reason_in(alloc: Global, text: &[u8]) -> Result<Option<String>, AllocErro
 
 /// As [`reason_in`], by the words of another object's operations.
 pub fn reason_by<V: Vocabulary>(alloc: Global, text: &[u8]) -> Result<Option<String>, AllocError> {
-    if text.len() > LONGEST_TEXT {
+    if text.len() as u64 > LONGEST_TEXT {
         return said(alloc, "the text is longer than 1048576 bytes");
     }
     match Script::parse_by::<V>(alloc, text) {

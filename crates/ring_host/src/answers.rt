@@ -58,6 +58,7 @@ impl<O: Object, K: BookName<O::Alloc>> Answers<O, K> {
         ensures kept { result ≡ kept_for self.now ticket.now.node ticket.now.ticket }
         ensures answered { IfSome result (IsAnswered O.Alloc O.sequential K.name.group ticket.now.node ticket.now.ticket) }
     {
+        // No effect at run time. The proof sees what `Answers` promises of itself only where the body reads a field.
         let _found = &self.found;
         self.kept(ticket)
     }
@@ -90,6 +91,7 @@ impl<O: Object, K: BookName<O::Alloc>> Answers<O, K> {
         ensures found { (i : ℕ) (answer : OneAnswer) → slice_get self.new.found i ≡ Some answer
             → answer_in book.now.lines ticket.now.node (ticket.now.ticket + i) ≡ Some answer }
     {
+        // A law: no effect at run time. The proof takes from it that the book's lines are a run of the group.
         book.run_law();
         self.node = ticket.node;
         self.first = ticket.ticket;

@@ -114,7 +114,7 @@ impl<C, B, A: Allocator + Copy + Drop> HostOf<C, B, A> {
         self.bell.ring();
     }
 
-    // The next task of a node: the timeout, or the first item of its inbox, whose frame is read into the place.
+    /// The next task of a node: the timeout, or the first item of its inbox, whose frame is read into the place.
     pub(crate) fn task<W: Wait>(
         &self,
         rt: &W,
@@ -197,6 +197,7 @@ impl<O: Object, K: BookName<O::Alloc>> HostOf<Cell<O, K>, Book<O, K>, O::Alloc> 
         ensures { IfSome result (IsAnswered O.Alloc O.sequential K.name.group ticket.now.node ticket.now.ticket) }
     {
         let book = take(rt, &self.book);
+        // A law: no effect at run time. The proof takes from it that the book's lines are a run of the group.
         book.run_law();
         book.answer(ticket.node, ticket.ticket)
     }

@@ -19,7 +19,7 @@ pub use gate::{Gate, GatePlace, Open, Stir};
 pub use host::{Host, HostOf, HostTicket};
 pub use item::Item;
 pub use paced::Paced;
-pub use ring_book::{Book, BookName, Opening, linear_law};
+pub use ring_book::{Book, BookName, Cause, Opening, linear_law};
 pub use ring_seat::{Gauge, Seat};
 pub use turn::Turn;
 

@@ -107,7 +107,7 @@ fn time_out<O: Object, K: BookName<O::Alloc>>(
 }
 
 impl<O: Object, K: BookName<O::Alloc>> HostOf<Cell<O, K>, Book<O, K>, O::Alloc> {
-    // A turn that tells the gate.
+    /// A turn that tells the gate.
     pub(crate) fn gated_turn<W: Wait, G: Gate>(
         &self,
         rt: &W,
@@ -194,8 +194,8 @@ impl<O: Object, K: BookName<O::Alloc>> HostOf<Cell<O, K>, Book<O, K>, O::Alloc> 
         book.reserve()
     }
 
-    // Enters the cell's line, and copies its frames into the outbox; or gives the place back. Tells how many frames the line sent.
-    // A step that memory refused is entered as a stop.
+    /// Enters the cell's line, and copies its frames into the outbox; or gives the place back. Tells how many frames the line sent.
+    /// A step that memory refused is entered as a stop.
     pub(crate) fn entered<W: Wait>(
         &self,
         rt: &W,

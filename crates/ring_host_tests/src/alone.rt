@@ -5,8 +5,7 @@ ghost use Rattle.std.specs.Prelude.{◌≡◌};
 
 use crate::driven::{Driven, done};
 use ring_base::{Fault, Fixed};
-use ring_book::{BookName, Opening};
-use ring_host::{HostTicket, INBOX, Turn};
+use ring_host::{BookName, HostTicket, INBOX, Opening, Turn};
 use ring_object::Object;
 use ring_session::Answer;
 use ring_things::Counters;

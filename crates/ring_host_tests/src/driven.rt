@@ -5,8 +5,7 @@ ghost use Rattle.ring_payload.specs.Calls.{CallFits};
 ghost use Rattle.ring_seat.specs.Seats.{IsAt};
 
 use ring_base::{Fault, Kind};
-use ring_book::{BookName, Opening};
-use ring_host::{Host, HostTicket, Open, Seat, Turn};
+use ring_host::{BookName, Host, HostTicket, Open, Opening, Seat, Turn};
 use ring_object::{Object, Reply};
 use ring_payload::Call;
 use ring_seat::Clock;

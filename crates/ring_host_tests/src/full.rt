@@ -4,8 +4,7 @@ ghost use Rattle.std.specs.Prelude.{◌≡◌};
 
 use crate::driven::Driven;
 use ring_base::{Fault, Fixed, Kind};
-use ring_book::{BookName, Opening};
-use ring_host::{HostTicket, INBOX};
+use ring_host::{BookName, HostTicket, INBOX, Opening};
 use ring_object::Object;
 use ring_things::Counters;
 use std::alloc::Global;

@@ -5,8 +5,7 @@ ghost use Rattle.ring_seat.specs.Seats.{IsAt};
 
 use crate::driven::{last_seat, pass};
 use ring_base::{Fault, Fixed, Kind, Proc};
-use ring_book::{BookName, Opening};
-use ring_host::{Gate, GatePlace, Host, Seat};
+use ring_host::{BookName, Gate, GatePlace, Host, Opening, Seat};
 use ring_object::Object;
 use ring_things::Counters;
 use std::alloc::Global;

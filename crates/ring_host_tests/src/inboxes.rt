@@ -4,7 +4,7 @@ ghost use Rattle.std.specs.Prelude.{◌≡◌, ◌≤◌};
 
 use crate::driven::{Driven, done};
 use ring_base::{Fault, Fixed, Kind};
-use ring_book::{BookName, Opening};
+use ring_host::{BookName, Opening};
 use ring_object::Object;
 use ring_session::Answer;
 use ring_things::Counters;

@@ -1,10 +1,8 @@
 -- Consensus is of those that said exactly the sets of the node.
 use Rattle.std.proofs.Common.{◌≡◌, ℕ, zero, suc, ◌<◌, ◌≤◌, true, inl, inr, List, [], ◌∷◌, length, refl, sym, ap, ◌∙◌, arith, Bool, false, if◌then◌else◌}
-use Rattle.std.specs.Prelude.{slice_index_or}
-use Rattle.std.specs.Prelude.{◌↔◌}
+use Rattle.std.specs.Prelude.{slice_index_or, ◌↔◌}
 use Rattle.std.specs.List.{AllByRecursion, Any}
-use Rattle.ring_base.specs.Processors.{IsMember, only}
-use Rattle.ring_base.specs.Members.{nobody_member, only_members, union_members, within_members}
+use Rattle.ring_wire.specs.Base.{IsMember, only, nobody_member, only_members, union_members, within_members}
 use Rattle.ring_wire.specs.declared.join.Join.{Join}
 use Rattle.ring_join.specs.Gathering.{Gathering, SaysSame, senders, agreeing, candidates, has_consensus, HasConsensus, AllSaySame, AllAreProcs}
 use Rattle.ring_join.specs.Gathering.{is_unheard, has_same_sets, has_smaller_sets, hearing}

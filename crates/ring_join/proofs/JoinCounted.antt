@@ -2,7 +2,7 @@
 use Rattle.std.proofs.Common.{◌≡◌, ℕ, ◌≤◌, max, true, List, [], ◌∷◌, eqb-true, ap, arith}
 use Rattle.std.specs.List.{AllByRecursion}
 use Rattle.std.proofs.lemmas.Bool.{and_parts}
-use Rattle.ring_base.specs.Processors.{only, union}
+use Rattle.ring_wire.specs.Base.{only, union}
 use Rattle.ring_wire.specs.declared.join.Join.{Join}
 use Rattle.ring_join.specs.Gathering.{Gathering, has_same_sets, agreed, SaysSame}
 use Rattle.ring_join.specs.Gatherers.{IsCounted}

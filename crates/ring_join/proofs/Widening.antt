@@ -2,10 +2,10 @@
 use Rattle.std.proofs.Common.{◌≡◌, ℕ, zero, suc, true, false, inl, inr, refl, sym, subst, ◌∙◌, arith}
 use Rattle.std.specs.Prelude.{◌&&◌}
 use Rattle.std.proofs.lemmas.Bool.{cases_Bool, cond_both, cond-true, cond-false, or_parts, both_ways}
-use Rattle.ring_base.specs.Processors.{IsMember, only, has, within, union}
-use Rattle.ring_base.specs.Members.{union_members, within_members, only_members, has_member}
+use Rattle.ring_wire.specs.Base.{IsMember, only, has, within, union, union_members, within_members, only_members, has_member}
 use Rattle.ring_wire.specs.declared.join.Join.{Join}
-use Rattle.ring_join.specs.Gathering.{Gathering, Ignored, Agrees, Widens, has_same_sets, has_smaller_sets, is_unheard, hearing, agreed, widened_sets, widened}
+use Rattle.ring_join.specs.Gathering.{Gathering, Ignored, Agrees, Widens, has_same_sets, has_smaller_sets, is_unheard, hearing, agreed}
+use Rattle.ring_join.specs.Gathering.{widened_sets, widened}
 use Rattle.ring_join.specs.Gatherers.{HasSetsOf}
 
 -- what a set's union with another is no greater than the set, the set holds

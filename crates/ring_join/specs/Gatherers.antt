@@ -1,6 +1,6 @@
 -- A node in Gather as contracts see it, and what its code keeps of the joins that it heard: Gather, rules 2, 3 and 14 of docs/PROTOCOL.md.
 use Rattle.std.specs.Prelude.{◌≡◌, ℕ, List, map}
-use Rattle.ring_base.specs.Numbers.{greatest}
+use Rattle.ring_wire.specs.Base.{greatest}
 use Rattle.ring_wire.specs.declared.join.Join.{Join}
 use Rattle.ring_join.specs.Gathering.{Gathering, senders, AllSaySame, AllAreProcs}
 

@@ -1,8 +1,7 @@
 -- Gather, rules 1 to 10 of docs/PROTOCOL.md: the two sets of a node, the joins that it hears, who agrees, giving up, consensus, and who proposes.
 use Rattle.std.specs.Prelude.{◌≡◌, ℕ, suc, max, Bool, ◌&&◌, ◌||◌, ◌==◌, nat_le, ◌≤◌, if◌then◌else◌, ◌⊎◌, List, [], ◌∷◌, map}
 use Rattle.std.specs.List.{AllByRecursion, Any}
-use Rattle.ring_base.specs.Numbers.{max_number, greatest}
-use Rattle.ring_base.specs.Processors.{IsMember, nobody, only, has, within, union, less, smallest}
+use Rattle.ring_wire.specs.Base.{max_number, greatest, IsMember, nobody, only, has, within, union, less, smallest}
 use Rattle.ring_wire.specs.declared.join.Join.{Join}
 pub use Rattle.ring_join.specs.declared.hearing.Hearing.{Hearing}
 pub use Rattle.ring_join.specs.declared.hearing.Hearing.TheVariants.{Ignored, Agrees, Widens}

@@ -1,16 +1,14 @@
 //! A node in Gather.
 
 ghost use Rattle.std.specs.Prelude.{◌≡◌, ◌↔◌, true, [], IsTrue, IsSome, IfSome};
-ghost use Rattle.ring_base.specs.Processors.{IsMember};
+ghost use Rattle.ring_wire.specs.Base.{IsMember};
 ghost use Rattle.ring_join.specs.declared.hearing.Hearing.TheVariants.{Widens};
-ghost use Rattle.ring_join.specs.Gathering.{entered, hearing, has_same_sets, agreed, widened_sets, widened, heard_as};
-ghost use Rattle.ring_join.specs.Gathering.{given_up, candidates, agreeing, has_consensus, HasConsensus};
-ghost use Rattle.ring_join.specs.Gathering.{greatest_known, own_join};
+ghost use Rattle.ring_join.specs.Gathering.{entered, hearing, has_same_sets, agreed, widened_sets, widened, heard_as, given_up, candidates};
+ghost use Rattle.ring_join.specs.Gathering.{agreeing, has_consensus, HasConsensus, greatest_known, own_join};
 ghost use Rattle.ring_join.specs.Gatherers.{HasSetsOf};
 
 use crate::hearing::Hearing;
-use ring_base::{Past, Proc, ProcSet, past_of};
-use ring_wire::Join;
+use ring_wire::{Join, Past, Proc, ProcSet, past_of};
 use std::alloc::AllocError;
 use std::marker::Model;
 
@@ -135,6 +133,7 @@ impl Gather {
         ensures test { IsSome result ↔ (has_consensus self.now.me self.now.gathering ≡ true) }
         ensures consensus { IsSome result ↔ HasConsensus self.now.me self.now.gathering }
     {
+        // No effect at run time. The proof sees what `Gather` promises of itself only where the body reads a field.
         let _counted = &self.heard;
         let members = self.candidates();
         members.is_subset(self.agreeing()).then_some(members)

@@ -1,5 +1,8 @@
+pub mod Base
 pub mod Cases
+pub mod Faults
 pub mod Formats
+pub mod Fronts
 pub mod NumberFormats
 pub mod Processors
 pub mod Reading

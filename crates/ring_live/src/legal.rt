@@ -25,6 +25,7 @@ fn explained<O: Object, K: BookName<O::Alloc>>(book: &Book<O, K>) -> Result<Seen
     ensures ok { IfOk result (λ seen. IsLinearization O.sequential seen.order.items seen.history.items) }
     ensures refused { IfErr result (λ fault. fault ≡ Memory) }
 {
+    // Laws: no effect at run time. The proof takes from them that the book's lines are a run, whose order explains its history.
     book.run_law();
     linear_law::<O>();
     let order = book.order()?;

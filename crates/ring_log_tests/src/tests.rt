@@ -4,8 +4,7 @@ use refusing_alloc::{Refusing, refuse_in_turn};
 use ring_base::{Fault, Proc, ProcSet, RingId};
 use ring_log::{Adoption, Base, Exchange, Log, Snapshot, Wanted, pieces_of};
 use ring_payload::{Call, Calls, Head, Part, Payload, Snap};
-use std::alloc::{AllocError, Allocator};
-use std::test::Fail;
+use std::alloc::{AllocError, Allocator, Global};
 
 /// Processors 1 to 3.
 fn three() -> ProcSet {
@@ -23,12 +22,33 @@ fn head<A: Allocator + Copy>(last: u64, length: u64, committed: u64) -> Payload<
     })
 }
 
+/// Appends client 7's call of this number.
+fn push_call<A: Allocator + Copy>(
+    alloc: A,
+    calls: &mut Vec<Call<A>, A>,
+    number: u64,
+) -> Result<(), Fault> {
+    calls.push(Call::new(alloc, 7, number, &[1, 1])?)?;
+    Ok(())
+}
+
+/// Appends those of numbers in a row.
+fn push_calls<A: Allocator + Copy>(
+    alloc: A,
+    calls: &mut Vec<Call<A>, A>,
+    first: u64,
+    end: u64,
+) -> Result<(), Fault> {
+    for number in first..end {
+        push_call(alloc, calls, number)?;
+    }
+    Ok(())
+}
+
 /// Client 7's calls of numbers in a row.
 fn calls<A: Allocator + Copy>(alloc: A, first: u64, end: u64) -> Result<Calls<A>, Fault> {
     let mut calls = Vec::new(alloc);
-    for number in first..end {
-        calls.push(Call::new(alloc, 7, number, &[1, 1])?)?;
-    }
+    push_calls(alloc, &mut calls, first, end)?;
     Ok(Calls::from_vec(calls))
 }
 
@@ -70,6 +90,16 @@ fn goes_on<A: Allocator + Copy>(
     Ok(heard(exchange, sender, payload, refused)?.is_none())
 }
 
+/// The same of a payload that is a Head.
+fn states<A: Allocator + Copy>(
+    exchange: &mut Exchange<A>,
+    sender: u8,
+    head: Payload<A>,
+    refused: &mut u64,
+) -> Result<bool, Fault> {
+    goes_on(exchange, sender, &head, refused)
+}
+
 /// Hears Heads, each of a sender, of its last primary, its length and how much of it is committed. Whether it goes on after
 /// each.
 fn states_all<A: Allocator + Copy>(
@@ -79,7 +109,7 @@ fn states_all<A: Allocator + Copy>(
 ) -> Result<bool, Fault> {
     for (sender, last, length, committed) in heads {
         let head = head(*last, *length, *committed);
-        if !goes_on(exchange, *sender, &head, refused)? {
+        if !states(exchange, *sender, head, refused)? {
             return Ok(false);
         }
     }
@@ -104,15 +134,14 @@ fn wants_anew<A: Allocator + Copy>(alloc: A) -> Result<(bool, [Option<Wanted>; 2
 }
 
 #[test]
-fn longer_log_of_an_older_primary_loses(rt: HostRuntime) -> Result<(), Fail> {
+fn longer_log_of_an_older_primary_loses(rt: HostRuntime) {
     let wanted = Wanted {
         owner: Proc::new(2),
         snapshot: None,
         from: 0,
         to: 2,
     };
-    assert!(rt; wants_anew(rt.alloc())? == (true, [None, Some(wanted)]));
-    Ok(())
+    assert!(rt; wants_anew(rt.alloc()) == Ok((true, [None, Some(wanted)])));
 }
 
 /// Each of three Heads is heard: the places 9 to 19 of processor 1's log are wanted.
@@ -170,12 +199,11 @@ fn brought<A: Allocator + Copy>(heap: A, refused: &mut u64) -> Result<Option<Bas
 
 /// Appends client 7's calls of the numbers before this one.
 fn append_before<A: Allocator + Copy>(heap: A, log: &mut Log<A>, end: u64) -> Result<(), Fault> {
-    let mut calls = Vec::new(heap);
-    for number in 1..end {
-        calls.push(Call::new(heap, 7, number, &[1, 1])?)?;
+    let calls = calls(heap, 1, end)?;
+    match log.append_all(calls.as_slice()) {
+        Ok(_) => Ok(()),
+        Err(fault) => Err(fault),
     }
-    log.append_all(calls.as_slice())?;
-    Ok(())
 }
 
 /// Adopts the base with ring 12.1 as last primary. Whether there is one, and the log keeps its own places below it.
@@ -184,9 +212,10 @@ fn adopts<A: Allocator + Copy>(log: &mut Log<A>, base: Option<Base<A>>) -> Resul
         return Ok(false);
     };
     let rep = Proc::new(1);
-    match log.adopt(RingId { seq: 12, rep }, base)? {
-        Adoption::Joined => Ok(true),
-        Adoption::Refused | Adoption::Restored(_, _) => Ok(false),
+    match log.adopt(RingId { seq: 12, rep }, base) {
+        Ok(Adoption::Joined) => Ok(true),
+        Ok(Adoption::Refused | Adoption::Restored(_, _)) => Ok(false),
+        Err(fault) => Err(fault),
     }
 }
 
@@ -196,9 +225,9 @@ fn catches_up<A: Allocator + Copy>(
     log: &mut Log<A>,
     refused: &mut u64,
 ) -> Result<bool, Fault> {
-    let base = brought(heap, refused)?;
     append_before(heap, log, 10)?;
     log.commit_upto(9);
+    let base = brought(heap, refused)?;
     adopts(log, base)
 }
 
@@ -224,14 +253,18 @@ fn has_twenty<A: Allocator + Copy>(log: &Log<A>) -> bool {
     place == 20 && log.length() == 20
 }
 
-/// The first places of the Parts of a log that are wanted, and how many places each has.
-fn sizes<A: Allocator + Copy>(alloc: A, log: &Log<A>) -> Result<Vec<(u64, usize), A>, Fault> {
+/// The first place of a Part, and how many places it has.
+fn size<A: Allocator + Copy>(part: &Part<A>) -> (u64, usize) {
+    (part.first, part.calls.as_slice().len())
+}
+
+/// The same of the Parts of a log that are wanted, if these are two.
+fn sizes<A: Allocator + Copy>(alloc: A, log: &Log<A>) -> Result<Option<[(u64, usize); 2]>, Fault> {
     let parts = log.parts(alloc, &wanted())?;
-    let mut sizes = Vec::new(alloc);
-    for part in parts.as_slice() {
-        sizes.push((part.first, part.calls.as_slice().len()))?;
-    }
-    Ok(sizes)
+    Ok(match parts.as_slice() {
+        [first, second] => Some([size(first), size(second)]),
+        _ => None,
+    })
 }
 
 /// How much of the log is committed, and its Head's three lengths, once it was committed up to 16 and then less.
@@ -249,26 +282,24 @@ fn committed<A: Allocator + Copy>(log: &mut Log<A>) -> (usize, u64, u64, u64) {
 
 /// What a log comes to that catches up: whether it has its twenty places, how much of it is committed and its Head's lengths, and
 /// the sizes of its Parts.
-type CaughtUp<A> = (bool, (usize, u64, u64, u64), Vec<(u64, usize), A>);
+type CaughtUp = (bool, (usize, u64, u64, u64), Option<[(u64, usize); 2]>);
 
 /// What this log comes to.
-fn caught_up<A: Allocator + Copy>(heap: A, log: &mut Log<A>) -> Result<CaughtUp<A>, Fault> {
+fn caught_up<A: Allocator + Copy>(heap: A, log: &mut Log<A>) -> Result<CaughtUp, Fault> {
     let is_whole = catches_up(heap, log, &mut 0)? && has_twenty(log);
     Ok((is_whole, committed(log), sizes(heap, log)?))
 }
 
 /// What a new log comes to.
-fn caught_up_anew<A: Allocator + Copy>(heap: A) -> Result<CaughtUp<A>, Fault> {
+fn caught_up_anew<A: Allocator + Copy>(heap: A) -> Result<CaughtUp, Fault> {
     let mut log = Log::new(heap);
     caught_up(heap, &mut log)
 }
 
 #[test]
-fn wanted_places_make_the_log(rt: HostRuntime) -> Result<(), Fail> {
-    let (is_whole, committed, sizes) = caught_up_anew(rt.alloc())?;
-    assert!(rt; is_whole && committed == (16, 20, 16, 0));
-    assert!(rt; sizes.as_slice() == [(9, 7), (16, 4)].as_slice());
-    Ok(())
+fn wanted_places_make_the_log(rt: HostRuntime) {
+    let sizes = Some([(9, 7), (16, 4)]);
+    assert!(rt; caught_up_anew(rt.alloc()) == Ok((true, (16, 20, 16, 0), sizes)));
 }
 
 /// Whether a log may adopt a base that keeps so many of its places and has these of client 7's calls behind them.
@@ -306,9 +337,8 @@ fn may_adopt_four_anew<A: Allocator + Copy>(alloc: A) -> Result<[bool; 4], Fault
 
 /// The second has another call at a committed place, the third ends before it, and the fourth keeps a place that isn't committed.
 #[test]
-fn base_that_drops_committed_places_is_told(rt: HostRuntime) -> Result<(), Fail> {
-    assert!(rt; may_adopt_four_anew(rt.alloc())? == [true, false, false, false]);
-    Ok(())
+fn base_that_drops_committed_places_is_told(rt: HostRuntime) {
+    assert!(rt; may_adopt_four_anew(rt.alloc()) == Ok([true, false, false, false]));
 }
 
 /// In how many Parts the owner sends what is wanted of the log that caught up, none where it may not.
@@ -327,29 +357,6 @@ fn parts_of<A: Allocator + Copy>(
 fn parted<A: Allocator + Copy>(heap: A, refused: &mut u64) -> Result<usize, Fault> {
     let mut log = Log::new(heap);
     parts_of(heap, &mut log, refused)
-}
-
-/// What `refuse_in_turn` asks: an error where a request was refused. Then it is a payload that is heard again, or the end of
-/// all; where this was wrong, the other answer.
-fn parted_or_refused(heap: &Refusing) -> Result<(), AllocError> {
-    let mut refused = 0;
-    let parts = parted(heap, &mut refused);
-    let is_right = match (parts, heap.has_refused()) {
-        (Ok(2), is_refused) => refused == u64::from(is_refused),
-        (Err(Fault::Memory), true) => refused == 0,
-        _ => false,
-    };
-    if is_right == heap.has_refused() {
-        Err(AllocError)
-    } else {
-        Ok(())
-    }
-}
-
-#[test]
-fn each_request_is_refused_in_turn(rt: HostRuntime) {
-    let requests = refuse_in_turn(rt.alloc(), &|heap: &Refusing| parted_or_refused(heap));
-    assert!(rt; requests > Some(6));
 }
 
 /// A Head of a log of which processor 1 had dropped the first 256 places, last in ring 4.1.
@@ -379,9 +386,9 @@ fn states_trimmed<A: Allocator + Copy>(
     refused: &mut u64,
 ) -> Result<bool, Fault> {
     Ok(
-        goes_on(exchange, 1, &trimmed_head(300, 290), refused)?
-            && goes_on(exchange, 2, &trimmed_head(298, 290), refused)?
-            && goes_on(exchange, 3, &no_head(), refused)?,
+        states(exchange, 1, trimmed_head(300, 290), refused)?
+            && states(exchange, 2, trimmed_head(298, 290), refused)?
+            && states(exchange, 3, no_head(), refused)?,
     )
 }
 
@@ -400,23 +407,28 @@ fn wants_of_trimmed_anew<A: Allocator + Copy>(alloc: A) -> Result<(bool, Option<
 }
 
 #[test]
-fn snapshot_is_wanted_where_places_were_dropped(rt: HostRuntime) -> Result<(), Fail> {
+fn snapshot_is_wanted_where_places_were_dropped(rt: HostRuntime) {
     let wanted = Wanted {
         owner: Proc::new(1),
         snapshot: Some(256),
         from: 256,
         to: 300,
     };
-    assert!(rt; wants_of_trimmed_anew(rt.alloc())? == (true, Some(wanted)));
-    Ok(())
+    assert!(rt; wants_of_trimmed_anew(rt.alloc()) == Ok((true, Some(wanted))));
 }
 
-/// Bytes whose values go round.
-fn bytes<A: Allocator + Copy>(alloc: A, count: usize) -> Result<Vec<u8, A>, Fault> {
-    let mut bytes = Vec::new(alloc);
+/// Appends so many bytes, whose values go round.
+fn push_bytes<A: Allocator + Copy>(bytes: &mut Vec<u8, A>, count: usize) -> Result<(), Fault> {
     for place in 0..count {
         bytes.push((place % 251) as u8)?;
     }
+    Ok(())
+}
+
+/// Such bytes.
+fn bytes<A: Allocator + Copy>(alloc: A, count: usize) -> Result<Vec<u8, A>, Fault> {
+    let mut bytes = Vec::new(alloc);
+    push_bytes(&mut bytes, count)?;
     Ok(bytes)
 }
 
@@ -427,16 +439,28 @@ fn pieces<A: Allocator + Copy>(alloc: A, count: usize) -> Result<Vec<Snap<A>, A>
     pieces_of(alloc, 256, &bytes.as_slice()[..most])
 }
 
-/// Where the pieces of so many bytes begin, how long each is, and how many bytes each says there are in all.
-fn cuts<A: Allocator + Copy>(alloc: A, count: usize) -> Result<Vec<(u32, usize, u32), A>, Fault> {
-    let mut cuts = Vec::new(alloc);
-    for piece in pieces(alloc, count)? {
-        cuts.push((piece.offset, piece.bytes.as_slice().len(), piece.total))?;
+/// A cut of a snapshot: where each piece begins, its bytes, and the bytes in all.
+type Cut = &'static [(u32, usize, u32)];
+
+/// Whether the pieces are cut so.
+fn are_cut<A: Allocator + Copy>(pieces: &[Snap<A>], cut: Cut) -> bool {
+    let mut at = 0usize;
+    for piece in pieces {
+        let told = (piece.offset, piece.bytes.as_slice().len(), piece.total);
+        if cut.get(at) != Some(&told) {
+            return false;
+        }
+        at = at.wrapping_add(1);
     }
-    Ok(cuts)
+    at == cut.len()
 }
 
-/// A cut of each of three snapshots: where each piece begins, its bytes, and the bytes in all.
+/// Whether the pieces of so many bytes are.
+fn is_cut<A: Allocator + Copy>(alloc: A, count: usize, cut: Cut) -> Result<bool, Fault> {
+    let pieces = pieces(alloc, count)?;
+    Ok(are_cut(pieces.as_slice(), cut))
+}
+
 const ONE_PIECE: [(u32, usize, u32); 1] = [(0, 45, 45)];
 
 const WHOLE_PIECES: [(u32, usize, u32); 2] = [(0, 7_000, 14_000), (7_000, 7_000, 14_000)];
@@ -447,19 +471,45 @@ const LAST_SHORT: [(u32, usize, u32); 3] = [
     (14_000, 3, 14_003),
 ];
 
+/// Three snapshots, by their bytes, and how they are cut.
+const CUTS: [(usize, Cut); 3] = [
+    (45, &ONE_PIECE),
+    (14_000, &WHOLE_PIECES),
+    (14_003, &LAST_SHORT),
+];
+
 #[test]
-fn pieces_have_7000_bytes(rt: HostRuntime) -> Result<(), Fail> {
-    assert!(rt; cuts(rt.alloc(), 45)?.as_slice() == ONE_PIECE.as_slice());
-    assert!(rt; cuts(rt.alloc(), 14_000)?.as_slice() == WHOLE_PIECES.as_slice());
-    assert!(rt; cuts(rt.alloc(), 14_003)?.as_slice() == LAST_SHORT.as_slice());
-    Ok(())
+fn pieces_have_7000_bytes(rt: HostRuntime) {
+    for (count, cut) in CUTS {
+        assert!(rt; is_cut(rt.alloc(), count, cut) == Ok(true), "{count}");
+    }
 }
 
 /// The first places of the Parts behind the snapshot, but for the last.
 const PARTS_BEHIND: [u64; 6] = [256, 263, 270, 277, 284, 291];
 
-/// Hears the snapshot of so many bytes in pieces, and before each a Part that is too early; and then six of seven Parts.
-/// Whether it goes on after each.
+/// Hears a Part that is too early, and then this piece. Whether it goes on after each.
+fn hears_late<A: Allocator + Copy>(
+    heap: A,
+    exchange: &mut Exchange<A>,
+    piece: &Payload<A>,
+    refused: &mut u64,
+) -> Result<bool, Fault> {
+    Ok(goes_past(heap, exchange, (1, 256, 7), refused)? && goes_on(exchange, 1, piece, refused)?)
+}
+
+/// The same of the piece as a payload.
+fn hears_piece<A: Allocator + Copy>(
+    heap: A,
+    exchange: &mut Exchange<A>,
+    piece: Snap<A>,
+    refused: &mut u64,
+) -> Result<bool, Fault> {
+    let piece = Payload::Snap(piece);
+    hears_late(heap, exchange, &piece, refused)
+}
+
+/// Hears the snapshot of so many bytes in pieces, and before each a Part that is too early. Whether it goes on after each.
 fn hears_pieces<A: Allocator + Copy>(
     heap: A,
     exchange: &mut Exchange<A>,
@@ -467,18 +517,40 @@ fn hears_pieces<A: Allocator + Copy>(
     refused: &mut u64,
 ) -> Result<bool, Fault> {
     for piece in pieces(heap, count)? {
-        if !goes_past(heap, exchange, (1, 256, 7), refused)?
-            || !goes_on(exchange, 1, &Payload::Snap(piece), refused)?
-        {
-            return Ok(false);
+        match hears_piece(heap, exchange, piece, refused) {
+            Ok(true) => {}
+            answer => return answer,
         }
     }
+    Ok(true)
+}
+
+/// Hears six of seven Parts. Whether it goes on after each.
+fn hears_parts<A: Allocator + Copy>(
+    heap: A,
+    exchange: &mut Exchange<A>,
+    refused: &mut u64,
+) -> Result<bool, Fault> {
     for first in PARTS_BEHIND {
         if !goes_past(heap, exchange, (1, first, 7), refused)? {
             return Ok(false);
         }
     }
     Ok(true)
+}
+
+/// Hears the Heads, a snapshot of so many bytes and six of seven Parts. Whether it goes on after each.
+fn waits_behind<A: Allocator + Copy>(
+    heap: A,
+    exchange: &mut Exchange<A>,
+    count: usize,
+    refused: &mut u64,
+) -> Result<bool, Fault> {
+    Ok(
+        states_trimmed(exchange, refused)?
+            && hears_pieces(heap, exchange, count, refused)?
+            && hears_parts(heap, exchange, refused)?,
+    )
 }
 
 /// The base that the Heads, a snapshot of so many bytes and seven Parts bring to an exchange.
@@ -488,7 +560,7 @@ fn behind<A: Allocator + Copy>(
     count: usize,
     refused: &mut u64,
 ) -> Result<Option<Base<A>>, Fault> {
-    if !states_trimmed(exchange, refused)? || !hears_pieces(heap, exchange, count, refused)? {
+    if !waits_behind(heap, exchange, count, refused)? {
         return Ok(None);
     }
     let last = part(heap, 298, 2)?;
@@ -527,13 +599,14 @@ fn is_restored<A: Allocator + Copy>(
     wanted: &[u8],
 ) -> Result<bool, Fault> {
     let rep = Proc::new(1);
-    match log.adopt(RingId { seq: 9, rep }, base)? {
-        Adoption::Restored(snapshot, before) => {
+    match log.adopt(RingId { seq: 9, rep }, base) {
+        Ok(Adoption::Restored(snapshot, before)) => {
             let was_empty = lengths(&before) == (0, 0, 0);
             let is_same = snapshot.as_slice() == wanted && log.calls().len() == 44;
             Ok(was_empty && is_same && lengths(log) == (256, 256, 300))
         }
-        Adoption::Refused | Adoption::Joined => Ok(false),
+        Ok(Adoption::Refused | Adoption::Joined) => Ok(false),
+        Err(fault) => Err(fault),
     }
 }
 
@@ -568,18 +641,38 @@ fn brings_behind<A: Allocator + Copy>(
 }
 
 #[test]
-fn snapshot_and_places_make_the_base(rt: HostRuntime) -> Result<(), Fail> {
+fn snapshot_and_places_make_the_base(rt: HostRuntime) {
     for count in [45, 7_000, 14_003] {
-        assert!(rt; brings_behind(rt.alloc(), count, &mut 0)?, "{count}");
+        assert!(rt;
+            brings_behind(rt.alloc(), count, &mut 0) == Ok(true),
+            "{count}"
+        );
     }
-    Ok(())
 }
 
-/// What `refuse_in_turn` asks of the exchange with a snapshot in two pieces.
-fn behind_or_refused(heap: &Refusing) -> Result<(), AllocError> {
+/// Work that takes memory.
+#[derive(Clone, Copy)]
+enum Work {
+    /// A log catches up, and is sent in Parts.
+    Parts,
+    /// An exchange brings a snapshot in two pieces.
+    Snapshot,
+}
+
+/// Whether the work comes out right.
+fn is_done(heap: &Refusing, work: Work, refused: &mut u64) -> Result<bool, Fault> {
+    match work {
+        Work::Parts => Ok(parted(heap, refused)? == 2),
+        Work::Snapshot => brings_behind(heap, 7_001, refused),
+    }
+}
+
+/// What `refuse_in_turn` asks: an error where a request was refused. Then it is a payload that is heard again, or the end of
+/// all; where this was wrong, the other answer.
+fn done_or_refused(heap: &Refusing, work: Work) -> Result<(), AllocError> {
     let mut refused = 0;
-    let brings = brings_behind(heap, 7_001, &mut refused);
-    let is_right = match (brings, heap.has_refused()) {
+    let done = is_done(heap, work, &mut refused);
+    let is_right = match (done, heap.has_refused()) {
         (Ok(true), is_refused) => refused == u64::from(is_refused),
         (Err(Fault::Memory), true) => refused == 0,
         _ => false,
@@ -591,10 +684,15 @@ fn behind_or_refused(heap: &Refusing) -> Result<(), AllocError> {
     }
 }
 
+/// How often the work asks for memory, each time refused once.
+fn requests_of(alloc: Global, work: Work) -> Option<u64> {
+    refuse_in_turn(alloc, &|heap: &Refusing| done_or_refused(heap, work))
+}
+
 #[test]
-fn each_request_of_a_snapshot_is_refused_in_turn(rt: HostRuntime) {
-    let requests = refuse_in_turn(rt.alloc(), &|heap: &Refusing| behind_or_refused(heap));
-    assert!(rt; requests > Some(20));
+fn each_request_is_refused_in_turn(rt: HostRuntime) {
+    assert!(rt; requests_of(rt.alloc(), Work::Parts) > Some(6));
+    assert!(rt; requests_of(rt.alloc(), Work::Snapshot) > Some(20));
 }
 
 /// How many calls leave a log, and what it is then; nothing where it isn't ripe.
@@ -617,13 +715,19 @@ fn left<A: Allocator + Copy>(heap: A, committed: u64) -> Result<Left, Fault> {
     leaves(heap, &mut log, committed)
 }
 
+/// How much is committed, and what leaves then.
+const LEFT: [(u64, Left); 3] = [
+    (255, None),
+    (256, Some((256, (256, 256, 300)))),
+    (299, Some((299, (299, 299, 300)))),
+];
+
 /// 256 committed places are dropped, and no fewer.
 #[test]
-fn committed_places_leave(rt: HostRuntime) -> Result<(), Fail> {
-    assert!(rt; left(rt.alloc(), 255)? == None);
-    assert!(rt; left(rt.alloc(), 256)? == Some((256, (256, 256, 300))));
-    assert!(rt; left(rt.alloc(), 299)? == Some((299, (299, 299, 300))));
-    Ok(())
+fn committed_places_leave(rt: HostRuntime) {
+    for (committed, told) in LEFT {
+        assert!(rt; left(rt.alloc(), committed) == Ok(told), "{committed}");
+    }
 }
 
 /// A base from place 250 on, with a snapshot before it.
@@ -653,7 +757,6 @@ fn keeps_dropped_anew<A: Allocator + Copy>(heap: A) -> Result<bool, Fault> {
 }
 
 #[test]
-fn dropped_places_are_left_out(rt: HostRuntime) -> Result<(), Fail> {
-    assert!(rt; keeps_dropped_anew(rt.alloc())?);
-    Ok(())
+fn dropped_places_are_left_out(rt: HostRuntime) {
+    assert!(rt; keeps_dropped_anew(rt.alloc()) == Ok(true));
 }

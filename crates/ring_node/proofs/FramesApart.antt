@@ -12,8 +12,7 @@ use Rattle.ring_core.specs.Giving.{send_of}
 use Rattle.ring_srp.specs.Given.{IsGiven}
 use Rattle.ring_log.specs.Stays.{Stay}
 use Rattle.ring_log.specs.Kept.{kept_of, is_kept_sound}
-use Rattle.ring_rules.specs.Lives.{lived_through}
-use Rattle.ring_rules.specs.Nodes.{is_restored}
+use Rattle.ring_replica.specs.NodeRules.{lived_through, is_restored}
 use Rattle.ring_replica.specs.Courses.{Moment, dues_by, rises}
 use Rattle.ring_replica.specs.Replicas.{Replica, ReplicaStepped, moment_of, replica_settled, replica_step}
 use Rattle.ring_node.specs.Given.{sending}

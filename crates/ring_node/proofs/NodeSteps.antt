@@ -1,6 +1,6 @@
 -- A node's step and submit, by its core and its replica.
-use Rattle.std.proofs.Common.{◌≡◌, ℕ, inl, inr, nat_le, Result, Ok, Err, IfErr, if◌then◌else◌, Bool, true, false, ◌&&◌}
-use Rattle.std.proofs.Common.{List, [], ◌∷◌, ◌++◌, length, Option, Some, None, refl, ap, sym, ◌∙◌, subst, append-nil}
+use Rattle.std.proofs.Common.{◌≡◌, ℕ, inl, inr, nat_le, Result, Ok, Err, IfErr, if◌then◌else◌, Bool, true, false, ◌&&◌, List, [], ◌∷◌, ◌++◌, length}
+use Rattle.std.proofs.Common.{Option, Some, None, refl, ap, sym, ◌∙◌, subst, append-nil}
 use Rattle.std.specs.Prelude.{nat_lt, OnOk}
 use Rattle.std.proofs.lemmas.Bool.{cases_Bool, cond-true, cond-false}
 use Rattle.ring_base.specs.Numbers.{max_number}
@@ -21,13 +21,12 @@ use Rattle.ring_log.specs.Stays.{Stay, hands, trims}
 use Rattle.ring_log.specs.Kept.{Kept, kept_of, is_kept_sound}
 use Rattle.ring_log.proofs.CommittedOf.{hands-kept}
 use Rattle.ring_replica.specs.Sessions.{Answered, unanswered}
-use Rattle.ring_rules.specs.Lives.{lived_through}
-use Rattle.ring_rules.specs.Nodes.{Node, node_kept, node_pending, node_stopped, is_stopped, is_closed, is_restored}
-use Rattle.ring_rules.specs.Stepping.{NodeStepped, handed_over, drops, after_core, submit_fault}
+use Rattle.ring_replica.specs.NodeRules.{lived_through, Node, node_kept, node_pending, node_stopped, is_stopped, is_closed, is_restored}
+use Rattle.ring_replica.specs.NodeRules.{NodeStepped, handed_over, drops, after_core, submit_fault}
 use Rattle.ring_replica.specs.Courses.{handed_if, dues_by, rises, IsSteady}
-use Rattle.ring_replica.specs.Replicas.{Replica, ReplicaStepped, replica_stopped, replica_done, replica_ended, node_by}
-use Rattle.ring_replica.specs.Replicas.{replica_settled, replica_step, replica_of, running_of, moment_of, node_unless}
-use Rattle.ring_replica.specs.Replicas.{submit_refusal, has_adopted_running, replica_given, restored_since, IsDone, Rests, replica_still}
+use Rattle.ring_replica.specs.Replicas.{Replica, ReplicaStepped, replica_stopped, replica_done, replica_ended, node_by, replica_settled}
+use Rattle.ring_replica.specs.Replicas.{replica_step, replica_of, running_of, moment_of, node_unless, submit_refusal, has_adopted_running}
+use Rattle.ring_replica.specs.Replicas.{replica_given, restored_since, IsDone, Rests, replica_still}
 use Rattle.ring_replica.proofs.Nodes.{step-is, refused-is}
 use Rattle.ring_replica.proofs.Courses.{never-less}
 use Rattle.ring_replica.proofs.RestingReplicas.{still-ended}

@@ -2,8 +2,7 @@
 -- docs/PROTOCOL.md.
 use Rattle.std.specs.Prelude.{◌≡◌, List, [], if◌then◌else◌}
 use Rattle.ring_core.specs.State.{Core, Sent}
-use Rattle.ring_rules.specs.Nodes.{Node}
-use Rattle.ring_rules.specs.Stepping.{NodeStepped, handed_over}
+use Rattle.ring_replica.specs.NodeRules.{Node, NodeStepped, handed_over}
 use Rattle.ring_replica.specs.Replicas.{Replica, ReplicaStepped, replica_ended}
 use Rattle.ring_node.specs.Restores.{node_restored}
 use Rattle.ring_node.specs.declared.outs.Outs.{Outs}

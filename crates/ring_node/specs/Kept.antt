@@ -6,7 +6,7 @@ use Rattle.ring_core.specs.State.{Core, halted}
 use Rattle.ring_core.specs.Stepping.{ring_step}
 use Rattle.ring_core.specs.declared.input.Input.{Input}
 use Rattle.ring_core.specs.declared.out.Out.{Out}
-use Rattle.ring_rules.specs.Nodes.{Node, is_stopped}
+use Rattle.ring_replica.specs.NodeRules.{Node, is_stopped}
 use Rattle.ring_replica.specs.Replicas.{Replica, ReplicaStepped, IsDone, replica_step, running_of}
 use Rattle.ring_replica.specs.Marks.{IsMarked}
 

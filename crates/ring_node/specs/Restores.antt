@@ -1,6 +1,6 @@
 -- What a step of a node restored: The replicated log, rule 6 of docs/PROTOCOL.md.
 use Rattle.std.specs.Prelude.{ℕ, Option}
-use Rattle.ring_rules.specs.Nodes.{Node, node_kept}
+use Rattle.ring_replica.specs.NodeRules.{Node, node_kept}
 use Rattle.ring_replica.specs.Replicas.{restored_since}
 
 -- how many places the snapshot stands for that a node restored, by what it was before and what it is now: none where it restored none

@@ -8,4 +8,4 @@ mod outs;
 pub use node::Node;
 pub use outs::Outs;
 pub use ring_core::Sent;
-pub use ring_rules::Input;
+pub use ring_replica::Input;

@@ -1,28 +1,26 @@
 //! A node.
 
-ghost use Rattle.std.specs.Prelude.{◌≡◌, ◌≤◌, true, false, length, if◌then◌else◌, Some, None, IsOk, IfOk, IfErr, OnOk, OnErr, MatchOption};
+ghost use Rattle.std.specs.Prelude.{◌≡◌, ◌≤◌, true, false, length, if◌then◌else◌, Some, None, Ok, IsOk, IfOk, IfErr, OnOk, OnErr, MatchOption};
 ghost use Rattle.ring_base.specs.declared.fault.Fault.TheVariants.{Memory, Stopped as StoppedFault};
 ghost use Rattle.ring_payload.specs.Calls.{CallFits};
 ghost use Rattle.ring_core.specs.Frames.{FrameFits};
 ghost use Rattle.ring_core.specs.Stepping.{ring_step};
 ghost use Rattle.ring_core.specs.declared.input.Input.TheVariants.{Frame as FrameInput, Timeout as TimeoutInput};
 ghost use Rattle.ring_replica.specs.Sessions.{pending_from};
-ghost use Rattle.ring_rules.specs.Nodes.{node_opening, node_kept, node_length, node_trimmed, node_committed, node_reply, node_stopped, is_stopped, effects_at};
-ghost use Rattle.ring_rules.specs.Stepping.{after_core, node_step, submit_fault, submitted};
+ghost use Rattle.ring_replica.specs.NodeRules.{node_opening, node_kept, node_length, node_trimmed, node_committed, node_reply, node_stopped};
+ghost use Rattle.ring_replica.specs.NodeRules.{is_stopped, effects_at, after_core, node_step, submit_fault, submitted, InputFits};
 ghost use Rattle.ring_node.specs.Given.{Gives};
 ghost use Rattle.ring_node.specs.Restores.{node_restored};
 ghost use Rattle.ring_node.specs.Nothing.{GivesNothing};
-ghost use Rattle.ring_rules.specs.NodeLimits.{InputFits};
-ghost use Rattle.ring_rules.specs.declared.input.Input.TheVariants.{Frame as ComesInput, Stop as StopInput};
+ghost use Rattle.ring_replica.specs.InputVariants.{Frame as ComesInput, Stop as StopInput};
 
 use crate::driving::{advance_by_frame, advance_by_time, running};
 use crate::outs::Outs;
-use ring_base::{Fault, Fixed, Kind, Past, Proc, ProcSet, RingId, State, seen};
+use ring_base::{Fault, Fixed, Kind, Past, Proc, ProcSet, RingId, State, paired, seen};
 use ring_core::{Configuration, Frame};
 use ring_object::Object;
 use ring_payload::{Call, Payload};
-use ring_replica::{Answer, Replica, Ticket, copy_of};
-use ring_rules::Input;
+use ring_replica::{Answer, Input, Replica, Ticket, copy_of};
 use ring_srp::Srp;
 use std::marker::Model;
 
@@ -40,7 +38,7 @@ pub struct Node<O: Object> {
 }
 
 impl<O: Object> Model for Node<O> {
-    ghost use Rattle.ring_rules.specs.Nodes.{Node as ToldNode};
+    ghost use Rattle.ring_replica.specs.NodeRules.{Node as ToldNode};
     ghost use Rattle.ring_node.specs.Kept.{told_node, IsNode};
 
     ghost Value = { ToldNode O.Alloc };
@@ -76,12 +74,15 @@ impl<O: Object> Node<O> {
         ensures ok { IfOk result (λ copy. copy ≡ self.now) }
         ensures refused { IfErr result (λ fault. fault ≡ Memory) }
     {
+        let ended = self.ended.clone()?;
+        let core = self.core.clone()?;
+        let (core, replica) = paired(core, self.replica.copy())?;
         Ok(Node {
             alloc: self.alloc,
-            core: self.core.clone()?,
-            replica: self.replica.copy()?,
+            core,
+            replica,
             last: self.last,
-            ended: self.ended.clone()?,
+            ended,
         })
     }
 

@@ -3,8 +3,8 @@ use Rattle.std.proofs.Common.{◌≡◌, ℕ, ◌+◌, ◌^◌, ◌<◌, ◌≤�
 use Rattle.std.specs.Prelude.{nat_le}
 use Rattle.std.proofs.lemmas.Bool.{leb-true, le-leb}
 use Rattle.byteorder.specs.Endian.{big_bytes}
-use Rattle.ring_base.specs.declared.fault.Fault.{Fault}
-use Rattle.ring_base.specs.declared.fault.Fault.TheVariants.{Memory, OpTooLong, NumberGap}
+use Rattle.ring_layout.specs.Base.{Fault}
+use Rattle.ring_layout.specs.Faults.{Memory, OpTooLong, NumberGap}
 use Rattle.ring_layout.specs.Reading.{IsFormat, made_at, ◌⊕◌}
 use Rattle.ring_layout.specs.Formats.{Format, word4, word8, ◌&◌, such, told_format}
 use Rattle.ring_payload.specs.declared.call.Call.{Call}

@@ -3,9 +3,7 @@ use Rattle.std.proofs.Common.{◌≡◌, ℕ, ◌≤◌, Bool, List, [], ◌∷�
 use Rattle.std.specs.Prelude.{nat_le, ◌&&◌, ◌==◌}
 use Rattle.std.proofs.lemmas.Bool.{leb-true, le-leb, eqb-true, and_parts, cases_Bool}
 use Rattle.byteorder.specs.Endian.{big_bytes}
-use Rattle.ring_base.specs.Numbers.{max_number}
-use Rattle.ring_base.specs.Processors.{IsProc}
-use Rattle.ring_base.specs.declared.ring_id.RingId.{RingId}
+use Rattle.ring_layout.specs.Base.{max_number, IsProc, RingId}
 use Rattle.ring_layout.specs.Reading.{IsFormat, such_at, made_at, ◌⊕◌}
 use Rattle.ring_layout.specs.Formats.{Format, word8, ◌&◌, tested_format}
 use Rattle.ring_layout.specs.Cases.{Case, case, told_at, IsMade, cases_format}

@@ -4,8 +4,7 @@ use Rattle.std.proofs.Common.{◌≡◌, ℕ, ◌≤◌, Bool, true, false, List
 use Rattle.std.specs.Prelude.{nat_le, ◌&&◌, ◌||◌, ◌==◌, is_some, if◌then◌else◌}
 use Rattle.std.proofs.lemmas.Bool.{leb-true, le-leb, eqb-true, eqb-false, and_parts, cases_Bool}
 use Rattle.byteorder.specs.Endian.{big_bytes}
-use Rattle.ring_base.specs.Numbers.{max_number}
-use Rattle.ring_base.specs.declared.ring_id.RingId.{RingId}
+use Rattle.ring_layout.specs.Base.{max_number, RingId}
 use Rattle.ring_layout.specs.Reading.{IsFormat, such_at, made_at, ◌⊕◌}
 use Rattle.ring_layout.specs.Formats.{Format, word8, ◌&◌, such, tested_format}
 use Rattle.ring_layout.specs.Cases.{Case, case, told_at, IsMade, cases_format}

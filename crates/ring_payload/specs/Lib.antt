@@ -11,3 +11,5 @@ pub mod Snaps
 pub mod Versions
 pub mod Packing
 pub mod Layouts
+pub mod Faults
+pub mod Base

@@ -1,7 +1,7 @@
 -- How messages are made of a queue of payloads: Token and window, rule 9 of docs/PROTOCOL.md. A run of Calls goes out as one Pack.
 use Rattle.std.specs.Prelude.{◌≡◌, ℕ, zero, suc, ◌-◌, ◌≤◌, max, Bool, true, false, nat_le, if◌then◌else◌, List, [], ◌∷◌, map, drop, length}
 use Rattle.std.specs.List.{AllByRecursion}
-use Rattle.ring_base.specs.Fronts.{IsFront}
+use Rattle.ring_layout.specs.Base.{IsFront}
 use Rattle.ring_payload.specs.declared.call.Call.{Call as OneCall}
 use Rattle.ring_payload.specs.declared.content.Payload.{Payload}
 use Rattle.ring_payload.specs.declared.content.Payload.TheVariants.{Call, Wrapped, End, Head, Part, Pack, Snap}

@@ -7,7 +7,7 @@ use Rattle.std.proofs.lemmas.Bool.Decides.{nat_tests}
 use Rattle.std.proofs.lemmas.List.{length-append}
 use Rattle.std.proofs.lemmas.List.Concat.{flat_map-cons}
 use Rattle.byteorder.specs.Endian.{big_bytes}
-use Rattle.ring_base.specs.Numbers.{max_number}
+use Rattle.ring_layout.specs.Base.{max_number}
 use Rattle.ring_layout.specs.Reading.{IsFormat, made_at, ◌⊕◌}
 use Rattle.ring_layout.specs.Formats.{Format, byte, followed, times, such, told_format, ◌&◌}
 use Rattle.ring_layout.specs.Rings.{number}

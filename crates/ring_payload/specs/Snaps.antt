@@ -4,7 +4,7 @@ use Rattle.std.proofs.Common.{◌≡◌, ℕ, ◌-◌, ◌%◌, ◌<◌, ◌≤�
 use Rattle.std.specs.Prelude.{nat_le, nat_lt, ◌&&◌, ◌==◌, min}
 use Rattle.std.proofs.lemmas.Bool.{leb-true, le-leb, ltb-true, lt-ltb, eqb-true, and_parts}
 use Rattle.byteorder.specs.Endian.{big_bytes}
-use Rattle.ring_base.specs.Numbers.{max_number}
+use Rattle.ring_layout.specs.Base.{max_number}
 use Rattle.ring_layout.specs.Reading.{IsFormat, made_at, ◌⊕◌}
 use Rattle.ring_layout.specs.Formats.{Format, word2, word4, word8, text, ◌&◌, followed, such, told_format}
 use Rattle.ring_payload.specs.declared.snap.Snap.{Snap}

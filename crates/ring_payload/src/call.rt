@@ -5,8 +5,7 @@ ghost use Rattle.ring_layout.specs.Reading.{Appends, Gives};
 
 use crate::operation::{MOST_OPERATION, Operation};
 use bytes::BytesMut;
-use ring_base::Fault;
-use ring_layout::{Decode, Encode, Reader};
+use ring_layout::{Decode, Encode, Fault, Reader};
 use std::alloc::{Allocator, Global};
 
 /// A client's call: its number among the client's calls, counted from 1, and its operation.

@@ -6,8 +6,7 @@ ghost use Rattle.ring_payload.specs.Packs.{is_short as is_short_pack};
 
 use crate::call::Call;
 use bytes::BytesMut;
-use ring_base::{Fault, MAX};
-use ring_layout::{Decode, Encode, Reader, read_many, size_many, write_many};
+use ring_layout::{Decode, Encode, Fault, MAX, Reader, read_many, size_many, write_many};
 use std::alloc::{AllocError, Allocator, Global};
 use std::marker::Model;
 
@@ -27,18 +26,21 @@ impl<A: Allocator + Copy> Model for Calls<A> {
 }
 
 impl<A: Allocator + Copy> Calls<A> {
+    /// These calls, as a list.
     pub fn from_vec(calls: Vec<Call<A>, A>) -> Calls<A>
         ensures { result ≡ calls.items }
     {
         Calls { calls }
     }
 
+    /// The calls, owned.
     pub fn into_vec(self) -> Vec<Call<A>, A>
         ensures { result.items ≡ self }
     {
         self.calls
     }
 
+    /// The calls, in their order.
     pub fn as_slice(&self) -> &[Call<A>]
         ensures { result.now ≡ self.now }
     {

@@ -9,8 +9,7 @@ use crate::head::Head;
 use crate::snap::Snap;
 use crate::{tags, versions};
 use bytes::BytesMut;
-use ring_base::{Fault, MAX, Proc, RingId};
-use ring_layout::{Decode, Encode, Reader};
+use ring_layout::{Decode, Encode, Fault, MAX, Proc, Reader, RingId};
 use std::alloc::{Allocator, Global};
 
 /// What is sent once more on a later ring.

@@ -5,8 +5,7 @@ ghost use Rattle.ring_layout.specs.Reading.{Appends, Gives};
 
 use crate::{tags, versions};
 use bytes::BytesMut;
-use ring_base::{Fault, MAX, RingId};
-use ring_layout::{Decode, Encode, Reader};
+use ring_layout::{Decode, Encode, Fault, MAX, Reader, RingId};
 use std::alloc::Allocator;
 
 /// What a member tells of its log: its last primary ring, none if it never had one, the log's length, its

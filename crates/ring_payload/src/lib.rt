@@ -21,6 +21,7 @@ pub use head::Head;
 pub use operation::{MOST_OPERATION, Operation};
 pub use piece::Piece;
 pub use ring_layout::{
-    Decode, Encode, Reader, Words, read_in_place, read_sized, write_many, write_sized,
+    Decode, Encode, Fault, MAX, Past, Proc, ProcSet, Reader, RingId, WINDOW, Wire, Words, past_of,
+    read_in_place, read_sized, write_many, write_sized,
 };
 pub use snap::{MOST_SNAPSHOT, Snap, WHOLE_PIECE};

@@ -2,11 +2,10 @@
 
 ghost use Rattle.std.specs.Prelude.{◌≡◌, ℕ, ◌+◌, ◌^◌, ◌<◌, ◌≤◌, List, [], ◌∷◌, ◌++◌, length, IfOk, IfErr};
 ghost use Rattle.ring_layout.specs.Reading.{Appends, Gives};
-ghost use Rattle.ring_base.specs.declared.fault.Fault.TheVariants.{Memory};
+ghost use Rattle.ring_layout.specs.Faults.{Memory};
 
 use bytes::BytesMut;
-use ring_base::Fault;
-use ring_layout::{Decode, Encode, Reader};
+use ring_layout::{Decode, Encode, Fault, Reader};
 use std::alloc::{AllocError, Allocator, Global};
 use std::marker::Model;
 use std::sync::ArcSlice;

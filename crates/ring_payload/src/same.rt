@@ -7,7 +7,7 @@ use crate::calls::{Pack, Part};
 use crate::content::{Content, Payload, Wrapped};
 use crate::head::Head;
 use crate::snap::Snap;
-use ring_base::RingId;
+use ring_layout::RingId;
 use std::alloc::Allocator;
 
 impl<A: Allocator + Copy> Payload<A> {

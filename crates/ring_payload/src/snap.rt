@@ -6,8 +6,7 @@ ghost use Rattle.ring_payload.specs.Snaps.{is_piece as is_piece_of};
 
 use crate::piece::Piece;
 use bytes::BytesMut;
-use ring_base::{Fault, MAX};
-use ring_layout::{Decode, Encode, Reader};
+use ring_layout::{Decode, Encode, Fault, MAX, Reader};
 use std::alloc::{Allocator, Global};
 
 /// A snapshot has at most so many bytes.

@@ -7,9 +7,9 @@ ghost use Rattle.ring_picture.specs.Strips.{strip_opening, begun, marked};
 use crate::frame::Frame;
 use crate::mark::{Mark, Placed, Shade};
 use crate::shapes::{
-    write_band, write_bar, write_call, write_called, write_committed, write_end, write_event,
-    write_fold, write_head, write_heal, write_legend, write_lost, write_name, write_rest,
-    write_ring, write_rounds, write_side, write_stop, write_strip_end, write_trimmed, write_wall,
+    write_bar, write_call, write_called, write_committed, write_end, write_event, write_fold,
+    write_head, write_heal, write_legend, write_lost, write_name, write_rest, write_ring,
+    write_rounds, write_side, write_stop, write_strip_end, write_trimmed, write_wall, write_window,
 };
 use ring_base::{Fault, Fixed, Proc, State};
 use std::alloc::Allocator;
@@ -85,16 +85,10 @@ impl<A: Allocator + Copy> Picture<A> {
         let frame = self.frame();
         write_head(out, frame)?;
         self.write_strip(out, frame)?;
-        write_strip_end(out)?;
         for band in 0..frame.bands() {
-            self.write_names(out, frame, band)?;
-            write_band(out, frame, band)?;
+            self.write_band(out, frame, band)?;
         }
-        write_legend(out, frame)?;
-        if let Some(event) = self.rest {
-            write_rest(out, frame, event, last)?;
-        }
-        write_end(out)
+        self.write_foot(out, frame, last)
     }
 
     /// The picture's size.
@@ -139,18 +133,27 @@ impl<A: Allocator + Copy> Picture<A> {
         for placed in &self.placed {
             write_mark(out, frame, placed)?;
         }
-        Ok(())
+        write_strip_end(out)
     }
 
-    /// Writes the nodes' names, left of a band.
-    fn write_names<W: Write>(&self, out: &mut W, frame: Frame, band: u64) -> io::Result<()> {
+    /// Writes a band: the nodes' names, and what it shows of the strip.
+    fn write_band<W: Write>(&self, out: &mut W, frame: Frame, band: u64) -> io::Result<()> {
         for before in 0..self.nodes.count() {
             let node = Proc::new(before + 1);
             if self.has_lane(node) {
                 write_name(out, frame, band, node)?;
             }
         }
-        Ok(())
+        write_window(out, frame, band)
+    }
+
+    /// Writes what stands below all bands: the legend, and which events have no room, up to the last.
+    fn write_foot<W: Write>(&self, out: &mut W, frame: Frame, last: u64) -> io::Result<()> {
+        write_legend(out, frame)?;
+        if let Some(event) = self.rest {
+            write_rest(out, frame, event, last)?;
+        }
+        write_end(out)
     }
 
     /// Writes a node's lane.

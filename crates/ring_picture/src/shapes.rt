@@ -4,6 +4,7 @@ use crate::frame::Frame;
 use crate::mark::Shade;
 use crate::members::Members;
 use ring_base::{Proc, ProcSet, RingId, State};
+use std::fmt::Display;
 use std::io::{self, Write};
 
 /// The height of a bar.
@@ -25,11 +26,8 @@ pub(crate) fn write_head<W: Write>(out: &mut W, frame: Frame) -> io::Result<()> 
     )?;
     writeln!(
         out,
-        "<rect width=\"{width}\" height=\"{height}\" fill=\"#ffffff\"/>"
-    )?;
-    writeln!(
-        out,
-        "<defs><pattern id=\"hatch\" width=\"6\" height=\"6\" patternUnits=\"userSpaceOnUse\" \
+        "<rect width=\"{width}\" height=\"{height}\" fill=\"#ffffff\"/>\n\
+         <defs><pattern id=\"hatch\" width=\"6\" height=\"6\" patternUnits=\"userSpaceOnUse\" \
          patternTransform=\"rotate(45)\"><rect width=\"6\" height=\"6\" fill=\"#d9ead3\"/>\
          <rect width=\"1\" height=\"6\" fill=\"#6aa84f\"/></pattern>\n<g id=\"run\">"
     )
@@ -40,8 +38,8 @@ pub(crate) fn write_strip_end<W: Write>(out: &mut W) -> io::Result<()> {
     writeln!(out, "</g></defs>")
 }
 
-/// A band: what it shows of the strip.
-pub(crate) fn write_band<W: Write>(out: &mut W, frame: Frame, band: u64) -> io::Result<()> {
+/// What a band shows of the strip.
+pub(crate) fn write_window<W: Write>(out: &mut W, frame: Frame, band: u64) -> io::Result<()> {
     let (left, top, begin) = (frame.left(), frame.top(band), frame.begin(band));
     let (width, height) = (frame.shown(), frame.bottom());
     writeln!(
@@ -68,6 +66,16 @@ fn fill_of(shade: Shade) -> &'static str {
     }
 }
 
+/// Words at a place, with more attributes, of which each has a space before it.
+fn write_text<W: Write, D: Display + Drop>(
+    out: &mut W,
+    (x, y): (u64, u64),
+    style: &str,
+    words: D,
+) -> io::Result<()> {
+    writeln!(out, "<text x=\"{x}\" y=\"{y}\"{style}>{words}</text>")
+}
+
 /// A node's name, left of its lane in a band.
 pub(crate) fn write_name<W: Write>(
     out: &mut W,
@@ -77,9 +85,11 @@ pub(crate) fn write_name<W: Write>(
 ) -> io::Result<()> {
     let lane = frame.top(band).saturating_add(frame.y(node));
     let y = lane.saturating_add(BASE);
-    writeln!(
+    write_text(
         out,
-        "<text x=\"8\" y=\"{y}\" font-size=\"12\">node {node}</text>"
+        (8, y),
+        " font-size=\"12\"",
+        format_args!("node {node}"),
     )
 }
 
@@ -92,10 +102,21 @@ pub(crate) fn write_bar<W: Write>(
     from: u64,
     to: u64,
 ) -> io::Result<()> {
-    let (x, y) = (frame.x(from), frame.y(node));
+    let x = frame.x(from);
     let width = frame.x(to).saturating_sub(x);
+    write_box(out, (x, frame.y(node)), width, shade)?;
+    writeln!(out)
+}
+
+/// A box of a bar's height, filled with this shade. Its line does not end here.
+fn write_box<W: Write>(
+    out: &mut W,
+    (x, y): (u64, u64),
+    width: u64,
+    shade: Shade,
+) -> io::Result<()> {
     let fill = fill_of(shade);
-    writeln!(
+    write!(
         out,
         "<rect x=\"{x}\" y=\"{y}\" width=\"{width}\" height=\"{BAR}\" fill=\"{fill}\" stroke=\"#444444\" stroke-width=\"0.5\"/>"
     )
@@ -110,12 +131,12 @@ pub(crate) fn write_stop<W: Write>(
 ) -> io::Result<()> {
     let (x, y) = (frame.x(column), frame.y(node));
     let (top, height) = (y.saturating_sub(4), BAR + 8);
-    let (beside, line) = (x.saturating_add(8), y.saturating_add(BASE));
-    writeln!(
+    let beside = (x.saturating_add(8), y.saturating_add(BASE));
+    write!(
         out,
-        "<rect x=\"{x}\" y=\"{top}\" width=\"4\" height=\"{height}\" fill=\"#cc0000\"/>\
-         <text x=\"{beside}\" y=\"{line}\" fill=\"#cc0000\">stopped</text>"
-    )
+        "<rect x=\"{x}\" y=\"{top}\" width=\"4\" height=\"{height}\" fill=\"#cc0000\"/>"
+    )?;
+    write_text(out, beside, " fill=\"#cc0000\"", "stopped")
 }
 
 /// The name and the members of a ring, in its box.
@@ -130,9 +151,11 @@ pub(crate) fn write_ring<W: Write>(
     let x = frame.x(column).saturating_add(3);
     let y = frame.y(node).saturating_add(BASE);
     let members = Members(members);
-    writeln!(
+    write_text(
         out,
-        "<text x=\"{x}\" y=\"{y}\" stroke=\"#ffffff\" stroke-width=\"2\" stroke-opacity=\"0.7\" paint-order=\"stroke\">{ring} {{{members}}}</text>"
+        (x, y),
+        " stroke=\"#ffffff\" stroke-width=\"2\" stroke-opacity=\"0.7\" paint-order=\"stroke\"",
+        format_args!("{ring} {{{members}}}"),
     )
 }
 
@@ -144,14 +167,8 @@ pub(crate) fn write_committed<W: Write>(
     length: u64,
     column: u64,
 ) -> io::Result<()> {
-    let (x, y) = (
-        frame.x(column),
-        frame.y(node).saturating_add(BAR + BASE - 1),
-    );
-    writeln!(
-        out,
-        "<text x=\"{x}\" y=\"{y}\" fill=\"#674ea7\">{length}</text>"
-    )
+    let y = frame.y(node).saturating_add(BAR + BASE - 1);
+    write_text(out, (frame.x(column), y), " fill=\"#674ea7\"", length)
 }
 
 /// A line under how much is committed: a snapshot stands for the first places.
@@ -181,10 +198,12 @@ pub(crate) fn write_called<W: Write>(
     column: u64,
 ) -> io::Result<()> {
     let above = if column % 2 == 1 { 21 } else { 13 };
-    let (x, y) = (frame.x(column), frame.y(node).saturating_sub(above));
-    writeln!(
+    let y = frame.y(node).saturating_sub(above);
+    write_text(
         out,
-        "<text x=\"{x}\" y=\"{y}\" font-size=\"9\" fill=\"#1155cc\">{client}.{number}</text>"
+        (frame.x(column), y),
+        " font-size=\"9\" fill=\"#1155cc\"",
+        format_args!("{client}.{number}"),
     )
 }
 
@@ -235,19 +254,18 @@ pub(crate) fn write_side<W: Write>(
     let behind = before.saturating_mul(LETTER).saturating_add(4);
     let x = frame.x(column).saturating_add(behind);
     let members = Members(side);
-    writeln!(
+    write_text(
         out,
-        "<text x=\"{x}\" y=\"13\" fill=\"#cc0000\">{{{members}}}</text>"
+        (x, 13),
+        " fill=\"#cc0000\"",
+        format_args!("{{{members}}}"),
     )
 }
 
 /// That a cut heals, at the top of its wall.
 pub(crate) fn write_heal<W: Write>(out: &mut W, frame: Frame, column: u64) -> io::Result<()> {
     let x = frame.x(column).saturating_add(4);
-    writeln!(
-        out,
-        "<text x=\"{x}\" y=\"13\" fill=\"#38761d\">heals</text>"
-    )
+    write_text(out, (x, 13), " fill=\"#38761d\"", "heals")
 }
 
 /// The ground of a column of rounds in which nothing changed.
@@ -267,14 +285,11 @@ pub(crate) fn write_rounds<W: Write>(
     column: u64,
     rounds: u64,
 ) -> io::Result<()> {
-    let (x, y) = (frame.x(column), frame.foot().saturating_add(11));
     if rounds == 0 {
         return Ok(());
     }
-    writeln!(
-        out,
-        "<text x=\"{x}\" y=\"{y}\" fill=\"#666666\">x{rounds}</text>"
-    )
+    let below = (frame.x(column), frame.foot().saturating_add(11));
+    write_text(out, below, " fill=\"#666666\"", format_args!("x{rounds}"))
 }
 
 /// Copies that were lost, below the rounds.
@@ -284,14 +299,11 @@ pub(crate) fn write_lost<W: Write>(
     column: u64,
     lost: u64,
 ) -> io::Result<()> {
-    let (x, y) = (frame.x(column), frame.foot().saturating_add(22));
     if lost == 0 {
         return Ok(());
     }
-    writeln!(
-        out,
-        "<text x=\"{x}\" y=\"{y}\" fill=\"#cc0000\">-{lost}</text>"
-    )
+    let below = (frame.x(column), frame.foot().saturating_add(22));
+    write_text(out, below, " fill=\"#cc0000\"", format_args!("-{lost}"))
 }
 
 /// The number of an event, below all that. Long numbers have room in every other column.
@@ -301,14 +313,11 @@ pub(crate) fn write_event<W: Write>(
     column: u64,
     event: u64,
 ) -> io::Result<()> {
-    let (x, y) = (frame.x(column), frame.foot().saturating_add(33));
     if event >= 1_000 && column % 2 == 1 {
         return Ok(());
     }
-    writeln!(
-        out,
-        "<text x=\"{x}\" y=\"{y}\" font-size=\"7\" fill=\"#666666\">{event}</text>"
-    )
+    let below = (frame.x(column), frame.foot().saturating_add(33));
+    write_text(out, below, " font-size=\"7\" fill=\"#666666\"", event)
 }
 
 /// What the colours say.
@@ -342,8 +351,7 @@ pub(crate) fn write_legend<W: Write>(out: &mut W, frame: Frame) -> io::Result<()
 
 /// A line of the legend, so far below its begin.
 fn write_words<W: Write>(out: &mut W, frame: Frame, below: u64, words: &str) -> io::Result<()> {
-    let y = frame.legend().saturating_add(below);
-    writeln!(out, "<text x=\"8\" y=\"{y}\">{words}</text>")
+    write_text(out, (8, frame.legend().saturating_add(below)), "", words)
 }
 
 /// A colour, and what it says.
@@ -355,13 +363,9 @@ fn write_colour<W: Write>(
     x: u64,
 ) -> io::Result<()> {
     let y = frame.legend().saturating_add(8);
-    let (beside, line) = (x.saturating_add(28), y.saturating_add(BASE));
-    let fill = fill_of(shade);
-    writeln!(
-        out,
-        "<rect x=\"{x}\" y=\"{y}\" width=\"24\" height=\"{BAR}\" fill=\"{fill}\" stroke=\"#444444\" stroke-width=\"0.5\"/>\
-         <text x=\"{beside}\" y=\"{line}\">{name}</text>"
-    )
+    write_box(out, (x, y), 24, shade)?;
+    let beside = (x.saturating_add(28), y.saturating_add(BASE));
+    write_text(out, beside, "", name)
 }
 
 /// What is said where not all events have room.
@@ -372,8 +376,10 @@ pub(crate) fn write_rest<W: Write>(
     to: u64,
 ) -> io::Result<()> {
     let y = frame.legend().saturating_add(72);
-    writeln!(
+    write_text(
         out,
-        "<text x=\"8\" y=\"{y}\" font-size=\"12\" fill=\"#cc0000\">There is more: --from {from} --to {to}</text>"
+        (8, y),
+        " font-size=\"12\" fill=\"#cc0000\"",
+        format_args!("There is more: --from {from} --to {to}"),
     )
 }

@@ -59,7 +59,9 @@ impl<O: Object> Piped<O> {
         ensures member { OnOk result (IsAmong fixed me) }
         ensures refused { IfErr result (λ fault. (fault ≡ Memory) ⊎ ((fault ≡ NotMember) × ¬ IsAmong fixed me)) }
     {
+        // A law: no effect at run time. The proof takes from it that a node keeps the limits at its opening.
         node_fits_law::<O>();
+        // No effect at run time. The proof reads from this call that a group has at most 16 processors.
         let _count = fixed.count();
         let node = Node::new(alloc, fixed, fixed.proc(me)?)?;
         Ok(Piped { alloc, node })
@@ -160,6 +162,7 @@ impl<O: Object> Piped<O> {
         ensures err { OnErr result (self.new ≡ node_stopped self.old) }
         ensures refused { IfErr result (λ fault. fault ≡ (if is_stopped self.old.core.state then Stopped else Memory)) }
     {
+        // A law: no effect at run time. The proof takes from it that a node keeps the limits along a step, and what it sends keeps them.
         node_fits_law::<O>();
         let outs = self.node.step(input)?;
         Ok(outs)
@@ -170,6 +173,7 @@ impl<O: Object> Piped<O> {
         ensures stopped { self.new ≡ node_stopped self.old }
         ensures refused { result ≡ (if is_stopped self.old.core.state then Stopped else Memory) }
     {
+        // A law: no effect at run time. The proof takes from it that a node that stops keeps the limits.
         node_fits_law::<O>();
         let fault = self.refusal();
         let _ = self.node.step(Input::Stop);
@@ -215,6 +219,7 @@ impl<O: Object> Piped<O> {
     fn submit(&mut self, client: u32, number: u64, operation: &[u8]) -> Result<Ticket, Fault>
         ensures { Gives O.sequential self.old client number operation.now result self.new }
     {
+        // A law: no effect at run time. The proof takes from it that a node keeps the limits where a call is submitted.
         node_fits_law::<O>();
         let call = Call::new(self.alloc, client, number, operation)?;
         self.node.submit(call)

@@ -1,6 +1,6 @@
 -- A node that has dropped nothing sends no snapshot: what is due by it doesn't hang on the bytes that it holds.
-use Rattle.std.proofs.Common.{◌≡◌, ℕ, zero, suc, ◌<◌, ◌==◌, ◌&&◌, Bool, true, false, List, [], ◌∷◌, ◌++◌, length, Option, Some, None, refl, ap, sym, ◌∙◌}
-use Rattle.std.proofs.Common.{arith, if◌then◌else◌}
+use Rattle.std.proofs.Common.{◌≡◌, ℕ, zero, suc, ◌<◌, ◌==◌, ◌&&◌, Bool, true, false, List, [], ◌∷◌, ◌++◌, length, Option, Some, None, refl, ap, sym}
+use Rattle.std.proofs.Common.{◌∙◌, arith, if◌then◌else◌}
 use Rattle.std.specs.Prelude.{nat_le, nat_lt, not}
 use Rattle.std.proofs.lemmas.Bool.{cond-false, ltb-true, lt-ltb, ne_eqb}
 use Rattle.ring_base.specs.Group.{is_primary}
@@ -18,8 +18,7 @@ use Rattle.ring_log.specs.Logs.{Log}
 use Rattle.ring_log.specs.Stays.{Stay, hears}
 use Rattle.ring_log.specs.Lives.{after_all}
 use Rattle.ring_log.specs.Kept.{Kept, kept_of, log_kept}
-use Rattle.ring_rules.specs.Dues.{is_stated, parts_due, snaps_due, is_snapshot_kept, places_due, owner_due, due_when_stated}
-use Rattle.ring_rules.specs.Lives.{lived}
+use Rattle.ring_course.specs.NodeRules.{is_stated, parts_due, snaps_due, is_snapshot_kept, places_due, owner_due, due_when_stated, lived}
 use Rattle.ring_course.specs.Courses.{Moment, bytes_at, is_running, owner_dues, dues_when_whole, dues_heard, dues_at, dues_by}
 
 -- a snapshot that is wanted is of some places

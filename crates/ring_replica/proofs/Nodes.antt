@@ -1,6 +1,6 @@
 -- What is due by a node, and a step of it, by its replica.
-use Rattle.std.proofs.Common.{◌≡◌, ℕ, ◌+◌, Bool, true, false, not, ◌&&◌, List, [], ◌∷◌, ◌++◌, length, map, Option}
-use Rattle.std.proofs.Common.{Some, None, is_none, inl, refl, ap, sym, ◌∙◌, if◌then◌else◌}
+use Rattle.std.proofs.Common.{◌≡◌, ℕ, ◌+◌, Bool, true, false, not, ◌&&◌, List, [], ◌∷◌, ◌++◌, length, map, Option, Some, None, is_none, inl, refl}
+use Rattle.std.proofs.Common.{ap, sym, ◌∙◌, if◌then◌else◌}
 use Rattle.std.specs.List.{filter}
 use Rattle.std.specs.Prelude.{nat_le, filter_map}
 use Rattle.std.proofs.lemmas.Bool.{and_parts, cond-false}
@@ -27,14 +27,14 @@ use Rattle.ring_session.specs.Tickets.{Asked, place_of, unanswered, answers_afte
 use Rattle.ring_session.specs.declared.answered.Answered.{Answered}
 use Rattle.ring_session.specs.declared.pending.Pending.{Pending}
 use Rattle.ring_session.specs.Pendings.{pending_from, stands_in}
-use Rattle.ring_rules.specs.Lives.{lived, lived_through}
-use Rattle.ring_rules.specs.Nodes.{Node, node_kept, node_pending, is_stopped, is_closed, is_restored, snapshot_kept, runs, runs_some}
-use Rattle.ring_rules.specs.Dues.{calls_due, due_when_stated, places_past, due_when_whole, owner_told, due_in_stay, due_at_agreed, due_at, due_by}
-use Rattle.ring_rules.specs.Stepping.{handed_over, walked, NodeStepped, send_of, drops, newly, table_since, settled, after_core, submitted, submit_fault}
-use Rattle.ring_course.specs.Courses.{Moment, bytes_at, is_running, calls_left, dues_when_whole, dues_in_stay, dues_heard, dues_at}
-use Rattle.ring_course.specs.Courses.{dues_by, handed_if, rises_at, rises, IsSteady}
-use Rattle.ring_replica.specs.Replicas.{replica_of, running_of, moment_of, is_running_some, submit_refusal}
-use Rattle.ring_replica.specs.Replicas.{replica_given, replica_settled, replica_step, node_by, node_given}
+use Rattle.ring_course.specs.NodeRules.{lived, lived_through, Node, node_kept, node_pending, is_stopped, is_closed, is_restored, snapshot_kept}
+use Rattle.ring_course.specs.NodeRules.{runs, runs_some, calls_due, due_when_stated, places_past, due_when_whole, owner_told, due_in_stay}
+use Rattle.ring_course.specs.NodeRules.{due_at_agreed, due_at, due_by, handed_over, walked, NodeStepped, send_of, drops, newly, table_since}
+use Rattle.ring_course.specs.NodeRules.{settled, after_core, submitted, submit_fault}
+use Rattle.ring_course.specs.Courses.{Moment, bytes_at, is_running, calls_left, dues_when_whole, dues_in_stay, dues_heard, dues_at, dues_by}
+use Rattle.ring_course.specs.Courses.{handed_if, rises_at, rises, IsSteady}
+use Rattle.ring_replica.specs.Replicas.{replica_of, running_of, moment_of, is_running_some, submit_refusal, replica_given, replica_settled}
+use Rattle.ring_replica.specs.Replicas.{replica_step, node_by, node_given}
 use Rattle.ring_course.proofs.KnownOn.{known-self}
 use Rattle.ring_replica.proofs.SteadyLives.{KnowsOn, knows-trans, steady-known, steady-lived, sound-through, bytes-same}
 

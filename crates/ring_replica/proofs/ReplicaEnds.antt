@@ -1,7 +1,6 @@
 -- What the end of a step makes of what the code keeps of a replica: places are dropped, or none are; and what is told then.
-use Rattle.std.proofs.Common.{◌≡◌, ℕ, ◌+◌, ◌-◌, ◌^◌, ◌≤◌, ◌<◌, ◌==◌, ◌&&◌, min, max, Bool, true, false, List, []}
-use Rattle.std.proofs.Common.{length, drop, Option, Some, None, inl, inr}
-use Rattle.std.proofs.Common.{refl, ap, sym, ◌∙◌, subst, arith, if◌then◌else◌}
+use Rattle.std.proofs.Common.{◌≡◌, ℕ, ◌+◌, ◌-◌, ◌^◌, ◌≤◌, ◌<◌, ◌==◌, ◌&&◌, min, max, Bool, true, false, List, [], length, drop, Option, Some, None}
+use Rattle.std.proofs.Common.{inl, inr, refl, ap, sym, ◌∙◌, subst, arith, if◌then◌else◌}
 use Rattle.std.specs.Prelude.{option_map, unwrap_or, nat_le, nat_lt, fold, is_some, IfSome}
 use Rattle.std.proofs.lemmas.Bool.{and_parts, and_from, cond-true, leb-true, lt-ltb, eq-eqb}
 use Rattle.std.proofs.lemmas.List.{take-take}
@@ -22,17 +21,14 @@ use Rattle.ring_log.specs.Logs.{Log, trim_after, committed_calls, committed_log,
 use Rattle.ring_log.specs.Stays.{Stay, hands, trims}
 use Rattle.ring_log.specs.Kept.{Kept, IsKnown, kept_of, log_kept}
 use Rattle.ring_log.proofs.CommittedOf.{hands-kept}
-use Rattle.ring_rules.specs.Lives.{lived_through}
-use Rattle.ring_rules.specs.Nodes.{is_closed, table_at, snapshot_at, effects_at, snapshot_kept, is_restored}
-use Rattle.ring_rules.specs.Stepping.{drops, newly}
+use Rattle.ring_course.specs.NodeRules.{lived_through, is_closed, table_at, snapshot_at, effects_at, snapshot_kept, is_restored, drops, newly}
 use Rattle.ring_course.specs.Courses.{Holding, Course, MayRestore, course_trimmed}
-use Rattle.ring_replica.specs.Replicas.{Replica, Tale, told_replica, IsIdle, IsCounted}
-use Rattle.ring_replica.specs.Replicas.{behind_log, more_in, snapshot_if_ripe}
-use Rattle.ring_replica.specs.Replicas.{ReplicaStepped, replica_doing, replica_step, is_table_held, table_held}
+use Rattle.ring_replica.specs.Replicas.{Replica, Tale, told_replica, IsIdle, IsCounted, behind_log, more_in, snapshot_if_ripe, ReplicaStepped}
+use Rattle.ring_replica.specs.Replicas.{replica_doing, replica_step, is_table_held, table_held}
 use Rattle.ring_replica.proofs.SessionsOn.{snapshot-on}
 use Rattle.ring_replica.proofs.SteadyLives.{steady-known, steady-hands, all_dropped, kept-dropped, snapshot-dropped}
-use Rattle.ring_replica.proofs.ReplicaSteps.{IsMoved, K0, K, now-is, was-is, known-was, may, log-is, runs-was}
-use Rattle.ring_replica.proofs.ReplicaSteps.{more-are, halted-counted, told, due_now, step-is}
+use Rattle.ring_replica.proofs.ReplicaSteps.{IsMoved, K0, K, now-is, was-is, known-was, may, log-is, runs-was, more-are, halted-counted, told}
+use Rattle.ring_replica.proofs.ReplicaSteps.{due_now, step-is}
 
 module _ {O A : Type 0} {object : Sequential O} {course : Course A} {table : Table O} {tickets : Tickets A} {leaving : Option (Log A)}
     {places first gone effects reached : ℕ} {stopped : Bool} {tale : Tale A} {r : Replica A} {running : Option RingId} {outs : List (Out A)} {moved : Course A}

@@ -1,6 +1,5 @@
 -- What a step makes of what the code keeps of a replica, and what it gives: where the course goes on, and where it stops.
-use Rattle.std.proofs.Common.{◌≡◌, ℕ, zero, suc, ◌+◌, ◌-◌, ◌^◌, ◌≤◌, ◌&&◌, min, Bool, true, false, List}
-use Rattle.std.proofs.Common.{[], ◌++◌, Option, Some, None, inl, inr}
+use Rattle.std.proofs.Common.{◌≡◌, ℕ, zero, suc, ◌+◌, ◌-◌, ◌^◌, ◌≤◌, ◌&&◌, min, Bool, true, false, List, [], ◌++◌, Option, Some, None, inl, inr}
 use Rattle.std.proofs.Common.{refl, ap, sym, ◌∙◌, subst, arith, if◌then◌else◌}
 use Rattle.std.specs.Prelude.{fold, is_some, nat_lt}
 use Rattle.std.proofs.lemmas.Bool.{cond-true, cond-false, lt-ltb}
@@ -21,13 +20,11 @@ use Rattle.ring_session.specs.declared.pending.Pending.{Pending}
 use Rattle.ring_session.specs.Pendings.{Tickets, answers_behind, pending_from}
 use Rattle.ring_session.specs.Tickets.{answers_after}
 use Rattle.ring_session.proofs.Pendings.{are-answers}
-use Rattle.ring_rules.specs.Lives.{lived_through}
-use Rattle.ring_rules.specs.Nodes.{table_at, effects_at, snapshot_kept, is_restored}
-use Rattle.ring_rules.specs.Stepping.{newly, table_since}
+use Rattle.ring_course.specs.NodeRules.{lived_through, table_at, effects_at, snapshot_kept, is_restored, newly, table_since}
 use Rattle.ring_course.specs.Courses.{Course, Moment, dues_by, told_log, MayRestore, GoesOn, IsSteady}
-use Rattle.ring_replica.specs.Replicas.{Replica, ReplicaStepped, Tale, IsDone, IsIdle, Runs, IsReplica, IsCounted}
-use Rattle.ring_replica.specs.Replicas.{told_replica, replica_kept, replica_stopped, behind_log, more_in}
-use Rattle.ring_replica.specs.Replicas.{moment_of, restored_since, replica_settled, replica_step, is_table_held, table_held}
+use Rattle.ring_replica.specs.Replicas.{Replica, ReplicaStepped, Tale, IsDone, IsIdle, Runs, IsReplica, IsCounted, told_replica, replica_kept}
+use Rattle.ring_replica.specs.Replicas.{replica_stopped, behind_log, more_in, moment_of, restored_since, replica_settled, replica_step}
+use Rattle.ring_replica.specs.Replicas.{is_table_held, table_held}
 use Rattle.ring_replica.proofs.FirstDues.{dues-first}
 use Rattle.ring_course.proofs.Messages.{never-less}
 use Rattle.ring_replica.proofs.SteadyLives.{steady-known}

@@ -1,6 +1,6 @@
 -- What the code keeps of a replica, as it opens, gives a ticket and ends a step, and what it tells.
-use Rattle.std.proofs.Common.{◌≡◌, ℕ, ◌-◌, ◌≤◌, ◌||◌, max, nat_le, Bool, true, false, List, [], ◌++◌, length, inl}
-use Rattle.std.proofs.Common.{take, drop, Option, Some, None, refl, ap, sym, ◌∙◌, subst, arith, if◌then◌else◌}
+use Rattle.std.proofs.Common.{◌≡◌, ℕ, ◌-◌, ◌≤◌, ◌||◌, max, nat_le, Bool, true, false, List, [], ◌++◌, length, inl, take, drop, Option, Some, None}
+use Rattle.std.proofs.Common.{refl, ap, sym, ◌∙◌, subst, arith, if◌then◌else◌}
 use Rattle.std.proofs.lemmas.List.{drop_all, length-take, length-drop}
 use Rattle.ring_base.specs.Fronts.{IsFront, front_self, front_length}
 use Rattle.ring_base.proofs.ListFronts.{take-whole}
@@ -21,12 +21,11 @@ use Rattle.ring_session.specs.Recent.{kept_answer}
 use Rattle.ring_session.specs.Pendings.{Tickets, none_given, is_full, with_ticket, with_answers, AreTickets, pending_from}
 use Rattle.ring_session.specs.Tickets.{unanswered}
 use Rattle.ring_session.proofs.Pendings.{are-kept, are-given, are-full, are-replies}
-use Rattle.ring_rules.specs.Nodes.{table_at, effects_at, snapshot_kept, is_restored}
+use Rattle.ring_course.specs.NodeRules.{table_at, effects_at, snapshot_kept, is_restored}
 use Rattle.ring_course.specs.Courses.{Course, course_opening, handed_if}
-use Rattle.ring_replica.specs.Replicas.{Replica, Tale, tale_opening, tale_done, tale_given}
-use Rattle.ring_replica.specs.Replicas.{IsDone, replica_kept, replica_committed, replica_reply, replica_done, submit_refusal, ahead_log, behind_log, more_in}
-use Rattle.ring_replica.specs.Replicas.{calls_leaving, leaving_of}
-use Rattle.ring_replica.specs.Replicas.{told_replica, IsIdle, IsReplica, IsCounted}
+use Rattle.ring_replica.specs.Replicas.{Replica, Tale, tale_opening, tale_done, tale_given, IsDone, replica_kept, replica_committed, replica_reply}
+use Rattle.ring_replica.specs.Replicas.{replica_done, submit_refusal, ahead_log, behind_log, more_in, calls_leaving, leaving_of, told_replica}
+use Rattle.ring_replica.specs.Replicas.{IsIdle, IsReplica, IsCounted}
 use Rattle.ring_course.proofs.Courses.{exchanged-nothing, length-with}
 
 -- ---- the log

@@ -1,6 +1,6 @@
 -- A step of which the core tells nothing: it changes nothing of a replica of which no places are to be dropped, and gives nothing.
-use Rattle.std.proofs.Common.{◌≡◌, ℕ, ◌-◌, ◌&&◌, max, Bool, true, false, List, [], ◌∷◌, ◌++◌, Option, Some, None}
-use Rattle.std.proofs.Common.{refl, ap, sym, ◌∙◌, arith, append-nil, if◌then◌else◌}
+use Rattle.std.proofs.Common.{◌≡◌, ℕ, ◌-◌, ◌&&◌, max, Bool, true, false, List, [], ◌∷◌, ◌++◌, Option, Some, None, refl, ap, sym, ◌∙◌, arith}
+use Rattle.std.proofs.Common.{append-nil, if◌then◌else◌}
 use Rattle.std.specs.Prelude.{length, nat_le, nat_lt}
 use Rattle.std.proofs.lemmas.Bool.{and_from, cond-false}
 use Rattle.std.proofs.lemmas.List.{drop_all, length-take}
@@ -15,9 +15,9 @@ use Rattle.ring_log.specs.Logs.{committed_calls, is_ripe}
 use Rattle.ring_log.specs.Stays.{Stay, hands, trims}
 use Rattle.ring_log.specs.Kept.{Kept, log_kept, is_kept_sound}
 use Rattle.ring_course.proofs.Messages.{never-less}
-use Rattle.ring_rules.specs.Nodes.{is_closed, snapshot_at, is_restored}
-use Rattle.ring_rules.specs.Stepping.{drops, newly, table_since}
-use Rattle.ring_replica.specs.Replicas.{Replica, ReplicaStepped, Rests, IsDone, replica_kept, replica_still, replica_settled, replica_ended, restored_since}
+use Rattle.ring_course.specs.NodeRules.{is_closed, snapshot_at, is_restored, drops, newly, table_since}
+use Rattle.ring_replica.specs.Replicas.{Replica, ReplicaStepped, Rests, IsDone, replica_kept, replica_still, replica_settled, replica_ended}
+use Rattle.ring_replica.specs.Replicas.{restored_since}
 
 hands-nothing : {A : Type 0} (life : List (Stay A)) → hands [] life ≡ life
 hands-nothing [] = refl

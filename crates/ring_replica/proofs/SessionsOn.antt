@@ -8,7 +8,7 @@ use Rattle.ring_session.specs.Snapshots.{table_snapshot, restored_table}
 use Rattle.ring_session.specs.Table.{Table, opening as table_opening, table_next}
 use Rattle.ring_course.specs.Courses.{KnownOn}
 use Rattle.ring_course.proofs.KnownOn.{take-fewer}
-use Rattle.ring_rules.specs.Nodes.{table_or, table_before, table_at, snapshot_at, snapshot_kept}
+use Rattle.ring_course.specs.NodeRules.{table_or, table_before, table_at, snapshot_at, snapshot_kept}
 
 module _ {O A : Type 0} (object : Sequential O) (k now : Kept A) (on : KnownOn k now) (is : IsKnown k) where
   pub before-on : table_before object now ≡ table_before object k

@@ -16,17 +16,15 @@ use Rattle.ring_core.specs.declared.out.Out.TheVariants.{Send as SendOut, Agreed
 use Rattle.ring_core.specs.State.{Core, Sent, Did}
 use Rattle.ring_core.specs.Joining.{proposes}
 use Rattle.ring_core.specs.Views.{front, mark, plan}
-use Rattle.ring_core.specs.Deciding.{Act, Ignore, Enqueue, Repeat, Announce, Invite, GiveUp, Regather, Agree, Widen}
-use Rattle.ring_core.specs.Deciding.{RegatherAndAgree, RegatherAndWiden, Take, Visit, Fill, Learn, decide}
+use Rattle.ring_core.specs.Deciding.{Act, Ignore, Enqueue, Repeat, Announce, Invite, GiveUp, Regather, Agree, Widen, RegatherAndAgree}
+use Rattle.ring_core.specs.Deciding.{RegatherAndWiden, Take, Visit, Fill, Learn, decide}
 use Rattle.ring_core.specs.Acting.{act, may_follow, proposed_after, done}
 use Rattle.ring_core.specs.Giving.{may_install, addressed, sent, users, agreed_from, safe_from, delivered_from, given, configured, settle}
 use Rattle.ring_core.specs.Stepping.{ring_step}
 use Rattle.ring_log.specs.Stays.{Stay, stay_in, hands}
-use Rattle.ring_rules.specs.Lives.{lived, lived_through}
-use Rattle.ring_rules.specs.Nodes.{is_stopped}
-use Rattle.ring_rules.specs.Stepping.{handed_over}
+use Rattle.ring_course.specs.NodeRules.{lived, lived_through, is_stopped, handed_over}
 use Rattle.ring_core.proofs.Quiet.{stepped_is}
-use Rattle.ring_rules.proofs.QuietHanding.{queued_all}
+use Rattle.ring_course.proofs.QuietHanding.{queued_all}
 use Rattle.ring_course.specs.Courses.{rises_at, rises}
 use Rattle.ring_replica.specs.Marks.{IsMarked}
 

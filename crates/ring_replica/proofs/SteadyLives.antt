@@ -1,6 +1,6 @@
 -- A life that goes on by outputs: what its node knows of its log at each of them, by what it knew before them.
-use Rattle.std.proofs.Common.{◌≡◌, ℕ, ◌<◌, ◌==◌, ◌&&◌, max, Bool, true, false, List, [], ◌∷◌, ◌⊎◌, inl, inr}
-use Rattle.std.proofs.Common.{None, refl, ap, sym, ◌∙◌, subst, arith, if◌then◌else◌}
+use Rattle.std.proofs.Common.{◌≡◌, ℕ, ◌<◌, ◌==◌, ◌&&◌, max, Bool, true, false, List, [], ◌∷◌, ◌⊎◌, inl, inr, None, refl, ap, sym, ◌∙◌, subst, arith}
+use Rattle.std.proofs.Common.{if◌then◌else◌}
 use Rattle.std.specs.Prelude.{nat_lt}
 use Rattle.std.proofs.lemmas.Bool.{and_from, cond-true, cond-false, lt-ltb, eq-eqb, ne_eqb}
 use Rattle.ring_base.specs.Group.{Group}
@@ -13,8 +13,7 @@ use Rattle.ring_log.specs.Lives.{exchanged, upto}
 use Rattle.ring_log.specs.Stays.{Stay, hands, trims}
 use Rattle.ring_payload.specs.declared.content.Payload.{Payload}
 use Rattle.ring_course.proofs.Known.{known-stay}
-use Rattle.ring_rules.specs.Lives.{lived, lived_through}
-use Rattle.ring_rules.specs.Nodes.{snapshot_at, snapshot_kept}
+use Rattle.ring_course.specs.NodeRules.{lived, lived_through, snapshot_at, snapshot_kept}
 use Rattle.ring_course.specs.declared.reach.Reach.{Reach}
 use Rattle.ring_course.specs.declared.setting.Setting.{Setting}
 use Rattle.ring_course.specs.declared.stage.Stage.{Stage}

@@ -1,7 +1,7 @@
 -- The sessions, the calls that a step does and how many took effect, by what the node knew before the step and knows after it: where nothing is restored they
 -- go on from what they were, and else from what the snapshot says.
-use Rattle.std.proofs.Common.{◌≡◌, ℕ, ◌+◌, ◌-◌, ◌^◌, ◌≤◌, ◌==◌, ◌||◌, max, min, true, false, List, [], ◌∷◌, ◌++◌, take, drop, inl, inr}
-use Rattle.std.proofs.Common.{Option, Some, None, refl, ap, sym, ◌∙◌, arith, if◌then◌else◌}
+use Rattle.std.proofs.Common.{◌≡◌, ℕ, ◌+◌, ◌-◌, ◌^◌, ◌≤◌, ◌==◌, ◌||◌, max, min, true, false, List, [], ◌∷◌, ◌++◌, take, drop, inl, inr, Option}
+use Rattle.std.proofs.Common.{Some, None, refl, ap, sym, ◌∙◌, arith, if◌then◌else◌}
 use Rattle.std.specs.Prelude.{fold, nat_lt, is_some, is_none}
 use Rattle.std.proofs.lemmas.Bool.{cond-true, cond-false, lt-ltb, ne_eqb}
 use Rattle.std.proofs.lemmas.List.{take-append-drop, take-take, drop-take}
@@ -17,8 +17,7 @@ use Rattle.ring_session.specs.Snapshots.{restored_table}
 use Rattle.ring_session.specs.SessionAnswer.{is_done}
 use Rattle.ring_session.specs.Table.{Table, opening as table_opening, table_answer, table_next}
 use Rattle.ring_session.specs.TicketEffects.{done_after, table_effects}
-use Rattle.ring_rules.specs.Nodes.{table_or, table_before, table_at, effects_at, is_restored}
-use Rattle.ring_rules.specs.Stepping.{table_since}
+use Rattle.ring_course.specs.NodeRules.{table_or, table_before, table_at, effects_at, is_restored, table_since}
 use Rattle.ring_course.specs.Courses.{Holding, KnownOn, RestoresMore, MayRestore}
 use Rattle.ring_replica.specs.Replicas.{more_in, is_table_held, table_held}
 use Rattle.ring_replica.proofs.SessionsOn.{before-on, table-on}

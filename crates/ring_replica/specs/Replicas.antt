@@ -1,7 +1,6 @@
 -- A replica: all of a node but its core; what a step of the core, a submit and a stop make of it. The replicated log, rules 8 to 15 and 18 of docs/PROTOCOL.md.
-use Rattle.std.specs.Prelude.{◌≡◌, ℕ, ◌-◌, ◌<◌, ◌≤◌, ◌⊎◌, max, Bool, true, false, nat_le, nat_lt, ◌&&◌, if◌then◌else◌, List, [], ◌∷◌}
-use Rattle.std.specs.Prelude.{◌++◌, length, drop, filter_map, unwrap_or, is_some, is_none, ◌||◌}
-use Rattle.std.specs.Prelude.{Option, Some, None}
+use Rattle.std.specs.Prelude.{◌≡◌, ℕ, ◌-◌, ◌<◌, ◌≤◌, ◌⊎◌, max, Bool, true, false, nat_le, nat_lt, ◌&&◌, if◌then◌else◌, List, [], ◌∷◌, ◌++◌, length}
+use Rattle.std.specs.Prelude.{drop, filter_map, unwrap_or, is_some, is_none, ◌||◌, Option, Some, None}
 use Rattle.ring_base.specs.Fronts.{IsFront}
 use Rattle.ring_base.specs.Group.{Group}
 use Rattle.ring_base.specs.Numbers.{max_number}
@@ -25,9 +24,8 @@ use Rattle.ring_session.specs.declared.answered.Answered.{Answered}
 use Rattle.ring_session.specs.Pendings.{Tickets, AreTickets, pending_from}
 use Rattle.ring_session.specs.Tickets.{Asked, unanswered, answers_after, kept_answers, answer_to}
 use Rattle.ring_course.specs.Courses.{Holding, Course, Moment, is_running, handed_if, dues_by}
-use Rattle.ring_rules.specs.Lives.{lived_through}
-use Rattle.ring_rules.specs.Nodes.{Node, node_stopped, is_closed, table_or, table_at, effects_at, snapshot_kept, is_restored}
-use Rattle.ring_rules.specs.Stepping.{send_of, handed_over, NodeStepped, quiet, drops, newly, table_since}
+use Rattle.ring_course.specs.NodeRules.{lived_through, Node, node_stopped, is_closed, table_or, table_at, effects_at, snapshot_kept, is_restored}
+use Rattle.ring_course.specs.NodeRules.{send_of, handed_over, NodeStepped, quiet, drops, newly, table_since}
 
 pub record Replica (A : Type 0) : Type 0 where
   pub group : Group

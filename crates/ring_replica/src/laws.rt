@@ -4,12 +4,11 @@ ghost use Rattle.std.specs.Prelude.{◌≡◌, ℕ, false, true};
 ghost use Rattle.ring_base.specs.Group.{Group};
 ghost use Rattle.ring_payload.specs.declared.call.Call.{Call as OneCall};
 ghost use Rattle.ring_core.specs.State.{Stepped};
-ghost use Rattle.ring_rules.specs.Nodes.{Node, node_opening, node_committed, node_length, node_trimmed, node_reply, is_stopped};
-ghost use Rattle.ring_rules.specs.Stepping.{after_core, submit_fault, submitted};
-ghost use Rattle.ring_replica.specs.Replicas.{replica_opening, replica_of, replica_committed, replica_length, replica_trimmed};
+ghost use Rattle.ring_course.specs.NodeRules.{Node, node_opening, node_committed, node_length, node_trimmed, node_reply, is_stopped, after_core};
+ghost use Rattle.ring_course.specs.NodeRules.{submit_fault, submitted};
+ghost use Rattle.ring_replica.specs.Replicas.{replica_opening, replica_of, replica_committed, replica_length, replica_trimmed, replica_reply};
+ghost use Rattle.ring_replica.specs.Replicas.{submit_refusal, replica_given, replica_step, running_of, node_by, node_given};
 ghost use Rattle.ring_course.specs.Courses.{rises, IsSteady};
-ghost use Rattle.ring_replica.specs.Replicas.{replica_reply, submit_refusal, replica_given, replica_step, running_of};
-ghost use Rattle.ring_replica.specs.Replicas.{node_by, node_given};
 
 use ring_object::Object;
 

@@ -12,5 +12,5 @@ pub use given::Given;
 pub use laws::replica_law;
 pub use mark_laws::marks_law;
 pub use replica::Replica;
-pub use ring_course::{Course, Holding};
+pub use ring_course::{Course, Holding, Input};
 pub use ring_session::{Answer, Answered, Ticket, copy_of};

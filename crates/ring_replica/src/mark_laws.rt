@@ -7,9 +7,7 @@ ghost use Rattle.ring_core.specs.State.{Core, opening};
 ghost use Rattle.ring_core.specs.Giving.{may_install};
 ghost use Rattle.ring_core.specs.Stepping.{ring_step};
 ghost use Rattle.ring_log.specs.Stays.{Stay, born, hands};
-ghost use Rattle.ring_rules.specs.Lives.{lived_through};
-ghost use Rattle.ring_rules.specs.Nodes.{is_stopped};
-ghost use Rattle.ring_rules.specs.Stepping.{handed_over};
+ghost use Rattle.ring_course.specs.NodeRules.{lived_through, is_stopped, handed_over};
 ghost use Rattle.ring_course.specs.Courses.{rises};
 ghost use Rattle.ring_replica.specs.Marks.{IsMarked};
 

@@ -1,20 +1,19 @@
 //! All of a node but its core.
 
-ghost use Rattle.std.specs.Prelude.{◌≡◌, ◌+◌, ◌-◌, ◌^◌, [], true, false, fold, min, is_some, option_map, if◌then◌else◌};
-ghost use Rattle.std.specs.Prelude.{length, not, IfOk, IfErr, IfSome, OnOk, OnErr};
-ghost use Rattle.std.specs.Prelude.{Some, None};
+ghost use Rattle.std.specs.Prelude.{◌≡◌, ◌+◌, ◌-◌, ◌^◌, [], true, false, fold, min, is_some, option_map, if◌then◌else◌, length, not, IfOk, IfErr};
+ghost use Rattle.std.specs.Prelude.{IfSome, OnOk, OnErr, Some, None};
 ghost use Rattle.ring_base.specs.declared.fault.Fault.TheVariants.{Memory};
 ghost use Rattle.ring_session.specs.Table.{table_next};
 ghost use Rattle.ring_session.specs.Pendings.{answers_behind, pending_from};
 ghost use Rattle.ring_session.specs.TicketEffects.{done_after, table_effects};
 ghost use Rattle.ring_log.specs.Kept.{log_kept};
 ghost use Rattle.ring_log.specs.Logs.{committed_log, is_ripe};
-ghost use Rattle.ring_rules.specs.Nodes.{effects_at, is_closed};
+ghost use Rattle.ring_course.specs.NodeRules.{effects_at, is_closed};
 ghost use Rattle.ring_course.specs.Courses.{rises, course_trimmed, IsSteady};
-ghost use Rattle.ring_replica.specs.Replicas.{IsDone, replica_opening, replica_kept, replica_length, replica_trimmed, replica_committed, replica_stopped};
-ghost use Rattle.ring_replica.specs.Replicas.{replica_reply, submit_refusal, is_running_some, has_adopted_running, replica_given, calls_leaving};
-ghost use Rattle.ring_replica.specs.Replicas.{more_in, ahead_log, behind_log, is_table_held, table_held, snapshot_if_ripe, replica_step, replica_done};
-ghost use Rattle.ring_replica.specs.Replicas.{Rests};
+ghost use Rattle.ring_replica.specs.Replicas.{IsDone, replica_opening, replica_kept, replica_length, replica_trimmed, replica_committed};
+ghost use Rattle.ring_replica.specs.Replicas.{replica_stopped, replica_reply, submit_refusal, is_running_some, has_adopted_running, replica_given};
+ghost use Rattle.ring_replica.specs.Replicas.{calls_leaving, more_in, ahead_log, behind_log, is_table_held, table_held, snapshot_if_ripe};
+ghost use Rattle.ring_replica.specs.Replicas.{replica_step, replica_done, Rests};
 
 use crate::given::Given;
 use crate::story::{ReplicaStory, done, given, opened};
@@ -73,9 +72,9 @@ impl<O: Object> Replica<O> {
     {
         Ok(Replica {
             alloc,
-            course: Course::new(alloc, fixed, me),
-            sessions: Sessions::new(alloc)?,
             tickets: Tickets::new(alloc)?,
+            sessions: Sessions::new(alloc)?,
+            course: Course::new(alloc, fixed, me),
             leaving: None,
             places: 0,
             committed: 0,
@@ -94,17 +93,17 @@ impl<O: Object> Replica<O> {
     {
         Ok(Replica {
             alloc: self.alloc,
+            story: self.story.clone()?,
+            leaving: copied(&self.leaving)?,
+            tickets: self.tickets.clone()?,
             course: self.course.clone()?,
             sessions: self.sessions.copy()?,
-            tickets: self.tickets.clone()?,
-            leaving: copied(&self.leaving)?,
             places: self.places,
             committed: self.committed,
             trimmed: self.trimmed,
             effects: self.effects,
             reached: self.reached,
             stopped: self.stopped,
-            story: self.story.clone()?,
         })
     }
 
@@ -174,47 +173,72 @@ impl<O: Object> Replica<O> {
         ensures err { OnErr result (self.new ≡ replica_stopped self.old) }
         ensures refused { IfErr result (λ fault. fault ≡ Memory) }
     {
+        let mut given = Given::new(self.alloc);
+        self.step_into(running, outs, &mut given)?;
+        Ok(given)
+    }
+
+    /// The same, into what holds nothing yet.
+    fn step_into(
+        &mut self,
+        running: &Option<RingId>,
+        outs: &[Out<O::Alloc>],
+        given: &mut Given<O::Alloc>,
+    ) -> Result<(), Fault>
+        requires done { IsDone self.old }
+        requires runs { self.old.stopped ≡ false }
+        requires rises { rises self.old.life outs.now ≡ true }
+        requires no_due { given.old.due.items ≡ [] }
+        requires no_answers { given.old.answers.items ≡ [] }
+        requires none_committed { given.old.committed.items ≡ [] }
+        requires none_restored { given.old.restored ≡ None }
+        ensures ok { OnOk result (self.new ≡ (replica_step O.sequential running.now self.old outs.now).replica) }
+        ensures due { OnOk result (given.new.due.items ≡ (replica_step O.sequential running.now self.old outs.now).due) }
+        ensures answers { OnOk result (given.new.answers.items ≡ (replica_step O.sequential running.now self.old outs.now).answers) }
+        ensures committed { OnOk result (given.new.committed.items ≡ (replica_step O.sequential running.now self.old outs.now).replica.doing) }
+        ensures restored { OnOk result (given.new.restored ≡ (replica_step O.sequential running.now self.old outs.now).restored) }
+        ensures steady { OnOk result (IsSteady self.old.group self.old.life) }
+        ensures err { OnErr result (self.new ≡ replica_stopped self.old) }
+        ensures refused { IfErr result (λ fault. fault ≡ Memory) }
+    {
         let is_fine = self.course.is_fine();
         prove!(is_fine);
         self.stopped = true;
-        let mut due = Vec::new(self.alloc);
         self.course.walk(
             running,
             self.tickets.pending(),
             self.committed,
             outs,
-            &mut due,
+            &mut given.due,
         )?;
         if !self.course.is_fine() {
-            return Ok(Given::new(self.alloc));
+            given.due.clear();
+            return Ok(());
         }
-        let carried = carry_out(
+        let reached = carry_out(
             self.alloc,
             self.course.held(),
             &mut self.sessions,
             self.tickets.pending(),
             self.committed,
             self.effects,
+            given,
         )?;
-        let Some(carried) = carried else {
-            return Ok(Given::new(self.alloc));
+        let Some(reached) = reached else {
+            given.due.clear();
+            return Ok(());
         };
-        let restored = self.course.held().restored_places();
-        self.course.hand(&due);
+        given.restored = self.course.held().restored_places();
+        self.course.hand(&given.due);
         drop_if_ripe(
             self.alloc,
             &mut self.course,
             &self.sessions,
             &mut self.leaving,
         )?;
-        self.reached = carried.reached;
+        self.reached = reached;
         self.stopped = false;
-        Ok(Given {
-            due,
-            answers: carried.answers,
-            committed: carried.committed,
-            restored,
-        })
+        Ok(())
     }
 
     /// Ends a step, of which these were the answers, unless it has stopped, and hands out the calls of the places that the step
@@ -373,16 +397,9 @@ fn behind_log<'a, A: Allocator + Copy + Drop>(
     }
 }
 
-/// What came of the places that a step commits: the answers, their calls, and how many calls took effect by then.
-#[derive(Drop)]
-struct Carried<A: Allocator + Copy + Drop> {
-    answers: Vec<Answered<A>, A>,
-    committed: Vec<Call<A>, A>,
-    reached: u64,
-}
-
-/// Restores the sessions, where the step restored the log, and has them do the calls of the places committed behind so many. Nothing
-/// comes of it where the bytes are no snapshot. Refused with `Memory` alone.
+/// Restores the sessions, where the step restored the log, and has them do the calls of the places committed behind so many. Gives
+/// their answers and these calls, and tells how many calls took effect by then. Nothing comes of it where the bytes are no
+/// snapshot. Refused with `Memory` alone.
 fn carry_out<O: Object>(
     alloc: O::Alloc,
     held: &Holding<O::Alloc>,
@@ -390,30 +407,30 @@ fn carry_out<O: Object>(
     pending: &[Pending<O::Alloc>],
     committed: u64,
     effects: u64,
-) -> Result<Option<Carried<O::Alloc>>, Fault>
-    ensures fits { IfOk result (λ carried. is_some carried ≡ is_table_held O.sequential held.now) }
+    given: &mut Given<O::Alloc>,
+) -> Result<Option<u64>, Fault>
+    ensures fits { IfOk result (λ reached. is_some reached ≡ is_table_held O.sequential held.now) }
     ensures table { OnOk result (is_table_held O.sequential held.now ≡ true
         → sessions.new ≡ fold (table_next O.sequential) (table_held O.sequential held.now sessions.old) (more_in committed held.now.log)) }
-    ensures answers { IfOk result (λ carried. IfSome carried (λ c. c.answers.items
-        ≡ answers_behind O.sequential (table_held O.sequential held.now sessions.old) pending.now [] (more_in committed held.now.log))) }
-    ensures committed { IfOk result (λ carried. IfSome carried (λ c. c.committed.items ≡ more_in committed held.now.log)) }
-    ensures reached { IfOk result (λ carried. IfSome carried (λ c. c.reached
+    ensures answers { OnOk result (is_table_held O.sequential held.now ≡ true → given.new.answers.items
+        ≡ answers_behind O.sequential (table_held O.sequential held.now sessions.old) pending.now [] (more_in committed held.now.log)) }
+    ensures committed { OnOk result (is_table_held O.sequential held.now ≡ true → given.new.committed.items ≡ more_in committed held.now.log) }
+    ensures reached { IfOk result (λ reached. IfSome reached (λ n. n
         ≡ min (2 ^ 64 - 1) ((if is_some held.now.before then table_effects (table_held O.sequential held.now sessions.old) else effects)
         + done_after O.sequential (table_held O.sequential held.now sessions.old) (more_in committed held.now.log)))) }
+    ensures nothing { OnOk result (is_table_held O.sequential held.now ≡ false → given.new ≡ given.old) }
+    ensures due { OnOk result (given.new.due.items ≡ given.old.due.items) }
     ensures refused { IfErr result (λ fault. fault ≡ Memory) }
 {
     let fits = restore(alloc, held, sessions)?;
     if !fits {
         return Ok(None);
     }
-    let calls = new_calls(alloc, held.log(), committed)?;
+    given.committed = new_calls(alloc, held.log(), committed)?;
     let effects = effects_in(held, sessions, effects);
     let (answers, reached) = new_answers(alloc, sessions, pending, held.log(), committed, effects)?;
-    Ok(Some(Carried {
-        answers,
-        committed: calls,
-        reached,
-    }))
+    given.answers = answers;
+    Ok(Some(reached))
 }
 
 /// Copies of the calls of a log's committed places past the first so many, and past those that are dropped. Refused with `Memory` alone.

@@ -1,8 +1,9 @@
 //! Why the program ends before its work is done, and how it says so.
 
-ghost use Rattle.std.specs.Prelude.{◌≡◌, ◌≤◌, [], IsOk, OnOk};
+ghost use Rattle.std.specs.Prelude.{◌≡◌, ◌≤◌, [], Ok, Err, IsOk, OnOk, MatchResult};
 ghost use Rattle.std.specs.Io.Buffered.{writer_buffer, writer_contents};
 ghost use Rattle.std.specs.Io.KnownBytes.{Appends, Keeps};
+ghost use Rattle.ring_report.specs.declared.failure.Failure.TheVariants.{Output};
 ghost use Rattle.ring_report.specs.Failures.{failure_text};
 ghost use Rattle.ring_report.specs.Texts.{line_of};
 
@@ -80,6 +81,16 @@ impl fmt::Display for Numbered {
 
     fn fmt<W: fmt::Write>(&self, f: &mut fmt::Formatter<W>) -> fmt::Result {
         write!(f, "totem: {} {}", self.0.number(), self.0)
+    }
+}
+
+/// What came of writing: any error is `Output`.
+pub fn or_output(written: io::Result<()>) -> Result<(), Failure>
+    ensures { MatchResult written (λ done. result ≡ Ok done) (λ _. result ≡ Err Output) }
+{
+    match written {
+        Ok(()) => Ok(()),
+        Err(_) => Err(Failure::Output),
     }
 }
 

@@ -6,6 +6,6 @@ mod failure;
 mod lent;
 mod state_words;
 
-pub use failure::{Failure, exit_status, report};
+pub use failure::{Failure, exit_status, or_output, report};
 pub use lent::Lent;
 pub use state_words::state_word;

@@ -15,7 +15,7 @@ use ring_payload::Call;
 use std::alloc::{Allocator, Global};
 
 /// The greatest number of turns of one `pump`.
-const MOST_TURNS: u64 = 100_000;
+pub const MOST_TURNS: u64 = 100_000;
 
 /// What a line asks for.
 #[derive(Drop)]
@@ -53,10 +53,14 @@ impl<A: Allocator + Copy> Line<A> {
         ensures { Gives asked_by result (asked_of V.forms nodes line.now) }
     {
         let mut words = Words::new(line, b' ');
-        let word = words.word()?;
-        let asked = form_of::<V, A>(alloc, nodes, word, &mut words, room)?;
-        words.end()?;
-        Ok(asked)
+        let Some(word) = words.next_word() else {
+            return Err(Fault::BadScript);
+        };
+        match form_of::<V, A>(alloc, nodes, word, &mut words, room) {
+            Ok(asked) if words.is_over() => Ok(asked),
+            Ok(_) => Err(Fault::BadScript),
+            Err(fault) => Err(fault),
+        }
     }
 }
 
@@ -108,8 +112,10 @@ fn call_of<V: Vocabulary, A: Allocator + Copy>(
     let client = words.number(0, u64::from(u32::MAX))? as u32;
     let number = words.number(1, u64::MAX)?;
     spell_operation::<V, A>(alloc, words, room)?;
-    let call = Call::new(alloc, client, number, room.as_slice())?;
-    Ok(Line::Call { node, call })
+    match Call::new(alloc, client, number, room.as_slice()) {
+        Ok(call) => Ok(Line::Call { node, call }),
+        Err(fault) => Err(fault),
+    }
 }
 
 /// The delivery that the words say.
@@ -118,8 +124,10 @@ fn deliver_of<A: Allocator + Copy>(nodes: Fixed, words: &mut Words<'_>) -> Resul
     ensures { Gives (λ line. (asked_by line, words.new)) result (deliver_at nodes words.old) }
 {
     let node = words.node(nodes)?;
-    let frame = frame_at(words)?;
-    Ok(Line::Deliver { node, frame })
+    match frame_at(words) {
+        Ok(frame) => Ok(Line::Deliver { node, frame }),
+        Err(fault) => Err(fault),
+    }
 }
 
 /// The timeout that the words say.
@@ -128,8 +136,13 @@ fn timeout_of<A: Allocator + Copy>(nodes: Fixed, words: &mut Words<'_>) -> Resul
     ensures { Gives (λ line. (asked_by line, words.new)) result (timeout_at nodes words.old) }
 {
     let node = words.node(nodes)?;
-    let kind = kind_of(words.word()?)?;
-    Ok(Line::Timeout { node, kind })
+    let Some(word) = words.next_word() else {
+        return Err(Fault::BadScript);
+    };
+    match kind_of(word) {
+        Ok(kind) => Ok(Line::Timeout { node, kind }),
+        Err(fault) => Err(fault),
+    }
 }
 
 /// The noise that the words say.
@@ -142,8 +155,13 @@ fn noise_of<A: Allocator + Copy>(
     ensures { Gives (λ line. (asked_by line, words.new)) result (noise_at nodes words.old) }
 {
     let node = words.node(nodes)?;
-    let bytes = bytes_of(alloc, words.word()?, FRAME_BYTES)?;
-    Ok(Line::Noise { node, bytes })
+    let Some(word) = words.next_word() else {
+        return Err(Fault::BadScript);
+    };
+    match bytes_of(alloc, word, FRAME_BYTES) {
+        Ok(bytes) => Ok(Line::Noise { node, bytes }),
+        Err(fault) => Err(fault),
+    }
 }
 
 /// The stop that the words say.
@@ -151,8 +169,10 @@ fn noise_of<A: Allocator + Copy>(
 fn stop_of<A: Allocator + Copy>(nodes: Fixed, words: &mut Words<'_>) -> Result<Line<A>, Fault>
     ensures { Gives (λ line. (asked_by line, words.new)) result (stop_at nodes words.old) }
 {
-    let node = words.node(nodes)?;
-    Ok(Line::Stop { node })
+    match words.node(nodes) {
+        Ok(node) => Ok(Line::Stop { node }),
+        Err(fault) => Err(fault),
+    }
 }
 
 /// The cut that the words say.
@@ -160,8 +180,10 @@ fn stop_of<A: Allocator + Copy>(nodes: Fixed, words: &mut Words<'_>) -> Result<L
 fn cut_of<A: Allocator + Copy>(nodes: Fixed, words: &mut Words<'_>) -> Result<Line<A>, Fault>
     ensures { Gives (λ line. (asked_by line, words.new)) result (cut_line_at nodes words.old) }
 {
-    let groups = Groups::parse(words, nodes)?;
-    Ok(Line::Cut(groups))
+    match Groups::parse(words, nodes) {
+        Ok(groups) => Ok(Line::Cut(groups)),
+        Err(fault) => Err(fault),
+    }
 }
 
 /// The turns of delivery that the words say.
@@ -169,8 +191,12 @@ fn cut_of<A: Allocator + Copy>(nodes: Fixed, words: &mut Words<'_>) -> Result<Li
 fn pump_of<A: Allocator + Copy>(words: &mut Words<'_>) -> Result<Line<A>, Fault>
     ensures { Gives (λ line. (asked_by line, words.new)) result (pump_at words.old) }
 {
-    let turns = words.number(1, MOST_TURNS)? as u32;
-    Ok(Line::Pump { turns })
+    match words.number(1, MOST_TURNS) {
+        Ok(turns) => Ok(Line::Pump {
+            turns: turns as u32,
+        }),
+        Err(fault) => Err(fault),
+    }
 }
 
 /// The next word as the number of a frame, none if no u64 holds it.
@@ -178,9 +204,9 @@ fn pump_of<A: Allocator + Copy>(words: &mut Words<'_>) -> Result<Line<A>, Fault>
 fn frame_at(words: &mut Words<'_>) -> Result<Option<u64>, Fault>
     ensures { Tells (λ frame. (frame, words.new)) result (frame_at words.old) }
 {
-    match words.decimal()? {
-        Some(0) => Err(Fault::BadScript),
-        frame => Ok(frame),
+    match words.decimal() {
+        Ok(Some(0)) => Err(Fault::BadScript),
+        frame => frame,
     }
 }
 

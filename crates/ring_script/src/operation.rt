@@ -1,6 +1,6 @@
 //! The operations of calls: by the words of an object, or by their bytes.
 
-ghost use Rattle.std.specs.Prelude.{◌≡◌, OnOk, IfErr};
+ghost use Rattle.std.specs.Prelude.{◌≡◌, ◌++◌, OnOk, IfErr};
 ghost use Rattle.std.specs.Char.{is_ascii_graphic};
 ghost use Rattle.std.specs.List.{list_all};
 ghost use Rattle.ring_base.specs.declared.fault.Fault.TheVariants.{Memory};
@@ -14,8 +14,8 @@ use ring_base::Fault;
 use ring_payload::MOST_OPERATION;
 use std::alloc::Allocator;
 
-/// The greatest length of a name.
-const LONGEST_NAME: usize = 64;
+/// The greatest length of a name, in bytes.
+pub const LONGEST_NAME: usize = 64;
 
 /// Makes the bytes those of the operation that the words say. `BadScript` where they say none, or `Memory`.
 #[tactic(auto, unfolding(crate::specs::Operations::operation_at))]
@@ -26,7 +26,9 @@ pub(crate) fn spell_operation<V: Vocabulary, A: Allocator + Copy>(
 ) -> Result<(), Fault>
     ensures { Gives (λ _. (bytes.new.items, words.new)) result (operation_at V.forms words.old) }
 {
-    let word = words.word()?;
+    let Some(word) = words.next_word() else {
+        return Err(Fault::BadScript);
+    };
     if is(word, b"raw") {
         spell_raw(alloc, words, bytes)
     } else {
@@ -43,8 +45,16 @@ fn spell_raw<A: Allocator + Copy>(
 ) -> Result<(), Fault>
     ensures { Gives (λ _. (bytes.new.items, words.new)) result (raw_at words.old) }
 {
-    *bytes = bytes_of(alloc, words.word()?, MOST_OPERATION)?;
-    Ok(())
+    let Some(word) = words.next_word() else {
+        return Err(Fault::BadScript);
+    };
+    match bytes_of(alloc, word, MOST_OPERATION) {
+        Ok(spelled) => {
+            *bytes = spelled;
+            Ok(())
+        }
+        Err(fault) => Err(fault),
+    }
 }
 
 /// Makes the bytes those of the operation of this name with the arguments that the next words are. `BadScript` where they say
@@ -57,7 +67,9 @@ fn spell_named<V: Vocabulary, A: Allocator + Copy>(
 ) -> Result<(), Fault>
     ensures { Gives (λ _. (bytes.new.items, words.new)) result (named_at V.forms name.now words.old) }
 {
-    let form = form_of::<V>(name).ok_or(Fault::BadScript)?;
+    let Some(form) = form_of::<V>(name) else {
+        return Err(Fault::BadScript);
+    };
     begin(bytes, form.first)?;
     spell_all(form.arguments, words, bytes)
 }
@@ -69,7 +81,9 @@ fn begin<A: Allocator + Copy>(bytes: &mut Vec<u8, A>, first: &[u8]) -> Result<()
 {
     bytes.clear();
     for byte in first {
-        bytes.push(*byte)?;
+        if bytes.push(*byte).is_err() {
+            return Err(Fault::Memory);
+        }
     }
     Ok(())
 }
@@ -100,23 +114,33 @@ fn spell<A: Allocator + Copy>(
         (argument_after bytes.old.items argument words.old) }
 {
     match argument {
-        Argument::Key => {
-            let key = words.number(0, 255)?;
-            bytes.push(key as u8)?;
-        }
-        Argument::Value => {
-            let value = words.number(0, u64::MAX)?;
-            bytes.extend_from_slice(&value.to_be_bytes())?;
-        }
-        Argument::Name => {
-            let name = words.word()?;
-            if !is_name(name) {
-                return Err(Fault::BadScript);
-            }
-            bytes.extend_from_slice(name)?;
-        }
+        Argument::Key => match words.number(0, 255) {
+            Ok(key) => match bytes.push(key as u8) {
+                Ok(()) => Ok(()),
+                Err(_) => Err(Fault::Memory),
+            },
+            Err(fault) => Err(fault),
+        },
+        Argument::Value => match words.number(0, u64::MAX) {
+            Ok(value) => append(bytes, &value.to_be_bytes()),
+            Err(fault) => Err(fault),
+        },
+        Argument::Name => match words.next_word() {
+            Some(name) if is_name(name) => append(bytes, name),
+            _ => Err(Fault::BadScript),
+        },
     }
-    Ok(())
+}
+
+/// Appends these bytes, or `Memory`.
+fn append<A: Allocator + Copy>(bytes: &mut Vec<u8, A>, more: &[u8]) -> Result<(), Fault>
+    ensures bytes { OnOk result (bytes.new.items ≡ bytes.old.items ++ more.now) }
+    ensures refused { IfErr result (λ fault. fault ≡ Memory) }
+{
+    match bytes.extend_from_slice(more) {
+        Ok(()) => Ok(()),
+        Err(_) => Err(Fault::Memory),
+    }
 }
 
 /// Whether the word may be a name.

@@ -2,15 +2,17 @@
 
 ghost use Rattle.std.specs.Char.{is_ascii};
 ghost use Rattle.std.specs.List.{list_all};
-ghost use Rattle.std.specs.Prelude.{◌≡◌, ℕ, ◌≤◌, Some, None, List, length, map, option_map, if◌then◌else◌, IfOk, IfErr, true};
+ghost use Rattle.std.specs.Prelude.{◌≡◌, ℕ, ◌≤◌, Some, List, length, map, option_and_then, option_map, IfOk, IfErr, true};
 ghost use Rattle.ring_script.specs.Faults.{IsOfText};
 ghost use Rattle.ring_script.specs.Fits.{AreFit};
 ghost use Rattle.ring_script.specs.Lines.{asked_by, asked_of};
 ghost use Rattle.ring_script.specs.Reading.{Gives, Tells};
+ghost use Rattle.ring_script.specs.Numbers.{number_at};
 ghost use Rattle.ring_script.specs.Scripts.{nodes_of, unless_skipped, at_line};
 ghost use Rattle.ring_script.specs.Scripts.{nodes_in, asked_in, script_by, script_of, numbered_by, schedule_by, AreAmong, Answers};
 ghost use Rattle.ring_script.specs.Scripts.{longest_text, IsAllOf, AnswersInputBy, AnswersInput, IsUnread};
-ghost use Rattle.ring_script.specs.Words.{are_ascii, is_skipped};
+ghost use Rattle.ring_script.specs.Votes.{nodes_alike};
+ghost use Rattle.ring_script.specs.Words.{are_ascii, is_skipped, whole};
 
 use crate::line::Line;
 use crate::lines::Lines;
@@ -23,7 +25,7 @@ use std::alloc::{Allocator, Global};
 use std::io::{ErrorKind, Read};
 
 /// The greatest length of a script, in bytes.
-const LONGEST_TEXT: u64 = 1_048_576;
+pub const LONGEST_TEXT: u64 = 1_048_576;
 
 /// Why a script is not taken.
 #[derive(Clone, Copy, Debug, PartialEq, Eq)]
@@ -176,10 +178,16 @@ pub(crate) fn at_line(fault: Fault, number: u64) -> ScriptFault
 fn first_of(line: &[u8]) -> Result<Option<Fixed>, Fault>
     ensures { Tells (λ told. told) result (unless_skipped nodes_of line.now) }
 {
-    if skips(line)? {
+    if !are_ascii(line) {
+        return Err(Fault::BadScript);
+    }
+    if is_skipped(line) {
         return Ok(None);
     }
-    Ok(Some(nodes_of(line)?))
+    match nodes_of(line) {
+        Ok(nodes) => Ok(Some(nodes)),
+        Err(fault) => Err(fault),
+    }
 }
 
 /// What a line asks for, none where it is skipped. `BadScript` where it has none of the forms, or `Memory`. A line that is
@@ -194,28 +202,19 @@ fn line_of<V: Vocabulary, A: Allocator + Copy>(
     requires { is_plain ≡ true → are_ascii line.now ≡ true }
     ensures { Gives (option_map asked_by) result (unless_skipped (asked_of V.forms nodes) line.now) }
 {
-    if is_plain {
-        if is_skipped(line) {
-            return Ok(None);
-        }
-    } else if skips(line)? {
-        return Ok(None);
-    }
-    Ok(Some(Line::parse::<V>(alloc, nodes, line, room)?))
-}
-
-/// Whether the line asks for nothing: it is empty, or a comment. `BadScript` where it is not ASCII.
-fn skips(line: &[u8]) -> Result<bool, Fault>
-    ensures { Tells (λ skipped. skipped) result
-        (if are_ascii line.now then Some (is_skipped line.now) else None) }
-{
-    if !are_ascii(line) {
+    if !is_plain && !are_ascii(line) {
         return Err(Fault::BadScript);
     }
-    Ok(is_skipped(line))
+    if is_skipped(line) {
+        return Ok(None);
+    }
+    match Line::parse::<V>(alloc, nodes, line, room) {
+        Ok(line) => Ok(Some(line)),
+        Err(fault) => Err(fault),
+    }
 }
 
-/// Whether the line is empty, or a comment.
+/// Whether the line asks for nothing: it is empty, or a comment.
 pub(crate) fn is_skipped(line: &[u8]) -> bool
     ensures { result ≡ is_skipped line.now }
 {
@@ -238,10 +237,30 @@ fn nodes_of(line: &[u8]) -> Result<Fixed, Fault>
     ensures { Tells (λ nodes. nodes) result (nodes_of line.now) }
 {
     let mut words = Words::new(line, b' ');
-    if !is(words.word()?, b"nodes") {
-        return Err(Fault::BadScript);
+    match words.next_word() {
+        Some(word) if is(word, b"nodes") => counted(&mut words),
+        _ => Err(Fault::BadScript),
     }
-    let count = words.number(1, 16)? as u8;
-    words.end()?;
-    Fixed::new(count).map_err(|_| Fault::BadScript)
+}
+
+/// The nodes of which a line tells the number, behind its first word, and nothing else.
+fn counted(words: &mut Words<'_>) -> Result<Fixed, Fault>
+    ensures { Tells (λ nodes. nodes) result
+        (option_and_then (λ count. option_map nodes_alike (whole count)) (number_at 1 16 words.old)) }
+{
+    match words.number(1, 16) {
+        Ok(count) if words.is_over() => alike(count as u8),
+        _ => Err(Fault::BadScript),
+    }
+}
+
+/// So many nodes, with one vote each.
+fn alike(count: u8) -> Result<Fixed, Fault>
+    requires { (1 ≤ count) × (count ≤ 16) }
+    ensures { Tells (λ nodes. nodes) result (Some (nodes_alike count)) }
+{
+    match Fixed::new(count) {
+        Ok(nodes) => Ok(nodes),
+        Err(_) => Err(Fault::BadScript),
+    }
 }

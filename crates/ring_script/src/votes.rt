@@ -53,10 +53,13 @@ fn votes_of(line: &[u8], nodes: Fixed) -> Result<Fixed, Fault>
     ensures read { Tells (λ voted. voted) result (votes_of nodes line.now) }
 {
     let mut words = Words::new(line, b' ');
-    words.word()?;
-    let voted = votes_at(&mut words, nodes)?;
-    words.end()?;
-    Ok(voted)
+    if words.next_word().is_none() {
+        return Err(Fault::BadScript);
+    }
+    match votes_at(&mut words, nodes) {
+        Ok(voted) if words.is_over() => Ok(voted),
+        _ => Err(Fault::BadScript),
+    }
 }
 
 /// The nodes with the votes that the next words are.

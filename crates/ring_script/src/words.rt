@@ -1,14 +1,14 @@
 //! The words of a script's line, and what a word can stand for.
 
-ghost use Rattle.std.specs.Prelude.{◌≡◌, ◌+◌, ◌-◌, ◌*◌, ◌^◌, ◌≤◌, ◌<◌, ◌==◌, ◌∷◌, [], IfOk, IfErr, SomeIff, drop, take, get_or, length, position, true, false};
+ghost use Rattle.std.specs.Prelude.{◌≡◌, ◌+◌, ◌-◌, ◌*◌, ◌^◌, ◌≤◌, ◌<◌, ◌==◌, ◌∷◌, [], IfOk, IfErr, SomeIff, take, get_or, length, position, true, false};
 ghost use Rattle.std.specs.Char.{is_ascii_digit};
 ghost use Rattle.std.specs.Iterator.{YieldsFirstRef};
 ghost use Rattle.std.specs.List.{list_all};
 ghost use Rattle.std.specs.Str.Parse.{digits_value};
-ghost use Rattle.ring_script.specs.Numbers.{is, is_decimal, BeginsWith, word_at, decimal_at, number_at, node_at};
+ghost use Rattle.ring_script.specs.Numbers.{is, is_decimal, BeginsWith, decimal_at, number_at, node_at};
 ghost use Rattle.ring_script.specs.Reading.{Tells};
 ghost use Rattle.ring_base.specs.declared.fault.Fault.TheVariants.{BadScript};
-ghost use Rattle.ring_script.specs.Words.{pieces, pieces_left, ended};
+ghost use Rattle.ring_script.specs.Words.{pieces, pieces_left};
 
 use ring_base::{Fault, Fixed, Proc};
 use std::marker::Model;
@@ -62,24 +62,24 @@ impl<'a> Words<'a> {
         }
     }
 
-    /// The next word, or `BadScript` after the last.
-    pub fn word(&mut self) -> Result<&'a [u8], Fault>
-        ensures { Tells (λ word. (word.now, self.new)) result (word_at self.old) }
-    {
-        self.next_word().ok_or(Fault::BadScript)
-    }
-
     /// The next word as a number, none if no u64 holds it. `BadScript` where it is no number. Each of its bytes is looked at once.
     pub fn decimal(&mut self) -> Result<Option<u64>, Fault>
         ensures { Tells (λ number. (number, self.new)) result (decimal_at self.old) }
     {
-        let text = self.rest.ok_or(Fault::BadScript)?;
+        let Some(text) = self.rest else {
+            return Err(Fault::BadScript);
+        };
         let digits = Digits::leading(text);
         if !are_plain(&text[..digits.count]) {
             return Err(Fault::BadScript);
         }
-        self.rest = behind(&text[digits.count..], self.separator)?;
-        Ok(digits.value)
+        match behind(&text[digits.count..], self.separator) {
+            Ok(rest) => {
+                self.rest = rest;
+                Ok(digits.value)
+            }
+            Err(fault) => Err(fault),
+        }
     }
 
     /// The next word as a number from `least` to `most`. `BadScript` where it is none.
@@ -87,8 +87,8 @@ impl<'a> Words<'a> {
         ensures read { Tells (λ number. (number, self.new)) result (number_at least most self.old) }
         ensures within { IfOk result (λ number. (least ≤ number) × (number ≤ most)) }
     {
-        match self.decimal()? {
-            Some(number) if least <= number && number <= most => Ok(number),
+        match self.decimal() {
+            Ok(Some(number)) if least <= number && number <= most => Ok(number),
             _ => Err(Fault::BadScript),
         }
     }
@@ -97,8 +97,10 @@ impl<'a> Words<'a> {
     pub fn node(&mut self, nodes: Fixed) -> Result<Proc, Fault>
         ensures { Tells (λ node. (node, self.new)) result (node_at nodes self.old) }
     {
-        let number = self.number(1, u64::from(nodes.count()))?;
-        Ok(Proc::new(number as u8))
+        match self.number(1, u64::from(nodes.count())) {
+            Ok(number) => Ok(Proc::new(number as u8)),
+            Err(fault) => Err(fault),
+        }
     }
 
     /// Whether no word is left.
@@ -106,17 +108,6 @@ impl<'a> Words<'a> {
         ensures { result ≡ (length self.now == 0) }
     {
         self.rest.is_none()
-    }
-
-    /// `BadScript` where a word is left.
-    pub fn end(&mut self) -> Result<(), Fault>
-        ensures value { result ≡ ended self.old }
-        ensures left { self.new ≡ drop 1 self.old }
-    {
-        match self.next_word() {
-            None => Ok(()),
-            Some(_) => Err(Fault::BadScript),
-        }
     }
 }
 

@@ -119,8 +119,7 @@ impl<V: Vocabulary, A: Allocator> Maker<V, A> {
 
     /// The last line: the state is shown.
     pub fn show(&mut self) -> Result<(), Fault> {
-        writeln!(&mut self.text, "show")?;
-        Ok(())
+        Ok(self.text.push_str("show\n")?)
     }
 
     /// A timeout comes at a node.
@@ -223,7 +222,7 @@ impl<V: Vocabulary, A: Allocator> Maker<V, A> {
             let (name, number) = (client.name, client.number);
             write!(&mut self.text, "call {node} {name} {number} ")?;
             client.last.write(V::forms(), &mut self.text)?;
-            writeln!(&mut self.text)?;
+            self.text.push_str("\n")?;
         }
         Ok(())
     }

@@ -53,7 +53,6 @@ fn told_script<V: Vocabulary, A: Allocator>(
     write_head(&mut head, votes, seed, lines)?;
     let mut maker = Maker::<V, A>::new(head, nodes, seed, lines.min(MOST_LINES));
     maker.tell_all()?;
-    maker.show()?;
     Ok(maker.into_text())
 }
 
@@ -86,12 +85,11 @@ fn write_head<A: Allocator>(
     if votes.iter().all(|vote| *vote == 1) {
         return Ok(());
     }
-    write!(head, "votes")?;
+    head.push_str("votes")?;
     for vote in votes {
         write!(head, " {vote}")?;
     }
-    writeln!(head)?;
-    Ok(())
+    Ok(head.push_str("\n")?)
 }
 
 /// Prints the script of this seed, as [`made_script`] makes it. The exit status is 0, or else 1: where memory is refused or there

@@ -53,10 +53,9 @@ impl Operation {
     /// Appends its words, by these forms.
     pub fn write<A: Allocator>(self, forms: &[Form], text: &mut String<A>) -> Result<(), Fault> {
         let Some(form) = forms.get(self.place as usize) else {
-            write!(text, "raw 00")?;
-            return Ok(());
+            return Ok(text.push_str("raw 00")?);
         };
-        write!(text, "{}", form.word)?;
+        text.push_str(form.word)?;
         let mut is_other = false;
         for argument in form.arguments {
             self.write_argument(*argument, is_other, text)?;
@@ -72,13 +71,13 @@ impl Operation {
         is_other: bool,
         text: &mut String<A>,
     ) -> Result<(), Fault> {
-        match argument {
-            Argument::Key => write!(text, " {}", self.key)?,
-            Argument::Value if is_other => write!(text, " {}", self.other)?,
-            Argument::Value => write!(text, " {}", self.value)?,
-            Argument::Name => write!(text, " {}", name_of(self.key))?,
-        }
-        Ok(())
+        let number = match argument {
+            Argument::Key => self.key,
+            Argument::Value if is_other => self.other,
+            Argument::Value => self.value,
+            Argument::Name => return Ok(write!(text, " {}", name_of(self.key))?),
+        };
+        Ok(write!(text, " {number}")?)
     }
 }
 

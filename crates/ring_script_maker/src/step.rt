@@ -25,7 +25,7 @@ impl fmt::Display for Step {
             Step::Noise { node, byte } => write!(f, "noise {node} {byte:02x}"),
             Step::Stop { node } => write!(f, "stop {node}"),
             Step::Cut(sides) => write!(f, "cut{sides}"),
-            Step::Heal => write!(f, "heal"),
+            Step::Heal => f.write_str("heal"),
             Step::Pump { turns } => write!(f, "pump {turns}"),
         }
     }

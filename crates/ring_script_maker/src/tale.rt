@@ -23,19 +23,16 @@ pub(crate) enum Tale {
 impl fmt::Display for Tale {
     fn fmt<W: fmt::Write>(&self, f: &mut fmt::Formatter<W>) -> fmt::Result {
         match *self {
-            Tale::Open => write!(f, "# All nodes look for each other, and form a ring."),
-            Tale::Calls => write!(f, "# Clients call."),
+            Tale::Open => f.write_str("# All nodes look for each other, and form a ring."),
+            Tale::Calls => f.write_str("# Clients call."),
             Tale::Retry { client, node } => {
                 write!(
                     f,
                     "# Client {client} tries its last call again, at node {node}."
                 )
             }
-            Tale::Part => write!(
-                f,
-                "# A cut: each side gives up the others, and goes on alone."
-            ),
-            Tale::Merge => write!(f, "# The cut heals, and the sides look for each other."),
+            Tale::Part => f.write_str("# A cut: each side gives up the others, and goes on alone."),
+            Tale::Merge => f.write_str("# The cut heals, and the sides look for each other."),
             Tale::Break { node } => {
                 write!(
                     f,
@@ -54,14 +51,12 @@ impl fmt::Display for Tale {
                     "# For a moment node {node} hears nobody, and what it missed is sent again."
                 )
             }
-            Tale::Repeat => write!(
-                f,
-                "# Old frames come once more, and bytes that no node sent."
+            Tale::Repeat => f.write_str(
+                "# Old frames come once more, and bytes that no node sent.",
             ),
-            Tale::Resend => write!(f, "# Tokens are sent once more."),
-            Tale::End => write!(
-                f,
-                "# At last all that have not stopped form one ring, and answer what waits."
+            Tale::Resend => f.write_str("# Tokens are sent once more."),
+            Tale::End => f.write_str(
+                "# At last all that have not stopped form one ring, and answer what waits.",
             ),
         }
     }

@@ -9,7 +9,7 @@ use ring_script::Vocabulary;
 use std::alloc::Allocator;
 
 impl<V: Vocabulary, A: Allocator> Maker<V, A> {
-    /// The whole story: an opening, whatever comes, and an end.
+    /// The whole story: an opening, whatever comes, and an end, behind which the state is shown.
     pub fn tell_all(&mut self) -> Result<(), Fault> {
         self.open()?;
         self.keep_end();
@@ -19,7 +19,8 @@ impl<V: Vocabulary, A: Allocator> Maker<V, A> {
             }
         }
         self.keep_none();
-        self.end()
+        self.end()?;
+        self.show()
     }
 
     /// All nodes look for each other.
@@ -127,22 +128,21 @@ impl<V: Vocabulary, A: Allocator> Maker<V, A> {
 
     /// One of these begins to look for the others, or all do.
     fn begin(&mut self, nodes: ProcSet) -> Result<(), Fault> {
-        if self.draws.happens(40) {
-            return self.time_out_all(nodes, Kind::Loss);
-        }
-        match self.draws.member(nodes) {
-            Some(node) => self.time_out(node, Kind::Loss),
-            None => Ok(()),
-        }
+        self.time_out_some(nodes, Kind::Loss)
     }
 
     /// One of these gives up whom it does not hear, or all do.
     fn give_up(&mut self, nodes: ProcSet) -> Result<(), Fault> {
+        self.time_out_some(nodes, Kind::Consensus)
+    }
+
+    /// A timeout comes at one of these, or at all.
+    fn time_out_some(&mut self, nodes: ProcSet, kind: Kind) -> Result<(), Fault> {
         if self.draws.happens(40) {
-            return self.time_out_all(nodes, Kind::Consensus);
+            return self.time_out_all(nodes, kind);
         }
         match self.draws.member(nodes) {
-            Some(node) => self.time_out(node, Kind::Consensus),
+            Some(node) => self.time_out(node, kind),
             None => Ok(()),
         }
     }

@@ -40,7 +40,7 @@ impl<A: Allocator + Copy + Drop> Model for Seat<A> {
 }
 
 impl<A: Allocator + Copy + Drop> Seat<A> {
-    // The seat of this node, or of none.
+    /// The seat of this node, or of none.
     pub(crate) fn new(alloc: A, node: Option<Proc>, seat: TableSeat<u8, View>) -> Seat<A>
         requires { IsSeated node seat }
         ensures { result ≡ record { gauge = seat.table_id; node = node; published = seat.me.0.published; seen = seat.me.0.seen; clock = new_clock } }

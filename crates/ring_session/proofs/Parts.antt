@@ -1,23 +1,25 @@
 -- A snapshot taken apart and put together, as the code does it.
-use Rattle.std.proofs.Common.{◌≡◌, ℕ, suc, ◌+◌, ◌-◌, ◌<◌, ◌≤◌, ◌==◌, nat_le, ltb, Bool, true, false, cond, List, [], ◌∷◌, ◌++◌}
-use Rattle.std.proofs.Common.{length, take, drop, All, Option, Some, None, is_some, IsSome, refl, sym, ap, subst, ◌∙◌, arith}
+use Rattle.std.proofs.Common.{◌≡◌, ℕ, suc, ◌<◌, ◌≤◌, ◌==◌, nat_le, ltb, Bool, true, false, cond, List, [], ◌∷◌, ◌++◌, append_assoc, length, take}
+use Rattle.std.proofs.Common.{drop, All, Option, Some, None, is_some, IsSome, refl, sym, ap, subst, ◌∙◌, arith}
+use Rattle.std.specs.Prelude.{Result, Ok, Err, OnOk, OnErr}
 use Rattle.std.specs.Map.{values_of}
+use Rattle.std.specs.List.{flat_map}
 use Rattle.std.specs.Option.{option_map}
 use Rattle.std.proofs.lemmas.Bool.{false≢true, le-leb, lt-leb, leb-true}
-use Rattle.std.proofs.lemmas.List.{take-take, take_at, length-take}
+use Rattle.std.proofs.lemmas.List.Concat.{flat_map-cons}
+use Rattle.byteorder.specs.Endian.{big_bytes}
+use Rattle.std.proofs.lemmas.List.{take-take, take_at, take_all, length-take}
 use Rattle.std.proofs.lemmas.List.Elements.{All-nil, All-cons}
 use Rattle.ring_base.specs.declared.fault.Fault.{Fault}
 use Rattle.ring_base.specs.declared.fault.Fault.TheVariants.{Memory}
-use Rattle.ring_layout.specs.Reading.{number_at, text_at, ◌>>=◌}
-use Rattle.ring_layout.specs.NumberFormats.{guard_some}
-use Rattle.ring_layout.specs.ReadingLaws.{some_is}
+use Rattle.ring_payload.specs.Layouts.{number_at, text_at, ◌>>=◌, guard_some, some_is}
 use Rattle.ring_object.specs.Bytes.{AreBytes}
 use Rattle.ring_object.specs.Snapshots.{Refuses}
 use Rattle.ring_payload.specs.Operations.{op_at}
 use Rattle.ring_session.specs.Deduplicated.{most_clients}
 use Rattle.ring_session.specs.Table.{LastCall, Table, IsTable, table_of}
-use Rattle.ring_session.specs.Snapshots.{most_reply, reply_at, client_at, AreFrom, next_at, clients_at, clients_in, AreParts}
-use Rattle.ring_session.specs.Snapshots.{sessions_at, object_at, parts_at, table_with, restored_table}
+use Rattle.ring_session.specs.Snapshots.{client_spelling, last_spelling, most_reply, reply_at, client_at, AreFrom, next_at, clients_at, clients_in}
+use Rattle.ring_session.specs.Snapshots.{AreParts, sessions_at, object_at, parts_at, table_with, restored_table}
 use Rattle.ring_session.specs.SnapshotsLaws.{parts_exact}
 
 -- ---- what was read, and what is made of it
@@ -248,3 +250,29 @@ front-then old mid new m n is_m is_n first second =
 pub front-more : (old mid more : List ℕ) (m : ℕ) → m ≡ length old → take m mid ≡ old → take m (mid ++ more) ≡ old
 front-more old mid more m is_m first =
     front-then old mid (mid ++ more) m (length mid) is_m refl first (take_at mid more (length mid) refl)
+
+-- a front of what was made by appending
+pub front-on : (old mid new more : List ℕ) (m : ℕ) → m ≡ length old → take m mid ≡ old → new ≡ mid ++ more → take m new ≡ old
+front-on old mid new more m is_m first is = ap (take m) is ∙ front-more old mid more m is_m first
+
+-- a list is a front of itself
+pub front-whole : (old : List ℕ) (m : ℕ) → m ≡ length old → take m old ≡ old
+front-whole old m is_m = take_all m old (omega (arith, is_m))
+
+-- a front of what was appended to, or left as it was
+pub front-either : {U : Type 0} (r : Result U Fault) (old mid new more : List ℕ) (m : ℕ) → m ≡ length old → take m mid ≡ old
+    → OnOk r (new ≡ mid ++ more) → OnErr r (new ≡ mid) → take m new ≡ old
+front-either (Ok u) old mid new more m is_m first ok err = front-on old mid new more m is_m first ok
+front-either (Err e) old mid new more m is_m first ok err = ap (take m) err ∙ first
+
+-- one client more is appended, and those that are left make the rest
+pub clients-on : (before mid after : List ℕ) (s : ℕ × LastCall) (left rest : List (ℕ × LastCall)) (all : List ℕ) → left ≡ s ∷ rest
+    → mid ≡ before ++ big_bytes 4 s.0 → after ≡ mid ++ last_spelling s.1
+    → before ++ flat_map client_spelling left ≡ all → after ++ flat_map client_spelling rest ≡ all
+clients-on before mid after s left rest all is head tail e =
+    let others : List ℕ = flat_map client_spelling rest in
+    ap (λ w. w ++ others) (tail ∙ ap (λ w. w ++ last_spelling s.1) head)
+    ∙ ap (λ w. w ++ others) (append_assoc before (big_bytes 4 s.0) (last_spelling s.1))
+    ∙ append_assoc before (client_spelling s) others
+    ∙ ap (λ w. before ++ w) (sym (flat_map-cons client_spelling s rest))
+    ∙ ap (λ w. before ++ flat_map client_spelling w) (sym is) ∙ e

@@ -10,6 +10,8 @@ use Rattle.std.proofs.lemmas.Map.Steps.{set_value_same}
 use Rattle.std.proofs.lemmas.Map.Views.{All-values-insert_entry}
 use Rattle.ring_object.specs.Operations.{Sequential}
 use Rattle.ring_payload.specs.declared.call.Call.{Call}
+use Rattle.std.specs.List.{AllZip}
+use Rattle.std.proofs.lemmas.List.Elements.{same_from_all_zip}
 use Rattle.ring_session.specs.Deduplicated.{most_clients}
 use Rattle.ring_session.specs.Table.{LastCall, IsTable, table_of, last_number, last_call, is_taken, table_next}
 use Rattle.ring_session.proofs.Entries.{set_value-known, remove_entry-new, length-new}
@@ -30,6 +32,12 @@ pub taken_out : (es put after : List (ℕ × LastCall)) (client : ℕ) (new : La
 taken_out es put after client new out was none = out ∙ ap (remove_entry (is_at (nat_cmp client))) was ∙ remove_entry-new es client new none
 
 -- ---- what every table keeps
+
+-- clients with the same numbers and last calls are the same
+pub copied_same : (es copies : List (ℕ × LastCall)) → AllZip (λ p q. (q.0 ≡ p.0) × (q.1 ≡ p.1)) es copies → copies ≡ es
+copied_same es copies are =
+    same_from_all_zip (λ p q. (q.0 ≡ p.0) × (q.1 ≡ p.1)) es copies are
+    (λ p q same. ap (λ (n : ℕ). (n, q.1)) same.0 ∙ ap (λ (last : LastCall). (p.0, last)) same.1)
 
 pub IsTable-content : {O : Type 0} (es after : List (ℕ × LastCall)) (content content' : O)
     → IsTable (table_of es content) → after ≡ es → IsTable (table_of after content')

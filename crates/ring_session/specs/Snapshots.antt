@@ -6,8 +6,8 @@ use Rattle.std.specs.List.{flat_map}
 use Rattle.std.specs.Option.{option_map}
 use Rattle.std.proofs.lemmas.Bool.{leb-true, le-leb}
 use Rattle.byteorder.specs.Endian.{big_bytes}
-use Rattle.ring_layout.specs.Reading.{IsFormat, number_at, made_at, such_at, then_at, ◌⊕◌, ◌>>=◌}
-use Rattle.ring_layout.specs.Formats.{Format, byte, word4, word8, text, ◌&◌, followed, such, told_format}
+use Rattle.ring_payload.specs.Layouts.{IsFormat, number_at, made_at, such_at, then_at, ◌⊕◌, ◌>>=◌, Format, byte, word4, word8, text, ◌&◌, followed}
+use Rattle.ring_payload.specs.Layouts.{such, told_format}
 use Rattle.ring_object.specs.Bytes.{AreBytes}
 use Rattle.ring_payload.specs.Calls.{CallFits}
 use Rattle.ring_payload.specs.declared.call.Call.{Call}

@@ -8,16 +8,11 @@ use Rattle.std.specs.Str.{bytes_eq}
 use Rattle.ring_base.specs.declared.fault.Fault.TheVariants.{Conflict, Stale, NumberGap, SessionsFull}
 use Rattle.ring_object.specs.Operations.{Sequential}
 use Rattle.ring_payload.specs.declared.call.Call.{Call}
+pub use Rattle.ring_last_call.specs.LastCalls.{LastCall, no_call, last_call}
 use Rattle.ring_session.specs.Deduplicated.{most_clients}
 use Rattle.ring_session.specs.declared.answer.Answer.{Answer}
 use Rattle.ring_session.specs.declared.answer.Answer.TheVariants.{Done, Kept}
 use Rattle.ring_session.specs.SessionAnswer.{refusal}
-
--- a client's last call that took effect, by number and operation, and the reply to it
-pub record LastCall : Type 0 where
-  pub number : ℕ
-  pub operation : List ℕ
-  pub reply : List ℕ
 
 -- the known clients, ascending, each with its last call, and the object's content
 pub record Table (O : Type 0) : Type 0 where
@@ -37,10 +32,6 @@ pub record IsTable {O : Type 0} (table : Table O) : Type 0 where
 abbrev pub opening : {O : Type 0} → O → Table O
 opening initial = table_of [] initial
 
--- a client that no call of took effect
-abbrev pub no_call : LastCall
-no_call = record { number = 0; operation = []; reply = [] }
-
 -- the client's last call, if it is known
 abbrev pub session_of : {O : Type 0} → Table O → ℕ → Option LastCall
 session_of table client = lookup (is_at (nat_cmp client)) table.sessions
@@ -49,10 +40,6 @@ session_of table client = lookup (is_at (nat_cmp client)) table.sessions
 abbrev pub last_number : Option LastCall → ℕ
 last_number None = 0
 last_number (Some last) = last.number
-
--- the call as its client's last, with the reply to it
-abbrev pub last_call : {A : Type 0} → Call A → List ℕ → LastCall
-last_call c reply = record { number = c.number; operation = c.op; reply = reply }
 
 -- whether the client is known, or may be added
 abbrev pub has_room : {O : Type 0} → Table O → ℕ → Bool

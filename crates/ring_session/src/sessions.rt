@@ -12,9 +12,10 @@ ghost use Rattle.ring_session.specs.Table.{opening, session_of, table_answer, ta
 
 use crate::MAX_CLIENTS;
 use crate::answer::Answer;
-use crate::session::Session;
+use crate::session::other_answer;
 use crate::snapshots::{append_clients, parts_of, read_clients};
 use ring_base::Fault;
+use ring_last_call::LastCall;
 use ring_object::{Object, append_sized, copied};
 use ring_payload::Call;
 use std::alloc::Allocator;
@@ -26,7 +27,7 @@ use std::marker::Model;
 #[derive(Drop)]
 pub struct Sessions<O: Object> {
     alloc: O::Alloc,
-    sessions: BTreeMap<u32, Session<O::Alloc>, O::Alloc>,
+    sessions: BTreeMap<u32, LastCall<O::Alloc>, O::Alloc>,
     object: O,
 }
 
@@ -71,11 +72,11 @@ impl<O: Object> Sessions<O> {
         ensures full_only_at_limit { IfOk result (λ answer. answer ≡ refusal SessionsFull → length self.old.sessions ≡ most_clients) }
     {
         match self.sessions.get_mut(&call.client) {
-            Some(session) => {
-                if session.is_next(call.number) {
-                    Ok(Answer::Done(session.apply(&mut self.object, call)?))
+            Some(last) => {
+                if last.is_next(call.number) {
+                    Ok(Answer::Done(last.apply(&mut self.object, call)?))
                 } else {
-                    Ok(session.answer(call))
+                    Ok(other_answer(last, call))
                 }
             }
             // An unknown client's last number is 0.
@@ -166,11 +167,11 @@ impl<O: Object> Sessions<O> {
         if self.sessions.len() >= MAX_CLIENTS {
             return Ok(Answer::refusal(Fault::SessionsFull));
         }
-        let session = self
+        let last = self
             .sessions
             .entry(call.client)?
-            .or_insert(Session::new(self.alloc));
-        match session.apply(&mut self.object, call) {
+            .or_insert(LastCall::none(self.alloc));
+        match last.apply(&mut self.object, call) {
             Ok(reply) => Ok(Answer::Done(reply)),
             Err(fault) => {
                 self.sessions.remove(&call.client);
@@ -181,12 +182,12 @@ impl<O: Object> Sessions<O> {
 }
 
 /// The sum of the clients' last numbers, or the greatest number of 64 bits where that is more.
-fn sum_of_numbers<A: Allocator + Copy>(sessions: &BTreeMap<u32, Session<A>, A>) -> u64
+fn sum_of_numbers<A: Allocator + Copy>(sessions: &BTreeMap<u32, LastCall<A>, A>) -> u64
     ensures { result ≡ min (2 ^ 64 - 1) (numbers_in sessions.now.entries) }
 {
     let mut sum = 0u64;
-    for (_, session) in sessions.iter() {
-        sum = sum.saturating_add(session.number());
+    for (_, last) in sessions.iter() {
+        sum = sum.saturating_add(last.number());
     }
     sum
 }

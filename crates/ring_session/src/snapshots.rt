@@ -5,15 +5,16 @@ ghost use Rattle.std.specs.List.{flat_map};
 ghost use Rattle.std.specs.Option.{option_map};
 ghost use Rattle.ring_base.specs.declared.fault.Fault.TheVariants.{Memory};
 ghost use Rattle.byteorder.specs.Endian.{big_bytes};
-ghost use Rattle.ring_layout.specs.Reading.{number_at, text_at, ◌⊕◌};
+ghost use Rattle.ring_payload.specs.Layouts.{number_at, text_at, ◌⊕◌};
 ghost use Rattle.ring_payload.specs.Operations.{op_at};
 ghost use Rattle.ring_session.specs.Deduplicated.{most_clients};
 ghost use Rattle.ring_session.specs.Snapshots.{client_spelling, reply_at, next_at, clients_at, clients_in, AreParts};
 
 use crate::MAX_CLIENTS;
-use crate::session::Session;
+use crate::session::append_last;
 use byteorder::{BigEndian, ByteOrder};
 use ring_base::Fault;
+use ring_last_call::LastCall;
 use ring_payload::MOST_OPERATION;
 use std::alloc::Allocator;
 use std::collections::BTreeMap;
@@ -44,7 +45,7 @@ pub fn append_number<A: Allocator + Copy>(
 /// Appends how many clients there are and the clients; or a front of that, for want of memory.
 pub fn append_clients<A: Allocator + Copy>(
     out: &mut Vec<u8, A>,
-    sessions: &BTreeMap<u32, Session<A>, A>,
+    sessions: &BTreeMap<u32, LastCall<A>, A>,
 ) -> Result<(), Fault>
     ensures ok { OnOk result (out.new.items
         ≡ out.old.items ++ big_bytes 2 (length sessions.now.entries) ⊕ flat_map client_spelling sessions.now.entries) }
@@ -52,9 +53,9 @@ pub fn append_clients<A: Allocator + Copy>(
     ensures refused { IfErr result (λ fault. fault ≡ Memory) }
 {
     append_number(out, sessions.len() as u64, 2)?;
-    for (client, session) in sessions.iter() {
+    for (client, last) in sessions.iter() {
         append_number(out, u64::from(*client), 4)?;
-        session.append(out)?;
+        append_last(last, out)?;
     }
     Ok(())
 }
@@ -144,12 +145,12 @@ impl<'a> Told<'a> {
         u64::from(self.client) + 1
     }
 
-    /// The client's session, or `Memory`.
-    fn session<A: Allocator + Copy>(&self, alloc: A) -> Result<Session<A>, Fault>
-        ensures ok { IfOk result (λ session. session ≡ self.now.1) }
+    /// The client's last call, or `Memory`.
+    fn last_call<A: Allocator + Copy>(&self, alloc: A) -> Result<LastCall<A>, Fault>
+        ensures ok { IfOk result (λ last. last ≡ self.now.1) }
         ensures refused { IfErr result (λ fault. fault ≡ Memory) }
     {
-        Session::of(alloc, self.number, self.operation, self.reply)
+        LastCall::of(alloc, self.number, self.operation, self.reply)
     }
 }
 
@@ -215,7 +216,7 @@ pub fn read_clients<A: Allocator + Copy>(
     alloc: A,
     count: u64,
     bytes: &[u8],
-) -> Result<BTreeMap<u32, Session<A>, A>, Fault>
+) -> Result<BTreeMap<u32, LastCall<A>, A>, Fault>
     requires { IsSome (clients_in count bytes.now) }
     ensures ok { IfOk result (λ sessions. clients_in count bytes.now ≡ Some sessions.entries) }
     ensures refused { IfErr result (λ fault. fault ≡ Memory) }
@@ -225,8 +226,8 @@ pub fn read_clients<A: Allocator + Copy>(
     let mut low = 0;
     for _i in 0..count {
         let (told, behind) = first_client(low, rest).unwrap();
-        let session = told.session(alloc)?;
-        sessions.insert(told.client(), session)?;
+        let last = told.last_call(alloc)?;
+        sessions.insert(told.client(), last)?;
         low = told.above();
         rest = behind;
     }

@@ -11,6 +11,8 @@ mod sessions;
 #[cfg(test)]
 mod snapshots;
 #[cfg(test)]
+mod spelled;
+#[cfg(test)]
 mod things;
 #[cfg(test)]
 mod tickets;

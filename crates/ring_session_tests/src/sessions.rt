@@ -1,40 +1,61 @@
-//! The session table row by row, with ample memory and with each request refused in turn.
+//! The session table row by row, with ample memory and where a request is refused.
 
 use crate::diary::{Diary, had};
-use crate::memory::counted;
-use refusing_alloc::{Refusing, refuse_in_turn};
 use ring_base::Fault;
-use ring_object::Object;
+use ring_object::{Object, Reply};
 use ring_payload::Call;
-use ring_session::{Answer, Sessions, deduplicated_law, session_law, table_law};
+use ring_session::{Answer, Sessions, deduplicated_law, session_law, snapshot_law, table_law};
+use ring_things::Queue;
 use std::alloc::{Allocator, Global};
 use std::process::Abort;
 
 /// A client's call by its number, with its operation, and what it is answered.
-type Row = (u32, u64, &'static [u8], Answer);
+pub type Row<'a> = (u32, u64, &'a [u8], Answer);
 
-/// The table answers each of the calls as wanted, one after another.
-fn assert_answered<O: Object>(
-    rt: &impl Abort,
-    alloc: O::Alloc,
-    sessions: &mut Sessions<O>,
-    rows: &[Row],
-) {
-    for (client, number, op, want) in rows {
-        let call = Call::new(alloc, *client, *number, *op).expect(rt, "a call");
-        assert!(rt; sessions.apply(&call) == Ok(*want), "{client}.{number}");
+/// Whether the table answers the call as wanted.
+fn is_answered<O: Object>(alloc: O::Alloc, sessions: &mut Sessions<O>, row: &Row<'_>) -> bool {
+    let (client, number, op, want) = *row;
+    match Call::new(alloc, client, number, op) {
+        Ok(call) => sessions.apply(&call) == Ok(want),
+        Err(_) => false,
     }
 }
 
-/// A table at its opening does so.
-fn assert_new_answers<O: Object>(rt: &impl Abort, alloc: O::Alloc, rows: &[Row]) {
+/// The table answers each of the calls as wanted, one after another.
+pub fn assert_answered<O: Object>(
+    rt: &impl Abort,
+    alloc: O::Alloc,
+    sessions: &mut Sessions<O>,
+    rows: &[Row<'_>],
+) {
+    for row in rows {
+        assert!(rt; is_answered(alloc, sessions, row), "{}.{}", row.0, row.1);
+    }
+}
+
+/// The first call of each of so many clients is done.
+fn assert_all_call<O: Object>(
+    rt: &impl Abort,
+    alloc: O::Alloc,
+    sessions: &mut Sessions<O>,
+    clients: u32,
+) {
+    for before in 0..clients {
+        let first: Row<'_> = (before.wrapping_mul(5) % 1024, 1, &[], Answer::Done(had(0)));
+        assert!(rt; is_answered(alloc, sessions, &first), "{}", first.0);
+    }
+}
+
+/// It is so at a table at its opening, and then these are answered.
+fn assert_new_answers<O: Object>(rt: &impl Abort, alloc: O::Alloc, clients: u32, rows: &[Row<'_>]) {
     let mut sessions = Sessions::<O>::new(alloc).expect(rt, "memory");
+    assert_all_call(rt, alloc, &mut sessions, clients);
     assert_answered(rt, alloc, &mut sessions, rows);
 }
 
 #[test]
 fn answers_each_row(rt: HostRuntime) {
-    let rows: [Row; 11] = [
+    let rows: [Row<'_>; 11] = [
         (7, 2, b"a", Answer::Refused(6)),
         (7, 1, b"a", Answer::Done(had(0))),
         (7, 1, b"a", Answer::Kept(had(0))),
@@ -47,7 +68,7 @@ fn answers_each_row(rt: HostRuntime) {
         (7, 3, b"a", Answer::Done(had(3))),
         (3, 1, b"a", Answer::Kept(had(2))),
     ];
-    assert_new_answers::<Diary>(&rt, rt.alloc(), &rows);
+    assert_new_answers::<Diary>(&rt, rt.alloc(), 0, &rows);
 }
 
 /// The fault of a call whose operation has so many bytes.
@@ -57,34 +78,24 @@ fn fault_of<A: Allocator + Copy>(alloc: A, op: &[u8]) -> Option<Fault> {
 
 #[test]
 fn takes_operations_of_every_length(rt: HostRuntime) {
-    let rows: [Row; 4] = [
+    let rows: [Row<'_>; 4] = [
         (7, 1, &[1; 1024], Answer::Done(had(0))),
         (7, 1, &[1; 1024], Answer::Kept(had(0))),
         (7, 2, &[], Answer::Done(had(0))),
         (7, 2, &[], Answer::Kept(had(0))),
     ];
-    assert_new_answers::<Diary>(&rt, rt.alloc(), &rows);
+    assert_new_answers::<Diary>(&rt, rt.alloc(), 0, &rows);
     assert!(rt; fault_of(rt.alloc(), &[1; 1025]) == Some(Fault::OpTooLong));
-}
-
-/// The first call of each of 1,024 clients is done, and then these are answered.
-fn assert_all_known<O: Object>(rt: &impl Abort, alloc: O::Alloc, rows: &[Row]) {
-    let mut sessions = Sessions::<O>::new(alloc).expect(rt, "memory");
-    for before in 0..1024u32 {
-        let first: Row = (before * 5 % 1024, 1, &[], Answer::Done(had(0)));
-        assert_answered(rt, alloc, &mut sessions, &[first]);
-    }
-    assert_answered(rt, alloc, &mut sessions, rows);
 }
 
 #[test]
 fn knows_so_many_clients(rt: HostRuntime) {
-    let rows: [Row; 3] = [
+    let rows: [Row<'_>; 3] = [
         (1024, 1, &[], Answer::Refused(7)),
         (1024, 2, &[], Answer::Refused(6)),
         (1023, 2, &[], Answer::Done(had(0))),
     ];
-    assert_all_known::<Diary>(&rt, rt.alloc(), &rows);
+    assert_new_answers::<Diary>(&rt, rt.alloc(), 1024, &rows);
 }
 
 /// The answer to a call, tried again if it was refused memory, and how often it was.
@@ -98,8 +109,23 @@ fn answered<O: Object>(
     }
 }
 
-/// How often the call of this step was refused memory. One that was is answered, when it is tried again, as if it hadn't
+/// How often the call with this reply was refused memory. One that was is answered, when it is tried again, as if it hadn't
 /// been: the table, and the object in it, were left as they were. Another answer is a fault.
+fn refused_of<O: Object>(
+    sessions: &mut Sessions<O>,
+    call: &Call<O::Alloc>,
+    reply: Reply,
+) -> Result<u64, Fault> {
+    let (answer, refused) = answered(sessions, call);
+    let was_done = answer == Ok(Answer::Done(reply));
+    if was_done && sessions.apply(call) == Ok(Answer::Kept(reply)) {
+        Ok(refused)
+    } else {
+        Err(Fault::Conflict)
+    }
+}
+
+/// The same of the call of this step.
 fn refused_at<O: Object>(
     sessions: &mut Sessions<O>,
     ample: O::Alloc,
@@ -107,15 +133,7 @@ fn refused_at<O: Object>(
 ) -> Result<u64, Fault> {
     let (client, number) = (u32::from(step % 16), u64::from(step / 16) + 1);
     let call = Call::new(ample, client, number, &[step; 5])?;
-    let (answer, refused) = answered(sessions, &call);
-    let reply = had(step.wrapping_mul(5));
-    let is_right = answer == Ok(Answer::Done(reply))
-        && sessions.apply(&call) == Ok(Answer::Kept(reply));
-    if is_right {
-        Ok(refused)
-    } else {
-        Err(Fault::Conflict)
-    }
+    refused_of(sessions, &call, had(step.wrapping_mul(5)))
 }
 
 /// How often two calls of each of 16 clients, enough for a table of several nodes, were refused memory, after so many
@@ -139,7 +157,7 @@ fn refused_again<O: Object>(heap: O::Alloc, ample: O::Alloc) -> Result<u64, Faul
 }
 
 /// The same of a table with its making, which is tried again if it is refused memory.
-fn refusals<O: Object>(heap: O::Alloc, ample: O::Alloc) -> Result<u64, Fault> {
+pub fn refusals<O: Object>(heap: O::Alloc, ample: O::Alloc) -> Result<u64, Fault> {
     match Sessions::<O>::new(heap) {
         Ok(mut sessions) => refused_then(&mut sessions, ample, 0),
         Err(Fault::Memory) => refused_again::<O>(heap, ample),
@@ -147,19 +165,11 @@ fn refusals<O: Object>(heap: O::Alloc, ample: O::Alloc) -> Result<u64, Fault> {
     }
 }
 
+/// The laws of the table at the diary, and that of snapshots at an object of another crate.
 #[test]
-fn each_request_is_refused_in_turn(rt: HostRuntime) {
-    let ample = Refusing::new(rt.alloc(), u64::MAX);
-    let requests = refuse_in_turn(
-        rt.alloc(),
-        &|heap: &Refusing| counted(heap, refusals::<Diary<&Refusing>>(heap, &ample)),
-    );
-    assert!(rt; requests > Some(16));
-}
-
-#[test]
-fn laws_hold_of_the_diary() {
+fn laws_hold() {
     deduplicated_law::<Global>();
     session_law::<Diary>();
     table_law::<Diary>();
+    snapshot_law::<Queue>();
 }

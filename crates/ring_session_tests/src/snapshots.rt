@@ -1,11 +1,11 @@
-//! Snapshots of session tables: the worked one, bytes that are none, and each request for memory refused in turn.
+//! Snapshots of session tables: the worked one, what goes on from one that is restored, and bytes that are none.
 
-use crate::memory::ended;
-use refusing_alloc::{Refusing, refuse_in_turn};
+use crate::sessions::assert_answered;
+use crate::spelled::is_spelled;
 use ring_base::Fault;
 use ring_object::{Object, Reply};
 use ring_payload::Call;
-use ring_session::{Answer, Sessions, snapshot_law};
+use ring_session::{Answer, Sessions};
 use ring_things::Queue;
 use std::alloc::Global;
 use std::process::Abort;
@@ -51,124 +51,122 @@ fn snapshot_of<O: Object>(
     Ok(snapshot)
 }
 
+/// The snapshot of the sessions that are restored from one.
+fn snapshot_again<O: Object>(alloc: O::Alloc, snapshot: &[u8]) -> Result<Vec<u8, O::Alloc>, Fault> {
+    let sessions = Sessions::<O>::restore(alloc, snapshot)?;
+    snapshot_of(alloc, &sessions)
+}
+
 /// Whether the snapshot of the sessions is this, in hexadecimal.
 fn is_snapshot<O: Object>(
-    rt: &impl Abort,
     ample: Global,
     alloc: O::Alloc,
     sessions: &Sessions<O>,
     text: &str,
 ) -> bool {
-    let snapshot = snapshot_of(alloc, sessions).expect(rt, "memory");
-    let spelled = hex::encode(ample, snapshot.as_slice()).expect(rt, "memory");
-    spelled.as_str() == text
+    match snapshot_of(alloc, sessions) {
+        Ok(snapshot) => is_spelled(ample, snapshot.as_slice(), text),
+        Err(_) => false,
+    }
 }
 
-/// The sessions that are restored from this, in hexadecimal.
-fn restored<O: Object>(
+/// What is restored from the snapshot has that snapshot. `Conflict` where it has another.
+fn come_back<O: Object>(alloc: O::Alloc, snapshot: &[u8]) -> Result<(), Fault> {
+    let again = snapshot_again::<O>(alloc, snapshot)?;
+    if again.as_slice() == snapshot {
+        Ok(())
+    } else {
+        Err(Fault::Conflict)
+    }
+}
+
+/// The same of a snapshot in hexadecimal.
+fn spelled_come_back<O: Object>(ample: Global, alloc: O::Alloc, text: &str) -> Result<(), Fault> {
+    match hex::decode(ample, text) {
+        Ok(bytes) => come_back::<O>(alloc, bytes.as_slice()),
+        Err(_) => Err(Fault::Conflict),
+    }
+}
+
+/// These sessions of a new queue have the worked snapshot, once 9 was pushed.
+fn assert_pushed<O: Object>(
     rt: &impl Abort,
     ample: Global,
-    alloc: O::Alloc,
-    text: &str,
-) -> Result<Sessions<O>, Fault> {
-    let bytes = hex::decode(ample, text).expect(rt, "hexadecimal");
-    Sessions::restore(alloc, bytes.as_slice())
-}
-
-/// The text is a snapshot, and what is restored from it has that snapshot.
-fn assert_restored<O: Object>(rt: &impl Abort, ample: Global, alloc: O::Alloc, text: &str) {
-    let sessions = restored::<O>(rt, ample, alloc, text).expect(rt, "a snapshot");
-    assert!(rt; is_snapshot(rt, ample, alloc, &sessions, text), "{text}");
-}
-
-/// The fault with which the text is refused, if it is.
-fn refusal_of<O: Object>(
-    rt: &impl Abort,
-    ample: Global,
-    alloc: O::Alloc,
-    text: &str,
-) -> Option<Fault> {
-    restored::<O>(rt, ample, alloc, text).err()
-}
-
-/// The sessions answer client 7's call of this number so.
-fn assert_answer<O: Object>(
-    rt: &impl Abort,
     alloc: O::Alloc,
     sessions: &mut Sessions<O>,
-    number: u64,
-    op: &[u8],
-    answer: Answer,
 ) {
-    let call = Call::new(alloc, 7, number, op).expect(rt, "a call");
-    assert!(rt; sessions.apply(&call) == Ok(answer), "{number}");
+    let done = Answer::Done(Reply::from_slice(&[0]));
+    assert_answered(
+        rt,
+        alloc,
+        sessions,
+        &[(7, 1, Queue::push(9).as_slice(), done)],
+    );
+    assert!(rt; is_snapshot(ample, alloc, sessions, WORKED));
 }
 
-/// The sessions of a new queue have the worked snapshot, once 9 was pushed.
+/// The sessions of a new queue do so.
 fn assert_worked<O: Object>(rt: &impl Abort, ample: Global, alloc: O::Alloc) {
     let mut sessions = Sessions::<O>::new(alloc).expect(rt, "memory");
-    let done = Answer::Done(Reply::from_slice(&[0]));
-    assert_answer(rt, alloc, &mut sessions, 1, Queue::push(9).as_slice(), done);
-    assert!(rt; is_snapshot(rt, ample, alloc, &sessions, WORKED));
+    assert_pushed(rt, ample, alloc, &mut sessions);
 }
 
-#[test]
-fn a_queues_sessions_have_the_worked_snapshot(rt: HostRuntime) {
-    assert_worked::<Queue>(&rt, rt.alloc(), rt.alloc());
-}
-
-/// What was restored answers the client's call again, and goes on.
-fn assert_goes_on<O: Object>(rt: &impl Abort, ample: Global, alloc: O::Alloc) {
-    let mut sessions = restored::<O>(rt, ample, alloc, WORKED).expect(rt, "a snapshot");
+/// These sessions answer the client's call again, and go on.
+fn assert_popped<O: Object>(rt: &impl Abort, alloc: O::Alloc, sessions: &mut Sessions<O>) {
     let kept = Answer::Kept(Reply::from_slice(&[0]));
-    assert_answer(rt, alloc, &mut sessions, 1, Queue::push(9).as_slice(), kept);
     let nine = Answer::Done(Reply::from_slice(&[0, 0, 0, 0, 0, 0, 0, 0, 9]));
-    assert_answer(rt, alloc, &mut sessions, 2, Queue::pop().as_slice(), nine);
+    let (push, pop) = (Queue::push(9), Queue::pop());
+    let rows = [(7, 1, push.as_slice(), kept), (7, 2, pop.as_slice(), nine)];
+    assert_answered(rt, alloc, sessions, &rows);
 }
 
+/// What was restored from the worked snapshot does so.
+fn assert_goes_on<O: Object>(rt: &impl Abort, ample: Global, alloc: O::Alloc) {
+    let bytes = hex::decode(ample, WORKED).expect(rt, "hexadecimal");
+    let mut sessions = Sessions::<O>::restore(alloc, bytes.as_slice()).expect(rt, "a snapshot");
+    assert_popped(rt, alloc, &mut sessions);
+}
+
+/// A queue's sessions have the worked snapshot, and those restored from it go on.
 #[test]
-fn restored_sessions_go_on(rt: HostRuntime) {
+fn worked_snapshot(rt: HostRuntime) {
+    assert_worked::<Queue>(&rt, rt.alloc(), rt.alloc());
     assert_goes_on::<Queue>(&rt, rt.alloc(), rt.alloc());
 }
 
 #[test]
 fn only_snapshots_are_restored(rt: HostRuntime) {
-    for text in [WORKED, TABLES[0], TABLES[1]] {
-        assert_restored::<Queue>(&rt, rt.alloc(), rt.alloc(), text);
+    for text in &[WORKED, TABLES[0], TABLES[1]] {
+        let back = spelled_come_back::<Queue>(rt.alloc(), rt.alloc(), *text);
+        assert!(rt; back == Ok(()), "{text}");
     }
-    for text in NO_TABLES {
-        let refusal = refusal_of::<Queue>(&rt, rt.alloc(), rt.alloc(), text);
-        assert!(rt; refusal == Some(Fault::BadSnapshot), "{text}");
+    for text in &NO_TABLES {
+        let back = spelled_come_back::<Queue>(rt.alloc(), rt.alloc(), *text);
+        assert!(rt; back == Err(Fault::BadSnapshot), "{text}");
     }
 }
 
-/// The law at one object.
-#[test]
-fn the_law_holds(_rt: HostRuntime) {
-    snapshot_law::<Queue>();
+/// This client calls.
+fn call<O: Object>(
+    alloc: O::Alloc,
+    sessions: &mut Sessions<O>,
+    client: u32,
+) -> Result<Answer, Fault> {
+    let call = Call::new(alloc, client, 1, Queue::push(9).as_slice())?;
+    sessions.apply(&call)
 }
 
-/// Three clients call, and their sessions come back.
-fn work<O: Object>(alloc: O::Alloc) -> Result<(), Fault> {
+/// Three clients call, and these sessions come back.
+fn call_and_come_back<O: Object>(alloc: O::Alloc, sessions: &mut Sessions<O>) -> Result<(), Fault> {
+    for client in &[7, 3, 5] {
+        call(alloc, sessions, *client)?;
+    }
+    let snapshot = snapshot_of(alloc, sessions)?;
+    come_back::<O>(alloc, snapshot.as_slice())
+}
+
+/// New sessions do so.
+pub fn call_and_come_back_anew<O: Object>(alloc: O::Alloc) -> Result<(), Fault> {
     let mut sessions = Sessions::<O>::new(alloc)?;
-    for client in [7, 3, 5] {
-        sessions.apply(&Call::new(alloc, client, 1, Queue::push(9).as_slice())?)?;
-    }
-    let snapshot = snapshot_of(alloc, &sessions)?;
-    let again = Sessions::<O>::restore(alloc, snapshot.as_slice())?;
-    if snapshot_of(alloc, &again)?.as_slice() == snapshot.as_slice() {
-        Ok(())
-    } else {
-        Err(Fault::BadSnapshot)
-    }
-}
-
-/// The only fault is want of memory, and it comes with each request that is refused.
-#[test]
-fn refused_memory_is_answered(rt: HostRuntime) {
-    let requests = refuse_in_turn(
-        rt.alloc(),
-        &|heap: &Refusing| ended(heap, work::<Queue<&Refusing>>(heap).err()),
-    );
-    assert!(rt; requests > Some(8));
+    call_and_come_back(alloc, &mut sessions)
 }

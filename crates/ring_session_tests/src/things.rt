@@ -1,7 +1,6 @@
 //! The objects: operations, replies and snapshots in hexadecimal.
 
-use crate::memory::ended;
-use refusing_alloc::{Refusing, refuse_in_turn};
+use crate::spelled::is_spelled;
 use ring_base::Fault;
 use ring_object::{Object, Reply, Short, object_law};
 use ring_things::{
@@ -12,7 +11,7 @@ use std::process::Abort;
 use std::test::Fail;
 
 /// The four objects on one shelf.
-type Things<A> = Shelf<Registers<A>, Counters<A>, Queue<A>, Names<A>>;
+pub type Things<A> = Shelf<Registers<A>, Counters<A>, Queue<A>, Names<A>>;
 
 const REGISTERS: [(&str, &str); 10] = [
     ("0107", "000000000000000000"),
@@ -105,6 +104,22 @@ const NO_SETS: [&str; 7] = [
 
 const NO_VALUES: [&str; 3] = ["", "00", "0000000000000005"];
 
+/// Whether the object replies so to the operation.
+fn replies<O: Object>(alloc: Global, object: &mut O, op: &[u8], reply: &str) -> bool {
+    match object.apply(op) {
+        Ok(bytes) => is_spelled(alloc, bytes.as_slice(), reply),
+        Err(_) => false,
+    }
+}
+
+/// The same of an operation in hexadecimal.
+fn is_replied<O: Object>(alloc: Global, object: &mut O, op: &str, reply: &str) -> bool {
+    match hex::decode(alloc, op) {
+        Ok(bytes) => replies(alloc, object, bytes.as_slice(), reply),
+        Err(_) => false,
+    }
+}
+
 /// The object does the operations in turn, and gives these replies, both in hexadecimal.
 fn assert_replies<O: Object>(
     rt: &impl Abort,
@@ -113,33 +128,35 @@ fn assert_replies<O: Object>(
     rows: &[(&str, &str)],
 ) {
     for (op, reply) in rows {
-        let bytes = hex::decode(alloc, *op).expect(rt, "hexadecimal");
-        let answer = object.apply(bytes.as_slice()).expect(rt, "memory");
-        let text = hex::encode(alloc, answer.as_slice()).expect(rt, "memory");
-        assert!(rt; text.as_str() == *reply, "at {op}");
+        assert!(rt; is_replied(alloc, object, *op, *reply), "at {op}");
     }
 }
 
-/// An object at the start does the operations.
-fn assert_started<O: Object<Alloc = Global>>(
+/// Whether the object takes this number of 8 bytes.
+fn takes<O: Object>(object: &mut O, number: u16) -> bool {
+    let [high, low] = number.to_be_bytes();
+    match object.apply(&[1, 0, 0, 0, 0, 0, 0, high, low]) {
+        Ok(reply) => reply.as_slice() == [0].as_slice(),
+        Err(_) => false,
+    }
+}
+
+/// The object takes so many such numbers.
+fn assert_fills<O: Object>(rt: &impl Abort, object: &mut O, numbers: u16) {
+    for i in 0..numbers {
+        assert!(rt; takes(object, i), "at {i}");
+    }
+}
+
+/// An object at the start does so, and then does the operations.
+fn assert_filled<O: Object<Alloc = Global>>(
     rt: &impl Abort,
     alloc: Global,
+    numbers: u16,
     rows: &[(&str, &str)],
 ) {
     let mut object = O::start(alloc).expect(rt, "memory");
-    assert_replies(rt, alloc, &mut object, rows);
-}
-
-/// An object at the start takes 1,024 numbers of 8 bytes, and then does the operations.
-fn assert_filled<O: Object<Alloc = Global>>(rt: &impl Abort, alloc: Global, rows: &[(&str, &str)]) {
-    let mut object = O::start(alloc).expect(rt, "memory");
-    for i in 0..1024u16 {
-        let [high, low] = i.to_be_bytes();
-        let answer = object
-            .apply(&[1, 0, 0, 0, 0, 0, 0, high, low])
-            .expect(rt, "memory");
-        assert!(rt; answer.as_slice() == [0].as_slice(), "at {i}");
-    }
+    assert_fills(rt, &mut object, numbers);
     assert_replies(rt, alloc, &mut object, rows);
 }
 
@@ -156,7 +173,27 @@ fn snapshot_again<O: Object>(alloc: O::Alloc, snapshot: &[u8]) -> Result<Vec<u8,
     snapshot_of(alloc, &back)
 }
 
-/// An object at the start does the operations, and has this snapshot then, in hexadecimal.
+/// Whether the object has this snapshot, in hexadecimal.
+fn has_snapshot<O: Object<Alloc = Global>>(alloc: Global, object: &O, text: &str) -> bool {
+    match snapshot_of(alloc, object) {
+        Ok(snapshot) => is_spelled(alloc, snapshot.as_slice(), text),
+        Err(_) => false,
+    }
+}
+
+/// The object does the operations, and has this snapshot then.
+fn assert_becomes<O: Object<Alloc = Global>>(
+    rt: &impl Abort,
+    alloc: Global,
+    object: &mut O,
+    rows: &[(&str, &str)],
+    text: &str,
+) {
+    assert_replies(rt, alloc, object, rows);
+    assert!(rt; has_snapshot(alloc, object, text));
+}
+
+/// An object at the start does so.
 fn assert_snapshot<O: Object<Alloc = Global>>(
     rt: &impl Abort,
     alloc: Global,
@@ -164,35 +201,46 @@ fn assert_snapshot<O: Object<Alloc = Global>>(
     text: &str,
 ) {
     let mut object = O::start(alloc).expect(rt, "memory");
-    assert_replies(rt, alloc, &mut object, rows);
-    let snapshot = snapshot_of(alloc, &object).expect(rt, "memory");
-    let spelled = hex::encode(alloc, snapshot.as_slice()).expect(rt, "memory");
-    assert!(rt; spelled.as_str() == text);
+    assert_becomes(rt, alloc, &mut object, rows, text);
+}
+
+/// What is restored from the snapshot has that snapshot. `Conflict` where it has another.
+fn come_back<O: Object>(alloc: O::Alloc, snapshot: &[u8]) -> Result<(), Fault> {
+    let again = snapshot_again::<O>(alloc, snapshot)?;
+    if again.as_slice() == snapshot {
+        Ok(())
+    } else {
+        Err(Fault::Conflict)
+    }
+}
+
+/// The same of a snapshot in hexadecimal.
+fn spelled_come_back<O: Object<Alloc = Global>>(alloc: Global, text: &str) -> Result<(), Fault> {
+    match hex::decode(alloc, text) {
+        Ok(bytes) => come_back::<O>(alloc, bytes.as_slice()),
+        Err(_) => Err(Fault::Conflict),
+    }
 }
 
 /// Each of the texts is a snapshot, and what is restored from it has that snapshot.
 fn assert_restored<O: Object<Alloc = Global>>(rt: &impl Abort, alloc: Global, texts: &[&str]) {
     for text in texts {
-        let bytes = hex::decode(alloc, *text).expect(rt, "hexadecimal");
-        let again = snapshot_again::<O>(alloc, bytes.as_slice()).expect(rt, "a snapshot");
-        assert!(rt; again.as_slice() == bytes.as_slice(), "{text}");
+        assert!(rt; spelled_come_back::<O>(alloc, *text) == Ok(()), "{text}");
     }
 }
 
 /// None of the texts is a snapshot.
 fn assert_refused<O: Object<Alloc = Global>>(rt: &impl Abort, alloc: Global, texts: &[&str]) {
     for text in texts {
-        let bytes = hex::decode(alloc, *text).expect(rt, "hexadecimal");
-        let refusal = O::restore(alloc, bytes.as_slice()).err();
-        assert!(rt; refusal == Some(Fault::BadSnapshot), "{text}");
+        let back = spelled_come_back::<O>(alloc, *text);
+        assert!(rt; back == Err(Fault::BadSnapshot), "{text}");
     }
 }
 
 /// Each operation has these bytes.
 fn assert_spelled<const N: usize>(rt: &impl Abort, alloc: Global, rows: &[(Short<N>, &str)]) {
     for (operation, text) in rows {
-        let spelled = hex::encode(alloc, operation.as_slice()).expect(rt, "memory");
-        assert!(rt; spelled.as_str() == *text, "{text}");
+        assert!(rt; is_spelled(alloc, operation.as_slice(), *text), "{text}");
     }
 }
 
@@ -267,17 +315,17 @@ fn replies_are_read(rt: HostRuntime) {
 
 #[test]
 fn operations_are_replied(rt: HostRuntime) {
-    assert_started::<Registers>(&rt, rt.alloc(), &REGISTERS);
-    assert_started::<Counters>(&rt, rt.alloc(), &COUNTERS);
-    assert_started::<Queue>(&rt, rt.alloc(), &QUEUE);
-    assert_started::<Names>(&rt, rt.alloc(), &NAMES);
-    assert_started::<Things<Global>>(&rt, rt.alloc(), &THINGS);
+    assert_filled::<Registers>(&rt, rt.alloc(), 0, &REGISTERS);
+    assert_filled::<Counters>(&rt, rt.alloc(), 0, &COUNTERS);
+    assert_filled::<Queue>(&rt, rt.alloc(), 0, &QUEUE);
+    assert_filled::<Names>(&rt, rt.alloc(), 0, &NAMES);
+    assert_filled::<Things<Global>>(&rt, rt.alloc(), 0, &THINGS);
 }
 
 #[test]
 fn limits_are_exact(rt: HostRuntime) {
-    assert_filled::<Queue>(&rt, rt.alloc(), &FULL_QUEUE);
-    assert_filled::<Names>(&rt, rt.alloc(), &FULL_NAMES);
+    assert_filled::<Queue>(&rt, rt.alloc(), 1024, &FULL_QUEUE);
+    assert_filled::<Names>(&rt, rt.alloc(), 1024, &FULL_NAMES);
 }
 
 #[test]
@@ -309,49 +357,30 @@ fn laws_hold(_rt: HostRuntime) {
     object_law::<Things<Global>>();
 }
 
-/// Changes a shelf's objects in each way in which they take memory.
-fn change<O: Object>(things: &mut O) -> Result<(), Fault> {
-    for i in 0..20u8 {
-        things.apply(Place::Second.operation(&Counters::add(i, 1)).as_slice())?;
-        things.apply(
-            Place::Third
-                .operation(&Queue::push(u64::from(i)))
-                .as_slice(),
-        )?;
-        things.apply(Place::Fourth.operation(&Names::insert(&[i])?).as_slice())?;
+/// Changes a shelf's objects in each way in which they take memory, once more.
+fn change_once<O: Object>(things: &mut O, i: u8) -> Result<(), Fault> {
+    let operations = [
+        Place::Second.operation(&Counters::add(i, 1)),
+        Place::Third.operation(&Queue::push(u64::from(i))),
+        Place::Fourth.operation(&Names::insert(&[i])?),
+    ];
+    for operation in &operations {
+        things.apply(operation.as_slice())?;
     }
     Ok(())
 }
 
-/// Whether the object has the same snapshot once it is restored from it.
-fn comes_back<O: Object>(alloc: O::Alloc, things: &O) -> Result<bool, Fault> {
-    let snapshot = snapshot_of(alloc, things)?;
-    let again = snapshot_again::<O>(alloc, snapshot.as_slice())?;
-    Ok(again.as_slice() == snapshot.as_slice())
-}
-
-/// A shelf at its start is changed, and comes back.
-fn changed<O: Object>(alloc: O::Alloc, things: &mut O) -> Result<(), Fault> {
-    change(things)?;
-    if comes_back(alloc, things)? {
-        Ok(())
-    } else {
-        Err(Fault::BadSnapshot)
+/// Changes them twenty times, and then they come back.
+fn change_and_come_back<O: Object>(alloc: O::Alloc, things: &mut O) -> Result<(), Fault> {
+    for i in 0..20u8 {
+        change_once(things, i)?;
     }
+    let snapshot = snapshot_of(alloc, things)?;
+    come_back::<O>(alloc, snapshot.as_slice())
 }
 
-/// Takes memory in each way in which an object can.
-fn work<O: Object>(alloc: O::Alloc) -> Result<(), Fault> {
+/// An object at the start does so.
+pub fn change_and_come_back_anew<O: Object>(alloc: O::Alloc) -> Result<(), Fault> {
     let mut things = O::start(alloc)?;
-    changed(alloc, &mut things)
-}
-
-/// The only fault is want of memory, and it comes with each request that is refused.
-#[test]
-fn refused_memory_is_answered(rt: HostRuntime) {
-    let requests = refuse_in_turn(
-        rt.alloc(),
-        &|heap: &Refusing| ended(heap, work::<Things<&Refusing>>(heap).err()),
-    );
-    assert!(rt; requests > Some(10));
+    change_and_come_back(alloc, &mut things)
 }

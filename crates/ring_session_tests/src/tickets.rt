@@ -1,8 +1,5 @@
-//! Tickets of one node, over an object of counters: room for 64 that wait, the last 64 answers, and each request refused in
-//! turn.
+//! Tickets of one node, over an object of counters: room for 64 that wait, and the last 64 answers.
 
-use crate::memory::ended;
-use refusing_alloc::{Refusing, refuse_in_turn};
 use ring_base::Fault;
 use ring_object::Object;
 use ring_payload::Call;
@@ -13,6 +10,9 @@ use ring_things::{Counters, Outcome, reply_with};
 fn done(count: u64) -> Option<Answer> {
     Some(Answer::Done(reply_with(Outcome::Done, count)))
 }
+
+/// The numbers of the calls that are given tickets, and of those that are then committed in one step.
+pub type Round<'a> = (&'a [u64], &'a [u64]);
 
 /// The tickets of a node, the session table of its committed calls, and their memory. All calls are client 7's.
 #[derive(Drop)]
@@ -37,19 +37,29 @@ impl<O: Object> Kept<O> {
         Call::new(self.alloc, 7, number, Counters::add(0, 1).as_slice())
     }
 
-    /// The calls of these numbers.
-    fn calls(&self, numbers: &[u64]) -> Result<Vec<Call<O::Alloc>, O::Alloc>, Fault> {
-        let mut calls = Vec::new(self.alloc);
+    /// Appends the calls of these numbers.
+    fn push_calls(
+        &self,
+        calls: &mut Vec<Call<O::Alloc>, O::Alloc>,
+        numbers: &[u64],
+    ) -> Result<(), Fault> {
         for number in numbers {
             calls.push(self.call(*number)?)?;
         }
+        Ok(())
+    }
+
+    /// The calls of these numbers.
+    fn calls(&self, numbers: &[u64]) -> Result<Vec<Call<O::Alloc>, O::Alloc>, Fault> {
+        let mut calls = Vec::new(self.alloc);
+        self.push_calls(&mut calls, numbers)?;
         Ok(calls)
     }
 
     /// Gives the call of this number a ticket, unless there is no more room.
     fn give(&mut self, number: u64) -> Result<Ticket, Fault> {
-        let call = self.call(number)?;
         self.tickets.check()?;
+        let call = self.call(number)?;
         Ok(self.tickets.give(call))
     }
 
@@ -61,24 +71,31 @@ impl<O: Object> Kept<O> {
         Ok(())
     }
 
-    /// Commits the calls of these numbers in one step, and tells how many answers they gave and how many of them took
-    /// effect.
-    fn commit(&mut self, numbers: &[u64]) -> Result<(usize, u64), Fault> {
-        let calls = self.calls(numbers)?;
+    /// Commits these calls in one step, and tells how many answers they gave and how many of them took effect.
+    fn commit_calls(&mut self, calls: &[Call<O::Alloc>]) -> Result<(usize, u64), Fault> {
         let (answers, effects) = answers_of(
             self.alloc,
             &mut self.sessions,
             self.tickets.pending(),
-            calls.as_slice(),
+            calls,
         )?;
-        self.tickets.keep(calls.as_slice(), answers.as_slice());
+        self.tickets.keep(calls, answers.as_slice());
         Ok((answers.len(), effects))
     }
 
-    /// Gives call 1 a ticket, and commits the calls of these numbers.
-    fn give_and_commit(&mut self, numbers: &[u64]) -> Result<(usize, u64), Fault> {
-        self.give(1)?;
-        self.commit(numbers)
+    /// The same of the calls of these numbers.
+    fn commit(&mut self, numbers: &[u64]) -> Result<(usize, u64), Fault> {
+        let calls = self.calls(numbers)?;
+        self.commit_calls(calls.as_slice())
+    }
+
+    /// Gives a ticket to each of the calls of the first numbers, and commits those of the others.
+    fn give_and_commit(&mut self, round: Round<'_>) -> Result<(usize, u64), Fault> {
+        let (given, committed) = round;
+        for number in given {
+            self.give(*number)?;
+        }
+        self.commit(committed)
     }
 
     /// Gives the call of this number a ticket, and commits it.
@@ -102,21 +119,22 @@ fn is_full<O: Object>(kept: &Kept<O>) -> bool {
     kept.tickets.check() == Err(Fault::PendingFull) && kept.tickets.pending().len() == 64
 }
 
-/// Whether 64 tickets wait, and one more is given once the first of them is answered.
-fn makes_room<O: Object>(kept: &mut Kept<O>) -> Result<bool, Fault> {
+/// Whether 64 tickets wait, and one more is given once the first of them is answered; and whether there is no room for a ticket
+/// more then.
+fn fill_up<O: Object>(kept: &mut Kept<O>) -> Result<(bool, bool), Fault> {
     kept.give_all(1, 65)?;
     let was_full = is_full(kept);
     let committed = kept.commit(&[1])?;
     let waiting = kept.tickets.pending().len();
     let next = kept.give(65)?.number();
-    Ok(was_full && committed == (1, 1) && waiting == 63 && next == 64)
+    let made_room = was_full && committed == (1, 1) && waiting == 63 && next == 64;
+    Ok((made_room, is_full(kept)))
 }
 
-/// Whether a new node does so, and has no room for a ticket more then.
+/// The same of a new node.
 fn fills_up<O: Object>(alloc: O::Alloc) -> Result<(bool, bool), Fault> {
     let mut kept = Kept::<O>::new(alloc)?;
-    let made_room = makes_room(&mut kept)?;
-    Ok((made_room, is_full(&kept)))
+    fill_up(&mut kept)
 }
 
 #[test]
@@ -157,69 +175,90 @@ fn last_64_answers_are_kept(rt: HostRuntime) {
 
 /// Two tickets of one call, and the call twice in one step: both are answered at the first place. A later ticket of the
 /// same call is answered at a later place.
-fn repeated<O: Object>(heap: O::Alloc) -> Result<[(usize, u64); 2], Fault> {
-    let mut kept = Kept::<O>::new(heap)?;
-    kept.give(1)?;
-    let first = kept.give_and_commit(&[1, 1])?;
-    let second = kept.give_and_commit(&[1])?;
+pub const REPEATED: [Round<'static>; 2] = [(&[1, 1], &[1, 1]), (&[1], &[1])];
+
+/// Calls whose numbers are 256 apart, one of them with two tickets: two of them are committed, and then the third.
+const APART: [Round<'static>; 2] = [(&[513, 1, 257, 513], &[513, 1]), (&[], &[513, 257])];
+
+/// How many tickets are answered, and how many calls take effect, in each of two rounds.
+fn two_rounds<O: Object>(
+    kept: &mut Kept<O>,
+    rounds: [Round<'_>; 2],
+) -> Result<[(usize, u64); 2], Fault> {
+    let first = kept.give_and_commit(rounds[0])?;
+    let second = kept.give_and_commit(rounds[1])?;
     Ok([first, second])
 }
 
-#[test]
-fn tickets_of_one_call_are_answered_at_its_first_place(rt: HostRuntime) {
-    assert!(rt; repeated::<Counters>(rt.alloc()) == Ok([(2, 1), (1, 0)]));
-}
-
-/// Calls whose numbers are 256 apart, one of them with two tickets: how many are answered as two of them are committed, and
-/// then as the third is.
-fn apart<O: Object>(heap: O::Alloc) -> Result<[(usize, u64); 2], Fault> {
+/// The same of a new node.
+pub fn two_rounds_anew<O: Object>(
+    heap: O::Alloc,
+    rounds: [Round<'_>; 2],
+) -> Result<[(usize, u64); 2], Fault> {
     let mut kept = Kept::<O>::new(heap)?;
-    kept.give(513)?;
-    kept.give(1)?;
-    kept.give(257)?;
-    kept.give(513)?;
-    let first = kept.commit(&[513, 1])?;
-    let second = kept.commit(&[513, 257])?;
-    Ok([first, second])
+    two_rounds(&mut kept, rounds)
 }
 
 #[test]
-fn calls_with_numbers_256_apart_are_told_apart(rt: HostRuntime) {
-    assert!(rt; apart::<Counters>(rt.alloc()) == Ok([(3, 1), (1, 0)]));
-}
-
-/// Tickets 1 to 66, each with the call of its number, of which four are committed: how many are answered, the first of
-/// them, and how many calls took effect.
-fn beyond<O: Object>(heap: O::Alloc) -> Result<(usize, Option<u64>, u64), Fault> {
-    let mut kept = Kept::<O>::new(heap)?;
-    let mut pending = Vec::new(heap);
-    for number in 1..67 {
-        pending.push(Pending {
-            ticket: Ticket::new(number),
-            call: kept.call(number)?,
-        })?;
+fn tickets_are_answered_at_the_first_place_of_their_call(rt: HostRuntime) {
+    for (rounds, told) in &[(REPEATED, [(2, 1), (1, 0)]), (APART, [(3, 1), (1, 0)])] {
+        assert!(rt; two_rounds_anew::<Counters>(rt.alloc(), *rounds) == Ok(*told));
     }
-    let calls = kept.calls(&[66, 1, 66, 64])?;
-    let (answers, effects) = answers_of(
-        heap,
-        &mut kept.sessions,
-        pending.as_slice(),
-        calls.as_slice(),
-    )?;
-    let first = answers.first().map(|told| told.ticket.number());
+}
+
+/// Appends tickets 1 to 66, each with the call of its number.
+fn push_66<O: Object>(
+    kept: &Kept<O>,
+    pending: &mut Vec<Pending<O::Alloc>, O::Alloc>,
+) -> Result<(), Fault> {
+    for number in 1..67 {
+        let call = kept.call(number)?;
+        let ticket = Ticket::new(number);
+        pending.push(Pending { ticket, call })?;
+    }
+    Ok(())
+}
+
+/// How many tickets are answered, the first of them, and how many calls took effect.
+type Told = (usize, Option<u64>, u64);
+
+/// What is told of these tickets as these calls are committed.
+fn told<O: Object>(
+    kept: &mut Kept<O>,
+    pending: &[Pending<O::Alloc>],
+    calls: &[Call<O::Alloc>],
+) -> Result<Told, Fault> {
+    let (answers, effects) = answers_of(kept.alloc, &mut kept.sessions, pending, calls)?;
+    let first = match answers.first() {
+        Some(told) => Some(told.ticket.number()),
+        None => None,
+    };
     Ok((answers.len(), first, effects))
+}
+
+/// The same as four calls are committed.
+fn told_of_four<O: Object>(
+    kept: &mut Kept<O>,
+    pending: &[Pending<O::Alloc>],
+) -> Result<Told, Fault> {
+    let calls = kept.calls(&[66, 1, 66, 64])?;
+    told(kept, pending, calls.as_slice())
+}
+
+/// The same of tickets 1 to 66.
+fn told_of_66<O: Object>(kept: &mut Kept<O>) -> Result<Told, Fault> {
+    let mut pending = Vec::new(kept.alloc);
+    push_66(kept, &mut pending)?;
+    told_of_four(kept, pending.as_slice())
+}
+
+/// The same of a new node.
+fn beyond<O: Object>(heap: O::Alloc) -> Result<Told, Fault> {
+    let mut kept = Kept::<O>::new(heap)?;
+    told_of_66(&mut kept)
 }
 
 #[test]
 fn more_than_64_tickets_are_answered(rt: HostRuntime) {
     assert!(rt; beyond::<Counters>(rt.alloc()) == Ok((3, Some(66), 1)));
-}
-
-#[test]
-fn each_request_is_refused_in_turn(rt: HostRuntime) {
-    let requests = refuse_in_turn(
-        rt.alloc(),
-        &|heap: &Refusing| ended(heap, repeated::<Counters<&Refusing>>(heap).err()),
-    );
-    assert!(rt; requests > Some(6));
 }

@@ -121,11 +121,13 @@ pub joined_outs : {A : Type 0} (step outs told : List (Out A)) (sends : List (Se
 joined_outs step outs told sends g e = e ∙ sym g.outs
 
 -- where nothing was sent before and nothing is told, what the first visit sends is all
-pub first_alone : {A : Type 0} (n : ℕ) (c : Core A) (t : Token) (before sends : List (Sent A)) (told outs : List (Out A)) → before ≡ []
-    → sends ≡ before ++ addressed (visited c t).sends → told ≡ [] → outs ≡ map (λ (s : Sent A). Send s.to s.frame) sends ++ told
-    → c ≡ formed n 1 → t ≡ first_token (all_of n).ring → outs ≡ sent (visited {A = A} (formed n 1) (first_token (all_of n).ring)).sends
-first_alone {A} n c t before sends told outs none gives silent all same first =
+pub first_alone : {A Z : Type 0} (n : ℕ) (c : Core A) (t : Token) (before sends : List (Sent A)) (told : List (Out A)) (r : Result (Vec (Out A) Z) Fault)
+    → before ≡ [] → sends ≡ before ++ addressed (visited c t).sends → told ≡ []
+    → IfOk r (λ outs. outs.items ≡ map (λ (s : Sent A). Send s.to s.frame) sends ++ told) → c ≡ formed n 1 → t ≡ first_token (all_of n).ring
+    → IfOk r (λ outs. outs.items ≡ sent (visited {A = A} (formed n 1) (first_token (all_of n).ring)).sends)
+first_alone {A} n c t before sends told (Ok outs) none gives silent all same first =
     all ∙ rw (gives, none, silent, same, first) (append-nil (sent (visited {A = A} (formed n 1) (first_token (all_of n).ring)).sends))
+first_alone n c t before sends told (Err x) none gives silent all same first = tt
 
 pub first_core : {A : Type 0} (n : ℕ) (c d : Core A) (t : Token) → d ≡ (visited c t).core → c ≡ formed n 1 → t ≡ first_token (all_of n).ring →
     d ≡ (visited (formed n 1) (first_token (all_of n).ring)).core

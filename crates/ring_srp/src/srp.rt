@@ -1,8 +1,8 @@
 //! The ring core of one processor.
 
-ghost use Rattle.std.specs.Prelude.{◌≡◌, ◌≤◌, false, [], None, if◌then◌else◌, IfOk, IfErr, OnOk, OnErr};
+ghost use Rattle.std.specs.Prelude.{◌≡◌, ◌≤◌, false, [], None, Ok, Err, if◌then◌else◌, IfOk, IfErr, OnOk, OnErr};
 ghost use Rattle.ring_base.specs.declared.fault.Fault.TheVariants.{Memory, Stopped as StoppedFault};
-ghost use Rattle.ring_core.specs.Giving.{sent};
+ghost use Rattle.ring_core.specs.Giving.{may_install, sent};
 ghost use Rattle.ring_core.specs.State.{all_of, opening, formed, halted, is_stopped};
 ghost use Rattle.ring_core.specs.Stepping.{ring_step};
 ghost use Rattle.ring_core.specs.Visiting.{visited};
@@ -12,11 +12,11 @@ ghost use Rattle.ring_srp_acts.specs.Allowing.{InputFits};
 ghost use Rattle.ring_core.specs.Tokens.{first_token};
 ghost use Rattle.ring_srp.specs.Given.{IsGiven};
 
-use crate::stepping::{hear, joined, send, step, step_joined};
-use ring_base::{Fault, Fixed, Kind, Past, Proc, RingId, State, seen};
+use crate::stepping::{hear, send, step, step_joined, visit_first};
+use ring_base::{Fault, Fixed, Kind, Past, Proc, RingId, State, paired, seen};
 use ring_core::{Configuration, Input, Out, Sent};
 use ring_payload::Payload;
-use ring_srp_acts::{Machine, all_of, first_token};
+use ring_srp_acts::Machine;
 use ring_wire::Frame;
 use std::alloc::{AllocError, Allocator, Global};
 use std::marker::Model;
@@ -51,13 +51,7 @@ impl<A: Allocator + Copy> Srp<A> {
         ensures refused { IfErr result (λ fault. fault ≡ Memory) }
     {
         let machine = Machine::new(alloc, fixed, me)?;
-        let last = machine.installed();
-        let before = seen(&machine);
-        Ok(Srp {
-            machine: Some(machine),
-            last,
-            before,
-        })
+        Ok(running(machine))
     }
 
     /// Processor `me` of the run, in the ring (1, 1) of all processors, whose token it has not visited. `Memory` where a
@@ -68,13 +62,7 @@ impl<A: Allocator + Copy> Srp<A> {
         ensures refused { IfErr result (λ fault. fault ≡ Memory) }
     {
         let machine = Machine::formed(alloc, fixed, me)?;
-        let last = machine.installed();
-        let before = seen(&machine);
-        Ok(Srp {
-            machine: Some(machine),
-            last,
-            before,
-        })
+        Ok(running(machine))
     }
 
     /// Processor 1 of the run, in the ring (1, 1) of all processors, once it has visited the first token as its representative;
@@ -85,19 +73,9 @@ impl<A: Allocator + Copy> Srp<A> {
         ensures outs { IfOk result (λ started. started.1.items ≡ sent (visited (formed fixed.count 1) (first_token (all_of fixed.count).ring)).sends) }
         ensures refused { IfErr result (λ fault. fault ≡ Memory) }
     {
-        let mut machine = Machine::formed(alloc, fixed, Proc::new(1))?;
-        let token = first_token(all_of(fixed).ring);
-        let mut sends = machine.list();
-        machine.visit(&token, &mut sends)?;
-        let outs = joined(sends, machine.list())?;
-        let last = machine.installed();
-        let before = seen(&machine);
-        let srp = Srp {
-            machine: Some(machine),
-            last,
-            before,
-        };
-        Ok((srp, outs))
+        let machine = Machine::formed(alloc, fixed, Proc::new(1))?;
+        let (machine, outs) = begun(machine, fixed)?;
+        Ok((running(machine), outs))
     }
 
     /// One step, of an input whose frame keeps its limits, as a decoded one does. All its outputs stand in one list, in their
@@ -212,7 +190,7 @@ impl<A: Allocator + Copy> Srp<A> {
         if let Some(machine) = &self.machine {
             let last = machine.installed();
             let before = seen(machine);
-            self.machine = None;
+            let_go(&mut self.machine);
             self.last = last;
             self.before = before;
         }
@@ -253,11 +231,39 @@ impl<A: Allocator + Copy> Clone for Srp<A> {
 
     fn clone(&self) -> Result<Srp<A>, AllocError> {
         Ok(Srp {
-            machine: copied_machine(&self.machine)?,
             last: self.last,
             before: self.before.clone()?,
+            machine: copied_machine(&self.machine)?,
         })
     }
+}
+
+/// The core of a machine in which no installation is due.
+fn running<A: Allocator + Copy>(machine: Machine<A>) -> Srp<A>
+    requires { may_install machine ≡ false }
+    ensures { result ≡ machine }
+{
+    let last = machine.installed();
+    let before = seen(&machine);
+    Srp {
+        machine: Some(machine),
+        last,
+        before,
+    }
+}
+
+/// The machine of the representative once it has visited the first token, and what it sent, or `Memory`.
+fn begun<A: Allocator + Copy>(
+    mut machine: Machine<A>,
+    fixed: Fixed,
+) -> Result<(Machine<A>, Vec<Out<A>, A>), Fault>
+    requires { machine ≡ formed fixed.count 1 }
+    ensures core { IfOk result (λ begun. begun.0 ≡ (visited (formed fixed.count 1) (first_token (all_of fixed.count).ring)).core) }
+    ensures outs { IfOk result (λ begun. begun.1.items ≡ sent (visited (formed fixed.count 1) (first_token (all_of fixed.count).ring)).sends) }
+    ensures refused { IfErr result (λ fault. fault ≡ Memory) }
+{
+    let outs = visit_first(&mut machine, fixed);
+    paired(machine, outs)
 }
 
 /// The same machine, unless it has stopped.
@@ -269,9 +275,9 @@ fn copied_machine<A: Allocator + Copy>(
     machine.clone()
 }
 
-/// Lets a machine go, with all that it kept.
+/// Lets what stands there go, with all that it kept.
 #[inline(never)]
-fn let_go<A: Allocator + Copy>(machine: &mut Option<Machine<A>>)
+fn let_go<M: Drop>(machine: &mut Option<M>)
     ensures { machine.new ≡ None }
 {
     *machine = None;

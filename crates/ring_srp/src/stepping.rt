@@ -5,20 +5,22 @@ ghost use Rattle.ring_base.specs.declared.fault.Fault.TheVariants.{Memory};
 ghost use Rattle.ring_wire.specs.Frames.{FrameFits};
 ghost use Rattle.ring_core.specs.Acting.{act, may_follow, done};
 ghost use Rattle.ring_core.specs.Deciding.{Take as TakeAct, Visit as VisitAct, is_taken};
-ghost use Rattle.ring_core.specs.Giving.{addressed, may_install, settle, delivered, delivered_from};
+ghost use Rattle.ring_core.specs.Giving.{addressed, may_install, sent, settle, delivered, delivered_from};
 ghost use Rattle.ring_core.specs.Stepping.{ring_step};
 ghost use Rattle.ring_core.specs.declared.input.Input.TheVariants.{Frame as FrameInput, Send as SendInput};
 ghost use Rattle.ring_srp_acts.specs.Acts.{act_of};
 ghost use Rattle.ring_srp_acts.specs.Allowing.{Allows, InputFits, VisitAllowed};
-ghost use Rattle.ring_core.specs.State.{is_stopped, Sent as ToldSent};
+ghost use Rattle.ring_core.specs.State.{all_of, formed, is_stopped, Sent as ToldSent};
+ghost use Rattle.ring_core.specs.Tokens.{first_token};
+ghost use Rattle.ring_core.specs.Visiting.{visited};
 ghost use Rattle.ring_core.specs.Views.{mark};
 ghost use Rattle.ring_core.specs.declared.out.Out.TheVariants.{Send};
 ghost use Rattle.ring_srp.specs.Given.{IsGiven};
 
-use ring_base::{Fault, State};
+use ring_base::{Fault, Fixed, State};
 use ring_core::{Input, Out, Sent};
 use ring_payload::Payload;
-use ring_srp_acts::{Act, Machine, Reached, is_queued};
+use ring_srp_acts::{Act, Machine, Reached, all_of, first_token, is_queued};
 use ring_wire::{Frame, Message, Token};
 use std::alloc::Allocator;
 
@@ -200,6 +202,22 @@ fn visit_through<A: Allocator + Copy>(
     machine.propose_if_due(sends)
 }
 
+/// The representative of the ring that is formed from the start visits the first token. Answers what it sent.
+pub(crate) fn visit_first<A: Allocator + Copy>(
+    machine: &mut Machine<A>,
+    fixed: Fixed,
+) -> Result<Vec<Out<A>, A>, Fault>
+    requires { machine.old ≡ formed fixed.count 1 }
+    ensures core { OnOk result (machine.new ≡ (visited (formed fixed.count 1) (first_token (all_of fixed.count).ring)).core) }
+    ensures outs { IfOk result (λ outs. outs.items ≡ sent (visited (formed fixed.count 1) (first_token (all_of fixed.count).ring)).sends) }
+    ensures refused { IfErr result (λ fault. fault ≡ Memory) }
+{
+    let token = first_token(all_of(fixed).ring);
+    let mut sends = machine.list();
+    machine.visit(&token, &mut sends)?;
+    joined(sends, machine.list())
+}
+
 /// What the processor is told after an act, in an empty list: what is agreed and safe by now of the ring that was installed before
 /// it, and then what an installation gives.
 fn tell<A: Allocator + Copy>(
@@ -221,7 +239,7 @@ fn tell<A: Allocator + Copy>(
 }
 
 /// All outputs of a step in one list: the frames that were sent, and then what the processor is told.
-pub(crate) fn joined<A: Allocator + Copy>(
+fn joined<A: Allocator + Copy>(
     sends: Vec<Sent<A>, A>,
     mut told: Vec<Out<A>, A>,
 ) -> Result<Vec<Out<A>, A>, Fault>

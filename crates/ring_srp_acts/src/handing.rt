@@ -17,7 +17,7 @@ use crate::machine::Machine;
 use ring_base::{Fault, MAX, ProcSet, RingId, State};
 use ring_commit::{CommitOutcome, propose, receiver};
 use ring_core::Sent;
-use ring_srp_state::{send_copy, with_ring};
+use ring_srp_state::with_ring;
 use ring_wire::{CommitBox, Frame};
 use std::alloc::Allocator;
 
@@ -107,13 +107,11 @@ impl<A: Allocator + Copy> Machine<A> {
         let token = boxed.token();
         let (ring, members) = (token.ring, token.members);
         let to = ProcSet::only(receiver(token));
-        let frame = Frame::Commit(boxed);
-        send_copy(sends, to, &frame)?;
-        self.take_part(ring, members, to, frame);
-        Ok(())
+        self.take_part(ring, members, to, Frame::Commit(boxed));
+        self.repeat(sends)
     }
 
-    /// Takes part in a ring from now on: the own report was written, and this was sent.
+    /// Takes part in a ring from now on: the own report was written, and this is shown.
     fn take_part(&mut self, ring: RingId, members: ProcSet, to: ProcSet, frame: Frame<A>)
         requires state { self.old.state ≡ InGather }
         requires newer { floor self.old < ring.seq }

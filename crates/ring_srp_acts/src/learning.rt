@@ -14,7 +14,7 @@ use ring_base::{Fault, Past, ProcSet, State, seen};
 use ring_commit::receiver;
 use ring_core::Sent;
 use ring_recover::{Ends, Plan};
-use ring_srp_state::{Part, Recovering, send_copy, with_plan};
+use ring_srp_state::{Part, Recovering, with_plan};
 use ring_token::Visit;
 use ring_window::Window;
 use ring_wire::{CommitBox, CommitToken, Frame};
@@ -28,16 +28,15 @@ impl<A: Allocator + Copy> Machine<A> {
         ensures sends { OnOk result (sends.new.items ≡ sends.old.items ++ addressed (learned self.old boxed).sends) }
         ensures refused { IfErr result (λ fault. fault ≡ Memory) }
     {
-        let plan = Plan::from_commit(self.me, boxed.token()).unwrap();
         let window = Window::new(self.alloc, self.running.ring)?;
+        let plan = Plan::from_commit(self.me, boxed.token()).unwrap();
         let came = seen(boxed.token());
         let mut went = boxed;
         went.hop_on();
         let to = ProcSet::only(receiver(went.token()));
         let frame = Frame::Commit(went);
-        send_copy(sends, to, &frame)?;
         self.recover(&came, plan, window, Sent { to, frame });
-        Ok(())
+        self.repeat(sends)
     }
 
     /// Recovers by a full commit token from now on: by its plan, with a window of the running ring. What a member from

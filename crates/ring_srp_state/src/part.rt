@@ -155,8 +155,8 @@ impl<A: Allocator + Copy> Clone for Part<A> {
 
     fn clone(&self) -> Result<Part<A>, AllocError> {
         Ok(Part {
-            window: self.window.clone()?,
             visit: self.visit.clone()?,
+            window: self.window.clone()?,
         })
     }
 }

@@ -71,11 +71,11 @@ impl<A: Allocator + Copy> Clone for Recovering<A> {
 
     fn clone(&self) -> Result<Recovering<A>, AllocError> {
         Ok(Recovering {
-            part: self.part.clone()?,
             plan: self.plan.clone()?,
             ends: self.ends.clone()?,
             most: self.most,
             aside: copied_messages(&self.aside)?,
+            part: self.part.clone()?,
         })
     }
 }

@@ -62,18 +62,22 @@ impl<O: Object> Forerunner<O> {
         Ok(())
     }
 
-    /// Runs the variant with this upset, before whose event it stands, to its end. Or `Memory`.
-    pub fn variant(&self, script: &Script<O::Alloc>, upset: Upset) -> Result<Walk<O>, Fault>
+    /// Runs the variant with this upset, before whose event it stands, to its end: in this copy of the run. Otherwise `Memory`.
+    pub fn run_variant(
+        &self,
+        copy: &mut Walk<O>,
+        script: &Script<O::Alloc>,
+        upset: Upset,
+    ) -> Result<(), Fault>
         requires fit { AreFit script.now.lines.items }
         requires come { HasCome O.sequential script.now.nodes script.now.lines.items self.now.lines self.now.turns self.now.walk.done self.now.walk.run }
         requires due { IsDue O.sequential (left_of script.now.lines.items self.now.lines self.now.turns) self.now.walk.done upset.before self.now.walk.run }
-        ensures ok { IfOk result (λ walk. IsVariant O.sequential (steps_of script.now.lines.items) upset 0 (run_opening script.now.nodes) walk.run) }
+        requires copy { (copy.old.run ≡ self.now.walk.run) × (copy.old.done ≡ self.now.walk.done) }
+        ensures ok { OnOk result (IsVariant O.sequential (steps_of script.now.lines.items) upset 0 (run_opening script.now.nodes) copy.new.run) }
         ensures refused { IfErr result (λ fault. fault ≡ Memory) }
     {
-        let mut walk = self.walk.copy()?;
-        walk.put_in(upset)?;
-        self.finish(&mut walk, script.lines.as_slice())?;
-        Ok(walk)
+        copy.put_in(upset)?;
+        self.finish(copy, script.lines.as_slice())
     }
 
     /// Does in a copy what is left of the lines. Otherwise `Memory`.

@@ -1,9 +1,12 @@
 //! Whether a run is legal, by a plain look at what came of it.
 
-ghost use Rattle.std.specs.Prelude.{◌≡◌, ◌↔◌, IsTrue, IfOk, IfErr};
+ghost use Rattle.std.specs.Prelude.{◌≡◌, ◌≤◌, ◌↔◌, IsTrue, IfOk, IfErr};
 ghost use Rattle.ring_base.specs.Fronts.{IsFront};
 ghost use Rattle.ring_base.specs.declared.fault.Fault.TheVariants.{Memory};
 ghost use Rattle.ring_session.specs.Deduplicated.{deduplicated};
+ghost use Rattle.ring_log.specs.Lives.{committed_of};
+ghost use Rattle.ring_rules.specs.Worlds.{lives_of, order as order_of};
+ghost use Rattle.ring_console.specs.Worlds.{world_of};
 ghost use Rattle.ring_sweep.specs.Legal.{IsLegal, AreFronts};
 
 use ring_base::{Fault, Proc};
@@ -19,12 +22,27 @@ pub(crate) fn is_legal<O: Object>(alloc: O::Alloc, world: &World<O>) -> Result<b
     ensures ok { IfOk result (λ is_legal. IsTrue is_legal ↔ IsLegal O.sequential world.now) }
     ensures refused { IfErr result (λ fault. fault ≡ Memory) }
 {
-    let order = world.order()?;
-    let explains = is_linearization::<O>(alloc, order.as_slice(), world.history())?;
+    match world.order() {
+        Ok(order) => is_legal_by(alloc, world, order.as_slice()),
+        Err(fault) => Err(fault),
+    }
+}
+
+/// As [`is_legal`], where this is the order of the world.
+fn is_legal_by<O: Object>(
+    alloc: O::Alloc,
+    world: &World<O>,
+    order: &[Call<O::Alloc>],
+) -> Result<bool, Fault>
+    requires { order.now ≡ order_of (world_of O.sequential world.now) }
+    ensures ok { IfOk result (λ is_legal. IsTrue is_legal ↔ IsLegal O.sequential world.now) }
+    ensures refused { IfErr result (λ fault. fault ≡ Memory) }
+{
+    let explains = is_linearization::<O>(alloc, order, world.history())?;
     if !explains {
         return Ok(false);
     }
-    are_fronts(alloc, world, order.as_slice())
+    are_fronts(alloc, world, order)
 }
 
 /// Whether each node's committed calls, repeats removed, are a front of the order. Or `Memory`.
@@ -38,13 +56,30 @@ fn are_fronts<O: Object>(
 {
     for before in 0..world.fixed().count() {
         let proc = Proc::new(before + 1);
-        let committed = world.committed(proc)?;
-        let front = is_front(alloc, committed.as_slice(), order)?;
+        let front = has_front(alloc, world, proc, order)?;
         if !front {
             return Ok(false);
         }
     }
     Ok(true)
+}
+
+/// Whether a node's committed calls, repeats removed, are a front of the order. Or `Memory`.
+fn has_front<O: Object>(
+    alloc: O::Alloc,
+    world: &World<O>,
+    proc: Proc,
+    order: &[Call<O::Alloc>],
+) -> Result<bool, Fault>
+    requires { proc ≤ world.now.group.count }
+    ensures ok { let committed = committed_of world.now.group (lives_of (world_of O.sequential world.now) proc) in
+        IfOk result (λ front. IsTrue front ↔ IsFront (deduplicated committed) order.now) }
+    ensures refused { IfErr result (λ fault. fault ≡ Memory) }
+{
+    match world.committed(proc) {
+        Ok(committed) => is_front(alloc, committed.as_slice(), order),
+        Err(fault) => Err(fault),
+    }
 }
 
 /// Whether the calls, repeats removed, are a front of the order. Or `Memory`.

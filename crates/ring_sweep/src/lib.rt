@@ -14,8 +14,8 @@ mod walk;
 
 pub use laws::{first_law, variants_law};
 pub use ring_console::{
-    Failure, ShelfWords, Things, Vocabulary, frames, is_linearization, report, script,
-    script_check, script_of,
+    Failure, Groups, Line, Script, ShelfWords, Things, Vocabulary, frames, is_linearization,
+    report, script, script_check, script_of,
 };
 pub use spelling::{print_variant, print_variant_of};
 pub use sweeping::{Swept, sweep, sweep_by_threads, sweep_of, sweep_of_by_threads, verdict_status};

@@ -4,6 +4,7 @@ ghost use Rattle.std.specs.Prelude.{◌≡◌, ◌-◌, ◌+◌, IfOk, IfErr};
 ghost use Rattle.ring_base.specs.Processors.{IsProc};
 ghost use Rattle.ring_base.specs.declared.fault.Fault.TheVariants.{Memory};
 ghost use Rattle.ring_script.specs.Fits.{AreFit};
+ghost use Rattle.ring_console.specs.Running.{run_opening};
 ghost use Rattle.ring_shares.specs.Shares.{share_begin};
 ghost use Rattle.ring_sweep.specs.Gaps.{HasCome, left_of};
 ghost use Rattle.ring_sweep.specs.Variants.{AreTriedIn, IsDue, IsTried, upset_at, first_illegal};
@@ -11,6 +12,7 @@ ghost use Rattle.ring_sweep.specs.Variants.{AreTriedIn, IsDue, IsTried, upset_at
 use crate::forerunner::Forerunner;
 use crate::legal::is_legal;
 use crate::upset::Upset;
+use crate::walk::Walk;
 use ring_base::Fault;
 use ring_console::Script;
 use ring_object::Object;
@@ -48,15 +50,36 @@ pub(crate) fn try_share<O: Object>(
         (part.from + share_begin many shares share) (part.from + share_begin many shares (share + 1))) }
     ensures refused { IfErr result (λ fault. fault ≡ Memory) }
 {
+    match Forerunner::<O>::new(alloc, script.nodes) {
+        Ok(mut ahead) => try_ahead(alloc, &mut ahead, script, part, shares, share),
+        Err(fault) => Err(fault),
+    }
+}
+
+/// As [`try_share`], with a run ahead that stands at the script's opening.
+fn try_ahead<O: Object>(
+    alloc: O::Alloc,
+    ahead: &mut Forerunner<O>,
+    script: &Script<O::Alloc>,
+    part: Part,
+    shares: u16,
+    share: u64,
+) -> Result<Option<Upset>, Fault>
+    requires fit { AreFit script.now.lines.items }
+    requires walk { (ahead.old.walk.run ≡ run_opening script.now.nodes) × (ahead.old.walk.done ≡ 0) }
+    requires place { (ahead.old.lines ≡ 0) × (ahead.old.turns ≡ 0) }
+    ensures ok { let many = part.upto - part.from in IfOk result (AreTriedIn O.sequential script.now.nodes script.now.lines.items
+        (part.from + share_begin many shares share) (part.from + share_begin many shares (share + 1))) }
+    ensures refused { IfErr result (λ fault. fault ≡ Memory) }
+{
     let many = part.many();
     let mut illegal = None;
-    let mut ahead = Forerunner::<O>::new(alloc, script.nodes)?;
     let begin = share_begin(many, shares, share);
     let end = share_begin(many, shares, share.saturating_add(1));
     for place in begin..end {
         let upset = Upset::at(script.nodes.count(), part.from + place);
         ahead.go_to(script, upset.before)?;
-        let is_legal = try_one(alloc, &ahead, script, upset)?;
+        let is_legal = try_one(alloc, ahead, script, upset)?;
         keep_first(
             &mut illegal,
             is_legal,
@@ -90,6 +113,27 @@ fn try_one<O: Object>(
     ensures ok { IfOk result (IsTried O.sequential script.now.nodes script.now.lines.items upset) }
     ensures refused { IfErr result (λ fault. fault ≡ Memory) }
 {
-    let variant = ahead.variant(script, upset)?;
-    is_legal(alloc, variant.world())
+    match ahead.walk.copy() {
+        Ok(mut copy) => try_in(alloc, ahead, &mut copy, script, upset),
+        Err(fault) => Err(fault),
+    }
+}
+
+/// As [`try_one`], in this copy of the run ahead.
+fn try_in<O: Object>(
+    alloc: O::Alloc,
+    ahead: &Forerunner<O>,
+    copy: &mut Walk<O>,
+    script: &Script<O::Alloc>,
+    upset: Upset,
+) -> Result<bool, Fault>
+    requires fit { AreFit script.now.lines.items }
+    requires come { HasCome O.sequential script.now.nodes script.now.lines.items ahead.now.lines ahead.now.turns ahead.now.walk.done ahead.now.walk.run }
+    requires due { IsDue O.sequential (left_of script.now.lines.items ahead.now.lines ahead.now.turns) ahead.now.walk.done upset.before ahead.now.walk.run }
+    requires copy { (copy.old.run ≡ ahead.now.walk.run) × (copy.old.done ≡ ahead.now.walk.done) }
+    ensures ok { IfOk result (IsTried O.sequential script.now.nodes script.now.lines.items upset) }
+    ensures refused { IfErr result (λ fault. fault ≡ Memory) }
+{
+    ahead.run_variant(copy, script, upset)?;
+    is_legal(alloc, copy.world())
 }

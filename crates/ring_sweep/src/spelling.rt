@@ -1,12 +1,14 @@
 //! The script of a variant: the text of the script itself, with a line more.
 
 ghost use Rattle.std.specs.Prelude.{◌≡◌, ◌≤◌};
+ghost use Rattle.ring_script.specs.Fits.{AreFit};
 
 use crate::gap::{Gap, gap_of};
 use crate::upset::{Blow, Told, Upset};
 use ring_base::Proc;
 use ring_console::{Failure, Line, Numbered, Script, ShelfWords, Things, Vocabulary, report};
 use ring_object::Object;
+use ring_report::or_output;
 use std::alloc::Allocator;
 use std::fmt;
 use std::io::Write;
@@ -46,12 +48,27 @@ pub fn print_variant_of<T: Object, V: Vocabulary, O: Write, E: Write>(
     ensures quiet { result ≡ 0 → err.new ≡ err.old }
 {
     let mut rest = text;
-    let script = match Script::read_by::<V, _>(alloc, &mut rest) {
-        Ok(script) => script,
-        Err(fault) => return report(err, Failure::from(fault)),
-    };
+    match Script::read_by::<V, _>(alloc, &mut rest) {
+        Ok(script) => print_variant_in::<T, O, E>(alloc, text, &script, place, out, err),
+        Err(fault) => report(err, Failure::from(fault)),
+    }
+}
+
+/// As [`print_variant_of`], where this is the script of the text.
+fn print_variant_in<T: Object, O: Write, E: Write>(
+    alloc: T::Alloc,
+    text: &[u8],
+    script: &Script<T::Alloc>,
+    place: u64,
+    out: &mut O,
+    err: &mut E,
+) -> u8
+    requires { AreFit script.now.lines.items }
+    ensures status { result ≤ 2 }
+    ensures quiet { result ≡ 0 → err.new ≡ err.old }
+{
     let upset = Upset::at(script.nodes.count(), place.saturating_sub(1));
-    let gap = match gap_of::<T>(alloc, &script, upset.before) {
+    let gap = match gap_of::<T>(alloc, script, upset.before) {
         Ok(gap) => gap,
         Err(fault) => return report(err, Failure::Refused(fault)),
     };
@@ -59,7 +76,7 @@ pub fn print_variant_of<T: Object, V: Vocabulary, O: Write, E: Write>(
         let _ = writeln!(err, "totem: there is no variant {place}");
         return BAD_COMMAND_LINE;
     }
-    match print_with(text, &script, gap, upset, out) {
+    match print_with(text, script, gap, upset, out) {
         Ok(()) => 0,
         Err(failure) => report(err, failure),
     }
@@ -106,7 +123,7 @@ fn print_among<A: Allocator + Copy, O: Write>(
 /// Prints a text, and behind it what is put in.
 fn print_behind<O: Write>(text: &[u8], put_in: &PutIn, out: &mut O) -> Result<(), Failure> {
     print_text(text, out)?;
-    write!(out, "{put_in}").map_err(|_| Failure::Output)
+    or_output(write!(out, "{put_in}"))
 }
 
 /// Prints a line of the text, with what is put in where it is the one.
@@ -135,10 +152,10 @@ fn print_parted<A: Allocator + Copy, O: Write>(
     match line {
         Line::Pump { turns } if taken > 0 => {
             let left = turns.saturating_sub(taken);
-            write!(out, "pump {taken}\n{put_in}pump {left}\n").map_err(|_| Failure::Output)
+            or_output(write!(out, "pump {taken}\n{put_in}pump {left}\n"))
         }
         _ => {
-            write!(out, "{put_in}").map_err(|_| Failure::Output)?;
+            or_output(write!(out, "{put_in}"))?;
             print_text(text, out)
         }
     }
@@ -146,11 +163,11 @@ fn print_parted<A: Allocator + Copy, O: Write>(
 
 /// Prints a text as it is, and ends its last line where that has no end.
 fn print_text<O: Write>(text: &[u8], out: &mut O) -> Result<(), Failure> {
-    out.write_all(text).map_err(|_| Failure::Output)?;
+    or_output(out.write_all(text))?;
     if text.ends_with(b"\n") {
         return Ok(());
     }
-    writeln!(out).map_err(|_| Failure::Output)
+    or_output(writeln!(out))
 }
 
 /// What is put into a script of so many nodes and a run of so many events, as lines of it: a comment, and the line. Where there is nobody

@@ -8,7 +8,7 @@ ghost use Rattle.ring_script.specs.Fits.{AreFit};
 ghost use Rattle.ring_script.specs.Scripts.{IsAllOf, AnswersInputBy, AnswersInput};
 ghost use Rattle.ring_script.specs.declared.scripts.Script.{Script};
 ghost use Rattle.ring_report.specs.declared.failure.Failure.TheVariants.{Output};
-ghost use Rattle.ring_console.specs.Running.{Prints};
+ghost use Rattle.ring_console.specs.Running.{Prints, run_opening};
 ghost use Rattle.ring_report.specs.Failures.{IsOutputOrMemory};
 ghost use Rattle.ring_report.specs.Texts.{line_of};
 ghost use Rattle.ring_sweep.specs.Swept.{swept_text, upset_text, AllLegal, IsSwept, IsSweptText};
@@ -21,6 +21,7 @@ use crate::walk::Walk;
 use ring_base::Fault;
 use ring_console::{Failure, Script, ShelfWords, Things, Vocabulary, report};
 use ring_object::Object;
+use ring_report::or_output;
 use std::alloc::{Allocator, Global};
 use std::io;
 use std::io::{Read, Write};
@@ -77,12 +78,26 @@ pub fn sweep_of<T: Object, V: Vocabulary, R: Read, O: Write, E: Write>(
     ensures printed { result ≡ 0 → (script : Script T.Alloc) × (bytes : List ℕ) × IsAllOf (R.remaining input.old) bytes
         × AnswersInputBy V.forms (Ok script) bytes × Prints (O.contents out.old) (O.contents out.new) (IsSweptText T.sequential script.nodes script.lines.items true) }
 {
-    let script = match Script::read_by::<V, R>(alloc, input) {
-        Ok(script) => script,
-        Err(fault) => return report(err, Failure::from(fault)),
-    };
-    let swept = run_all::<T>(alloc, &script);
-    let done = print_all::<T, O>(&script, swept, out);
+    match Script::read_by::<V, R>(alloc, input) {
+        Ok(script) => sweep_script::<T, O, E>(alloc, &script, out, err),
+        Err(fault) => report(err, Failure::from(fault)),
+    }
+}
+
+/// As [`sweep_of`], of a script that was read.
+fn sweep_script<T: Object, O: Write, E: Write>(
+    alloc: T::Alloc,
+    script: &Script<T::Alloc>,
+    out: &mut O,
+    err: &mut E,
+) -> u8
+    requires { AreFit script.now.lines.items }
+    ensures status { result ≤ 1 }
+    ensures quiet { result ≡ 0 → Keeps (E.contents err.old) (E.contents err.new) }
+    ensures printed { result ≡ 0 → Prints (O.contents out.old) (O.contents out.new) (IsSweptText T.sequential script.now.nodes script.now.lines.items true) }
+{
+    let swept = run_all::<T>(alloc, script);
+    let done = print_all::<T, O>(script, swept, out);
     verdict_status(err, done)
 }
 
@@ -203,7 +218,7 @@ fn print_swept<O: Write>(swept: &Swept, out: &mut O) -> Result<(), Failure>
 {
     let (events, variants) = (swept.events, swept.variants);
     let word = if swept.illegal.is_none() { "yes" } else { "no" };
-    writeln!(out, "events {events}\nvariants {variants}\nlegal {word}").map_err(|_| Failure::Output)
+    or_output(writeln!(out, "events {events}\nvariants {variants}\nlegal {word}"))
 }
 
 /// Runs the script as it is, and then each variant of it.
@@ -250,7 +265,19 @@ fn count_events<O: Object>(alloc: O::Alloc, script: &Script<O::Alloc>) -> Result
     ensures ok { IfOk result (HasEvents O.sequential script.now.nodes script.now.lines.items) }
     ensures refused { IfErr result (λ fault. fault ≡ Memory) }
 {
-    let mut whole = Walk::<O>::new(alloc, script.nodes)?;
+    match Walk::<O>::new(alloc, script.nodes) {
+        Ok(mut whole) => count_from(&mut whole, script),
+        Err(fault) => Err(fault),
+    }
+}
+
+/// How many events the script has, by a run that stands at its opening.
+fn count_from<O: Object>(whole: &mut Walk<O>, script: &Script<O::Alloc>) -> Result<u64, Fault>
+    requires fit { AreFit script.now.lines.items }
+    requires opening { (whole.old.run ≡ run_opening script.now.nodes) × (whole.old.done ≡ 0) }
+    ensures ok { IfOk result (HasEvents O.sequential script.now.nodes script.now.lines.items) }
+    ensures refused { IfErr result (λ fault. fault ≡ Memory) }
+{
     whole.follow(script.lines.as_slice())?;
     Ok(whole.done())
 }

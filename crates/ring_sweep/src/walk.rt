@@ -122,9 +122,17 @@ impl<O: Object> Walk<O> {
             let Some(_) = self.run.first_open() else {
                 return Ok(());
             };
-            self.step(&Line::Pump { turns: 1 })?;
+            self.take_turn()?;
         }
         Ok(())
+    }
+
+    /// A turn of a pump.
+    fn take_turn(&mut self) -> Result<(), Fault>
+        ensures ok { OnOk result (Passes O.sequential (turn ∷ []) self.old.done self.new.done self.old.run self.new.run) }
+        ensures refused { IfErr result (λ fault. fault ≡ Memory) }
+    {
+        self.step(&Line::Pump { turns: 1 })
     }
 
     /// The same for the turns behind so many of them, up to the event that has so many before it.
@@ -137,12 +145,19 @@ impl<O: Object> Walk<O> {
             let Some(_) = self.run.first_open() else {
                 return Ok(None);
             };
-            if self.comes(&Line::Pump { turns: 1 }, before) {
+            if self.turn_comes(before) {
                 return Ok(Some(taken));
             }
-            self.step(&Line::Pump { turns: 1 })?;
+            self.take_turn()?;
         }
         Ok(None)
+    }
+
+    /// Whether a turn of a pump is the event that has so many before it.
+    fn turn_comes(&self, before: u64) -> bool
+        ensures { result ≡ (is_event self.now.run turn && self.now.done == before) }
+    {
+        self.comes(&Line::Pump { turns: 1 }, before)
     }
 
     /// A step of the script, unless it is the event that has so many before it.

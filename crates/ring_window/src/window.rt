@@ -196,8 +196,8 @@ impl<A: Allocator + Copy> Clone for Window<A> {
             front: self.front,
             highest: self.highest,
             bits: self.bits,
-            places: copied_places(&self.places)?,
             past: self.past.clone()?,
+            places: copied_places(&self.places)?,
         })
     }
 }

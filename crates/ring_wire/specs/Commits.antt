@@ -7,11 +7,9 @@ use Rattle.std.proofs.lemmas.Bool.{cases_Bool, leb-true, le-leb, ltb-true, lt-lt
 use Rattle.std.proofs.lemmas.List.{length-append}
 use Rattle.std.proofs.lemmas.List.Concat.{flat_map-cons}
 use Rattle.byteorder.specs.Endian.{big_bytes}
-use Rattle.ring_base.specs.Processors.{elements, size, smallest, nobody}
-use Rattle.ring_base.specs.Elements.{size_le}
-use Rattle.ring_base.specs.declared.ring_id.RingId.{RingId}
-use Rattle.ring_payload.specs.Layouts.{IsFormat, such_at, made_at, ◌⊕◌, Format, byte, word2, ◌&◌, followed, times, tested_format}
-use Rattle.ring_payload.specs.Layouts.{ring, ring_spelling, RingFits}
+use Rattle.ring_payload.specs.Base.{elements, size, smallest, nobody, size_le, RingId}
+use Rattle.ring_payload.specs.Layouts.{IsFormat, such_at, made_at, ◌⊕◌, Format, byte, word2, ◌&◌, followed, times, tested_format, ring}
+use Rattle.ring_payload.specs.Layouts.{ring_spelling, RingFits}
 use Rattle.ring_wire.specs.declared.entries.CommitEntry.{CommitEntry}
 use Rattle.ring_wire.specs.declared.commit.CommitToken.{CommitToken}
 use Rattle.ring_wire.specs.Entries.{entry, entry_spelling, EntryFits}

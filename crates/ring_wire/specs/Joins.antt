@@ -4,9 +4,7 @@ use Rattle.std.proofs.Common.{ℕ, ◌^◌, ◌<◌, ◌≤◌, Bool, List, Opti
 use Rattle.std.specs.Prelude.{nat_le, ◌&&◌, not}
 use Rattle.std.proofs.lemmas.Bool.{leb-true, le-leb, and_parts, both_ways, not-true, not_from_false, false_from_ne_true}
 use Rattle.byteorder.specs.Endian.{big_bytes}
-use Rattle.ring_base.specs.Numbers.{max_number}
-use Rattle.ring_base.specs.Processors.{IsProc, IsMember, IsSubset, has, within}
-use Rattle.ring_base.specs.Members.{has_member, member_had, within_members}
+use Rattle.ring_payload.specs.Base.{max_number, IsProc, IsMember, IsSubset, has, within, has_member, member_had, within_members}
 use Rattle.ring_payload.specs.Layouts.{IsFormat, such_at, made_at, ◌⊕◌, Format, word2, word8, ◌&◌, tested_format, proc, proc_spelling}
 use Rattle.ring_wire.specs.declared.join.Join.{Join}
 

@@ -13,3 +13,4 @@ pub mod Payloads
 pub mod Rings
 pub mod ContentVariants
 pub mod PayloadVariants
+pub mod Base

@@ -4,11 +4,9 @@ use Rattle.std.proofs.Common.{◌≡◌, ℕ, ◌<◌, ◌≤◌, Bool, true, Li
 use Rattle.std.specs.Prelude.{nat_le, nat_lt, ◌&&◌}
 use Rattle.std.proofs.lemmas.Bool.{leb-true, le-leb, ltb-true, lt-ltb, and_parts}
 use Rattle.byteorder.specs.Endian.{big_bytes}
-use Rattle.ring_base.specs.Numbers.{max_number}
-use Rattle.ring_base.specs.Processors.{IsProc}
-use Rattle.ring_base.specs.declared.ring_id.RingId.{RingId}
-use Rattle.ring_payload.specs.Layouts.{IsFormat, such_at, made_at, ◌⊕◌, Format, word8, ◌&◌, tested_format, proc, proc_spelling}
-use Rattle.ring_payload.specs.Layouts.{ring, ring_spelling, RingFits}
+use Rattle.ring_payload.specs.Base.{max_number, IsProc, RingId}
+use Rattle.ring_payload.specs.Layouts.{IsFormat, such_at, made_at, ◌⊕◌, Format, word8, ◌&◌, tested_format, proc, proc_spelling, ring, ring_spelling}
+use Rattle.ring_payload.specs.Layouts.{RingFits}
 pub use Rattle.ring_payload.specs.declared.content.Payload.{Payload}
 use Rattle.ring_payload.specs.declared.content.Payload.TheVariants.{Call, Wrapped, End, Head, Part, Pack, Snap}
 use Rattle.ring_payload.specs.Payloads.{payload, payload_spelling, PayloadFits}

@@ -7,11 +7,9 @@ use Rattle.std.specs.List.Sorted.{IsStrictlyIncreasing}
 use Rattle.std.proofs.lemmas.List.Concat.{flat_map-cons}
 use Rattle.std.proofs.lemmas.Bool.{leb-true, le-leb, eqb-true, cases_Bool, and_parts}
 use Rattle.byteorder.specs.Endian.{big_bytes}
-use Rattle.ring_base.specs.Numbers.{max_number}
-use Rattle.ring_base.specs.declared.ring_id.RingId.{RingId}
-use Rattle.ring_payload.specs.Layouts.{IsFormat, IsWord, such_at, made_at, ◌⊕◌}
-use Rattle.ring_payload.specs.Layouts.{Format, byte, word8, ◌&◌, followed, times, such, told_format, tested_format}
-use Rattle.ring_payload.specs.Layouts.{some_proc, some_proc_spelling, SomeProcFits, ring, ring_spelling, RingFits}
+use Rattle.ring_payload.specs.Base.{max_number, RingId}
+use Rattle.ring_payload.specs.Layouts.{IsFormat, IsWord, such_at, made_at, ◌⊕◌, Format, byte, word8, ◌&◌, followed, times, such, told_format}
+use Rattle.ring_payload.specs.Layouts.{tested_format, some_proc, some_proc_spelling, SomeProcFits, ring, ring_spelling, RingFits}
 use Rattle.ring_payload.specs.Limits.{most_requests}
 use Rattle.ring_wire.specs.declared.token.Token.{Token}
 use Rattle.ring_wire.specs.Ascending.{ascends, ascends-each, ascends-increasing, increasing-ascends, IsStrictlyIncreasing-from_zero, each_below, each_le}

@@ -2,13 +2,12 @@
 
 ghost use Rattle.std.specs.Prelude.{◌≡◌, ℕ, ◌+◌, ◌^◌, ◌<◌, ◌≤◌, Bool, ◌&&◌, ◌==◌, not, List, [], ◌∷◌, ◌++◌, length};
 ghost use Rattle.ring_payload.specs.Layouts.{Appends, Gives, GivesBy};
-ghost use Rattle.ring_base.specs.Processors.{elements, smallest, nobody};
+ghost use Rattle.ring_payload.specs.Base.{elements, smallest, nobody};
 ghost use Rattle.ring_wire.specs.Commits.{is_report as is_report_of, are_reports as are_reports_of};
 
 use crate::entries::{CommitEntry, Entries};
 use bytes::BytesMut;
-use ring_base::{Fault, Proc, ProcSet, RingId};
-use ring_payload::{Decode, Encode, Reader, write_many};
+use ring_payload::{Decode, Encode, Fault, Proc, ProcSet, Reader, RingId, write_many};
 use std::alloc::Allocator;
 
 /// The token that forms a ring: the ring, its members, how many hops it has taken, counted from 1, and

@@ -1,15 +1,14 @@
 //! Commit tokens on the heap.
 
 ghost use Rattle.std.specs.Prelude.{◌≡◌, ℕ, ◌+◌, ◌^◌, ◌<◌, ◌≤◌, List, [], ◌∷◌, ◌++◌, length, IfOk, IfErr};
-ghost use Rattle.ring_base.specs.declared.fault.Fault.TheVariants.{Memory};
+ghost use Rattle.ring_payload.specs.Faults.{Memory};
 ghost use Rattle.ring_payload.specs.Layouts.{Appends, Gives};
 ghost use Rattle.ring_wire.specs.declared.commit.CommitToken.{CommitToken as OneToken};
 
 use crate::commit::CommitToken;
 use crate::entries::CommitEntry;
 use bytes::BytesMut;
-use ring_base::Fault;
-use ring_payload::{Decode, Encode, Reader};
+use ring_payload::{Decode, Encode, Fault, Reader};
 use std::alloc::{AllocError, Allocator, Global};
 use std::marker::Model;
 

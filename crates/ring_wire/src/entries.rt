@@ -1,14 +1,13 @@
 //! The entries of a commit token: what each member reports of its old ring.
 
-ghost use Rattle.std.specs.Prelude.{◌≡◌, ℕ, ◌+◌, ◌^◌, ◌<◌, ◌≤◌, List, [], ◌∷◌, ◌++◌, length};
-ghost use Rattle.std.specs.Prelude.{◌==◌, ◌*◌, true};
+ghost use Rattle.std.specs.Prelude.{◌≡◌, ℕ, ◌+◌, ◌^◌, ◌<◌, ◌≤◌, List, [], ◌∷◌, ◌++◌, length, ◌==◌, ◌*◌, true};
 ghost use Rattle.std.specs.List.{list_all};
 ghost use Rattle.ring_payload.specs.Layouts.{Appends, Gives, GivesBy, times_at};
 
+use crate::valid::only_if;
 use arrayvec::ArrayVec;
 use bytes::BytesMut;
-use ring_base::{Fault, MAX, Proc, RingId, WINDOW};
-use ring_payload::{Decode, Encode, Reader, read_in_place};
+use ring_payload::{Decode, Encode, Fault, MAX, Proc, Reader, RingId, WINDOW, read_in_place};
 use std::alloc::{AllocError, Allocator};
 use std::marker::Model;
 
@@ -145,10 +144,7 @@ impl<A: Allocator + Copy> Decode<A> for CommitEntry {
             mark: Decode::read(alloc, from)?,
             held: Decode::read(alloc, from)?,
         };
-        if !entry.is_valid() {
-            return Err(Fault::BadFrame);
-        }
-        Ok(entry)
+        only_if(entry.is_valid(), entry)
     }
 }
 

@@ -1,10 +1,10 @@
 //! Frames: two fixed bytes, the version, the kind, the body's length, and the body.
 
 ghost use Rattle.std.specs.Prelude.{◌≡◌, ℕ, ◌+◌, ◌^◌, ◌<◌, ◌≤◌, List, [], ◌∷◌, ◌++◌, length, IfOk, IfErr, IfSome, Some, IsSome, OnOk, OnErr, ◌↔◌};
-ghost use Rattle.ring_base.specs.declared.fault.Fault.TheVariants.{BadFrame};
+ghost use Rattle.ring_payload.specs.Faults.{BadFrame};
 ghost use Rattle.ring_payload.specs.Layouts.{Appends, Gives};
 ghost use Rattle.ring_wire.specs.declared.frame.Frame.{Frame as OneFrame};
-ghost use Rattle.ring_wire.specs.declared.frame.Frame.TheVariants.{Token as TokenFrame};
+ghost use Rattle.ring_wire.specs.declared.frame.Frame.TheVariants.{Message as MessageFrame, Token as TokenFrame};
 ghost use Rattle.ring_payload.specs.Limits.{message_kind, token_kind, join_kind, commit_kind, most_frame};
 ghost use Rattle.ring_wire.specs.Frames.{body_at, frame_at, version_of, spelling_of, FrameFits};
 ghost use Rattle.ring_wire.specs.Fronts.{IsReadFault, IsGot, IsNoFront, Puts};
@@ -14,10 +14,8 @@ use crate::commit_box::CommitBox;
 use crate::join::Join;
 use crate::message::Message;
 use crate::token::{LaidToken, Token};
-use crate::wire::Wire;
 use bytes::BytesMut;
-use ring_base::Fault;
-use ring_payload::{Decode, Encode, Reader, read_sized, write_sized};
+use ring_payload::{Decode, Encode, Fault, Reader, Wire, read_sized, write_sized};
 use std::alloc::{Allocator, Global};
 use std::mem::size_of;
 
@@ -122,11 +120,27 @@ fn read_message<A: Allocator + Copy>(
     if version != message.payload.version() {
         return Err(Fault::BadFrame);
     }
-    match place {
-        Some(Frame::Message(kept)) => *kept = message,
-        _ => *place = Some(Frame::Message(message)),
-    }
+    put_message(message, place);
     Ok(())
+}
+
+/// Puts a message in the place of another, of another kind of frame, or of none.
+#[inline(always)]
+fn put_message<A: Allocator + Copy>(message: Message<A>, place: &mut Option<Frame<A>>)
+    ensures { place.new ≡ Some (MessageFrame message) }
+{
+    match place {
+        Some(Frame::Message(kept)) => put(message, kept),
+        _ => put(Some(Frame::Message(message)), place),
+    }
+}
+
+/// Puts a value in the place of another.
+#[inline(always)]
+fn put<T: Drop>(value: T, place: &mut T)
+    ensures { place.new ≡ value }
+{
+    *place = value;
 }
 
 /// The token at the front, behind its length, into the place.
@@ -156,7 +170,7 @@ fn read_token<A: Allocator + Copy>(
 fn put_token<A: Allocator + Copy>(token: &LaidToken<'_>, place: &mut Option<Frame<A>>)
     ensures { place.new ≡ Some (TokenFrame token.now) }
 {
-    *place = Some(Frame::Token(Token::blank()));
+    put(Some(Frame::Token(Token::blank())), place);
     if let Some(Frame::Token(kept)) = place {
         token.fill(kept);
     }
@@ -179,7 +193,7 @@ fn read_join<A: Allocator + Copy>(
     }
     match place {
         Some(Frame::Join(kept)) => *kept = join,
-        _ => *place = Some(Frame::Join(join)),
+        _ => put(Some(Frame::Join(join)), place),
     }
     Ok(())
 }
@@ -199,7 +213,7 @@ fn read_commit<A: Allocator + Copy>(
     if version != VERSION {
         return Err(Fault::BadFrame);
     }
-    *place = Some(Frame::Commit(commit));
+    put(Some(Frame::Commit(commit)), place);
     Ok(())
 }
 

@@ -4,8 +4,7 @@ ghost use Rattle.std.specs.Prelude.{◌≡◌, ℕ, ◌+◌, ◌^◌, ◌<◌, �
 ghost use Rattle.ring_payload.specs.Layouts.{Appends, Gives};
 
 use bytes::BytesMut;
-use ring_base::{Fault, MAX, Proc, ProcSet};
-use ring_payload::{Decode, Encode, Reader};
+use ring_payload::{Decode, Encode, Fault, MAX, Proc, ProcSet, Reader};
 use std::alloc::Allocator;
 
 /// What a gathering processor tells the others: itself, the greatest ring number that it has taken part

@@ -10,7 +10,7 @@ mod message;
 mod requests;
 mod same;
 mod token;
-mod wire;
+mod valid;
 
 pub use commit::CommitToken;
 pub use commit_box::CommitBox;
@@ -20,7 +20,7 @@ pub use join::Join;
 pub use message::Message;
 pub use requests::Requests;
 pub use ring_payload::{
-    Call, Calls, Content, Head, MOST_SNAPSHOT, Part, Payload, Piece, Snap, WHOLE_PIECE, Wrapped,
+    Call, Calls, Content, Head, MAX, MOST_SNAPSHOT, Part, Past, Payload, Piece, Proc, ProcSet,
+    RingId, Snap, WHOLE_PIECE, Wire, Wrapped, past_of,
 };
 pub use token::Token;
-pub use wire::Wire;

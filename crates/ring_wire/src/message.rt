@@ -3,9 +3,9 @@
 ghost use Rattle.std.specs.Prelude.{◌≡◌, ℕ, ◌+◌, ◌^◌, ◌<◌, ◌≤◌, List, [], ◌∷◌, ◌++◌, length};
 ghost use Rattle.ring_payload.specs.Layouts.{Appends, Gives};
 
+use crate::valid::only_if;
 use bytes::BytesMut;
-use ring_base::{Fault, MAX, Proc, RingId};
-use ring_payload::{Decode, Encode, Payload, Reader};
+use ring_payload::{Decode, Encode, Fault, MAX, Payload, Proc, Reader, RingId};
 use std::alloc::{Allocator, Global};
 
 /// A message of a ring: its number there, counted from 1, who sent it, and what it carries.
@@ -72,9 +72,6 @@ impl<A: Allocator + Copy> Decode<A> for Message<A> {
             sender: Decode::read(alloc, from)?,
             payload: Decode::read(alloc, from)?,
         };
-        if !message.is_valid() {
-            return Err(Fault::BadFrame);
-        }
-        Ok(message)
+        only_if(message.is_valid(), message)
     }
 }

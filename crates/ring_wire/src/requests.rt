@@ -5,8 +5,7 @@ ghost use Rattle.ring_payload.specs.Layouts.{Appends, Gives};
 
 use arrayvec::ArrayVec;
 use bytes::BytesMut;
-use ring_base::Fault;
-use ring_payload::{Decode, Encode, Reader, Words, write_many};
+use ring_payload::{Decode, Encode, Fault, Reader, Words, write_many};
 use std::alloc::{AllocError, Allocator};
 use std::marker::Model;
 

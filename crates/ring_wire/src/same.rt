@@ -8,7 +8,7 @@ use crate::frame::Frame;
 use crate::join::Join;
 use crate::message::Message;
 use crate::token::Token;
-use ring_base::{Proc, RingId};
+use ring_payload::{Proc, RingId};
 use std::alloc::Allocator;
 
 impl<A: Allocator + Copy> Frame<A> {

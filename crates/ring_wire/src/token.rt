@@ -6,8 +6,7 @@ ghost use Rattle.ring_wire.specs.Ascending.{ascends as ascends_to};
 
 use crate::requests::Requests;
 use bytes::BytesMut;
-use ring_base::{Fault, MAX, Proc, RingId};
-use ring_payload::{Decode, Encode, Reader, Words};
+use ring_payload::{Decode, Encode, Fault, MAX, Proc, Reader, RingId, Words};
 use std::alloc::Allocator;
 use std::marker::Model;
 
@@ -64,10 +63,12 @@ impl<'a> Model for LaidToken<'a> {
 }
 
 impl<'a> LaidToken<'a> {
+    ghost use Rattle.std.specs.Prelude.{◌≡◌, ℕ, List, Some, None, if◌then◌else◌};
+    ghost use Rattle.ring_payload.specs.Layouts.{Gives, sized_at};
     ghost use Rattle.ring_wire.specs.Tokens.{aru_id_test, token_test, token_at};
 
     /// The token at the front.
-    #[tactic(auto, unfolding(crate::specs::Tokens::token_at, crate::specs::Tokens::requests_at))]
+    #[tactic(auto, unfolding(crate::specs::Tokens::token_at))]
     fn read<A: Allocator + Copy>(alloc: A, from: &mut Reader<'a>) -> Result<LaidToken<'a>, Fault>
         ensures { Gives result from.new (token_at from.old) }
     {
@@ -79,10 +80,8 @@ impl<'a> LaidToken<'a> {
             aru_id: Decode::read(alloc, from)?,
             requests: Requests::laid(alloc, from)?,
         };
-        if !token.is_valid() {
-            return Err(Fault::BadFrame);
-        }
-        Ok(token)
+        let is_valid = token.is_valid();
+        token.only_if(is_valid)
     }
 
     /// The token that takes just as many bytes as the length before it says.
@@ -95,10 +94,7 @@ impl<'a> LaidToken<'a> {
         let len: u32 = Decode::read(alloc, from)?;
         let mut body = Reader::new(from.take(len as usize)?);
         let token = LaidToken::read(alloc, &mut body)?;
-        if body.len() != 0 {
-            return Err(Fault::BadFrame);
-        }
-        Ok(token)
+        token.only_if(body.len() == 0)
     }
 
     /// Whether it is told who lowered `aru` exactly where it is below `seq`.
@@ -123,6 +119,18 @@ impl<'a> LaidToken<'a> {
             && self.seq <= MAX
             && self.is_aru_id_right()
             && ascends(&self.requests, self.seq)
+    }
+
+    /// The token that was read, if this holds, else `BadFrame`.
+    #[inline(always)]
+    fn only_if(self, holds: bool) -> Result<LaidToken<'a>, Fault>
+        ensures { (rest : List ℕ) → Gives result rest (if holds then Some (self.entry, rest) else None) }
+    {
+        if holds {
+            Ok(self)
+        } else {
+            Err(Fault::BadFrame)
+        }
     }
 
     /// Makes the other token the same, in its place.

@@ -2,10 +2,8 @@
 //! least and the greatest frames.
 
 use crate::spelled::{bytes_of, framed, is_frame};
-use crate::vectors::{
-    END, HEAD, HEAD_OF_NONE, MESSAGE, NOTHING_HELD, PACK, PART, SNAP, TRIMMED_HEAD, WRAPPED,
-};
-use std::alloc::Global;
+use crate::vectors::{END, HEAD, HEAD_OF_NONE, MESSAGE, PACK, PART, SNAP, TRIMMED_HEAD, WRAPPED};
+use std::alloc::{AllocError, Global};
 use std::test::Fail;
 
 /// Whether the bytes are as many as wanted, and are a frame as wanted.
@@ -17,13 +15,7 @@ fn is_as_wanted(alloc: Global, bytes: &[u8], length: usize, wanted: bool) -> Res
 fn token_of(alloc: Global, requests: u8) -> Result<Vec<u8>, Fail> {
     let mut body = bytes_of(
         alloc,
-        &[
-            "000000000000000101",
-            "0000000000000001",
-            "0000000000000064",
-            "0000000000000000",
-            "01",
-        ],
+        "000000000000000101 0000000000000001 0000000000000064 0000000000000000 01",
     )?;
     body.push(requests)?;
     for before in 0..requests {
@@ -33,27 +25,37 @@ fn token_of(alloc: Global, requests: u8) -> Result<Vec<u8>, Fail> {
 }
 
 /// Whether a token with so many requests has so many bytes, and is a frame as wanted.
-fn is_token_as_wanted(
-    alloc: Global,
-    requests: u8,
-    length: usize,
-    wanted: bool,
-) -> Result<bool, Fail> {
+fn is_token(alloc: Global, requests: u8, length: usize, wanted: bool) -> Result<bool, Fail> {
     let bytes = token_of(alloc, requests)?;
     is_as_wanted(alloc, bytes.as_slice(), length, wanted)
 }
 
 #[test]
 fn requests_of_a_token(rt: HostRuntime) -> Result<(), Fail> {
-    for (requests, length, wanted) in [
+    for (requests, length, wanted) in &[
         (0, 43, true),
         (1, 51, true),
         (32, 299, true),
         (33, 307, false),
         (255, 2083, false),
     ] {
-        let is = is_token_as_wanted(rt.alloc(), requests, length, wanted)?;
+        let is = is_token(rt.alloc(), *requests, *length, *wanted)?;
         assert!(rt; is, "{requests}");
+    }
+    Ok(())
+}
+
+/// Appends these members, this hop, and the entries: each a ring of number 0, no front, no mark, and no bit set.
+fn push_members(
+    body: &mut Vec<u8>,
+    members: [u8; 2],
+    hop: u8,
+    entries: &[u8],
+) -> Result<(), AllocError> {
+    body.extend_from_slice(&[members[0], members[1], hop])?;
+    for processor in entries {
+        body.extend_from_slice(&[0, 0, 0, 0, 0, 0, 0, 0, *processor])?;
+        body.extend_from_slice(&[0; 48])?;
     }
     Ok(())
 }
@@ -61,14 +63,8 @@ fn requests_of_a_token(rt: HostRuntime) -> Result<(), Fail> {
 /// The commit token of ring 1.1 with these members, this hop, and entries of processors that were in no
 /// ring yet.
 fn commit_of(alloc: Global, members: [u8; 2], hop: u8, entries: &[u8]) -> Result<Vec<u8>, Fail> {
-    let mut body = bytes_of(alloc, &["000000000000000101"])?;
-    body.extend_from_slice(&members)?;
-    body.push(hop)?;
-    for processor in entries {
-        body.extend_from_slice(&[0, 0, 0, 0, 0, 0, 0, 0, *processor])?;
-        body.extend_from_slice(&[0; 16])?;
-        body.extend_from_slice(bytes_of(alloc, &[NOTHING_HELD])?.as_slice())?;
-    }
+    let mut body = bytes_of(alloc, "000000000000000101")?;
+    push_members(&mut body, members, hop, entries)?;
     framed(alloc, 1, 4, body.as_slice())
 }
 
@@ -119,16 +115,24 @@ const OF_TWO: [CommitRow; 9] = [
     (5, &[1, 3], 134, false),
 ];
 
+/// The hop of the first commit token of these members that is not as wanted.
+fn first_wrong_hop(
+    alloc: Global,
+    members: [u8; 2],
+    rows: &[CommitRow],
+) -> Result<Option<u8>, Fail> {
+    for row in rows {
+        if !is_commit_as_wanted(alloc, members, row)? {
+            return Ok(Some(row.0));
+        }
+    }
+    Ok(None)
+}
+
 #[test]
 fn entries_of_a_commit_token(rt: HostRuntime) -> Result<(), Fail> {
-    for row in &OF_SIXTEEN {
-        let is = is_commit_as_wanted(rt.alloc(), [0xff, 0xff], row)?;
-        assert!(rt; is, "hop {} of sixteen members", row.0);
-    }
-    for row in &OF_TWO {
-        let is = is_commit_as_wanted(rt.alloc(), [0, 5], row)?;
-        assert!(rt; is, "hop {} of two members", row.0);
-    }
+    assert!(rt; first_wrong_hop(rt.alloc(), [0xff, 0xff], &OF_SIXTEEN)?.is_none());
+    assert!(rt; first_wrong_hop(rt.alloc(), [0, 5], &OF_TWO)?.is_none());
     Ok(())
 }
 
@@ -141,28 +145,48 @@ fn version_of(tag: Option<&u8>) -> u8 {
     }
 }
 
+/// The start of message 1 of ring 3.1 from 2.
+const START: &str = "000000000000000301 0000000000000001 02";
+
+/// The same, and the start of what wraps message 1 of ring 2.1 from 1.
+const WRAPPING_START: &str =
+    "000000000000000301 0000000000000001 02 02 000000000000000201 0000000000000001 01";
+
 /// Message 1 of ring 3.1 from 2 with this payload, or with what wraps it, of ring 2.1.
 pub fn message_of(alloc: Global, wraps: bool, payload: &[u8]) -> Result<Vec<u8>, Fail> {
-    let mut body = bytes_of(alloc, &["000000000000000301", "0000000000000001", "02"])?;
-    if wraps {
-        let around = ["02", "000000000000000201", "0000000000000001", "01"];
-        body.extend_from_slice(bytes_of(alloc, &around)?.as_slice())?;
-    }
+    let mut body = bytes_of(alloc, if wraps { WRAPPING_START } else { START })?;
     body.extend_from_slice(payload)?;
     framed(alloc, version_of(payload.get(0)), 1, body.as_slice())
 }
 
-/// The start of a payload, and behind it the calls 7.1 and so on, with operations of so many bytes.
-pub fn payload_of(alloc: Global, start: &[u8], calls: u8, op_bytes: u16) -> Result<Vec<u8>, Fail> {
-    let mut payload = Vec::from_slice(alloc, start)?;
+/// Appends a byte so often.
+fn push_often(bytes: &mut Vec<u8>, byte: u8, times: u16) -> Result<(), AllocError> {
+    for _ in 0..times {
+        bytes.push(byte)?;
+    }
+    Ok(())
+}
+
+/// Appends the calls 7.1 and so on, with operations of so many bytes.
+fn push_calls(payload: &mut Vec<u8>, calls: u8, op_bytes: u16) -> Result<(), AllocError> {
     for before in 0..calls {
         payload.extend_from_slice(&[0, 0, 0, 7])?;
         payload.extend_from_slice(&(u64::from(before) + 1).to_be_bytes())?;
         payload.extend_from_slice(&op_bytes.to_be_bytes())?;
-        for _ in 0..op_bytes {
-            payload.push(before)?;
-        }
+        push_often(payload, before, op_bytes)?;
     }
+    Ok(())
+}
+
+/// The start of a payload, and behind it those calls.
+pub fn payload_of(
+    alloc: Global,
+    start: &[u8],
+    calls: u8,
+    op_bytes: u16,
+) -> Result<Vec<u8>, AllocError> {
+    let mut payload = Vec::from_slice(alloc, start)?;
+    push_calls(&mut payload, calls, op_bytes)?;
     Ok(payload)
 }
 
@@ -215,29 +239,39 @@ const PACKS: [CallsRow; 15] = [
     (true, 8, 1024, 8351, false),
 ];
 
-/// Whether the message is as wanted whose payload starts so.
-fn are_calls_as_wanted(alloc: Global, start: &[u8], row: &CallsRow) -> Result<bool, Fail> {
-    let (wraps, calls, op_bytes, length, wanted) = *row;
-    let payload = payload_of(alloc, start, calls, op_bytes)?;
-    let bytes = message_of(alloc, wraps, payload.as_slice())?;
-    is_as_wanted(alloc, bytes.as_slice(), length, wanted)
+/// Whether the message with this payload is as wanted.
+fn is_message_as_wanted(alloc: Global, payload: &[u8], row: &CallsRow) -> Result<bool, Fail> {
+    let bytes = message_of(alloc, row.0, payload)?;
+    is_as_wanted(alloc, bytes.as_slice(), row.3, row.4)
+}
+
+/// The same of the calls behind the start of a payload of this tag, which tells how many they are, but of one call alone.
+fn are_calls_as_wanted(alloc: Global, tag: u8, row: &CallsRow) -> Result<bool, Fail> {
+    let (part, pack) = ([tag, 0, 0, 0, 0, 0, 0, 0, 0, row.1], [tag, row.1]);
+    let start = match tag {
+        5 => &part[..],
+        6 => &pack[..],
+        _ => &pack[..1],
+    };
+    let payload = payload_of(alloc, start, row.1, row.2)?;
+    is_message_as_wanted(alloc, payload.as_slice(), row)
+}
+
+/// The place of the first row that is not as wanted, of payloads of this tag.
+fn first_wrong_calls(alloc: Global, tag: u8, rows: &[CallsRow]) -> Result<Option<usize>, Fail> {
+    for (at, row) in rows.iter().enumerate() {
+        if !are_calls_as_wanted(alloc, tag, row)? {
+            return Ok(Some(at));
+        }
+    }
+    Ok(None)
 }
 
 #[test]
 fn calls_of_a_message(rt: HostRuntime) -> Result<(), Fail> {
-    for row in &ONE_CALL {
-        let are = are_calls_as_wanted(rt.alloc(), &[1], row)?;
-        assert!(rt; are, "a call of {}", row.2);
-    }
-    for row in &PARTS {
-        let start = [5, 0, 0, 0, 0, 0, 0, 0, 0, row.1];
-        let are = are_calls_as_wanted(rt.alloc(), &start, row)?;
-        assert!(rt; are, "a part of {} of {}", row.1, row.2);
-    }
-    for row in &PACKS {
-        let are = are_calls_as_wanted(rt.alloc(), &[6, row.1], row)?;
-        assert!(rt; are, "a pack of {} of {}", row.1, row.2);
-    }
+    assert!(rt; first_wrong_calls(rt.alloc(), 1, &ONE_CALL)?.is_none());
+    assert!(rt; first_wrong_calls(rt.alloc(), 5, &PARTS)?.is_none());
+    assert!(rt; first_wrong_calls(rt.alloc(), 6, &PACKS)?.is_none());
     Ok(())
 }
 
@@ -272,27 +306,34 @@ const PIECES: [PieceRow; 24] = [
     (256, 16777217, 16772000, 5217, false),
 ];
 
-/// A piece as a payload.
-fn piece_of(alloc: Global, row: &PieceRow) -> Result<Vec<u8>, Fail> {
+/// Appends a piece behind its tag.
+fn push_piece(payload: &mut Vec<u8>, row: &PieceRow) -> Result<(), AllocError> {
     let (at, total, offset, count, _) = *row;
-    let mut payload = Vec::from_slice(alloc, &[8])?;
     payload.extend_from_slice(&at.to_be_bytes())?;
     payload.extend_from_slice(&total.to_be_bytes())?;
     payload.extend_from_slice(&offset.to_be_bytes())?;
     payload.extend_from_slice(&count.to_be_bytes())?;
-    for _ in 0..count {
-        payload.push(7)?;
-    }
+    push_often(payload, 7, count)
+}
+
+/// A piece as a payload.
+fn piece_of(alloc: Global, row: &PieceRow) -> Result<Vec<u8>, AllocError> {
+    let mut payload = Vec::from_slice(alloc, &[8])?;
+    push_piece(&mut payload, row)?;
     Ok(payload)
+}
+
+/// Whether the message with this payload, or with what wraps it, is a frame.
+fn stands(alloc: Global, wraps: bool, payload: &[u8]) -> Result<bool, Fail> {
+    let message = message_of(alloc, wraps, payload)?;
+    Ok(is_frame(alloc, message.as_slice())?)
 }
 
 /// Whether the bytes may stand as a payload in a message, and as what is wrapped.
 fn standing(alloc: Global, payload: &[u8]) -> Result<(bool, bool), Fail> {
-    let alone = message_of(alloc, false, payload)?;
-    let inside = message_of(alloc, true, payload)?;
     Ok((
-        is_frame(alloc, alone.as_slice())?,
-        is_frame(alloc, inside.as_slice())?,
+        stands(alloc, false, payload)?,
+        stands(alloc, true, payload)?,
     ))
 }
 
@@ -317,34 +358,29 @@ fn pieces_of_a_snapshot(rt: HostRuntime) -> Result<(), Fail> {
     Ok(())
 }
 
-/// The same of the payload of a message, which stands behind its sender.
-fn payload_standing(alloc: Global, message: &[&str]) -> Result<(bool, bool), Fail> {
-    let [_start, _ring, _number, _sender, payload @ ..] = message else {
-        return Ok((false, false));
-    };
-    let bytes = bytes_of(alloc, payload)?;
-    standing(alloc, bytes.as_slice())
+/// The same of the payload of a message, which stands behind its sender, from byte 26 on.
+fn payload_standing(alloc: Global, message: &str) -> Result<(bool, bool), Fail> {
+    let bytes = bytes_of(alloc, message)?;
+    standing(alloc, bytes.get(26..).unwrap_or(&[]))
 }
 
 /// One message of each payload, and whether that may be wrapped.
-const MESSAGES: [(&[&str], bool); 9] = [
-    (&MESSAGE, true),
-    (&WRAPPED, false),
-    (&END, false),
-    (&HEAD, true),
-    (&HEAD_OF_NONE, true),
-    (&PART, true),
-    (&PACK, true),
-    (&TRIMMED_HEAD, true),
-    (&SNAP, true),
-];
-
 #[test]
 fn what_may_be_wrapped(rt: HostRuntime) -> Result<(), Fail> {
     assert!(rt; standing(rt.alloc(), &[])? == (false, false));
-    for (message, inside) in MESSAGES {
-        let standing = payload_standing(rt.alloc(), message)?;
-        assert!(rt; standing == (true, inside));
+    for (message, inside) in &[
+        (MESSAGE, true),
+        (WRAPPED, false),
+        (END, false),
+        (HEAD, true),
+        (HEAD_OF_NONE, true),
+        (PART, true),
+        (PACK, true),
+        (TRIMMED_HEAD, true),
+        (SNAP, true),
+    ] {
+        let standing = payload_standing(rt.alloc(), *message)?;
+        assert!(rt; standing == (true, *inside));
     }
     Ok(())
 }

@@ -5,6 +5,7 @@ use crate::vectors::{
     COMMIT, COMMIT_AFTER_A_RING, HEAD, HEAD_OF_NONE, JOIN, MESSAGE, PACK, PART, SNAP, TOKEN,
     TRIMMED_HEAD, WRAPPED,
 };
+use ring_base::Fault;
 use std::alloc::Global;
 use std::test::Fail;
 
@@ -25,25 +26,35 @@ fn told(row: &[u8]) -> Option<(usize, &[u8], bool)> {
     }
 }
 
+/// Whether the vector with these bytes from a place on is a frame.
+fn is_with(alloc: Global, vector: &[u8], place: usize, patch: &[u8]) -> Result<bool, Fault> {
+    let changed = patched(alloc, vector, place, patch)?;
+    is_frame(alloc, changed.as_slice())
+}
+
 /// Whether the vector with the row's change is a frame or none as the row says.
 fn is_as_told(alloc: Global, vector: &[u8], row: &str) -> Result<bool, Fail> {
     let Some((place, text, wanted)) = told(row.as_bytes()) else {
         return Ok(false);
     };
     let patch = hex::decode(alloc, text)?;
-    let changed = patched(alloc, vector, place, patch.as_slice())?;
-    Ok(is_frame(alloc, changed.as_slice())? == wanted)
+    Ok(is_with(alloc, vector, place, patch.as_slice())? == wanted)
 }
 
 /// The first row that is not as wanted.
-fn first_wrong<'a>(alloc: Global, vector: &[&str], rows: &'a str) -> Result<Option<&'a str>, Fail> {
-    let bytes = bytes_of(alloc, vector)?;
+fn first_wrong<'a>(alloc: Global, vector: &[u8], rows: &'a str) -> Result<Option<&'a str>, Fail> {
     for row in rows.split_whitespace() {
-        if !is_as_told(alloc, bytes.as_slice(), row)? {
+        if !is_as_told(alloc, vector, row)? {
             return Ok(Some(row));
         }
     }
     Ok(None)
+}
+
+/// The same of a vector in hexadecimal.
+fn first_wrong_of<'a>(alloc: Global, vector: &str, rows: &'a str) -> Result<Option<&'a str>, Fail> {
+    let bytes = bytes_of(alloc, vector)?;
+    first_wrong(alloc, bytes.as_slice(), rows)
 }
 
 /// The head of every frame: the fixed bytes, the version, the kind, the body's length.
@@ -152,27 +163,25 @@ fn no_bytes_and_too_many(rt: HostRuntime) -> Result<(), Fail> {
 }
 
 /// Each vector with its limits.
-const ALL: [(&[&str], &str); 14] = [
-    (&JOIN, START),
-    (&JOIN, JOINS),
-    (&TOKEN, TOKENS),
-    (&TOKEN, ARUS_AND_REQUESTS),
-    (&MESSAGE, MESSAGES),
-    (&COMMIT, COMMITS),
-    (&COMMIT_AFTER_A_RING, OLD_RINGS),
-    (&HEAD, HEADS),
-    (&HEAD_OF_NONE, HEADS_OF_NONE),
-    (&TRIMMED_HEAD, TRIMMED_HEADS),
-    (&PART, PARTS),
-    (&PACK, PACKS),
-    (&SNAP, SNAPS),
-    (&WRAPPED, WRAPPEDS),
-];
-
 #[test]
 fn each_limit(rt: HostRuntime) -> Result<(), Fail> {
-    for (vector, rows) in ALL {
-        let wrong = first_wrong(rt.alloc(), vector, rows)?;
+    for (vector, rows) in &[
+        (JOIN, START),
+        (JOIN, JOINS),
+        (TOKEN, TOKENS),
+        (TOKEN, ARUS_AND_REQUESTS),
+        (MESSAGE, MESSAGES),
+        (COMMIT, COMMITS),
+        (COMMIT_AFTER_A_RING, OLD_RINGS),
+        (HEAD, HEADS),
+        (HEAD_OF_NONE, HEADS_OF_NONE),
+        (TRIMMED_HEAD, TRIMMED_HEADS),
+        (PART, PARTS),
+        (PACK, PACKS),
+        (SNAP, SNAPS),
+        (WRAPPED, WRAPPEDS),
+    ] {
+        let wrong = first_wrong_of(rt.alloc(), *vector, *rows)?;
         assert!(rt; wrong.is_none(), "{}", wrong.unwrap_or(""));
     }
     Ok(())

@@ -1,6 +1,6 @@
 //! The limits of a commit entry: the front, the safe mark, and the bits of the numbers held after the front.
 
-use crate::spelled::{bytes_of, is_frame};
+use crate::spelled::{bytes_of, is_frame, put_at};
 use crate::vectors::{COMMIT, COMMIT_AFTER_A_RING};
 use ring_base::MAX;
 use std::alloc::Global;
@@ -8,15 +8,6 @@ use std::test::Fail;
 
 /// A front, a safe mark, the bits that are set, and whether the limits are kept.
 type Report = (u64, u64, &'static [usize], bool);
-
-/// Puts these bytes at a place.
-fn put_at(bytes: &mut [u8], place: usize, patch: &[u8]) {
-    for (i, byte) in patch.iter().enumerate() {
-        if let Some(target) = bytes.get_mut(place.wrapping_add(i)) {
-            *target = *byte;
-        }
-    }
-}
 
 /// Writes the report over the entry of a commit token: the front at byte 29, the mark at byte 37, the bits
 /// from byte 45 on.
@@ -31,7 +22,7 @@ fn report(bytes: &mut [u8], front: u64, mark: u64, bits: &[usize]) {
 }
 
 /// Whether the vector with this report is a frame or none, as wanted.
-fn is_as_wanted(alloc: Global, vector: &[&str], row: &Report) -> Result<bool, Fail> {
+fn is_as_wanted(alloc: Global, vector: &str, row: &Report) -> Result<bool, Fail> {
     let (front, mark, bits, wanted) = *row;
     let mut bytes = bytes_of(alloc, vector)?;
     report(bytes.as_mut_slice(), front, mark, bits);
@@ -39,7 +30,7 @@ fn is_as_wanted(alloc: Global, vector: &[&str], row: &Report) -> Result<bool, Fa
 }
 
 /// The place of the first row that is not as wanted.
-fn first_wrong(alloc: Global, vector: &[&str], reports: &[Report]) -> Result<Option<usize>, Fail> {
+fn first_wrong(alloc: Global, vector: &str, reports: &[Report]) -> Result<Option<usize>, Fail> {
     for (at, row) in reports.iter().enumerate() {
         if !is_as_wanted(alloc, vector, row)? {
             return Ok(Some(at));
@@ -99,12 +90,12 @@ const NOTHING: [Report; 6] = [
 
 #[test]
 fn reports_of_rings(rt: HostRuntime) -> Result<(), Fail> {
-    for (vector, reports) in [
-        (&COMMIT_AFTER_A_RING, &FRONTS[..]),
-        (&COMMIT_AFTER_A_RING, &HELD),
-        (&COMMIT, &NOTHING),
+    for (vector, reports) in &[
+        (COMMIT_AFTER_A_RING, &FRONTS[..]),
+        (COMMIT_AFTER_A_RING, &HELD[..]),
+        (COMMIT, &NOTHING[..]),
     ] {
-        let wrong = first_wrong(rt.alloc(), vector, reports)?;
+        let wrong = first_wrong(rt.alloc(), *vector, *reports)?;
         assert!(rt; wrong.is_none(), "row {}", wrong.unwrap_or(0));
     }
     Ok(())

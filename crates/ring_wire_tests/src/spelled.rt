@@ -1,18 +1,36 @@
 //! Bytes from texts and numbers, and whether they are a frame.
 
+ghost use Rattle.ring_wire.specs.Frames.{FrameFits};
+
 use bytes::BytesMut;
 use ring_base::Fault;
-use ring_wire::{Wire, decode_frame};
+use ring_wire::{Frame, Wire, decode_frame};
 use std::alloc::{AllocError, Allocator, Global};
 use std::test::Fail;
 
-/// The bytes that the texts spell in hexadecimal, one behind another.
-pub fn bytes_of(alloc: Global, texts: &[&str]) -> Result<Vec<u8>, Fail> {
-    let mut bytes = Vec::new(alloc);
-    for text in texts {
-        bytes.extend_from_slice(hex::decode(alloc, *text)?.as_slice())?;
+/// Appends the bytes that the words spell in hexadecimal, one behind another.
+fn append(alloc: Global, bytes: &mut Vec<u8>, words: &str) -> Result<(), Fail> {
+    for word in words.split_whitespace() {
+        let spelled = hex::decode(alloc, word)?;
+        bytes.extend_from_slice(spelled.as_slice())?;
     }
+    Ok(())
+}
+
+/// The bytes that the words spell in hexadecimal, one behind another.
+pub fn bytes_of(alloc: Global, words: &str) -> Result<Vec<u8>, Fail> {
+    let mut bytes = Vec::new(alloc);
+    append(alloc, &mut bytes, words)?;
     Ok(bytes)
+}
+
+/// Puts these bytes at a place.
+pub fn put_at(bytes: &mut [u8], place: usize, patch: &[u8]) {
+    for (i, byte) in patch.iter().enumerate() {
+        if let Some(target) = bytes.get_mut(place.wrapping_add(i)) {
+            *target = *byte;
+        }
+    }
 }
 
 /// The bytes with those from a place on replaced.
@@ -23,11 +41,7 @@ pub fn patched(
     patch: &[u8],
 ) -> Result<Vec<u8>, AllocError> {
     let mut changed = Vec::from_slice(alloc, bytes)?;
-    for (i, byte) in patch.iter().enumerate() {
-        if let Some(target) = changed.get_mut(place.wrapping_add(i)) {
-            *target = *byte;
-        }
-    }
+    put_at(changed.as_mut_slice(), place, patch);
     Ok(changed)
 }
 
@@ -40,18 +54,22 @@ pub fn framed(alloc: Global, version: u8, kind: u8, body: &[u8]) -> Result<Vec<u
     Ok(bytes)
 }
 
+/// The frame is spelled by these bytes. Anything else is a fault.
+fn is_spelled<A: Allocator + Copy>(alloc: A, frame: &Frame<A>, bytes: &[u8]) -> Result<bool, Fault>
+    requires { FrameFits frame.now }
+{
+    let mut out = BytesMut::new(alloc);
+    match frame.put(&mut out) {
+        Ok(()) if out.as_slice() == bytes => Ok(true),
+        Ok(()) => Err(Fault::Conflict),
+        Err(fault) => Err(fault),
+    }
+}
+
 /// Whether the bytes are one frame, whose spelling is these bytes, or no frame. Anything else is a fault.
 pub fn is_frame<A: Allocator + Copy>(alloc: A, bytes: &[u8]) -> Result<bool, Fault> {
     match decode_frame(alloc, bytes) {
-        Ok(frame) => {
-            let mut out = BytesMut::new(alloc);
-            frame.put(&mut out)?;
-            if out.as_slice() == bytes {
-                Ok(true)
-            } else {
-                Err(Fault::Conflict)
-            }
-        }
+        Ok(frame) => is_spelled(alloc, &frame, bytes),
         Err(Fault::BadFrame) => Ok(false),
         Err(fault) => Err(fault),
     }

@@ -8,7 +8,7 @@ use crate::vectors::{
 use bytes::BytesMut;
 use refusing_alloc::Refusing;
 use ring_base::{Fault, Proc, ProcSet, RingId};
-use ring_payload::{Call, Calls, Head, Payload};
+use ring_payload::{Call, Calls, Head, Payload, Snap};
 use ring_wire::{
     CommitEntry, CommitToken, Entries, Frame, Join, Requests, Token, Wire, decode_frame,
     one_spelling_law, short_law, spelling_law,
@@ -59,103 +59,123 @@ fn is_a_vector<A: Allocator + Copy>(frame: &Frame<A>) -> bool {
     }
 }
 
-/// Ring, number, sender.
-fn message_fields<A: Allocator + Copy>(frame: &Frame<A>) -> Option<(u64, u64, u8)> {
-    match frame {
-        Frame::Message(message) => {
-            Some((message.ring.seq, message.number, message.sender.number()))
-        }
-        _ => None,
-    }
+/// The fields of a call.
+fn call_fields<A: Allocator + Copy>(call: &Call<A>) -> [u64; 5] {
+    let length = call.op.as_slice().len() as u64;
+    [1, u64::from(call.client), call.number, length, 0]
+}
+
+/// The fields of a head.
+fn head_fields(head: &Head) -> [u64; 5] {
+    let last = match head.last {
+        Some(ring) => ring.seq,
+        None => 0,
+    };
+    [4, last, head.length, head.committed, head.trimmed]
+}
+
+/// The fields of a piece of a snapshot.
+fn snap_fields<A: Allocator + Copy>(snap: &Snap<A>) -> [u64; 5] {
+    let (total, offset) = (u64::from(snap.total), u64::from(snap.offset));
+    [
+        8,
+        snap.at,
+        total,
+        offset,
+        snap.bytes.as_slice().len() as u64,
+    ]
 }
 
 /// The tag of the payload, and four of its numbers: client, number and length of a call; last primary's number and
 /// the three lengths of a head; first place and count of a part; count of a pack; places, all bytes, offset and
 /// length of a piece; ring, number and sender of what is wrapped.
-fn payload_fields<A: Allocator + Copy>(frame: &Frame<A>) -> Option<[u64; 5]> {
-    let Frame::Message(message) = frame else {
-        return None;
-    };
-    match &message.payload {
-        Payload::Call(call) => {
-            let length = call.op.as_slice().len() as u64;
-            Some([1, u64::from(call.client), call.number, length, 0])
-        }
+fn payload_fields<A: Allocator + Copy>(payload: &Payload<A>) -> [u64; 5] {
+    match payload {
+        Payload::Call(call) => call_fields(call),
         Payload::Wrapped(wrapped) => {
             let sender = u64::from(wrapped.sender.number());
-            Some([2, wrapped.ring.seq, wrapped.number, sender, 0])
+            [2, wrapped.ring.seq, wrapped.number, sender, 0]
         }
-        Payload::End => Some([3, 0, 0, 0, 0]),
-        Payload::Head(head) => {
-            let last = head.last.map_or(0, |ring| ring.seq);
-            Some([4, last, head.length, head.committed, head.trimmed])
-        }
-        Payload::Part(part) => { Some([5, part.first, part.calls.as_slice().len() as u64, 0, 0]) }
-        Payload::Pack(pack) => Some([6, pack.calls.as_slice().len() as u64, 0, 0, 0]),
-        Payload::Snap(snap) => {
-            let length = snap.bytes.as_slice().len() as u64;
-            Some([
-                8,
-                snap.at,
-                u64::from(snap.total),
-                u64::from(snap.offset),
-                length,
-            ])
-        }
+        Payload::End => [3, 0, 0, 0, 0],
+        Payload::Head(head) => head_fields(head),
+        Payload::Part(part) => [5, part.first, part.calls.as_slice().len() as u64, 0, 0],
+        Payload::Pack(pack) => [6, pack.calls.as_slice().len() as u64, 0, 0, 0],
+        Payload::Snap(snap) => snap_fields(snap),
     }
 }
 
-/// Whether the bytes are the vector of a kind, and what they spell and its copy have its fields.
-fn spell_a_vector<A: Allocator + Copy + Drop>(alloc: A, bytes: &[u8]) -> Result<bool, Fault> {
-    let frame = decode_frame(alloc, bytes)?;
+/// What is asked of a frame: whether it is the vector of its kind, no message; and of a message its ring, number and sender, and
+/// the fields of its payload.
+type Fields = (bool, Option<(u64, u64, u8)>, Option<[u64; 5]>);
+
+/// The fields of a frame.
+fn fields<A: Allocator + Copy>(frame: &Frame<A>) -> Fields {
+    match frame {
+        Frame::Message(message) => {
+            let message_fields = (message.ring.seq, message.number, message.sender.number());
+            (
+                false,
+                Some(message_fields),
+                Some(payload_fields(&message.payload)),
+            )
+        }
+        _ => (is_a_vector(frame), None, None),
+    }
+}
+
+/// The fields of a frame, and those of its copy.
+fn both_fields<A: Allocator + Copy + Drop>(frame: &Frame<A>) -> Result<[Fields; 2], Fault> {
     let copy = frame.clone()?;
-    Ok(is_a_vector(&frame) && is_a_vector(&copy))
+    Ok([fields(frame), fields(&copy)])
+}
+
+/// The same of the frame that the bytes spell.
+fn fields_of<A: Allocator + Copy + Drop>(alloc: A, bytes: &[u8]) -> Result<[Fields; 2], Fault> {
+    let frame = decode_frame(alloc, bytes)?;
+    both_fields(&frame)
+}
+
+/// The same of bytes in hexadecimal.
+fn fields_of_vector(alloc: Global, words: &str) -> Result<[Fields; 2], Fail> {
+    let bytes = bytes_of(alloc, words)?;
+    Ok(fields_of(alloc, bytes.as_slice())?)
 }
 
 #[test]
 fn fields_of_the_vectors(rt: HostRuntime) -> Result<(), Fail> {
-    for vector in [&JOIN[..], &TOKEN[..], &COMMIT[..]] {
-        let bytes = bytes_of(rt.alloc(), vector)?;
-        assert!(rt; spell_a_vector(rt.alloc(), bytes.as_slice()) == Ok(true));
-    }
-    Ok(())
-}
-
-/// What is asked of a message: its ring, number and sender, and the fields of its payload.
-type Fields = (Option<(u64, u64, u8)>, Option<[u64; 5]>);
-
-/// The fields of the message that the bytes spell, and those of its copy.
-fn fields_of<A: Allocator + Copy + Drop>(alloc: A, bytes: &[u8]) -> Result<[Fields; 2], Fault> {
-    let frame = decode_frame(alloc, bytes)?;
-    let copy = frame.clone()?;
-    Ok([
-        (message_fields(&frame), payload_fields(&frame)),
-        (message_fields(&copy), payload_fields(&copy)),
-    ])
-}
-
-#[test]
-fn fields_of_the_messages(rt: HostRuntime) -> Result<(), Fail> {
-    for (vector, message, payload) in [
-        (&MESSAGE[..], (1, 3, 1), [1, 7, 1, 11, 0]),
-        (&END[..], (1, 1, 1), [3, 0, 0, 0, 0]),
-        (&HEAD_OF_NONE[..], (1, 5, 2), [4, 0, 0, 0, 0]),
-        (&HEAD[..], (8, 4, 1), [4, 4, 3, 2, 0]),
-        (&TRIMMED_HEAD[..], (8, 4, 1), [4, 4, 3, 2, 1]),
-        (&PART[..], (8, 7, 1), [5, 0, 1, 0, 0]),
-        (&PACK[..], (1, 3, 1), [6, 2, 0, 0, 0]),
-        (&SNAP[..], (8, 6, 1), [8, 256, 7002, 7000, 2]),
-        (&WRAPPED[..], (2, 1, 2), [2, 1, 3, 1, 0]),
+    for (vector, fields) in &[
+        (JOIN, (true, None, None)),
+        (TOKEN, (true, None, None)),
+        (COMMIT, (true, None, None)),
+        (MESSAGE, (false, Some((1, 3, 1)), Some([1, 7, 1, 11, 0]))),
+        (END, (false, Some((1, 1, 1)), Some([3, 0, 0, 0, 0]))),
+        (
+            HEAD_OF_NONE,
+            (false, Some((1, 5, 2)), Some([4, 0, 0, 0, 0])),
+        ),
+        (HEAD, (false, Some((8, 4, 1)), Some([4, 4, 3, 2, 0]))),
+        (
+            TRIMMED_HEAD,
+            (false, Some((8, 4, 1)), Some([4, 4, 3, 2, 1])),
+        ),
+        (PART, (false, Some((8, 7, 1)), Some([5, 0, 1, 0, 0]))),
+        (PACK, (false, Some((1, 3, 1)), Some([6, 2, 0, 0, 0]))),
+        (
+            SNAP,
+            (false, Some((8, 6, 1)), Some([8, 256, 7002, 7000, 2])),
+        ),
+        (WRAPPED, (false, Some((2, 1, 2)), Some([2, 1, 3, 1, 0]))),
     ] {
-        let bytes = bytes_of(rt.alloc(), vector)?;
-        let fields = (Some(message), Some(payload));
-        assert!(rt;
-            fields_of(rt.alloc(), bytes.as_slice()) == Ok([fields, fields]),
-            "tag {}",
-            payload[0]
-        );
+        let told = fields_of_vector(rt.alloc(), *vector)?;
+        assert!(rt; told == [*fields, *fields], "{vector}");
     }
     Ok(())
+}
+
+/// Whether the frame is its copy.
+fn is_its_copy<A: Allocator + Copy + Drop>(frame: &Frame<A>) -> Result<bool, Fault> {
+    let copy = frame.clone()?;
+    Ok(frame.is_same(&copy))
 }
 
 /// Whether the frame at a place of the list is itself and its copy, and none of the others.
@@ -171,7 +191,18 @@ fn is_itself_alone<A: Allocator + Copy + Drop>(
             return Ok(false);
         }
     }
-    Ok(frame.is_same(&frame.clone()?))
+    is_its_copy(frame)
+}
+
+/// Reads the frame that the bytes spell.
+fn read<A: Allocator + Copy + Drop>(
+    heap: A,
+    frames: &mut Vec<Frame<A>, A>,
+    bytes: &[u8],
+) -> Result<(), Fault> {
+    let frame = decode_frame(heap, bytes)?;
+    frames.push(frame)?;
+    Ok(())
 }
 
 /// Reads the frames that the vectors spell.
@@ -179,11 +210,11 @@ fn read_all<A: Allocator + Copy + Drop>(
     heap: A,
     alloc: Global,
     frames: &mut Vec<Frame<A>, A>,
-    vectors: &[&[&str]],
+    vectors: &[&str],
 ) -> Result<(), Fail> {
     for vector in vectors {
-        let bytes = bytes_of(alloc, vector)?;
-        frames.push(decode_frame(heap, bytes.as_slice())?)?;
+        let bytes = bytes_of(alloc, *vector)?;
+        read(heap, frames, bytes.as_slice())?;
     }
     Ok(())
 }
@@ -198,13 +229,22 @@ fn count_alone<A: Allocator + Copy + Drop>(frames: &[Frame<A>]) -> Result<usize,
     Ok(frames.len())
 }
 
-/// The same of one frame of each payload, and of one of each other kind.
+/// The same once one frame of each payload was read, and one of each other kind.
+fn count_read<A: Allocator + Copy + Drop>(
+    heap: A,
+    alloc: Global,
+    frames: &mut Vec<Frame<A>, A>,
+) -> Result<usize, Fail> {
+    let others = [JOIN, TOKEN, COMMIT, COMMIT_AFTER_A_RING];
+    read_all(heap, alloc, frames, &EACH_PAYLOAD)?;
+    read_all(heap, alloc, frames, &others)?;
+    Ok(count_alone(frames.as_slice())?)
+}
+
+/// The same of these frames alone.
 fn count_of_each<A: Allocator + Copy + Drop>(heap: A, alloc: Global) -> Result<usize, Fail> {
     let mut frames = Vec::new(heap);
-    let others: [&[&str]; 4] = [&JOIN, &TOKEN, &COMMIT, &COMMIT_AFTER_A_RING];
-    read_all(heap, alloc, &mut frames, &EACH_PAYLOAD)?;
-    read_all(heap, alloc, &mut frames, &others)?;
-    Ok(count_alone(frames.as_slice())?)
+    count_read(heap, alloc, &mut frames)
 }
 
 #[test]
@@ -214,38 +254,44 @@ fn same_frames(rt: HostRuntime) -> Result<(), Fail> {
     Ok(())
 }
 
+/// Whether a value is written so.
+fn is_written<T: Wire<Global>>(alloc: Global, value: &T, part: &[u8]) -> Result<bool, Fault>
+    requires { T.fits value.now }
+{
+    let mut out = BytesMut::new(alloc);
+    value.put(&mut out)?;
+    Ok(out.as_slice() == part)
+}
+
 /// Whether these bytes of a frame are read alone, all of them, and written so again.
 fn read_alone<T: Wire<Global> + Drop>(alloc: Global, part: &[u8]) -> Result<bool, Fault> {
     let (value, length): (T, usize) = T::get(alloc, part)?;
-    let mut out = BytesMut::new(alloc);
-    value.put(&mut out)?;
-    Ok(out.as_slice() == part && length == part.len())
+    if length == part.len() {
+        is_written(alloc, &value, part)
+    } else {
+        Ok(false)
+    }
 }
 
-/// The same of so many bytes from a place on, and no fault is met.
+/// The same of so many bytes of a vector from a place on.
 fn stands_alone<T: Wire<Global> + Drop>(
     alloc: Global,
-    frame: &[u8],
+    vector: &str,
     from: usize,
     length: usize,
-) -> bool {
-    match frame.get(from..from.wrapping_add(length)) {
-        Some(part) => read_alone::<T>(alloc, part) == Ok(true),
-        None => false,
-    }
+) -> Result<bool, Fail> {
+    let frame = bytes_of(alloc, vector)?;
+    let part = frame.get(from..from.wrapping_add(length)).unwrap_or(&[]);
+    Ok(part.len() == length && read_alone::<T>(alloc, part)?)
 }
 
 /// What a frame is made of is read and written alone, too.
 #[test]
 fn parts_of_frames_stand_alone(rt: HostRuntime) -> Result<(), Fail> {
-    let alloc = rt.alloc();
-    let wrapped = bytes_of(alloc, &WRAPPED)?;
-    let head = bytes_of(alloc, &HEAD)?;
-    let commit = bytes_of(alloc, &COMMIT_AFTER_A_RING)?;
-    assert!(rt; stands_alone::<Payload>(alloc, wrapped.as_slice(), 26, 45));
-    assert!(rt; stands_alone::<Call>(alloc, wrapped.as_slice(), 46, 25));
-    assert!(rt; stands_alone::<Head>(alloc, head.as_slice(), 26, 26));
-    assert!(rt; stands_alone::<CommitEntry>(alloc, commit.as_slice(), 20, 57));
+    assert!(rt; stands_alone::<Payload>(rt.alloc(), WRAPPED, 26, 45)?);
+    assert!(rt; stands_alone::<Call>(rt.alloc(), WRAPPED, 46, 25)?);
+    assert!(rt; stands_alone::<Head>(rt.alloc(), HEAD, 26, 26)?);
+    assert!(rt; stands_alone::<CommitEntry>(rt.alloc(), COMMIT_AFTER_A_RING, 20, 57)?);
     Ok(())
 }
 
@@ -265,14 +311,14 @@ fn new_call<A: Allocator + Copy>(
 #[test]
 fn new_calls(rt: HostRuntime) {
     let heap = Refusing::new(rt.alloc(), 0);
-    for (number, length, told) in [
+    for (number, length, told) in &[
         (0, 1025, Err(Fault::OpTooLong)),
         (0, 1024, Err(Fault::NumberGap)),
         (1, 1024, Err(Fault::Memory)),
         (1, 1024, Ok((1, 1, 1024))),
     ] {
         assert!(rt;
-            new_call(&heap, rt.alloc(), number, length) == told,
+            new_call(&heap, rt.alloc(), *number, *length) == *told,
             "{number} {length}"
         );
     }
@@ -301,12 +347,6 @@ fn come_out<A: Allocator + Copy>(alloc: A) -> Result<(bool, bool), Fault> {
     Ok((are_lent, are_two(calls.into_vec().as_slice())))
 }
 
-/// A list of calls comes out as it went in.
-#[test]
-fn lists_of_calls(rt: HostRuntime) {
-    assert!(rt; come_out(rt.alloc()) == Ok((true, true)));
-}
-
 /// Whether it is one entry, of which these two bits alone are looked for and set: 1 and 253.
 fn has_two_bits(entries: &[CommitEntry]) -> bool {
     match entries {
@@ -318,9 +358,10 @@ fn has_two_bits(entries: &[CommitEntry]) -> bool {
     }
 }
 
-/// Bit 1 and bit 253 of a front 2 stand for the numbers 4 and 256.
+/// Bit 1 and bit 253 of a front 2 stand for the numbers 4 and 256. A list of calls comes out as it went in.
 #[test]
-fn lists_in_place(rt: HostRuntime) {
+fn lists(rt: HostRuntime) {
+    assert!(rt; come_out(rt.alloc()) == Ok((true, true)));
     let mut requests = Requests::new();
     requests.push(9);
     assert!(rt; requests.copied().as_slice() == [9].as_slice());

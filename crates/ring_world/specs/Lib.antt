@@ -9,3 +9,6 @@ pub mod Keeping
 pub mod Pairs
 pub mod Pumping
 pub mod Refusals
+pub mod Rules
+pub mod EventVariants
+pub mod ToldVariants

@@ -16,6 +16,7 @@ pub(crate) fn copied_event<A: Allocator + Copy>(event: &Event<A>) -> Result<Even
     ensures keeps { IfOk result (λ _. EventFits event.now → EventKeeps event.now) }
     ensures refused { IfErr result (λ fault. fault ≡ Memory) }
 {
+    // A law: no effect at run time. The proof takes from it that a call within the limits of frames is within those of snapshots.
     event_keeps_law(event);
     let copy = event.clone()?;
     Ok(copy)

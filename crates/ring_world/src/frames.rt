@@ -103,6 +103,7 @@ impl<A: Allocator + Copy> Frames<A> {
         ensures frames { self.new.frames ≡ self.old.frames ++ record { from = from; to = to; frame = frame.now } ∷ [] }
         ensures room { (many : ℕ) → HasRoom (many + 1) self.old → HasRoom many self.new }
     {
+        // Laws: no effect at run time. The proof takes from them that a frame has a spelling, of at most 8,192 bytes.
         spelling_law::<A>();
         short_law::<A>();
         let start = self.bytes.len();
@@ -130,6 +131,7 @@ impl<A: Allocator + Copy> Frames<A> {
         ensures placed { IfOk result (λ is. is ≡ true → place.new ≡ frame_for node (frame_at self.now.frames number)) }
         ensures refused { IfErr result (λ fault. fault ≡ Memory) }
     {
+        // A law: no effect at run time. The proof takes from it that a text that spells a frame is its one spelling.
         spelling_law::<A>();
         match mark_for(mark_at(&self.marks, number), node) {
             Some(mark) => {
@@ -164,9 +166,9 @@ impl<A: Allocator + Copy> Clone for Frames<A> {
 
     fn clone(&self) -> Result<Frames<A>, AllocError> {
         Ok(Frames {
-            bytes: self.bytes.clone()?,
-            marks: self.marks.clone()?,
             past: self.past.clone()?,
+            marks: self.marks.clone()?,
+            bytes: self.bytes.clone()?,
         })
     }
 }
@@ -209,6 +211,7 @@ fn decode<A: Allocator + Copy>(
     ensures { (frame : OneFrame A) → Spells frame (slice_range bytes.now mark.start mark.end) →
         MatchResult result (λ done. place.new ≡ Some frame) (λ fault. fault ≡ Memory) }
 {
+    // Laws: no effect at run time. The proof takes from them that a text that spells a frame is its one spelling, and no other's.
     spelling_law::<A>();
     one_spelling_law::<A>();
     Frame::<A>::get_into(alloc, &bytes[mark.start..mark.end], place)?;

@@ -94,8 +94,8 @@ impl<O: Object> World<O> {
         ensures refused { IfErr result (λ fault. fault ≡ Memory) }
     {
         let count = fixed.count();
-        let nodes = opened(alloc, fixed, count)?;
         let spares = no_spares(alloc, count)?;
+        let nodes = opened(alloc, fixed, count)?;
         Ok(World {
             alloc,
             fixed,
@@ -117,13 +117,13 @@ impl<O: Object> World<O> {
         ensures ok { IfOk result (λ copy. copy ≡ self.now) }
         ensures refused { IfErr result (λ fault. fault ≡ Memory) }
     {
-        let nodes = copied_nodes(self.alloc, &self.nodes)?;
-        let spares = self.spares.clone()?;
         let frames = self.frames.clone()?;
         let history = copied_history(&self.history)?;
         let told = copied_told(&self.told)?;
-        let longest = self.longest.clone()?;
         let events = copied_events(&self.events)?;
+        let longest = self.longest.clone()?;
+        let spares = self.spares.clone()?;
+        let nodes = copied_nodes(self.alloc, &self.nodes)?;
         Ok(World {
             alloc: self.alloc,
             fixed: self.fixed,
@@ -163,9 +163,11 @@ impl<O: Object> World<O> {
             (share_of O.sequential (world_opening self.new.group) self.new.events).outs }
         ensures refused { IfErr result (λ fault. fault ≡ Memory) }
     {
+        // A law: no effect at run time. The proof takes from it what is so of every run.
         linear_law::<O>();
         self.done = 0;
         let ran = self.run_all(events);
+        // A law: no effect at run time. The proof takes from it that this is a run whose calls keep the limits.
         self.run_law();
         ran
     }
@@ -180,8 +182,10 @@ impl<O: Object> World<O> {
         ensures shows { GoesOn O.sequential self.old self.new }
         ensures refused { IfErr result (λ fault. fault ≡ Memory) }
     {
+        // A law: no effect at run time. The proof takes from it what is so of every run.
         linear_law::<O>();
         let ran = self.happen(event);
+        // A law: no effect at run time. The proof takes from it that this is a run whose calls keep the limits.
         self.run_law();
         ran
     }
@@ -191,6 +195,7 @@ impl<O: Object> World<O> {
         ensures few { self.now.group.count ≤ 16 }
         ensures keep { AllByRecursion EventKeeps self.now.events }
     {
+        // No effect at run time. The proof sees what `World` promises of itself only where the body reads a field.
         let _ = &self.alloc;
     }
 
@@ -253,6 +258,7 @@ impl<O: Object> World<O> {
         ensures ok { IfOk result (λ calls. calls.items ≡ order (world_of O.sequential self.now)) }
         ensures refused { IfErr result (λ fault. fault ≡ Memory) }
     {
+        // A law: no effect at run time. The proof takes from it that what takes effect of the longest log is the order.
         longest_law::<O>();
         self.longest.order(self.alloc)
     }
@@ -261,6 +267,7 @@ impl<O: Object> World<O> {
     pub fn order_len(&self) -> u64
         ensures { result ≡ length (order (world_of O.sequential self.now)) }
     {
+        // A law: no effect at run time. The proof takes from it that a node's sessions tell how many calls of its log take effect.
         effects_law::<O>();
         most_effects(&self.nodes)
     }
@@ -272,6 +279,7 @@ impl<O: Object> World<O> {
         ensures ok { IfOk result (λ calls. calls.items ≡ committed_of self.now.group (lives_of (world_of O.sequential self.now) node)) }
         ensures refused { IfErr result (λ fault. fault ≡ Memory) }
     {
+        // A law: no effect at run time. The proof takes from it that a node's committed places are the first of the longest log.
         longest_law::<O>();
         let place = usize::from(node.number()) - 1;
         let many = self.nodes[place].committed_len();
@@ -335,8 +343,8 @@ impl<O: Object> World<O> {
         ensures done { self.new.done ≡ self.old.done }
         ensures refused { IfErr result (λ fault. fault ≡ Memory) }
     {
-        let kept = copied_event(event)?;
         self.events.reserve(1)?;
+        let kept = copied_event(event)?;
         self.events.push_reserved(kept);
         Ok(())
     }
@@ -350,6 +358,7 @@ impl<O: Object> World<O> {
         ensures done { self.new.done ≡ self.old.done }
         ensures refused { IfErr result (λ fault. fault ≡ Memory) }
     {
+        // Laws: no effect at run time. The proof takes from them that a step gives at most 64 frames and answers, all within the limits.
         few_law::<O>();
         pending_law::<O>();
         frames_law::<O>();
@@ -361,7 +370,6 @@ impl<O: Object> World<O> {
         if !is_step {
             return self.idle(event);
         }
-        let kept = copied_event(event)?;
         make_room(
             &mut self.events,
             &mut self.told,
@@ -369,6 +377,7 @@ impl<O: Object> World<O> {
             &mut self.frames,
             &mut self.longest,
         )?;
+        let kept = copied_event(event)?;
         match step_by(
             &mut self.nodes[place],
             event,
@@ -437,9 +446,6 @@ impl<O: Object> World<O> {
         if place >= self.nodes.len() {
             return self.idle(event);
         }
-        let kept = copied_event(event)?;
-        let copy = copy_of(call)?;
-        let spare = copy_of(call)?;
         make_room(
             &mut self.events,
             &mut self.told,
@@ -448,6 +454,9 @@ impl<O: Object> World<O> {
             &mut self.longest,
         )?;
         self.spares[place].make_room()?;
+        let kept = copied_event(event)?;
+        let copy = copy_of(call)?;
+        let spare = copy_of(call)?;
         match self.nodes[place].submit_on(call) {
             Ok(_) => {
                 self.history.push_reserved(Item::Issue(copy));

@@ -21,7 +21,7 @@ fn told<P: Port>(client: &Client<P>, place: usize) -> Option<Told> {
 /// What comes of a call: the reply or refusal, the next number, whether a call is open then, and what the first three ports
 /// tell, if there are so many.
 #[derive(Clone, Copy)]
-struct Outcome {
+struct ClientSeen {
     reply: Result<Reply, Fault>,
     number: Option<u64>,
     is_open: bool,
@@ -29,12 +29,12 @@ struct Outcome {
 }
 
 /// What is seen of a call of this operation, or where there is none, of the open call tried anew.
-fn seen<P: Port>(client: &mut Client<P>, op: Option<&[u8]>) -> Outcome {
+fn seen<P: Port>(client: &mut Client<P>, op: Option<&[u8]>) -> ClientSeen {
     let reply = match op {
         Some(op) => client.call(op),
         None => client.again(),
     };
-    Outcome {
+    ClientSeen {
         reply,
         number: client.next_number(),
         is_open: client.is_open(),
@@ -43,22 +43,22 @@ fn seen<P: Port>(client: &mut Client<P>, op: Option<&[u8]>) -> Outcome {
 }
 
 /// The same of a client over nodes of a world.
-fn seen_of<O: Object>(client: &mut Client<WorldPort<O>>, op: Option<&[u8]>) -> Outcome {
+fn seen_of<O: Object>(client: &mut Client<WorldPort<O>>, op: Option<&[u8]>) -> ClientSeen {
     seen(client, op)
 }
 
 /// What is seen of a call that adds.
-fn added<O: Object>(client: &mut Client<WorldPort<O>>) -> Outcome {
+fn added<O: Object>(client: &mut Client<WorldPort<O>>) -> ClientSeen {
     seen_of(client, Some(add().as_slice()))
 }
 
 /// What is seen of a call that reads.
-fn counter<O: Object>(client: &mut Client<WorldPort<O>>) -> Outcome {
+fn counter<O: Object>(client: &mut Client<WorldPort<O>>) -> ClientSeen {
     seen_of(client, Some(read().as_slice()))
 }
 
 /// Whether the reply is that the counter is at 5.
-fn is_five(seen: &Outcome) -> bool {
+fn is_five(seen: &ClientSeen) -> bool {
     seen.reply == Ok(counted(5))
 }
 

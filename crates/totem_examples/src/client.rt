@@ -23,7 +23,7 @@ const TURNS: u32 = 400;
 
 /// What came of the client's calls.
 #[derive(Clone, Copy)]
-struct Story {
+struct RetryStory {
     /// The number of polls of its first call at node 1, all of them in vain.
     vain: u64,
     /// The counter, as the add's reply tells it.
@@ -45,8 +45,8 @@ pub fn tell<R: AllocGlobal + Print>(rt: &R) -> io::Result<()> {
 }
 
 /// Prints a story.
-fn tell_story<R: Print>(rt: &R, story: &Story) -> io::Result<()> {
-    let Story {
+fn tell_story<R: Print>(rt: &R, story: &RetryStory) -> io::Result<()> {
+    let RetryStory {
         vain,
         added,
         committed,
@@ -110,12 +110,12 @@ fn story_of<O: Object>(
     client: &mut Client<WorldPort<O>>,
     shared: &Shared<O>,
     first: Proc,
-) -> Result<Story, Fault> {
+) -> Result<RetryStory, Fault> {
     let added = client.call(Counters::add(0, 5).as_slice())?;
     let vain = vain_polls(client);
     let (committed, order) = heal(shared, first)?;
     let read = client.call(Counters::read(0).as_slice())?;
-    Ok(Story {
+    Ok(RetryStory {
         vain,
         added: count_of(&added),
         committed,
@@ -130,13 +130,13 @@ fn call_over<O: Object>(
     shared: &Shared<O>,
     first: Proc,
     second: Proc,
-) -> Result<Story, Fault> {
+) -> Result<RetryStory, Fault> {
     let mut client = client_of(alloc, shared, first, second)?;
     story_of(&mut client, shared, first)
 }
 
 /// The story of three nodes at their opening.
-fn call_twice<O: Object>(alloc: O::Alloc) -> Result<Story, Fault> {
+fn call_twice<O: Object>(alloc: O::Alloc) -> Result<RetryStory, Fault> {
     let fixed = Fixed::new(3)?;
     let (first, second) = (fixed.proc(1)?, fixed.proc(2)?);
     let shared = cut_network::<O>(alloc, fixed, first)?;

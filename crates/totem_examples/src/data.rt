@@ -238,18 +238,13 @@ fn try_on<R: Files + AllocGlobal + Threads + Wait + Clock + Sync>(
     out: &mut Vec<u8>,
     err: &mut Vec<u8>,
 ) -> io::Result<u8> {
-    let words = words_for(rt.alloc(), kind, name)?;
-    Ok(command(rt, words.as_bytes(), out, err))
-}
-
-/// The words of the command line that is tried on the example of this name, one a line.
-fn words_for(alloc: Global, kind: Kind, name: &str) -> io::Result<String> {
     let (words, ending) = match kind {
         Kind::Trace => ("trace", ".script"),
         Kind::Picture => ("trace\n--format\nsvg", ".script"),
         _ => ("script\n--explain", ".explain"),
     };
-    Ok(format!(in alloc; "{words}\n{name}{ending}")?)
+    let text = format!(in rt.alloc(); "{words}\n{name}{ending}")?;
+    Ok(command(rt, text.as_bytes(), out, err))
 }
 
 /// Does what the words of a command line ask for, of which a text has one in a line. There is no input.
@@ -326,18 +321,13 @@ fn fault_of(alloc: Global, printed: &Printed) -> io::Result<Vec<u8>> {
     Ok(fault)
 }
 
-/// Adds the exit status, a space, and what stands on standard error.
+/// Adds the exit status, a space, and what stands on standard error; `...` for what a parser of command lines says.
 fn tell_fault(printed: &Printed, fault: &mut Vec<u8>) -> io::Result<()> {
     write!(fault, "{} ", printed.status)?;
-    fault.write_all(words_of(printed))
-}
-
-/// What stands on standard error; `...` for what a parser of command lines says.
-fn words_of(printed: &Printed) -> &[u8] {
     if printed.status == BAD_COMMAND_LINE && !printed.err.is_empty() {
-        b"..."
+        fault.write_all(b"...")
     } else {
-        printed.err.as_slice()
+        fault.write_all(printed.err.as_slice())
     }
 }
 

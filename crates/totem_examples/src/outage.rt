@@ -20,7 +20,7 @@ const TRIES: u64 = 2;
 
 /// What came of the client's calls.
 #[derive(Clone, Copy)]
-struct Story {
+struct OutageStory {
     /// The counter, as the reply to the first add tells it.
     first: u64,
     /// The same of the second.
@@ -42,8 +42,8 @@ pub fn tell<R: AllocGlobal + Print>(rt: &R) -> io::Result<()> {
 }
 
 /// Prints a story.
-fn tell_story<R: Print>(rt: &R, story: &Story) -> io::Result<()> {
-    let Story {
+fn tell_story<R: Print>(rt: &R, story: &OutageStory) -> io::Result<()> {
+    let OutageStory {
         first,
         second,
         refused,
@@ -108,7 +108,7 @@ fn story_of<O: Object>(
     fixed: Fixed,
     alone: Proc,
     stopping: Proc,
-) -> Result<Story, Fault> {
+) -> Result<OutageStory, Fault> {
     let everybody = fixed.everybody();
     time_out(shared, stopping, Kind::Join)?;
     let first = add(client)?;
@@ -120,7 +120,7 @@ fn story_of<O: Object>(
     let refused = add(client).err();
     cut(shared, everybody)?;
     time_out(shared, alone, Kind::Loss)?;
-    Ok(Story {
+    Ok(OutageStory {
         first,
         second,
         refused,
@@ -136,13 +136,13 @@ fn call_over<O: Object>(
     fixed: Fixed,
     one: Proc,
     two: Proc,
-) -> Result<Story, Fault> {
+) -> Result<OutageStory, Fault> {
     let mut client = client_of(alloc, shared, one, two)?;
     story_of(&mut client, shared, fixed, one, two)
 }
 
 /// The story of three nodes at their opening.
-fn call_through<O: Object>(alloc: O::Alloc) -> Result<Story, Fault> {
+fn call_through<O: Object>(alloc: O::Alloc) -> Result<OutageStory, Fault> {
     let fixed = Fixed::new(3)?;
     let (one, two) = (fixed.proc(1)?, fixed.proc(2)?);
     let shared = cut_network::<O>(alloc, fixed, one)?;

@@ -11,12 +11,11 @@
 //! In contracts, `Rattle.totem_threads.specs` has what `Rattle.totem_ring.specs` has, `Seats`, `Callers`, and `Arguments`.
 #![tactic(auto)]
 
-pub use ring_callers::{Caller, Calls, run_callers};
-pub use ring_explore::{Plan, explore_of};
-pub use ring_host_port::{
-    Book, BookName, Gate, GatePlace, Gauge, Host, HostPort, HostTicket, Open, Opening, Paced, Seat,
-    Stir, Turn,
+pub use ring_callers::{
+    Book, BookName, Caller, Calls, Gate, GatePlace, Gauge, Host, HostPort, HostTicket, Open,
+    Opening, Paced, Seat, Stir, Turn, run_callers,
 };
+pub use ring_explore::{Plan, explore_of};
 pub use totem_ring::{
     Answer, Answered, Argument, Asked, Call, Client, Counters, Driver, Event, Fault, Fixed, Form,
     Format, Frame, Input, Item, Keyed, Kind, Letter, MOST_PROCESSORS, Names, Network, NoWords,

@@ -1,7 +1,7 @@
 use Rattle.std.proofs.Common.{subst, sym}
 use Rattle.ring_rules.specs.Histories.{IsLinearization}
 use Rattle.ring_rules.specs.Worlds.{order, run, world_opening}
-use Rattle.ring_book.specs.Lines.{events_of, history_of}
+use Rattle.ring_host_port.specs.Books.{events_of, history_of}
 use Rattle.ring_callers.proofs.calls.told_by.Goals as goal
 
 pub returns-clause-lines : goal.returns-clause-lines

@@ -2,7 +2,7 @@
 use Rattle.std.proofs.Common.{ap, ◌∙◌}
 use Rattle.ring_core.specs.State.{Core}
 use Rattle.ring_core.specs.declared.input.Input.TheVariants.{Frame as FrameInput}
-use Rattle.ring_rules.specs.Nodes.{is_stopped}
+use Rattle.ring_replica.specs.NodeRules.{is_stopped}
 use Rattle.ring_replica.proofs.StayMarks.{rises_step, going_step}
 use Rattle.ring_node.proofs.FramesApart.{rises-apart}
 use Rattle.ring_node.proofs.NodeSteps.{follows-step}

@@ -1,7 +1,7 @@
 -- The replica ends the step that it took; the frames go out unless it stopped by it.
 use Rattle.std.proofs.Common.{[], Option, if◌then◌else◌, ap, ◌∙◌}
 use Rattle.ring_base.specs.declared.ring_id.RingId.{RingId}
-use Rattle.ring_rules.specs.Stepping.{handed_over}
+use Rattle.ring_replica.specs.NodeRules.{handed_over}
 use Rattle.ring_replica.specs.Replicas.{Replica, ReplicaStepped, replica_ended, replica_step}
 use Rattle.ring_node.proofs.NodeSteps.{ended-as, left-as}
 use Rattle.ring_node.proofs.driving.follow_told.Goals as goal

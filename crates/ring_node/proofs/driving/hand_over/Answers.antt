@@ -7,8 +7,7 @@ use Rattle.ring_base.specs.declared.fault.Fault.TheVariants.{Memory, Stopped as 
 use Rattle.ring_core.specs.State.{Core}
 use Rattle.ring_core.specs.Stepping.{ring_step}
 use Rattle.ring_core.specs.declared.input.Input.TheVariants.{Send as SendInput}
-use Rattle.ring_rules.specs.Nodes.{is_stopped}
-use Rattle.ring_rules.specs.Stepping.{handed_over}
+use Rattle.ring_replica.specs.NodeRules.{is_stopped, handed_over}
 use Rattle.ring_replica.proofs.StayMarks.{going_step}
 use Rattle.ring_node.proofs.NodeSteps.{handed-next}
 use Rattle.ring_node.proofs.driving.hand_over.Goals as goal

@@ -1,7 +1,6 @@
 -- What the payloads so far made of the core, which runs.
 use Rattle.std.proofs.Common.{◌≡◌, false}
-use Rattle.ring_rules.specs.Nodes.{is_stopped}
-use Rattle.ring_rules.specs.Stepping.{handed_over}
+use Rattle.ring_replica.specs.NodeRules.{is_stopped, handed_over}
 use Rattle.ring_node.proofs.driving.hand_over.Given as goal
 
 abbrev pub invariant-loop-payload : goal.invariant-loop-payload

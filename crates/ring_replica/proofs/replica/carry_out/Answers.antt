@@ -14,6 +14,14 @@ pub returns-then-not-fits-clause-table : goal.returns-then-not-fits-clause-table
 returns-then-not-fits-clause-table g c = λ holds.
     absurd (let never = sym holds ∙ sym c.in_ok-fits.ensures.fits ∙ c.if-not-fits.true in cc never)
 
+pub returns-then-not-fits-clause-answers : goal.returns-then-not-fits-clause-answers
+returns-then-not-fits-clause-answers g c = λ holds.
+    absurd (let never = sym holds ∙ sym c.in_ok-fits.ensures.fits ∙ c.if-not-fits.true in cc never)
+
+pub returns-then-not-fits-clause-committed : goal.returns-then-not-fits-clause-committed
+returns-then-not-fits-clause-committed g c = λ holds.
+    absurd (let never = sym holds ∙ sym c.in_ok-fits.ensures.fits ∙ c.if-not-fits.true in cc never)
+
 pub returns-clause-fits : goal.returns-clause-fits
 returns-clause-fits g c = sym c.if-not-fits.false ∙ c.in_ok-fits.ensures.fits
 
@@ -25,15 +33,17 @@ returns-clause-table g c = λ holds.
     ∙ ap (λ l. fold (table_next object) (table_held object c.args.held.now c.args.sessions.now) (more_in c.args.committed l)) c.log-2.ensures
 
 pub returns-clause-answers : goal.returns-clause-answers
-returns-clause-answers g c =
+returns-clause-answers g c = λ holds.
     let object = g.O.Object.sequential in
-    let holds = sym (sym c.if-not-fits.false ∙ c.in_ok-fits.ensures.fits) in
     c.in_ok-answers.ensures.answers
     ∙ ap (λ t. answers_behind object t c.args.pending.now [] (more_in c.args.committed c.log-2.result.now)) (c.in_ok-fits.ensures.table holds)
     ∙ ap (λ l. answers_behind object (table_held object c.args.held.now c.args.sessions.now) c.args.pending.now [] (more_in c.args.committed l)) c.log-2.ensures
 
 pub returns-clause-committed : goal.returns-clause-committed
-returns-clause-committed g c = c.in_ok-calls.ensures.calls ∙ ap (more_in c.args.committed) c.log.ensures
+returns-clause-committed g c = λ holds. c.in_ok-given.ensures.calls ∙ ap (more_in c.args.committed) c.log.ensures
+
+pub returns-clause-nothing : goal.returns-clause-nothing
+returns-clause-nothing g c = λ lost. absurd (let never = sym lost ∙ sym c.in_ok-fits.ensures.fits ∙ c.if-not-fits.false in cc never)
 
 pub returns-clause-reached : goal.returns-clause-reached
 returns-clause-reached g c =

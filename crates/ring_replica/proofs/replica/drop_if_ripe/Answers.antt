@@ -2,7 +2,7 @@
 use Rattle.std.proofs.Common.{◌≡◌, ap, sym, ◌∙◌, subst}
 use Rattle.std.specs.Prelude.{IfOk, OnOk, is_some, option_map}
 use Rattle.ring_log.specs.Logs.{committed_log, is_ripe}
-use Rattle.ring_rules.specs.Nodes.{is_closed}
+use Rattle.ring_course.specs.NodeRules.{is_closed}
 use Rattle.ring_course.specs.Courses.{Holding, course_trimmed}
 use Rattle.ring_replica.specs.Replicas.{snapshot_if_ripe}
 use Rattle.ring_replica.proofs.ReplicaEnds.{ripe-if, not-ripe}

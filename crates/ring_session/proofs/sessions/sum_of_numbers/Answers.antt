@@ -5,6 +5,6 @@ use Rattle.ring_session.proofs.sessions.sum_of_numbers.Goals as goal
 
 pub returns : goal.returns
 returns g c =
-    let i = c.loop-session.invariant in
-    let none : numbers_in c.loop-session.session-iterator ≡ 0 = ap numbers_in c.in-None.ensures.steps.0 in
+    let i = c.loop-last.invariant in
+    let none : numbers_in c.loop-last.last-iterator ≡ 0 = ap numbers_in c.in-None.ensures.steps.0 in
     omega (arith, i.whole, i.few, none)

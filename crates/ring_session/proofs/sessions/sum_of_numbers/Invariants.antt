@@ -3,8 +3,8 @@ use Rattle.ring_session.specs.TicketEffects.{numbers_in}
 use Rattle.ring_session.proofs.sessions.sum_of_numbers.Given as goal
 
 -- what is summed so far, and what is left
-abbrev pub invariant-loop-session : goal.invariant-loop-session
-invariant-loop-session g l = record {
-  whole : min (2 ^ 64 - 1) (l.sum + numbers_in l.session-iterator) ≡ min (2 ^ 64 - 1) (numbers_in l.sessions.entries);
+abbrev pub invariant-loop-last : goal.invariant-loop-last
+invariant-loop-last g l = record {
+  whole : min (2 ^ 64 - 1) (l.sum + numbers_in l.last-iterator) ≡ min (2 ^ 64 - 1) (numbers_in l.sessions.entries);
   few : l.sum ≤ 2 ^ 64 - 1;
 }

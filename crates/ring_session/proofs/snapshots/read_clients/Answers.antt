@@ -17,7 +17,7 @@ loop-i-preserved g c =
     let l = c.loop-i in
     let first = c.unwrap-told.result in
     let next = mapped_some _ c.first_client.result _ first c.first_client.ensures c.unwrap-told.ensures in
-    let put = rw (c.client.ensures, c.in_ok-session.ensures.ok) at c.in_ok-insert.ensures.entries in
+    let put = rw (c.client.ensures, c.in_ok-last.ensures.ok) at c.in_ok-insert.ensures.entries in
     AreRead-more (clients_in c.args.count c.args.bytes.now) c.args.count l._i l.low c.above-low.result l.rest.now first.1.now
     l.sessions.entries c.insert.new.self.entries first.0 l.invariant c.loop-i-test.true next c.above-low.ensures put
 

@@ -1,5 +1,6 @@
 -- One committed call more: it goes through the sessions, and its answer to the tickets of the same call.
-use Rattle.std.proofs.Common.{ℕ, ◌+◌, [], List, drop, take, fold, refl, ap, sym, subst, ◌∙◌, arith, if◌then◌else◌}
+use Rattle.std.proofs.Common.{◌≡◌, ℕ, ◌+◌, ◌++◌, [], List, drop, take, fold, refl, ap, sym, subst, ◌∙◌, append-nil, arith, rules, if◌then◌else◌}
+use Rattle.std.proofs.lemmas.List.{drop_all}
 use Rattle.ring_payload.specs.declared.call.Call.{Call}
 use Rattle.ring_session.specs.Buckets.{AreGone}
 use Rattle.ring_session.specs.Table.{table_next}
@@ -46,4 +47,20 @@ loop-place-preserved g c =
           c.loop-place.answers.items c.answer_to.new.answers.items c.answer_beyond.new.answers.items c.split_at.ensures.by_index.0
           (c.in_ok-answer_to.ensures.answers (take i more) c.loop-place.invariant.gone) c.in_ok-answer_beyond.ensures.answers)
           c.loop-place.invariant.answers;
+    }
+
+-- Behind the last call none is left to come.
+pub returns : goal.returns
+returns g c =
+    let object = g.O.Object.sequential in
+    let l = c.loop-place in
+    let none = drop_all l.place c.args.committed.now c.loop-place-test.false in
+    let items = l.answers.items in
+    let before = take l.place c.args.committed.now in
+    let done : done_after object l.sessions (drop l.place c.args.committed.now) ≡ 0 = ap (done_after object l.sessions) none in
+    record {
+      table = sym (l.invariant.table ∙ ap (fold (table_next object) l.sessions) none);
+      answers = sym (l.invariant.answers ∙ ap (λ more. items ++ answers_behind object l.sessions c.args.pending.now before more) none ∙ append-nil items);
+      effects = omega (arith, done, l.invariant.effects);
+      refused = search rules;
     }

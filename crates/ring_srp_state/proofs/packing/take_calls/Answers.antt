@@ -1,4 +1,5 @@
-use Rattle.std.proofs.Common.{◌+◌, ◌<◌, length, subst, sym, ◌∙◌, arith}
+use Rattle.std.proofs.Common.{◌≡◌, ◌+◌, ◌<◌, length, drop, subst, sym, ap, ◌∙◌, arith}
+use Rattle.std.proofs.lemmas.List.{take_all}
 use Rattle.ring_payload.specs.Packing.{front_run}
 use Rattle.ring_srp_state.proofs.QueueTaken.{some-left, call-left, call-moved, left-drop}
 use Rattle.ring_base.proofs.Results.{on-err}
@@ -31,3 +32,12 @@ returns-in_err-push-clause-rest g c =
     c.in-Some.payload c.in-Some-call_of.call c.loop.counter inside c.loop.invariant.taken c.loop.invariant.left
     c.in-Some.ensures.items (sym c.call_of.ensures ∙ c.in-Some-call_of.is) in
     on-err c.from_residual-in_err-push.result _ (left-drop c.args.queue.now.items c.pop_front.new.self.items (c.loop.counter + 1) m.1)
+
+pub returns-clause-calls : goal.returns-clause-calls
+returns-clause-calls g c =
+    c.loop.invariant.taken ∙ take_all c.loop.counter (front_run c.args.queue.now.items) (omega (arith, c.requires, c.loop-test.false))
+
+pub returns-clause-queue : goal.returns-clause-queue
+returns-clause-queue g c =
+    let all : c.loop.counter ≡ c.args.count = omega (arith, c.loop-test.false, c.loop.auto) in
+    c.loop.invariant.left ∙ ap (λ n. drop n c.args.queue.now.items) all

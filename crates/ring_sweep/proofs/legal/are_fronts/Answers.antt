@@ -16,8 +16,8 @@ returns-then-not-front-clause-ok g c = (
       let w = world_of g.O.Object.sequential c.args.world.now in
       let group = c.args.world.now.group in
       let node = c.loop-before.before + 1 in
-      let same : c.as_slice.result.now ≡ committed_of group (lives_of w node) =
-      c.as_slice.ensures.value ∙ c.in_ok-committed.ensures.ok ∙ ap (λ (n : ℕ). committed_of group (lives_of w n)) c.new-proc.ensures in
+      let same : committed_of group (lives_of w c.new-proc.result) ≡ committed_of group (lives_of w node) =
+      ap (λ (n : ℕ). committed_of group (lives_of w n)) c.new-proc.ensures in
       let count : c.fixed.result.count ≡ c.args.world.now.group.count = ap (λ (x : Group). x.count) c.fixed.ensures in
       let most : node ≤ c.args.world.now.group.count = omega (arith, c.loop-before-test.true, c.count-before-end.ensures.value, count) in
       let front = subst (λ (cs : List (Call g.row.O-Alloc.Denot)). IsFront (deduplicated cs) c.args.order.now) (sym same)
@@ -30,8 +30,8 @@ loop-before-preserved g c =
     let w = world_of g.O.Object.sequential c.args.world.now in
     let group = c.args.world.now.group in
     let node = c.loop-before.before + 1 in
-    let same : c.as_slice.result.now ≡ committed_of group (lives_of w node) =
-    c.as_slice.ensures.value ∙ c.in_ok-committed.ensures.ok ∙ ap (λ (n : ℕ). committed_of group (lives_of w n)) c.new-proc.ensures in
+    let same : committed_of group (lives_of w c.new-proc.result) ≡ committed_of group (lives_of w node) =
+    ap (λ (n : ℕ). committed_of group (lives_of w n)) c.new-proc.ensures in
     up_next (λ (n : ℕ). IsFront (deduplicated (committed_of group (lives_of w n))) c.args.order.now) c.loop-before.before c.loop-before.invariant
     (subst (λ (cs : List (Call g.row.O-Alloc.Denot)). IsFront (deduplicated cs) c.args.order.now) same
     (c.in_ok-front.ensures.ok.0 c.if-not-front.false))

@@ -1,12 +1,10 @@
-use Rattle.ring_sweep.proofs.Trying.{all_legal}
 use Rattle.ring_sweep.proofs.sweeping.sweep_of.Goals as goal
 
-pub returns-clause-printed : goal.returns-clause-printed
-returns-clause-printed g c = λ zero_is. (
+pub returns-in-Ok-clause-printed : goal.returns-in-Ok-clause-printed
+returns-in-Ok-clause-printed g c = λ zero_is. (
   c.in-Ok.script,
   c.in-Ok.ensures.read.0,
   c.in-Ok.ensures.read.1,
   c.in-Ok.ensures.read.2,
-  all_legal _ _ _ c.print_all-done.result _ _ (c.verdict_status.ensures.ok.0 zero_is) c.print_all-done.ensures.swept
-      c.print_all-done.ensures.printed,
+  c.sweep_script.ensures.printed zero_is,
 )

@@ -1,5 +1,5 @@
 use Rattle.std.proofs.Common.{◌≡◌, drop}
-use Rattle.ring_base.specs.Processors.{elements}
+use Rattle.ring_payload.specs.Base.{elements}
 use Rattle.ring_wire.specs.Commits.{are_reports as are_reports_of}
 use Rattle.ring_wire.proofs.commit.are_reports.Given as goal
 

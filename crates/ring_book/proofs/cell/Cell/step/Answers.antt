@@ -13,9 +13,10 @@ use Rattle.ring_book.proofs.Stops.{memory_runs, other_stopped}
 use Rattle.ring_rules.proofs.NodeChanges.{stopped_same}
 use Rattle.ring_book.proofs.cell.Cell.step.Goals as goal
 
-pub new-frames-requires : goal.new-frames-requires
-new-frames-requires g c = record {
-  fit = rw c.in-Ok.ensures.sends (c.node_fits_law.ensures.sends c.self.inside.node c.args.input c.self.invariant.sound c.requires);
+pub step_of-requires : goal.step_of-requires
+step_of-requires g c = record {
+  input = c.requires;
+  sends = rw c.in-Ok.ensures.sends (c.node_fits_law.ensures.sends c.self.inside.node c.args.input c.self.invariant.sound c.requires);
   room = c.self.invariant.text;
 }
 
@@ -29,32 +30,32 @@ invariant_of-self g c =
     c.self.inside.journal (length c.self.inside.text.items + c.self.inside.text.spare))
     c.if-self.false c.self.invariant in
     let e = c.in-Ok.ensures in
-    let l = c.came.result in
-    let stepped : IsStep m c.self.inside.node l c.step_into.new.self = rw c.came.ensures record {
+    let l = c.step_of.result in
+    let stepped : IsStep m c.self.inside.node l c.step_into.new.self = rw c.step_of.ensures.step record {
       fits = c.requires;
-      makes = (e.runs, e.ok, c.new-frames.ensures.same ∙ e.sends, e.answers, e.committed);
+      makes = (e.runs, e.ok, e.sends, e.answers, e.committed);
       committed = c.committed_len-places.ensures;
     } in
     cell_adds m NodeFits g.K.BookName.name c.self.inside.me c.self.inside.node c.step_into.new.self
-    c.self.inside.journal c.push_reserved.new.self _ _ l k (ap (λ x. x.node) c.came.ensures) stepped
+    c.self.inside.journal c.push_reserved.new.self _ _ l k (ap (λ x. x.node) c.step_of.ensures.step) stepped
     (node_sound g.O.Object.sequential g.K.BookName.name.group c.node_fits_law.ensures.step c.node_fits_law.ensures.submit
-    c.self.inside.node l c.step_into.new.self c.self.invariant.sound stepped) c.new-frames.ensures.room c.push_reserved.ensures.ring
+    c.self.inside.node l c.step_into.new.self c.self.invariant.sound stepped) c.step_of.ensures.room c.push_reserved.ensures.ring
     c.push_reserved.ensures.sent.0
 
 pub returns-in-Ok : goal.returns-in-Ok
 returns-in-Ok g c =
     let m = node_machine g.O.Object.sequential g.K.BookName.name.group in
     let e = c.in-Ok.ensures in
-    let l = c.came.result in
-    let stepped : IsStep m c.self.inside.node l c.step_into.new.self = rw c.came.ensures record {
+    let l = c.step_of.result in
+    let stepped : IsStep m c.self.inside.node l c.step_into.new.self = rw c.step_of.ensures.step record {
       fits = c.requires;
-      makes = (e.runs, e.ok, c.new-frames.ensures.same ∙ e.sends, e.answers, e.committed);
+      makes = (e.runs, e.ok, e.sends, e.answers, e.committed);
       committed = c.committed_len-places.ensures;
     } in
     rw (← c.self.view_is) record {
       step = l;
-      step_node = ap (λ x. x.node) c.came.ensures;
-      step_input = ap (λ x. x.input) c.came.ensures;
+      step_node = ap (λ x. x.node) c.step_of.ensures.step;
+      step_input = ap (λ x. x.input) c.step_of.ensures.step;
       stepped = stepped;
       journal = c.push_reserved.ensures.sent.0;
       was = c.if-self.false;

@@ -1,8 +1,8 @@
-use Rattle.std.proofs.Common.{◌≡◌, ◌∙◌, ap, sym}
 use Rattle.ring_book_lines.specs.Kept.{sends_of}
+use Rattle.ring_book_lines.proofs.FramesInLines.{fits_there, same_there}
 use Rattle.ring_book_lines.proofs.frames.Frames.has_heard.Goals as goal
 
-pub returns-in-Given-clause-found : goal.returns-in-Given-clause-found
-returns-in-Given-clause-found g c =
-    let same : c.as_slice-in-Given.result.now ≡ c.args.self.now = c.as_slice-in-Given.ensures.value ∙ (sym (ap sends_of c.in-Given.is) ∙ c.self.view_is) in
-    rw (← same) c.given_has_heard.ensures.found
+pub returns-clause-found : goal.returns-clause-found
+returns-clause-found g c =
+    let fits = rw c.self.view_is at (fits_there (sends_of c.self.inside.kept) c.args.place c.args.node c.self.invariant) in
+    same_there _ c.args.frame.now _ c.has_bytes.result fits c.bytes.ensures.fits c.bytes.ensures.bytes c.has_bytes.ensures.found

@@ -4,7 +4,7 @@ use Rattle.std.proofs.KnownBytes.{Appends-trans}
 use Rattle.std.proofs.Math.Numerals.{add-one}
 use Rattle.ring_base.specs.declared.state.State.{State}
 use Rattle.ring_base.specs.declared.ring_id.RingId.{RingId}
-use Rattle.ring_rules.specs.Nodes.{Node, node_kept, node_length, node_trimmed}
+use Rattle.ring_world.specs.Rules.{Node, node_kept, node_length, node_trimmed}
 use Rattle.ring_report.specs.Texts.{line_of}
 use Rattle.ring_world.specs.Played.{Played, world_of}
 use Rattle.ring_console.specs.Printed.{node_text}

@@ -17,16 +17,14 @@ pub invariant_of-self-2 : goal.invariant_of-self-2
 invariant_of-self-2 g c = λ fits.
     let s = c.self.inside in
     let k = c.self.invariant (ap (λ (v : Course _). v.fine) c.self.view_is ∙ c.requires.fine) in
-    let here = kept-as s.fixed s.life.value _ s.held _ s.ring s.stage c.replace-stage.result s.mark s.reaches.items _ k
-    refl refl c.replace-stage.ensures.value refl in
-    let fit = sym c.in_ok-stage.ensures.fits ∙ fits in
+    let fit = sym c.in_ok-fits.ensures.fits ∙ fits in
     let pushed = c.in_ok-push_back.ensures.items in
     kept-as s.fixed _ _ _ _ s.ring _ _ s.mark _ _
-    (kept-hears s.fixed s.life.value s.held s.ring c.replace-stage.result s.mark s.reaches.items c.args.message.now
-    (record { ring = s.ring; runs = c.args.runs; me = s.me; committed = c.args.committed }) c.args.pending.now here refl fit c.in_ok-stage.stage c.hear.new.held
-    c.reach_at-places.result c.in_ok-stage.ensures.stage (c.in_ok-stage.ensures.held fit)
-    (c.reach_at-places.ensures ∙ ap (reach_at c.in_ok-stage.stage) c.log.ensures)).0
-    c.heard-life.ensures
+    (kept-hears s.fixed s.life.value s.held s.ring s.stage s.mark s.reaches.items c.args.message.now
+    (record { ring = s.ring; runs = c.args.runs; me = s.me; committed = c.args.committed }) c.args.pending.now k refl fit c.hear.new.stage c.hear.new.held
+    c.reach_at-places.result c.in_ok-fits.ensures.stage (c.in_ok-fits.ensures.held fit)
+    (c.reach_at-places.ensures ∙ ap (reach_at c.hear.new.stage) c.log.ensures)).0
+    c.heard.ensures
     (c.settle.ensures.held ∙ ap (λ rs. record c.hear.new.held { log = committed_upto c.hear.new.held.log (covered s.mark 0 rs) }) pushed) refl
     (c.settle.ensures.reaches ∙ ap (left s.mark) pushed)
 
@@ -34,24 +32,20 @@ pub returns-clause-sound : goal.returns-clause-sound
 returns-clause-sound g c =
     let s = c.self.inside in
     let k = c.self.invariant (ap (λ (v : Course _). v.fine) c.self.view_is ∙ c.requires.fine) in
-    let here = kept-as s.fixed s.life.value _ s.held _ s.ring s.stage c.replace-stage.result s.mark s.reaches.items _ k
-    refl refl c.replace-stage.ensures.value refl in
-    c.in_ok-stage.ensures.fits
-    ∙ sound-hears s.fixed s.life.value s.held s.ring c.replace-stage.result s.mark s.reaches.items c.args.message.now
-    (record { ring = s.ring; runs = c.args.runs; me = s.me; committed = c.args.committed }) c.args.pending.now here refl
+    c.in_ok-fits.ensures.fits
+    ∙ sound-hears s.fixed s.life.value s.held s.ring s.stage s.mark s.reaches.items c.args.message.now
+    (record { ring = s.ring; runs = c.args.runs; me = s.me; committed = c.args.committed }) c.args.pending.now k refl
     ∙ ap (λ (v : Course _). is_kept_sound v.group (hears c.args.message.now v.life)) c.self.view_is
 
 pub returns-clause-due : goal.returns-clause-due
 returns-clause-due g c = λ fits.
     let s = c.self.inside in
     let k = c.self.invariant (ap (λ (v : Course _). v.fine) c.self.view_is ∙ c.requires.fine) in
-    let here = kept-as s.fixed s.life.value _ s.held _ s.ring s.stage c.replace-stage.result s.mark s.reaches.items _ k
-    refl refl c.replace-stage.ensures.value refl in
-    let fit = sym c.in_ok-stage.ensures.fits ∙ fits in
-    c.in_ok-stage.ensures.due fit
+    let fit = sym c.in_ok-fits.ensures.fits ∙ fits in
+    c.in_ok-fits.ensures.due fit
     ∙ ap (λ l. c.args.due.now.items ++ l)
-    (due-hears s.fixed s.life.value s.held s.ring c.replace-stage.result s.mark s.reaches.items c.args.message.now
-    (record { ring = s.ring; runs = c.args.runs; me = s.me; committed = c.args.committed }) c.args.pending.now here refl fit
+    (due-hears s.fixed s.life.value s.held s.ring s.stage s.mark s.reaches.items c.args.message.now
+    (record { ring = s.ring; runs = c.args.runs; me = s.me; committed = c.args.committed }) c.args.pending.now k refl fit
     ∙ ap (λ (v : Course _).
     dues_heard (record {
       group = v.group;
@@ -74,15 +68,13 @@ pub returns-clause-onward : goal.returns-clause-onward
 returns-clause-onward g c = λ fits.
     let s = c.self.inside in
     let k = c.self.invariant (ap (λ (v : Course _). v.fine) c.self.view_is ∙ c.requires.fine) in
-    let here = kept-as s.fixed s.life.value _ s.held _ s.ring s.stage c.replace-stage.result s.mark s.reaches.items _ k
-    refl refl c.replace-stage.ensures.value refl in
-    let fit = sym c.in_ok-stage.ensures.fits ∙ fits in
+    let fit = sym c.in_ok-fits.ensures.fits ∙ fits in
     let pushed = c.in_ok-push_back.ensures.items in
-    subst (λ (v : Course _). GoesOn v.held c.settle.new.held (kept_of v.group v.life) (kept_of s.fixed c.heard-life.result.value)) c.self.view_is
-    (goes-as s.fixed s.held _ c.settle.new.held (kept_of s.fixed s.life.value) (hears c.args.message.now s.life.value) c.heard-life.result.value
-    (kept-hears s.fixed s.life.value s.held s.ring c.replace-stage.result s.mark s.reaches.items c.args.message.now
-    (record { ring = s.ring; runs = c.args.runs; me = s.me; committed = c.args.committed }) c.args.pending.now here refl fit c.in_ok-stage.stage c.hear.new.held
-    c.reach_at-places.result c.in_ok-stage.ensures.stage (c.in_ok-stage.ensures.held fit)
-    (c.reach_at-places.ensures ∙ ap (reach_at c.in_ok-stage.stage) c.log.ensures)).1
+    subst (λ (v : Course _). GoesOn v.held c.settle.new.held (kept_of v.group v.life) (kept_of s.fixed c.heard.result.value)) c.self.view_is
+    (goes-as s.fixed s.held _ c.settle.new.held (kept_of s.fixed s.life.value) (hears c.args.message.now s.life.value) c.heard.result.value
+    (kept-hears s.fixed s.life.value s.held s.ring s.stage s.mark s.reaches.items c.args.message.now
+    (record { ring = s.ring; runs = c.args.runs; me = s.me; committed = c.args.committed }) c.args.pending.now k refl fit c.hear.new.stage c.hear.new.held
+    c.reach_at-places.result c.in_ok-fits.ensures.stage (c.in_ok-fits.ensures.held fit)
+    (c.reach_at-places.ensures ∙ ap (reach_at c.hear.new.stage) c.log.ensures)).1
     (c.settle.ensures.held ∙ ap (λ rs. record c.hear.new.held { log = committed_upto c.hear.new.held.log (covered s.mark 0 rs) }) pushed)
-    c.heard-life.ensures)
+    c.heard.ensures)

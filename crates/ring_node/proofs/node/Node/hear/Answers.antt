@@ -3,8 +3,7 @@ use Rattle.std.proofs.Common.{ap, sym, ◌∙◌, subst}
 use Rattle.ring_core.specs.State.{Core}
 use Rattle.ring_core.specs.Stepping.{ring_step}
 use Rattle.ring_core.specs.declared.input.Input.TheVariants.{Frame as FrameInput}
-use Rattle.ring_rules.specs.Nodes.{Node, is_stopped}
-use Rattle.ring_rules.specs.Stepping.{after_core}
+use Rattle.ring_replica.specs.NodeRules.{Node, is_stopped, after_core}
 use Rattle.ring_node.specs.Given.{Gives}
 use Rattle.ring_node.specs.Kept.{told_node}
 use Rattle.ring_node.proofs.NodeSteps.{runs-told, stepped-node, gives-step}

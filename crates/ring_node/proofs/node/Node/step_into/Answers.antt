@@ -1,9 +1,7 @@
 -- Noise and a stop restore nothing.
 use Rattle.std.proofs.Common.{ap, sym, ◌∙◌}
 use Rattle.ring_base.proofs.Results.{on-ok}
-use Rattle.ring_rules.specs.Nodes.{Node, node_kept}
-use Rattle.ring_rules.specs.Stepping.{node_step}
-use Rattle.ring_rules.specs.declared.input.Input.{Input}
+use Rattle.ring_replica.specs.NodeRules.{Node, node_kept, node_step, Input}
 use Rattle.ring_node.specs.Restores.{node_restored}
 use Rattle.ring_node.proofs.NodeSteps.{none-restored}
 use Rattle.ring_node.proofs.node.Node.step_into.Goals as goal

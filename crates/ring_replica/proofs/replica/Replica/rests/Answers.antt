@@ -4,7 +4,7 @@ use Rattle.std.specs.Prelude.{not}
 use Rattle.std.proofs.lemmas.Bool.{not-true}
 use Rattle.ring_log.specs.Logs.{Log, is_ripe}
 use Rattle.ring_log.specs.Kept.{Kept, log_kept}
-use Rattle.ring_rules.specs.Nodes.{is_restored}
+use Rattle.ring_course.specs.NodeRules.{is_restored}
 use Rattle.ring_course.specs.Courses.{Holding}
 use Rattle.ring_replica.specs.Replicas.{replica_kept}
 use Rattle.ring_replica.proofs.ReplicaSteps.{ready, steady-was, sound-was, kept-was}

@@ -12,12 +12,12 @@ use Rattle.ring_session.proofs.sessions.Sessions.apply.Goals as goal
 pub invariant_of-self : goal.invariant_of-self
 invariant_of-self g c =
     IsTable-content c.self.inside.sessions.entries _ c.self.inside.object _ c.self.invariant
-    (written_same c.self.inside.sessions.entries _ c.args.call.now.client c.in-Some.session.now c.apply.new.self
+    (written_same c.self.inside.sessions.entries _ c.args.call.now.client c.in-Some.last.now c.apply.new.self
     (c.get_mut.follows.holds c.apply.new.self).0 (sym c.in-Some.ensures.value) c.in_err-apply-in-Some.ensures.err)
 
 pub returns-in_err-apply-in-Some-clause-err : goal.returns-in_err-apply-in-Some-clause-err
 returns-in_err-apply-in-Some-clause-err g c =
-    let same = written_same c.self.inside.sessions.entries _ c.args.call.now.client c.in-Some.session.now
+    let same = written_same c.self.inside.sessions.entries _ c.args.call.now.client c.in-Some.last.now
     c.apply.new.self (c.get_mut.follows.holds c.apply.new.self).0 (sym c.in-Some.ensures.value)
     c.in_err-apply-in-Some.ensures.err in
     let refused = err_from_is_err_and c.from_residual.result c.from_residual.ensures.1 in
@@ -26,10 +26,10 @@ returns-in_err-apply-in-Some-clause-err g c =
 
 pub invariant_of-self-then-is_next : goal.invariant_of-self-then-is_next
 invariant_of-self-then-is_next g c =
-    let number : c.args.call.now.number ≡ c.in-Some.session.now.number + 1 = eqb-true c.args.call.now.number
-    (c.in-Some.session.now.number + 1) (sym c.if-is_next.ensures) in
+    let number : c.args.call.now.number ≡ c.in-Some.last.now.number + 1 = eqb-true c.args.call.now.number
+    (c.in-Some.last.now.number + 1) (sym c.if-is_next.ensures) in
     let kept = c.in_ok-apply-in-Some.ensures.kept in
-    IsTable-known c.self.inside.sessions.entries _ c.args.call.now.client c.in-Some.session.now c.apply.new.self
+    IsTable-known c.self.inside.sessions.entries _ c.args.call.now.client c.in-Some.last.now c.apply.new.self
     c.self.inside.object _ c.self.invariant c.get_mut.ensures.ordered (sym c.in-Some.ensures.value)
     (c.get_mut.follows.holds c.apply.new.self).0
     (omega (arith, number, ap (λ (last : LastCall). last.number) kept))
@@ -37,16 +37,16 @@ invariant_of-self-then-is_next g c =
 pub invariant_of-self-else-is_next : goal.invariant_of-self-else-is_next
 invariant_of-self-else-is_next g c =
     IsTable-content c.self.inside.sessions.entries _ c.self.inside.object _ c.self.invariant
-    (written_same c.self.inside.sessions.entries _ c.args.call.now.client c.in-Some.session.now c.in-Some.session.now
-    (c.get_mut.follows.holds c.in-Some.session.now).0 (sym c.in-Some.ensures.value) refl)
+    (written_same c.self.inside.sessions.entries _ c.args.call.now.client c.in-Some.last.now c.in-Some.last.now
+    (c.get_mut.follows.holds c.in-Some.last.now).0 (sym c.in-Some.ensures.value) refl)
 
 pub returns-in_ok-apply-in-Some-clause-ok : goal.returns-in_ok-apply-in-Some-clause-ok
 returns-in_ok-apply-in-Some-clause-ok g c =
-    let number : c.args.call.now.number ≡ c.in-Some.session.now.number + 1 = eqb-true c.args.call.now.number
-    (c.in-Some.session.now.number + 1) (sym c.if-is_next.ensures) in
+    let number : c.args.call.now.number ≡ c.in-Some.last.now.number + 1 = eqb-true c.args.call.now.number
+    (c.in-Some.last.now.number + 1) (sym c.if-is_next.ensures) in
     let kept = c.in_ok-apply-in-Some.ensures.kept in
     rw (← c.self.view_is) (next-known g.O.Object.sequential
-    c.self.inside.sessions.entries _ c.self.inside.object _ c.args.call.now c.in-Some.session.now
+    c.self.inside.sessions.entries _ c.self.inside.object _ c.args.call.now c.in-Some.last.now
     c.get_mut.ensures.ordered (sym c.in-Some.ensures.value) number
     ((c.get_mut.follows.holds c.apply.new.self).0
     ∙ ap (set_value (is_at (nat_cmp c.args.call.now.client)) c.self.inside.sessions.entries) kept)
@@ -55,9 +55,9 @@ returns-in_ok-apply-in-Some-clause-ok g c =
 pub returns-else-is_next-clause-ok : goal.returns-else-is_next-clause-ok
 returns-else-is_next-clause-ok g c =
     rw (← c.self.view_is) (next-other g.O.Object.sequential c.self.inside.sessions.entries _ c.self.inside.object
-    c.args.call.now c.in-Some.session.now (sym c.in-Some.ensures.value) c.if-is_next.ensures
-    (written_same c.self.inside.sessions.entries _ c.args.call.now.client c.in-Some.session.now c.in-Some.session.now
-    (c.get_mut.follows.holds c.in-Some.session.now).0 (sym c.in-Some.ensures.value) refl))
+    c.args.call.now c.in-Some.last.now (sym c.in-Some.ensures.value) c.if-is_next.ensures
+    (written_same c.self.inside.sessions.entries _ c.args.call.now.client c.in-Some.last.now c.in-Some.last.now
+    (c.get_mut.follows.holds c.in-Some.last.now).0 (sym c.in-Some.ensures.value) refl))
 
 pub returns-in_ok-apply-in-Some-clause-told : goal.returns-in_ok-apply-in-Some-clause-told
 returns-in_ok-apply-in-Some-clause-told g c = λ calls after. answer_told g.O.Object.sequential calls c.args.self.now c.args.call.now _ after (search rules)

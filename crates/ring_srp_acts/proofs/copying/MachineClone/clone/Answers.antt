@@ -1,15 +1,24 @@
 -- Each field is a copy of its own, so the copy is the same core, and its invariant that of the core.
-use Rattle.ring_srp_acts.proofs.Copied.{machine_copied}
+use Rattle.std.proofs.Common.{◌≡◌, ◌∙◌, ap, subst}
+use Rattle.std.specs.Prelude.{IfOk}
+use Rattle.ring_srp_acts.proofs.Copied.{IsCopiedIf, machine_copied}
 use Rattle.ring_srp_acts.proofs.copying.MachineClone.clone.Goals as goal
 
 pub invariant_of-result : goal.invariant_of-result
 invariant_of-result g c =
-    rw (c.in_ok-clone.ensures.cases, c.in_ok-copied_shown.ensures, c.in_ok-copied_queue.ensures, c.in_ok-clone-2.ensures.cases, c.in_ok-clone-3.ensures.cases, c.in_ok-clone-4.ensures.cases)
-    (machine_copied _ _ _ _ _ _ c.in_ok-copied_recovery.ensures c.self.invariant)
+    let made = c.in_ok-frames-2 in
+    let queue : made.frames.0.items ≡ c.self.inside.queue.items = ap (λ x. x.0.items) made.ensures.first ∙ c.in_ok-frames.ensures.queue in
+    let shown : made.frames.1 ≡ c.self.inside.shown = ap (λ x. x.1) made.ensures.first ∙ c.in_ok-frames.ensures.shown in
+    let kept : made.parts.0 ≡ c.self.inside.kept =
+    subst (λ parts. IfOk parts (λ copy. copy.0 ≡ c.self.inside.kept)) made.ensures.second c.copied_parts.ensures.kept in
+    let recovery : IsCopiedIf c.self.inside.recovery made.parts.1 =
+    subst (λ parts. IfOk parts (λ copy. IsCopiedIf c.self.inside.recovery copy.1)) made.ensures.second c.copied_parts.ensures.recovery in
+    rw (c.in_ok-gather.ensures.cases, shown, queue, kept, c.in_ok-held.ensures.cases, c.in_ok-past.ensures.cases)
+    (machine_copied _ _ _ _ _ _ recovery c.self.invariant)
 
 pub returns : goal.returns
 returns g c =
-    record {
-      cases = rw (c.in_ok-clone.ensures.cases, c.in_ok-copied_shown.ensures, c.in_ok-copied_queue.ensures, c.in_ok-clone-3.ensures.cases, c.in_ok-clone-4.ensures.cases)
-          c.self.view_is;
-    }
+    let made = c.in_ok-frames-2 in
+    let queue : made.frames.0.items ≡ c.self.inside.queue.items = ap (λ x. x.0.items) made.ensures.first ∙ c.in_ok-frames.ensures.queue in
+    let shown : made.frames.1 ≡ c.self.inside.shown = ap (λ x. x.1) made.ensures.first ∙ c.in_ok-frames.ensures.shown in
+    record { cases = rw (c.in_ok-gather.ensures.cases, shown, queue, c.in_ok-held.ensures.cases, c.in_ok-past.ensures.cases) c.self.view_is }

@@ -1,11 +1,13 @@
 -- The token has a plan, and goes on with one hop more.
 use Rattle.std.proofs.Common.{◌≡◌, Some, ◌∷◌, [], ◌++◌, ap, ◌∙◌, sym, subst, rules}
+use Rattle.std.proofs.lemmas.Result.{on_ok_weaker}
 use Rattle.ring_commit.specs.Rounds.{receiver}
 use Rattle.ring_recover.specs.Recovering.{begun}
 use Rattle.ring_window.specs.Windows.{opened}
 use Rattle.ring_wire.specs.declared.commit.CommitToken.{CommitToken}
 use Rattle.ring_wire.specs.declared.frame.Frame.TheVariants.{Commit as CommitFrame}
 use Rattle.ring_core.specs.State.{Core, Sent}
+use Rattle.ring_core.specs.Acting.{shown_again}
 use Rattle.ring_core.specs.Giving.{addressed}
 use Rattle.ring_srp_acts.specs.Allowing.{LearnAllowed}
 use Rattle.ring_srp_acts.specs.Learns.{plan_at, recovering_by}
@@ -43,13 +45,18 @@ returns-clause-core g c =
     let now = c.args.self.now in
     let goes = passes_on {A = g.row.A.Denot} c.args.boxed c.hop_on.new.self c.receiver.result c.only-to.result
     (went_on c.args.boxed c.hop_on.new.self c.hop_on.ensures) (c.receiver.ensures ∙ ap receiver c.token-3.ensures) c.only-to.ensures.value in
-    c.recover.ensures
+    let is = c.recover.ensures
     ∙ ap (λ (k : CommitToken). recovering_by now k (record { to = c.only-to.result; frame = CommitFrame c.hop_on.new.self }))
     (c.seen-came.ensures ∙ c.token-2.ensures)
-    ∙ ap (recovering_by now c.args.boxed) goes
+    ∙ ap (recovering_by now c.args.boxed) goes in
+    on_ok_weaker c.repeat.result (λ _. is) c.repeat.ensures.ok
 
 pub returns-clause-sends : goal.returns-clause-sends
 returns-clause-sends g c =
+    let now = c.args.self.now in
+    let items = c.args.sends.now.items in
     let goes = passes_on {A = g.row.A.Denot} c.args.boxed c.hop_on.new.self c.receiver.result c.only-to.result
     (went_on c.args.boxed c.hop_on.new.self c.hop_on.ensures) (c.receiver.ensures ∙ ap receiver c.token-3.ensures) c.only-to.ensures.value in
-    c.in_ok-send_copy.ensures.ok ∙ ap (λ (x : Sent g.row.A.Denot). c.args.sends.now.items ++ addressed (x ∷ [])) goes
+    let shown = ap (λ (x : Core g.row.A.Denot). items ++ addressed (shown_again x.shown)) c.recover.ensures
+    ∙ ap (λ (x : Sent g.row.A.Denot). items ++ addressed (x ∷ [])) goes in
+    on_ok_weaker c.repeat.result (λ went. went ∙ shown) c.repeat.ensures.ok

@@ -1,6 +1,7 @@
 -- The visit is the one that the part tells, and its mark is no further than the front.
 use Rattle.std.proofs.Common.{◌+◌, List, ℕ, ap, ◌∙◌, sym}
 use Rattle.ring_window.specs.Held.{front_of, missing}
+use Rattle.ring_window.specs.Windows.{forgotten}
 use Rattle.ring_token.specs.Turns.{Turn}
 use Rattle.ring_token.specs.Visits.{requests_after, token_after}
 use Rattle.ring_token.specs.Histories.{turn_by, with_turn}
@@ -39,3 +40,6 @@ returns-clause-visit g c =
     ∙ ap (λ n. with_turn h (turn_by h.me n fresh c.ask.new.requests t)) c.front-front.ensures
     ∙ ap (λ ns. with_turn h (turn_by h.me (front_of w.held w.ring) fresh ns t)) c.ask.ensures
     ∙ ap (λ n. with_turn h (turn_by h.me (front_of w.held w.ring) fresh (requests_after stays (lacks n)) t)) (sym c.requires.count)
+
+pub returns-clause-window : goal.returns-clause-window
+returns-clause-window g c = c.forget.ensures ∙ ap (λ n. forgotten c.args.self.now.window n) c.safe.ensures

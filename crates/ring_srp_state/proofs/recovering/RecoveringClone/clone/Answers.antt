@@ -6,9 +6,9 @@ pub returns : goal.returns
 returns g c =
     record {
       cases = record {
-        part = c.in_ok-clone.ensures.cases;
-        plan = c.in_ok-clone-2.ensures.cases;
-        ends = c.in_ok-clone-3.ensures.cases;
+        part = c.in_ok-clone-3.ensures.cases;
+        plan = c.in_ok-clone.ensures.cases;
+        ends = c.in_ok-clone-2.ensures.cases;
         most = refl;
         aside = c.in_ok-copied_messages.ensures;
       };

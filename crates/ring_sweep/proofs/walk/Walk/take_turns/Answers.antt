@@ -4,8 +4,8 @@ use Rattle.ring_sweep.proofs.walk.Walk.take_turns.Goals as goal
 
 pub loop-preserved : goal.loop-preserved
 loop-preserved g c =
-    turns_more g.O.Object.sequential c.loop.counter c.args.self.now.done c.loop.self.done c.step.new.self.done c.args.self.now.run c.loop.self.run
-    c.step.new.self.run c.loop.invariant c.in_ok-step.ensures.ok
+    turns_more g.O.Object.sequential c.loop.counter c.args.self.now.done c.loop.self.done c.take_turn.new.self.done c.args.self.now.run c.loop.self.run
+    c.take_turn.new.self.run c.loop.invariant c.in_ok-take_turn.ensures.ok
 
 pub returns-in_default-clause-ok : goal.returns-in_default-clause-ok
 returns-in_default-clause-ok g c =

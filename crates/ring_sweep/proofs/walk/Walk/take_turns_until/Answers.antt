@@ -7,16 +7,16 @@ pub loop-taken-preserved : goal.loop-taken-preserved
 loop-taken-preserved g c =
     let old = c.args.self.now in
     let here = c.loop-taken.self in
-    let next = c.step.new.self in
+    let next = c.take_turn.new.self in
     turns_next g.O.Object.sequential c.loop-taken.taken c.args.from c.args.before old.done here.done next.done old.run here.run next.run
-    c.loop-taken.auto.taken c.loop-taken.invariant c.in_ok-step.ensures.ok (sym c.comes.ensures ∙ c.if-comes.false)
+    c.loop-taken.auto.taken c.loop-taken.invariant c.in_ok-take_turn.ensures.ok (sym c.turn_comes.ensures ∙ c.if-turn_comes.false)
 
-pub returns-then-comes-clause-ok : goal.returns-then-comes-clause-ok
-returns-then-comes-clause-ok g c =
+pub returns-then-turn_comes-clause-ok : goal.returns-then-turn_comes-clause-ok
+returns-then-turn_comes-clause-ok g c =
     let old = c.args.self.now in
     let here = c.loop-taken.self in
     turn_comes g.O.Object.sequential c.args.turns c.loop-taken.taken c.args.from c.args.before old.done here.done old.run here.run
-    c.loop-taken.auto.taken c.loop-taken-test.true c.loop-taken.invariant (sym c.comes.ensures ∙ c.if-comes.true)
+    c.loop-taken.auto.taken c.loop-taken-test.true c.loop-taken.invariant (sym c.turn_comes.ensures ∙ c.if-turn_comes.true)
 
 pub returns-in_default-clause-ok : goal.returns-in_default-clause-ok
 returns-in_default-clause-ok g c =

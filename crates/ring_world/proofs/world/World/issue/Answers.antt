@@ -33,6 +33,21 @@ invariant_of-self-in_err-make_room-2 g c =
     let here = place g (goal.at.invariant_of-self-in_err-make_room-2 g c).In_ok-make_room in
     (spared here c.make_room-2.new.self c.index_mut.ensures.value c.in_err-make_room-2.ensures.calls).world
 
+pub invariant_of-self-in_err-kept : goal.invariant_of-self-in_err-kept
+invariant_of-self-in_err-kept g c =
+    let here = place g (goal.at.invariant_of-self-in_err-kept g c).In_ok-make_room in
+    (spared here c.make_room-2.new.self c.index_mut.ensures.value c.in_ok-make_room-2.ensures.calls).world
+
+pub invariant_of-self-in_err-copy : goal.invariant_of-self-in_err-copy
+invariant_of-self-in_err-copy g c =
+    let here = place g (goal.at.invariant_of-self-in_err-copy g c).In_ok-make_room in
+    (spared here c.make_room-2.new.self c.index_mut.ensures.value c.in_ok-make_room-2.ensures.calls).world
+
+pub invariant_of-self-in_err-spare : goal.invariant_of-self-in_err-spare
+invariant_of-self-in_err-spare g c =
+    let here = place g (goal.at.invariant_of-self-in_err-spare g c).In_ok-make_room in
+    (spared here c.make_room-2.new.self c.index_mut.ensures.value c.in_ok-make_room-2.ensures.calls).world
+
 pub add-requires : goal.add-requires
 add-requires g c =
     let same = spare_put (place g (goal.at.add-requires g c).In_ok-make_room) c.make_room-2.new.self c.index_mut-in-Ok.ensures.value in

@@ -65,6 +65,9 @@ idle-requires-then-not-is_step g c = record {
   }} c.args.event.now c.args.node refl c.self.invariant.kept.frames_are c.requires c.in_ok-is_step.ensures.is c.if-not-is_step.true;
 }
 
+pub invariant_of-self-in_err-kept : goal.invariant_of-self-in_err-kept
+invariant_of-self-in_err-kept g c = (place g (goal.at.invariant_of-self-in_err-kept g c).In_ok-make_room).world
+
 pub step_by-requires : goal.step_by-requires
 step_by-requires g c =
     let b = by g (goal.at.step_by-requires g c).In_ok-make_room in

@@ -1,0 +1,13 @@
+-- Each list is a copy of its own, element by element.
+use Rattle.std.proofs.Common.{◌≡◌, rules}
+use Rattle.std.proofs.lemmas.List.Elements.{same_from_all_zip}
+use Rattle.ring_log.proofs.exchange.ExchangeClone.clone.Goals as goal
+
+pub returns : goal.returns
+returns g c =
+    let heads : c.in_ok-clone.field-0.items ≡ c.self.inside.heads.items =
+    same_from_all_zip _ _ _ c.in_ok-clone.ensures.cases.0 (λ x y same. same) in
+    let bytes : c.in_ok-clone-2.field-0.items ≡ c.self.inside.bytes.items =
+    same_from_all_zip _ _ _ c.in_ok-clone-2.ensures.cases.0 (λ x y same. same) in
+    let brought : c.in_ok-clone-3.field-0.items ≡ c.self.inside.brought.items = search (rules, same_from_all_zip) in
+    record { cases = rw (heads, bytes, brought) c.self.view_is }

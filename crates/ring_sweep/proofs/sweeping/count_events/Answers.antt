@@ -1,9 +1,0 @@
-use Rattle.ring_sweep.proofs.Trying.{has_events}
-use Rattle.ring_sweep.proofs.sweeping.count_events.Goals as goal
-
-pub returns-clause-ok : goal.returns-clause-ok
-returns-clause-ok g c =
-    let w = c.in_ok-whole.whole in
-    let f = c.follow.new.self in
-    has_events g.O.Object.sequential c.args.script.now.nodes c.args.script.now.lines.items c.as_slice.result.now w.run f.run w.done f.done
-    c.done.result c.as_slice.ensures.value c.in_ok-whole.ensures.ok.0 c.in_ok-whole.ensures.ok.1 c.in_ok-follow.ensures.ok c.done.ensures

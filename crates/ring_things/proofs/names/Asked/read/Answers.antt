@@ -1,0 +1,39 @@
+-- Behind the code stands a name, and the code tells what is asked with it.
+use Rattle.std.proofs.Common.{sym, ap, ◌∙◌}
+use Rattle.ring_object.specs.Bytes.{AreBytes-fits}
+use Rattle.ring_things.specs.Names.{asking}
+use Rattle.ring_things.proofs.NamesAsked.{IsNamed, named, asked}
+use Rattle.ring_things.proofs.names.Asked.read.Goals.{Else-name-gt-LONGEST}
+use Rattle.ring_things.proofs.names.Asked.read.Goals as goal
+
+is_named : (c : Else-name-gt-LONGEST) → IsNamed c.args.op.now
+is_named c = record {
+  code = c.in-len1-up.len_at_least;
+  some = c.if-is_empty.ensures;
+  short = c.if-name-gt-LONGEST.false;
+  bytes = AreBytes-fits c.args.op.now c.type_inv.op;
+}
+
+pub returns-in-1-clause-value : goal.returns-in-1-clause-value
+returns-in-1-clause-value c =
+    sym (asked (is_named (goal.at.returns-in-1-clause-value c).Else-name-gt-LONGEST) c.from_slice-name.ensures
+    ∙ ap (λ code. asking code c.from_slice-name.result) c.in-1.is)
+
+pub returns-in-1-clause-fits : goal.returns-in-1-clause-fits
+returns-in-1-clause-fits c = named (is_named (goal.at.returns-in-1-clause-fits c).Else-name-gt-LONGEST) c.from_slice-name.ensures
+
+pub returns-in-2-clause-value : goal.returns-in-2-clause-value
+returns-in-2-clause-value c =
+    sym (asked (is_named (goal.at.returns-in-2-clause-value c).Else-name-gt-LONGEST) c.from_slice-name.ensures
+    ∙ ap (λ code. asking code c.from_slice-name.result) c.in-2.is)
+
+pub returns-in-2-clause-fits : goal.returns-in-2-clause-fits
+returns-in-2-clause-fits c = named (is_named (goal.at.returns-in-2-clause-fits c).Else-name-gt-LONGEST) c.from_slice-name.ensures
+
+pub returns-in-3-clause-value : goal.returns-in-3-clause-value
+returns-in-3-clause-value c =
+    sym (asked (is_named (goal.at.returns-in-3-clause-value c).Else-name-gt-LONGEST) c.from_slice-name.ensures
+    ∙ ap (λ code. asking code c.from_slice-name.result) c.in-3.is)
+
+pub returns-in-3-clause-fits : goal.returns-in-3-clause-fits
+returns-in-3-clause-fits c = named (is_named (goal.at.returns-in-3-clause-fits c).Else-name-gt-LONGEST) c.from_slice-name.ensures
