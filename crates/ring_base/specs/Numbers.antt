@@ -10,6 +10,10 @@ max_number = 4611686018427387904
 abbrev pub window_size : ℕ
 window_size = 256
 
+-- a frame has at most so many bytes
+abbrev pub most_frame : ℕ
+most_frame = 8192
+
 -- the new messages of one visit are at most
 abbrev pub visit_limit : ℕ
 visit_limit = 8

@@ -26,6 +26,7 @@ use Rattle.ring_base.proofs.Each.{each-get, each-placed, each-push}
 use Rattle.ring_base.proofs.ListPlaces.{set_cases}
 use Rattle.ring_book_lines.proofs.AnswersByTicket.{told_from-snoc, length-told_by}
 use Rattle.ring_book.proofs.AddedLines.{added_cases}
+use Rattle.ring_base.specs.Numbers.{most_frame}
 
 pub end_ring : {A : Type 0} (c d : End A) → SameConsumer c d → ring_of_consumer d ≡ ring_of_consumer c
 end_ring c d h = cc
@@ -38,7 +39,7 @@ end_looks name lines i c d e same r = record { ring = rw (end_ring c d same) e.r
 pub book_looks : {S A : Type 0} (m : Machine S A) (name : Name A) (lines : List (LineView A)) (reserved : ℕ)
     (ends : List (End A)) (told : List ToldView) (log : LogView)
     (capacity places space space' i : ℕ) (c d : End A)
-    → IsBook m name lines reserved ends told log capacity places space → slice_get ends i ≡ Some c → SameConsumer c d → received d ≡ received c → 8192 ≤ space'
+    → IsBook m name lines reserved ends told log capacity places space → slice_get ends i ≡ Some c → SameConsumer c d → received d ≡ received c → most_frame ≤ space'
     → IsBook m name lines reserved (slice_set ends i d) told log capacity places space'
 book_looks m name lines reserved ends told log capacity places space space' i c d b at same r text = record {
   few = b.few;
@@ -140,7 +141,7 @@ pub book_enters : {S A : Type 0} (m : Machine S A) {IsSound : S → Type 0} (nam
     (log : LogView) (capacity places space space' i me : ℕ) (ahead : Bool) (node : S) (p q : Writer A) (c d f : End A)
     (x : StepView A) (t u : ToldView) (room : ℕ)
     → suc i ≡ me → IsBook m name lines reserved ends told log capacity places space → IsCell m IsSound name me ahead node p room → slice_get ends i ≡ Some c
-    → slice_get told i ≡ Some t → u.answers ≡ told_by t.answers x.input x.answers → u.room ≡ t.room → 8192 ≤ space'
+    → slice_get told i ≡ Some t → u.answers ≡ told_by t.answers x.input x.answers → u.room ≡ t.room → most_frame ≤ space'
     → Looked p q c d → sent p ≡ steps_of me lines ++ x ∷ [] → Popped d x f → IsFound lines x.node x.input → 0 < reserved
     → IsBook m name (lines ++ record { number = length lines; step = x } ∷ []) (reserved - 1) (slice_set ends i f)
     (slice_set told i u) (logged_by (length lines) log x)
@@ -317,7 +318,7 @@ cell_looks m name me ahead node p q space k same e more = record {
 pub book_texts : {S A : Type 0} (m : Machine S A) (name : Name A) (lines : List (LineView A)) (reserved : ℕ)
     (ends : List (End A)) (told : List ToldView) (log : LogView)
     (capacity places space space' : ℕ) → IsBook m name lines reserved ends told log capacity places space
-    → 8192 ≤ space' → IsBook m name lines reserved ends told log capacity places space'
+    → most_frame ≤ space' → IsBook m name lines reserved ends told log capacity places space'
 book_texts m name lines reserved ends told log capacity places space space' b text = record {
   few = b.few;
   count = b.count;

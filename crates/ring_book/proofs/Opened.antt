@@ -11,6 +11,7 @@ use Rattle.ring_book.specs.Cells.{IsCell}
 use Rattle.ring_book.specs.Ends.{Name, Ring, ring_of_producer, ring_of_consumer}
 use Rattle.ring_book_lines.specs.Machines.{Machine}
 use Rattle.ring_book.specs.Openings.{Writer, IsStart, IsStartEnd, AllStart, AllStartEnds, rings_of}
+use Rattle.ring_base.specs.Numbers.{most_frame}
 
 pub AllStart-snoc : {S A : Type 0} (m : Machine S A) (i j : ℕ) (ns : List S) (ps : List (Writer A)) (n : S)
     (p : Writer A) → i + length ns ≡ j → AllStart m i ns ps → IsStart m j n p → AllStart m i (ns ++ n ∷ []) (ps ++ p ∷ [])
@@ -37,7 +38,7 @@ drop_next (suc i) [] y ys h = cc
 drop_next (suc i) (x ∷ xs) y ys h = drop_next i xs y ys h
 
 pub start_cell : {S A : Type 0} (m : Machine S A) (IsSound : S → Type 0) (name : Name A) (i me : ℕ) (n : S) (p : Writer A) (space : ℕ) (rings : List (Ring A))
-    → me - 1 ≡ i → 1 ≤ me → me ≤ name.group.count → drop i name.rings ≡ ring_of_producer p ∷ rings → IsStart m me n p → IsSound n → 8192 ≤ space
+    → me - 1 ≡ i → 1 ≤ me → me ≤ name.group.count → drop i name.rings ≡ ring_of_producer p ∷ rings → IsStart m me n p → IsSound n → most_frame ≤ space
     → IsCell m IsSound name me false n p space
 start_cell m IsSound name i me n p space rings is low high d s sound text = record {
   counted = low;
@@ -86,7 +87,7 @@ none-at told i t none h = each-get (λ (x : ToldView). x.answers ≡ []) told i 
 pub start_book : {S A : Type 0} (m : Machine S A) (name : Name A) (ns : List S) (ps : List (Writer A)) (cs : List (End A)) (told : List ToldView) (room : ℕ)
     → AllStart m 1 ns ps → AllStartEnds ps cs → name.group.count ≤ 16 → name.group.count ≡ length ns
     → name.rings ≡ rings_of ps → length told ≡ name.group.count → AreNone told
-    → 8192 ≤ room → IsBook m name [] 0 cs told no_log 0 0 room
+    → most_frame ≤ room → IsBook m name [] 0 cs told no_log 0 0 room
 start_book m name ns ps cs told room a b few n r many none text = record {
   few = few;
   count = ends_length ps cs b ∙ (sym (starts_length m 1 ns ps a) ∙ sym n);
@@ -122,5 +123,5 @@ some_left i c n k len low same all is = omega (arith, low, same, all, is)
 pub some_more : (n m w len : ℕ) → n ≡ w → n ≡ suc m → len ≡ w → 0 < len
 some_more n m w len same more is = omega (arith, same, more, is)
 
-pub text_room : (a b : ℕ) → 8192 ≤ b → 8192 ≤ a + b
+pub text_room : (a b : ℕ) → most_frame ≤ b → most_frame ≤ a + b
 text_room a b h = omega (arith, h)

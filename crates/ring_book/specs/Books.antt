@@ -13,6 +13,7 @@ use Rattle.ring_book_lines.specs.Runs.{IsBookRun}
 use Rattle.ring_book.specs.Seen.{CellView, BookView}
 use Rattle.ring_book.specs.Told.{ToldView}
 use Rattle.ring_book_lines.specs.Steps.{StepView, LineView}
+use Rattle.ring_base.specs.Numbers.{most_frame}
 
 -- a book has at most so many lines
 abbrev pub most_places : ℕ
@@ -49,7 +50,7 @@ module _ {S A : Type 0} (m : Machine S A) where
     pub limit : length lines + reserved ≤ most_places
     pub log_is : log ≡ log_in lines
     pub log_room : length log.segments + reserved ≤ places
-    pub text : 8192 ≤ space
+    pub text : most_frame ≤ space
 
 module _ {S A : Type 0} where
   -- The cell's one step went to the end of the list, as its line, and what it delivers stood in the list before. Then

@@ -16,6 +16,7 @@ use Rattle.ring_book_lines.specs.Machines.{Machine}
 use Rattle.ring_book_lines.specs.Runs.{Leads, IsStep}
 use Rattle.ring_book.specs.Seen.{CellView}
 use Rattle.ring_book_lines.specs.Steps.{StepView}
+use Rattle.ring_base.specs.Numbers.{most_frame}
 
 -- they are steps of this node
 abbrev pub AllOf : {A : Type 0} → ℕ → List (StepView A) → Type 0
@@ -40,7 +41,7 @@ module _ {S A : Type 0} (m : Machine S A) where
     pub free : ahead ≡ false → 0 < known_free journal
     pub room : producer_capacity journal ≡ 1
     pub sound : IsSound node
-    pub text : 8192 ≤ space
+    pub text : most_frame ≤ space
 
   -- One step was added to the journal, of this input, and the node is what it makes.
   pub record Journals (old new : CellView S A) (input : LineInput A) : Type 0 where

@@ -8,6 +8,7 @@ ghost use Rattle.ring_rules.specs.NodeLimits.{InputFits};
 ghost use Rattle.ring_payload.specs.Calls.{CallFits};
 ghost use Rattle.ring_wire.specs.Frames.{FrameFits, spelling_of};
 ghost use Rattle.ring_rules.specs.declared.input.Input.TheVariants.{Frame as Comes};
+ghost use Rattle.ring_base.specs.Numbers.{most_frame};
 
 use crate::name::BookName;
 use bytes::BytesMut;
@@ -197,7 +198,7 @@ fn step_of<A: Allocator + Copy + Drop>(
 ) -> Step<A>
     requires input { LineFits input }
     requires sends { AllByRecursion (λ s. FrameFits s.frame) outs.sends.items }
-    requires room { 8192 ≤ length text.old.items + text.old.spare }
+    requires room { most_frame ≤ length text.old.items + text.old.spare }
     ensures step { result ≡ record {
       node = me;
       input = input;
@@ -206,7 +207,7 @@ fn step_of<A: Allocator + Copy + Drop>(
       calls = outs.committed.items;
       committed = places;
     } }
-    ensures room { 8192 ≤ length text.new.items + text.new.spare }
+    ensures room { most_frame ≤ length text.new.items + text.new.spare }
 {
     let Outs {
         sends,
@@ -230,7 +231,7 @@ fn step_on_frame<A: Allocator + Copy + Drop>(
     text: &mut BytesMut<A>,
 ) -> Step<A>
     requires sends { AllByRecursion (λ s. FrameFits s.frame) outs.sends.items }
-    requires room { 8192 ≤ length text.old.items + text.old.spare }
+    requires room { most_frame ≤ length text.old.items + text.old.spare }
     ensures step { result ≡ record {
       node = me;
       input = Came (Comes frame) at;
@@ -239,7 +240,7 @@ fn step_on_frame<A: Allocator + Copy + Drop>(
       calls = outs.committed.items;
       committed = places;
     } }
-    ensures room { 8192 ≤ length text.new.items + text.new.spare }
+    ensures room { most_frame ≤ length text.new.items + text.new.spare }
 {
     let Outs {
         sends,

@@ -9,6 +9,7 @@ ghost use Rattle.ring_wire.specs.Frames.{FrameFits, spelling_of};
 ghost use Rattle.ring_book_lines.specs.Lines.{frame_for};
 ghost use Rattle.ring_order_proof.specs.Limits.{SentFits};
 ghost use Rattle.ring_book_lines.specs.Puts.{IsPut};
+ghost use Rattle.ring_base.specs.Numbers.{most_frame};
 
 use crate::heard::HeardFrame;
 use crate::spelled::{SpelledFrame, is_same_text, write_in};
@@ -53,9 +54,9 @@ fn spell_all<A: Allocator + Copy + Drop>(
     text: &mut BytesMut<A>,
 ) -> Result<Vec<SpelledFrame<A>, A>, Fault>
     requires fit { AllByRecursion SentFits sends.now }
-    requires room { 8192 ≤ length text.old.items + text.old.spare }
+    requires room { most_frame ≤ length text.old.items + text.old.spare }
     ensures ok { IfOk result (λ spelled. spelled.items ≡ sends.now) }
-    ensures room { 8192 ≤ length text.new.items + text.new.spare }
+    ensures room { most_frame ≤ length text.new.items + text.new.spare }
     ensures refused { IfErr result (λ fault. fault ≡ Memory) }
 {
     let mut spelled = Vec::with_capacity(alloc, sends.len())?;
@@ -80,9 +81,9 @@ fn given_has<A: Allocator + Copy + Drop>(
     text: &mut BytesMut<A>,
 ) -> bool
     requires fits { FrameFits sent.now.frame }
-    requires room { 8192 ≤ length text.old.items + text.old.spare }
+    requires room { most_frame ≤ length text.old.items + text.old.spare }
     ensures found { IsTrue result ↔ IsSomeAnd (frame_for node sent.now) (λ f. spelling_of f ≡ bytes.now) }
-    ensures room { 8192 ≤ length text.new.items + text.new.spare }
+    ensures room { most_frame ≤ length text.new.items + text.new.spare }
 {
     if !sent.to.contains(node) {
         return false;
@@ -108,9 +109,9 @@ fn spelled_has_frame<A: Allocator + Copy + Drop>(
     text: &mut BytesMut<A>,
 ) -> bool
     requires fits { FrameFits frame.now }
-    requires room { 8192 ≤ length text.old.items + text.old.spare }
+    requires room { most_frame ≤ length text.old.items + text.old.spare }
     ensures found { IsTrue result ↔ (option_and_then (frame_for node) (slice_get spelled.now place) ≡ Some frame.now) }
-    ensures room { 8192 ≤ length text.new.items + text.new.spare }
+    ensures room { most_frame ≤ length text.new.items + text.new.spare }
 {
     match item_at(spelled, place) {
         Some(sent) => sent.is_for(node, frame, text),
@@ -158,9 +159,9 @@ fn given_has_bytes<A: Allocator + Copy + Drop>(
     text: &mut BytesMut<A>,
 ) -> bool
     requires fit { AllByRecursion SentFits given.now }
-    requires room { 8192 ≤ length text.old.items + text.old.spare }
+    requires room { most_frame ≤ length text.old.items + text.old.spare }
     ensures found { IsTrue result ↔ IsSomeAnd (option_and_then (frame_for node) (slice_get given.now place)) (λ f. spelling_of f ≡ bytes.now) }
-    ensures room { 8192 ≤ length text.new.items + text.new.spare }
+    ensures room { most_frame ≤ length text.new.items + text.new.spare }
 {
     match item_at(given, place) {
         Some(sent) => given_has(sent, node, bytes, text),
@@ -238,9 +239,9 @@ impl<A: Allocator + Copy + Drop> Frames<A> {
     /// These frames. They are spelled in `text`, which has room for every frame.
     pub fn new(alloc: A, sends: Vec<Sent<A>, A>, text: &mut BytesMut<A>) -> Frames<A>
         requires fit { AllByRecursion SentFits sends.items }
-        requires room { 8192 ≤ length text.old.items + text.old.spare }
+        requires room { most_frame ≤ length text.old.items + text.old.spare }
         ensures same { result ≡ sends.items }
-        ensures room { 8192 ≤ length text.new.items + text.new.spare }
+        ensures room { most_frame ≤ length text.new.items + text.new.spare }
     {
         match spell_all(alloc, sends.as_slice(), text) {
             Ok(spelled) => Frames {
@@ -262,9 +263,9 @@ impl<A: Allocator + Copy + Drop> Frames<A> {
         text: &mut BytesMut<A>,
     ) -> bool
         requires fits { FrameFits frame.now }
-        requires room { 8192 ≤ length text.old.items + text.old.spare }
+        requires room { most_frame ≤ length text.old.items + text.old.spare }
         ensures found { IsTrue result ↔ (option_and_then (frame_for node) (slice_get self.now place) ≡ Some frame.now) }
-        ensures room { 8192 ≤ length text.new.items + text.new.spare }
+        ensures room { most_frame ≤ length text.new.items + text.new.spare }
     {
         match &self.kept {
             Kept::Spelled(spelled) => spelled_has_frame(
@@ -287,9 +288,9 @@ impl<A: Allocator + Copy + Drop> Frames<A> {
         frame: &HeardFrame<A>,
         text: &mut BytesMut<A>,
     ) -> bool
-        requires room { 8192 ≤ length text.old.items + text.old.spare }
+        requires room { most_frame ≤ length text.old.items + text.old.spare }
         ensures found { IsTrue result ↔ (option_and_then (frame_for node) (slice_get self.now place) ≡ Some frame.now) }
-        ensures room { 8192 ≤ length text.new.items + text.new.spare }
+        ensures room { most_frame ≤ length text.new.items + text.new.spare }
     {
         // No effect at run time. The proof sees what `Frames` promises of itself only where the body reads a field.
         let _kept = &self.kept;
@@ -299,9 +300,9 @@ impl<A: Allocator + Copy + Drop> Frames<A> {
     /// Whether these bytes are those of the frame at the place, counted from 0, and that goes to the node. It may be
     /// spelled in `text`, which has room for every frame.
     pub fn has_bytes(&self, place: u16, node: Proc, bytes: &[u8], text: &mut BytesMut<A>) -> bool
-        requires room { 8192 ≤ length text.old.items + text.old.spare }
+        requires room { most_frame ≤ length text.old.items + text.old.spare }
         ensures found { IsTrue result ↔ IsSomeAnd (option_and_then (frame_for node) (slice_get self.now place)) (λ f. spelling_of f ≡ bytes.now) }
-        ensures room { 8192 ≤ length text.new.items + text.new.spare }
+        ensures room { most_frame ≤ length text.new.items + text.new.spare }
     {
         match &self.kept {
             Kept::Spelled(spelled) => spelled_has_bytes(spelled.as_slice(), place, node, bytes),

@@ -5,6 +5,7 @@ ghost use Rattle.ring_rules.specs.NodeLimits.{InputFits};
 ghost use Rattle.ring_wire.specs.Frames.{FrameFits};
 ghost use Rattle.ring_book_lines.specs.Kept.{line_input};
 ghost use Rattle.ring_book_lines.specs.Lines.{cause_of, frame_to, IsFound, IsThere, Stands};
+ghost use Rattle.ring_base.specs.Numbers.{most_frame};
 
 use crate::cause::Cause;
 use crate::frame_ref::FrameRef;
@@ -150,9 +151,9 @@ pub fn stands<A: Allocator + Copy + Drop>(
     bytes: &[u8],
     text: &mut BytesMut<A>,
 ) -> bool
-    requires { 8192 ≤ length text.old.items + text.old.spare }
+    requires { most_frame ≤ length text.old.items + text.old.spare }
     ensures found { IsTrue result ↔ Stands lines.now at node bytes.now }
-    ensures room { 8192 ≤ length text.new.items + text.new.spare }
+    ensures room { most_frame ≤ length text.new.items + text.new.spare }
 {
     match lines.get(at.line as usize) {
         Some(line) => line.frames().has_bytes(at.place, node, bytes, text),
@@ -166,9 +167,9 @@ pub fn is_found<A: Allocator + Copy + Drop>(
     step: &Step<A>,
     text: &mut BytesMut<A>,
 ) -> bool
-    requires { 8192 ≤ length text.old.items + text.old.spare }
+    requires { most_frame ≤ length text.old.items + text.old.spare }
     ensures found { IsTrue result ↔ IsFound lines.now step.now.node step.now.input }
-    ensures room { 8192 ≤ length text.new.items + text.new.spare }
+    ensures room { most_frame ≤ length text.new.items + text.new.spare }
 {
     match &step.input {
         StepInput::Told(LineInput::Came(input, at)) => {
@@ -188,9 +189,9 @@ fn is_there<A: Allocator + Copy + Drop>(
     text: &mut BytesMut<A>,
 ) -> bool
     requires fits { InputFits input.now }
-    requires room { 8192 ≤ length text.old.items + text.old.spare }
+    requires room { most_frame ≤ length text.old.items + text.old.spare }
     ensures found { IsTrue result ↔ IsThere lines.now node at input.now }
-    ensures room { 8192 ≤ length text.new.items + text.new.spare }
+    ensures room { most_frame ≤ length text.new.items + text.new.spare }
 {
     match input {
         Input::Frame(frame) => is_sent(lines, at, node, frame, text),
@@ -207,9 +208,9 @@ fn is_sent<A: Allocator + Copy + Drop>(
     text: &mut BytesMut<A>,
 ) -> bool
     requires fits { FrameFits frame.now }
-    requires room { 8192 ≤ length text.old.items + text.old.spare }
+    requires room { most_frame ≤ length text.old.items + text.old.spare }
     ensures found { IsTrue result ↔ (frame_to lines.now at node ≡ Some frame.now) }
-    ensures room { 8192 ≤ length text.new.items + text.new.spare }
+    ensures room { most_frame ≤ length text.new.items + text.new.spare }
 {
     match lines.get(at.line as usize) {
         Some(line) => line.frames().has_frame(at.place, node, frame, text),
@@ -225,9 +226,9 @@ fn is_heard<A: Allocator + Copy + Drop>(
     frame: &HeardFrame<A>,
     text: &mut BytesMut<A>,
 ) -> bool
-    requires { 8192 ≤ length text.old.items + text.old.spare }
+    requires { most_frame ≤ length text.old.items + text.old.spare }
     ensures found { IsTrue result ↔ (frame_to lines.now at node ≡ Some frame.now) }
-    ensures room { 8192 ≤ length text.new.items + text.new.spare }
+    ensures room { most_frame ≤ length text.new.items + text.new.spare }
 {
     match lines.get(at.line as usize) {
         Some(line) => line.frames().has_heard(at.place, node, frame, text),

@@ -5,6 +5,7 @@ ghost use Rattle.ring_base.specs.Processors.{has};
 ghost use Rattle.ring_base.specs.declared.fault.Fault.TheVariants.{Memory};
 ghost use Rattle.ring_wire.specs.Frames.{FrameFits, spelling_of};
 ghost use Rattle.ring_book_lines.specs.Lines.{frame_for};
+ghost use Rattle.ring_base.specs.Numbers.{most_frame};
 
 use crate::stories::{FrameStory, shown_frame};
 use bytes::BytesMut;
@@ -47,9 +48,9 @@ fn copied<A: Allocator + Copy + Drop>(alloc: A, text: &[u8]) -> Result<Vec<u8, A
 /// Puts the frame's bytes alone into the text.
 pub(crate) fn write_in<A: Allocator + Copy + Drop>(frame: &Frame<A>, text: &mut BytesMut<A>)
     requires fits { FrameFits frame.now }
-    requires room { 8192 ≤ length text.old.items + text.old.spare }
+    requires room { most_frame ≤ length text.old.items + text.old.spare }
     ensures text { text.new.items ≡ spelling_of frame.now }
-    ensures room { 8192 ≤ length text.new.items + text.new.spare }
+    ensures room { most_frame ≤ length text.new.items + text.new.spare }
 {
     text.clear();
     frame.write(text);
@@ -71,9 +72,9 @@ impl<A: Allocator + Copy + Drop> SpelledFrame<A> {
         text: &mut BytesMut<A>,
     ) -> Result<SpelledFrame<A>, Fault>
         requires fits { FrameFits frame.now }
-        requires room { 8192 ≤ length text.old.items + text.old.spare }
+        requires room { most_frame ≤ length text.old.items + text.old.spare }
         ensures ok { IfOk result (λ spelled. spelled ≡ record { to = receivers; frame = frame.now }) }
-        ensures room { 8192 ≤ length text.new.items + text.new.spare }
+        ensures room { most_frame ≤ length text.new.items + text.new.spare }
         ensures refused { IfErr result (λ fault. fault ≡ Memory) }
     {
         write_in(frame, text);
@@ -115,9 +116,9 @@ impl<A: Allocator + Copy + Drop> SpelledFrame<A> {
     /// Whether it is this frame. That is spelled in `text`, which has room for every frame.
     pub fn is_frame(&self, frame: &Frame<A>, text: &mut BytesMut<A>) -> bool
         requires fits { FrameFits frame.now }
-        requires room { 8192 ≤ length text.old.items + text.old.spare }
+        requires room { most_frame ≤ length text.old.items + text.old.spare }
         ensures same { IsTrue result ↔ (self.now.frame ≡ frame.now) }
-        ensures room { 8192 ≤ length text.new.items + text.new.spare }
+        ensures room { most_frame ≤ length text.new.items + text.new.spare }
     {
         write_in(frame, text);
         is_same_text(self.bytes.as_slice(), text.as_slice())
@@ -126,9 +127,9 @@ impl<A: Allocator + Copy + Drop> SpelledFrame<A> {
     /// Whether it goes to the node and is this frame. That is spelled in `text`, which has room for every frame.
     pub fn is_for(&self, node: Proc, frame: &Frame<A>, text: &mut BytesMut<A>) -> bool
         requires fits { FrameFits frame.now }
-        requires room { 8192 ≤ length text.old.items + text.old.spare }
+        requires room { most_frame ≤ length text.old.items + text.old.spare }
         ensures found { IsTrue result ↔ (frame_for node self.now ≡ Some frame.now) }
-        ensures room { 8192 ≤ length text.new.items + text.new.spare }
+        ensures room { most_frame ≤ length text.new.items + text.new.spare }
     {
         self.goes_to(node) && self.is_frame(frame, text)
     }

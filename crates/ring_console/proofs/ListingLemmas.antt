@@ -19,6 +19,7 @@ use Rattle.ring_console.specs.declared.ahead.State.TheVariants.{Open, Ended, Fai
 use Rattle.ring_console.specs.Listed.{frame_text, listing_of}
 use Rattle.ring_console.specs.declared.ahead.Ahead.{Ahead}
 use Rattle.ring_console.specs.Listings.{spellings_of, BeginsWithNone, untaken, left_of, IsEndRight, IsNext, IsStop, Lists, IsListed, IsCut}
+use Rattle.ring_base.specs.Numbers.{most_frame}
 
 -- ---- one frame
 
@@ -52,7 +53,7 @@ next_put bytes start n from to (Some frame) some got place =
     (got.fits, front.0, place ∙ ap (λ (m : ℕ). u64_saturate (from + m)) (sym front.1))
 
 -- where so many bytes begin with no frame, more of them don't either
-pub none_longer : (A : Type 0) (bytes more : List ℕ) → 8192 ≤ length bytes → BeginsWithNone A bytes → BeginsWithNone A (bytes ++ more)
+pub none_longer : (A : Type 0) (bytes more : List ℕ) → most_frame ≤ length bytes → BeginsWithNone A bytes → BeginsWithNone A (bytes ++ more)
 none_longer A bytes more long none frame rest fits e =
     let n = length (spelling_of frame) in
     let short = length-frame frame fits in
@@ -76,7 +77,7 @@ next_of_all bytes bytes' (Some xs) from to (Some frame) (fits, taken, passed) en
 -- where enough was read ahead, or nothing more can be read, a stop there is a stop of all that is left
 pub stop_of_all : (A : Type 0) (bytes : List ℕ) (rest : Option (List ℕ)) (from : ℕ) (state : State)
     (failure : Failure) → IsStop A (Some bytes) from state failure
-    → (state ≡ Open → 8192 ≤ length bytes) → (state ≡ Ended → IsAtEnd rest) → IsStop A (prepend_known bytes rest) from state failure
+    → (state ≡ Open → most_frame ≤ length bytes) → (state ≡ Ended → IsAtEnd rest) → IsStop A (prepend_known bytes rest) from state failure
 stop_of_all A bytes rest from state (Refused fault) stop enough ended = stop
 stop_of_all A bytes rest from Failed (BadFrame byte) stop enough ended = stop
 stop_of_all A bytes None from Open (BadFrame byte) stop enough ended = (stop.0, tt)

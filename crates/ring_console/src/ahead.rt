@@ -1,6 +1,7 @@
 //! What is read ahead of an input of frames.
 
 ghost use Rattle.std.specs.Prelude.{◌≤◌, vec_len};
+ghost use Rattle.ring_base.specs.Numbers.{most_frame};
 
 use ring_base::{FRAME_BYTES, Fault};
 use ring_report::Failure;
@@ -108,7 +109,7 @@ impl<A: Allocator + Copy> Ahead<A> {
         requires { IsEndRight self.old (R.remaining input.old) }
         ensures kept { OnOk result (Keeps (left_of self.old (R.remaining input.old)) (left_of self.new (R.remaining input.new))) }
         ensures ended { OnOk result (IsEndRight self.new (R.remaining input.new)) }
-        ensures enough { OnOk result (self.new.state ≡ Open → 8192 ≤ length (untaken self.new)) }
+        ensures enough { OnOk result (self.new.state ≡ Open → most_frame ≤ length (untaken self.new)) }
         ensures position { self.new.position ≡ self.old.position }
         ensures refused { IfErr result (λ failure. failure ≡ Refused Memory) }
     {
@@ -123,7 +124,7 @@ impl<A: Allocator + Copy> Ahead<A> {
         requires { self.old.state ≡ Open }
         ensures kept { OnOk result (Keeps (left_of self.old (R.remaining input.old)) (left_of self.new (R.remaining input.new))) }
         ensures ended { OnOk result (IsEndRight self.new (R.remaining input.new)) }
-        ensures enough { OnOk result (self.new.state ≡ Open → 8192 ≤ length (untaken self.new)) }
+        ensures enough { OnOk result (self.new.state ≡ Open → most_frame ≤ length (untaken self.new)) }
         ensures position { self.new.position ≡ self.old.position }
         ensures refused { IfErr result (λ failure. failure ≡ Refused Memory) }
     {

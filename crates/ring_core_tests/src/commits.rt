@@ -62,8 +62,9 @@ fn first_token() -> Token {
     }
 }
 
-/// Both rounds of a token that processor 1 proposed: whether it goes round twice, and then starts.
+/// Both rounds of a token that processor 1 proposed: whether it goes to processor 2 first, round twice, and then starts.
 fn goes_round(token: CommitToken) -> bool {
+    let is_proposed = is_at_hop(&token, 1, 2);
     let Some(token) = passed(filled(token)) else {
         return false;
     };
@@ -79,15 +80,22 @@ fn goes_round(token: CommitToken) -> bool {
         return false;
     };
     let started = start(Proc::new(1), &ring_of_two(), first_token(), &token);
-    is_at_hop(&token, 4, 1) && matches!(&started, CommitOutcome::Start(_))
+    is_proposed && is_at_hop(&token, 4, 1) && matches!(&started, CommitOutcome::Start(_))
+}
+
+/// The same of what processor 1 proposes.
+fn goes_round_from(proposed: CommitOutcome) -> bool {
+    match passed(proposed) {
+        Some(token) => goes_round(token),
+        None => false,
+    }
 }
 
 #[test]
 fn a_commit_token_goes_round_twice(rt: HostRuntime) {
     let members = ProcSet::from_bits(0b11);
     let proposed = propose(Proc::new(1), 0, members, entry_of(Proc::new(1)));
-    let token = passed(proposed);
-    assert!(rt; token.is_some_and(|token| is_at_hop(&token, 1, 2) && goes_round(token)));
+    assert!(rt; goes_round_from(proposed));
     let greatest = propose(Proc::new(1), 1 << 62, members, entry_of(Proc::new(1)));
     assert!(rt; matches!(&greatest, CommitOutcome::Ignored));
 }

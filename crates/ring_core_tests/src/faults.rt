@@ -29,13 +29,9 @@ fn refusals(rt: HostRuntime) -> Result<(), Fail> {
         (Fault::NoAnswer, 14, "no answer"),
         (Fault::BadSnapshot, 15, "bad snapshot"),
     ];
-    for (fault, number, text) in table {
-        assert!(rt; is_told_as(rt.alloc(), fault, number, text)?, "{text}");
+    for (fault, number, text) in &table {
+        assert!(rt; is_told_as(rt.alloc(), *fault, *number, *text)?, "{text}");
     }
-    Ok(())
-}
-
-#[test]
-fn memory_is_a_fault(rt: HostRuntime) {
     assert!(rt; Fault::from(AllocError) == Fault::Memory);
+    Ok(())
 }

@@ -13,17 +13,17 @@ fn three_requests<A: Allocator + Copy>(heap: A) -> [bool; 3] {
 
 #[test]
 fn refuses_only_the_request_after_those_passed(rt: HostRuntime) {
-    for (passed, want) in [
+    for (passed, want) in &[
         (0, [false, true, true]),
         (1, [true, false, true]),
         (2, [true, true, false]),
         (3, [true, true, true]),
     ] {
-        let heap = Refusing::new(rt.alloc(), passed);
+        let heap = Refusing::new(rt.alloc(), *passed);
         assert!(rt; !heap.has_refused(), "before, at {passed}");
-        assert!(rt; three_requests(&heap) == want, "at {passed}");
+        assert!(rt; three_requests(&heap) == *want, "at {passed}");
         assert!(rt;
-            heap.requests() == 3 && heap.has_refused() == (passed < 3),
+            heap.requests() == 3 && heap.has_refused() == (*passed < 3),
             "at {passed}"
         );
     }

@@ -76,8 +76,14 @@ fn a_member_that_has_all_does_not_raise_the_aru_of_another(rt: HostRuntime) {
 #[test]
 fn two_visits_make_the_lesser_aru_safe(rt: HostRuntime) {
     let mut visit = Visit::new(Proc::new(1), ring(1));
-    for (number, front, safe) in [(1, 10, 0), (2, 8, 8), (3, 10, 8), (4, 10, 10)] {
-        let forwarded = visit_once(&mut visit, token_of_ten(number), 8, front, Requests::new());
-        assert!(rt; forwarded.is_some() && visit.safe() == safe);
+    for (number, front, safe) in &[(1, 10, 0), (2, 8, 8), (3, 10, 8), (4, 10, 10)] {
+        let forwarded = visit_once(
+            &mut visit,
+            token_of_ten(*number),
+            8,
+            *front,
+            Requests::new(),
+        );
+        assert!(rt; forwarded.is_some() && visit.safe() == *safe);
     }
 }

@@ -3,6 +3,7 @@
 ghost use Rattle.std.specs.Prelude.{◌≡◌, ℕ, ◌+◌, ◌^◌, ◌<◌, ◌≤◌, List, [], ◌++◌, length, All};
 ghost use Rattle.std.specs.List.{flat_map};
 ghost use Rattle.ring_layout.specs.Reading.{GivesBy, Appends, times_at};
+ghost use Rattle.ring_base.specs.Numbers.{most_frame};
 
 use crate::layout::{Decode, Encode};
 use crate::reader::Reader;
@@ -25,7 +26,7 @@ pub fn write_many<T: Encode, B: Allocator + Copy>(items: &[T], out: &mut BytesMu
 /// How many bytes the values' spellings have: at most 8,192.
 pub fn size_many<T: Encode>(items: &[T]) -> usize
     requires fits { All T.fits items.now }
-    requires small { length (flat_map T.spelling items.now) ≤ 8192 }
+    requires small { length (flat_map T.spelling items.now) ≤ most_frame }
     ensures { result ≡ length (flat_map T.spelling items.now) }
 {
     let mut size = 0;

@@ -170,8 +170,8 @@ fn waits<A: Allocator + Copy>(
     if !states_all(exchange, &HEADS, refused)? {
         return Ok(false);
     }
-    for part in PARTS {
-        if !goes_past(heap, exchange, part, refused)? {
+    for part in &PARTS {
+        if !goes_past(heap, exchange, *part, refused)? {
             return Ok(false);
         }
     }
@@ -480,8 +480,8 @@ const CUTS: [(usize, Cut); 3] = [
 
 #[test]
 fn pieces_have_7000_bytes(rt: HostRuntime) {
-    for (count, cut) in CUTS {
-        assert!(rt; is_cut(rt.alloc(), count, cut) == Ok(true), "{count}");
+    for (count, cut) in &CUTS {
+        assert!(rt; is_cut(rt.alloc(), *count, *cut) == Ok(true), "{count}");
     }
 }
 
@@ -531,8 +531,8 @@ fn hears_parts<A: Allocator + Copy>(
     exchange: &mut Exchange<A>,
     refused: &mut u64,
 ) -> Result<bool, Fault> {
-    for first in PARTS_BEHIND {
-        if !goes_past(heap, exchange, (1, first, 7), refused)? {
+    for first in &PARTS_BEHIND {
+        if !goes_past(heap, exchange, (1, *first, 7), refused)? {
             return Ok(false);
         }
     }
@@ -642,9 +642,9 @@ fn brings_behind<A: Allocator + Copy>(
 
 #[test]
 fn snapshot_and_places_make_the_base(rt: HostRuntime) {
-    for count in [45, 7_000, 14_003] {
+    for count in &[45, 7_000, 14_003] {
         assert!(rt;
-            brings_behind(rt.alloc(), count, &mut 0) == Ok(true),
+            brings_behind(rt.alloc(), *count, &mut 0) == Ok(true),
             "{count}"
         );
     }
@@ -725,8 +725,8 @@ const LEFT: [(u64, Left); 3] = [
 /// 256 committed places are dropped, and no fewer.
 #[test]
 fn committed_places_leave(rt: HostRuntime) {
-    for (committed, told) in LEFT {
-        assert!(rt; left(rt.alloc(), committed) == Ok(told), "{committed}");
+    for (committed, told) in &LEFT {
+        assert!(rt; left(rt.alloc(), *committed) == Ok(*told), "{committed}");
     }
 }
 

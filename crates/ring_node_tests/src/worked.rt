@@ -48,8 +48,8 @@ fn assert_steps<O: Object>(
     tickets: [Ticket; 2],
 ) -> Result<(), Fault> {
     let mut place = 0u8;
-    for want in SEEN {
-        assert!(rt; is_step(driven, tickets, place, want)?, "at {place}");
+    for want in &SEEN {
+        assert!(rt; is_step(driven, tickets, place, *want)?, "at {place}");
         place = place.saturating_add(1);
     }
     Ok(())

@@ -89,7 +89,3 @@ whole_piece = 7000
 -- a token asks for at most so many numbers
 abbrev pub most_requests : ℕ
 most_requests = 32
-
--- a frame has at most so many bytes
-abbrev pub most_frame : ℕ
-most_frame = 8192

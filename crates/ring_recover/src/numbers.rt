@@ -4,6 +4,7 @@ ghost use Rattle.std.specs.Prelude.{◌≡◌, ℕ, ◌+◌, ◌-◌, ◌^◌, �
 ghost use Rattle.std.specs.Iterator.{YieldsFirst, item_count};
 ghost use Rattle.ring_window.specs.Bits.{is_set};
 ghost use Rattle.ring_recover.specs.Chosen.{chosen, AreWords};
+ghost use Rattle.ring_base.specs.Numbers.{window_size};
 
 use crate::offsets::{COUNT, Offsets};
 use std::marker::Model;
@@ -63,7 +64,7 @@ impl Model for NumbersLeft {
 
     ghost view = { λ n. chosen_from n.after n.offsets.words n.offset };
 
-    ghost invariant = { λ n. (n.offset ≤ 256) × AreWords n.after n.offsets.words };
+    ghost invariant = { λ n. (n.offset ≤ window_size) × AreWords n.after n.offsets.words };
 }
 
 impl Iterator for NumbersLeft {

@@ -3,6 +3,7 @@
 ghost use Rattle.std.specs.Prelude.{◌≡◌, ◌≢◌, ℕ, ◌<◌, ◌≤◌, Bool, true, false};
 ghost use Rattle.ring_window.specs.Bits.{is_set, IsFirstClear};
 ghost use Rattle.ring_recover.specs.Chosen.{IsFirstSet};
+ghost use Rattle.ring_base.specs.Numbers.{window_size};
 
 use ring_base::WINDOW;
 
@@ -26,7 +27,7 @@ impl Offsets {
     /// Those that pass a test.
     pub(crate) fn such<F: Fn(usize) -> bool>(test: F) -> Offsets
         requires { F.IsAlwaysCallable test }
-        ensures { (t : ℕ → Bool) → ((j : ℕ) (r : Bool) → j < 256 → F.post test j r → r ≡ t j) → (j : ℕ) → j < 256 → is_set result.words j ≡ t j }
+        ensures { (t : ℕ → Bool) → ((j : ℕ) (r : Bool) → j < window_size → F.post test j r → r ≡ t j) → (j : ℕ) → j < window_size → is_set result.words j ≡ t j }
     {
         let mut offsets = Offsets::new();
         for j in 0..COUNT {
@@ -49,7 +50,7 @@ impl Offsets {
 
     /// Adds one.
     pub(crate) fn insert(&mut self, offset: usize)
-        requires { offset < 256 }
+        requires { offset < window_size }
         ensures this { is_set self.new.words offset ≡ true }
         ensures others { (j : ℕ) → j ≢ offset → is_set self.new.words j ≡ is_set self.old.words j }
     {
@@ -59,7 +60,7 @@ impl Offsets {
     /// The first that is not among them, 256 where all are.
     pub(crate) fn first_clear(&self) -> usize
         ensures first { IsFirstClear self.now.words 0 result }
-        ensures inside { result ≤ 256 }
+        ensures inside { result ≤ window_size }
     {
         for j in 0..COUNT {
             if !self.has(j) {
@@ -71,7 +72,7 @@ impl Offsets {
 
     /// From an offset on, the first that is among them, 256 where none is.
     pub(crate) fn first_from(&self, from: usize) -> usize
-        requires { from ≤ 256 }
+        requires { from ≤ window_size }
         ensures { IsFirstSet self.now.words from result }
     {
         for j in from..COUNT {

@@ -11,6 +11,7 @@ ghost use Rattle.ring_recover.specs.Plans.{plan_from, safe, low};
 ghost use Rattle.ring_recover.specs.Wrapping.{is_wrap_of, is_wrapped, has_own_end};
 ghost use Rattle.ring_recover.specs.Deliveries.{is_complete, regular_part, transitional_part, past_gap_part, finish};
 ghost use Rattle.ring_recover.specs.Recovering.{begun, with_seen, next_to_wrap, old_of, is_users, is_from};
+ghost use Rattle.ring_base.specs.Numbers.{window_size};
 
 use crate::delivery::Delivery;
 use crate::history::{nothing_seen, one_before};
@@ -155,7 +156,7 @@ impl<A: Allocator + Copy> Plan<A> {
     /// Whether this number of the old ring, one of the 256 after the greatest safe mark, was seen wrapped on the new ring.
     pub fn has_wrapped(&self, number: u64) -> bool
         requires low { safe self.now.plan < number }
-        requires high { number ≤ safe self.now.plan + 256 }
+        requires high { number ≤ safe self.now.plan + window_size }
         ensures { result ≡ is_wrapped self.now.seen self.now.plan.old number }
     {
         self.wrapped.has((number - self.safe - 1) as usize)
@@ -166,7 +167,7 @@ impl<A: Allocator + Copy> Plan<A> {
     pub fn to_wrap(&self, window: &Window<A>) -> Option<u64>
         requires ring { window.now.ring ≡ self.now.plan.old }
         requires mark { window.now.mark ≤ safe self.now.plan }
-        requires near { highest window.now.held window.now.ring ≤ safe self.now.plan + 256 }
+        requires near { highest window.now.held window.now.ring ≤ safe self.now.plan + window_size }
         ensures { result ≡ next_to_wrap self.now window.now.held }
     {
         for before in self.low..window.highest() {
@@ -279,7 +280,7 @@ fn note_wrap<A: Allocator + Copy>(
     after: u64,
     payload: &Payload<A>,
 )
-    ensures { (j : ℕ) → j < 256 → is_set wrapped.new.words j ≡ (is_set wrapped.old.words j || is_wrap_of old.now (after + 1 + j) payload.now) }
+    ensures { (j : ℕ) → j < window_size → is_set wrapped.new.words j ≡ (is_set wrapped.old.words j || is_wrap_of old.now (after + 1 + j) payload.now) }
 {
     match payload {
         Payload::Wrapped(message) => {
@@ -298,7 +299,7 @@ fn note_wrap<A: Allocator + Copy>(
 
 /// Adds a number to those at their offsets after another, where it is one of the 256 after it.
 fn note(offsets: &mut Offsets, after: u64, number: u64)
-    ensures { (j : ℕ) → j < 256 → is_set offsets.new.words j ≡ (is_set offsets.old.words j || (number == after + 1 + j)) }
+    ensures { (j : ℕ) → j < window_size → is_set offsets.new.words j ≡ (is_set offsets.old.words j || (number == after + 1 + j)) }
 {
     if after < number && number - after <= WINDOW {
         offsets.insert((number - after - 1) as usize);

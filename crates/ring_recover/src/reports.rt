@@ -7,6 +7,7 @@ ghost use Rattle.ring_window.specs.Bits.{is_set};
 ghost use Rattle.ring_commit.specs.Tokens.{CommitEntry as OneEntry};
 ghost use Rattle.ring_commit.specs.Reports.{reports_of, safe_of, none_behind};
 ghost use Rattle.ring_recover.specs.Plans.{is_reported, least, mates_among};
+ghost use Rattle.ring_base.specs.Numbers.{window_size};
 
 use crate::offsets::Offsets;
 use ring_base::{ProcSet, RingId, WINDOW};
@@ -79,7 +80,7 @@ pub(crate) fn least_front(reports: &[CommitEntry]) -> u64
 /// Which of the 256 numbers after the greatest safe mark were reported.
 pub(crate) fn known_after(safe: u64, reports: &[CommitEntry]) -> Offsets
     requires { none_behind safe reports.now ≡ true }
-    ensures { (j : ℕ) → j < 256 → is_set result.words j ≡ list_any (is_reported (safe + 1 + j)) reports.now }
+    ensures { (j : ℕ) → j < window_size → is_set result.words j ≡ list_any (is_reported (safe + 1 + j)) reports.now }
 {
     Offsets::such(|j| is_any_holding(safe, j, reports))
 }

@@ -453,12 +453,12 @@ fn a_silent_processor_is_given_up(rt: HostRuntime) -> Result<(), Fail> {
 /// marks back.
 #[test]
 fn formed_rings_give_what_is_worked_out(rt: HostRuntime) -> Result<(), Fail> {
-    for (count, run, want) in [
+    for (count, run, want) in &[
         (2, (LOSS, 10), (Shown::All, LOST_AND_REPEATED)),
         (2, (TIMEOUTS, 5), (Shown::All, FIRST_TOKEN)),
         (3, (TWO_LACK, 43), (Shown::Visits, TWO_ASKED_FOR)),
     ] {
-        let gives = gives(rt.alloc(), (Opening::FormedRing, count), run, want)?;
+        let gives = gives(rt.alloc(), (Opening::FormedRing, *count), *run, *want)?;
         assert!(rt; gives, "{}", run.0);
     }
     Ok(())
@@ -478,11 +478,11 @@ fn recovers<A: Allocator + Copy>(
 /// Two fill each other's gaps, and an outsider's message is not delivered past the gap.
 #[test]
 fn recoveries_give_what_is_worked_out(rt: HostRuntime) -> Result<(), Fail> {
-    for (count, script, want) in [
+    for (count, script, want) in &[
         (2, GAPS_FILLED, BOTH_DELIVER_FOUR),
         (3, GAP_LEFT, OUTSIDER_DISCARDED),
     ] {
-        assert!(rt; recovers(rt.alloc(), count, script, want)?, "{script}");
+        assert!(rt; recovers(rt.alloc(), *count, *script, *want)?, "{script}");
     }
     Ok(())
 }

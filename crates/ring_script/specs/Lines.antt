@@ -12,6 +12,7 @@ use Rattle.ring_script.specs.Numbers.{is, decimal_of, word_at, number_at, node_a
 use Rattle.ring_script.specs.Operations.{Form, operation_at}
 use Rattle.ring_script.specs.Reading.{◌>>=◌}
 use Rattle.ring_script.specs.Words.{words_of, whole}
+use Rattle.ring_base.specs.Numbers.{most_frame}
 
 -- ---- what a line asks for
 
@@ -112,7 +113,7 @@ unfoldable pub noise_at : Group → List (List ℕ) → Option (Asked × List (L
 noise_at nodes words = do
   node ← node_at nodes words
   word ← word_at node.1
-  bytes ← bytes_of 8192 word.0
+  bytes ← bytes_of most_frame word.0
   Some (Noise node.0 bytes, word.1)
 
 unfoldable pub stop_at : Group → List (List ℕ) → Option (Asked × List (List ℕ))

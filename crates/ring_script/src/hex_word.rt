@@ -5,6 +5,7 @@ ghost use Rattle.std.specs.List.{list_any};
 ghost use Rattle.std.specs.Prelude.{◌≡◌, ◌≤◌};
 ghost use Rattle.ring_script.specs.HexWords.{bytes_of};
 ghost use Rattle.ring_script.specs.Reading.{Gives};
+ghost use Rattle.ring_base.specs.Numbers.{most_frame};
 
 use ring_base::Fault;
 use std::alloc::Allocator;
@@ -16,7 +17,7 @@ pub(crate) fn bytes_of<A: Allocator + Copy>(
     word: &[u8],
     most: usize,
 ) -> Result<Vec<u8, A>, Fault>
-    requires { most ≤ 8192 }
+    requires { most ≤ most_frame }
     ensures { Gives (λ bytes. bytes.items) result (bytes_of most word.now) }
 {
     if word.is_empty() || word.len() > 2 * most || has_upper_case(word) {

@@ -5,6 +5,7 @@ ghost use Rattle.ring_base.specs.declared.fault.Fault.TheVariants.{Memory};
 ghost use Rattle.ring_window.specs.Held.{highest};
 ghost use Rattle.ring_recover.specs.Plans.{safe};
 ghost use Rattle.ring_srp_state.specs.Wraps.{wrap_left, left_and_end};
+ghost use Rattle.ring_base.specs.Numbers.{window_size};
 
 use ring_base::Fault;
 use ring_payload::Payload;
@@ -21,7 +22,7 @@ pub fn first_left<A: Allocator + Copy>(
 ) -> Result<Vec<Payload<A>, A>, Fault>
     requires ring { window.now.ring ≡ plan.now.plan.old }
     requires mark { window.now.mark ≤ safe plan.now.plan }
-    requires near { highest window.now.held window.now.ring ≤ safe plan.now.plan + 256 }
+    requires near { highest window.now.held window.now.ring ≤ safe plan.now.plan + window_size }
     ensures items { IfOk result (λ payloads. payloads.items ≡ take most (left_and_end plan.now window.now.held)) }
     ensures refused { IfErr result (λ fault. fault ≡ Memory) }
 {
@@ -51,7 +52,7 @@ fn wrap_if_left<A: Allocator + Copy>(
     requires ring { window.now.ring ≡ plan.now.plan.old }
     requires mark { window.now.mark ≤ safe plan.now.plan }
     requires low { safe plan.now.plan < number }
-    requires high { number ≤ safe plan.now.plan + 256 }
+    requires high { number ≤ safe plan.now.plan + window_size }
     ensures ok { IfOk result (λ payload. payload ≡ wrap_left plan.now window.now.held number) }
     ensures refused { IfErr result (λ fault. fault ≡ Memory) }
 {

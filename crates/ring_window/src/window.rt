@@ -6,6 +6,7 @@ ghost use Rattle.ring_window.specs.Held.{holds, front_of, highest as highest_of,
 ghost use Rattle.ring_window.specs.Bits.{held_bits as bits_of_held, is_set, IsFirstClear};
 ghost use Rattle.ring_window.specs.Windows.{opened, takes, taken, forgotten, kept, first_missing};
 ghost use Rattle.ring_window.specs.Places.{place_of, in_place};
+ghost use Rattle.ring_base.specs.Numbers.{window_size};
 
 use crate::held_bits::HeldBits;
 use crate::history::{nothing_held, one_more};
@@ -205,7 +206,7 @@ impl<A: Allocator + Copy> Clone for Window<A> {
 /// The place of a number's message.
 fn place_of(number: u64) -> usize
     requires { 1 ≤ number }
-    ensures { result ≡ (number - 1) % 256 }
+    ensures { result ≡ (number - 1) % window_size }
 {
     ((number - 1) % WINDOW) as usize
 }
@@ -213,7 +214,7 @@ fn place_of(number: u64) -> usize
 /// The front once the bit of a number is set too.
 fn front_with(bits: &HeldBits, mark: u64, front: u64, number: u64) -> u64
     requires above { mark < number }
-    requires inside { number ≤ mark + 256 }
+    requires inside { number ≤ mark + window_size }
     requires fits { (j : ℕ) → is_set bits.now.words j ≡ true → mark + 1 + j < 2 ^ 64 }
     ensures stays { number ≢ suc front → result ≡ front }
     ensures goes { number ≡ suc front → (k : ℕ) × (result ≡ mark + k) × IsFirstClear bits.now.words (number - mark - 1) k }
@@ -226,7 +227,7 @@ fn front_with(bits: &HeldBits, mark: u64, front: u64, number: u64) -> u64
 
 /// Places for a window's messages, without one.
 fn empty_places<A: Allocator + Copy>(alloc: A) -> Result<Vec<Option<Message<A>>, A>, Fault>
-    ensures count { IfOk result (λ places. length places.items ≡ 256) }
+    ensures count { IfOk result (λ places. length places.items ≡ window_size) }
     ensures empty { IfOk result (λ places. (j : ℕ) → slice_index_or places.items j None ≡ None) }
     ensures refused { IfErr result (λ fault. fault ≡ Memory) }
 {
@@ -248,7 +249,7 @@ fn copied_places<A: Allocator + Copy>(
 
 /// Puts a message into its place.
 fn put<A: Allocator + Copy>(places: &mut Vec<Option<Message<A>>, A>, message: Message<A>)
-    requires count { length places.old.items ≡ 256 }
+    requires count { length places.old.items ≡ window_size }
     requires number { 1 ≤ message.number }
     ensures { places.new.items ≡ slice_set places.old.items (place_of message.number) (Some message) }
 {
@@ -258,12 +259,12 @@ fn put<A: Allocator + Copy>(places: &mut Vec<Option<Message<A>>, A>, message: Me
 
 /// Empties the places of the numbers after a mark, up to another.
 fn clear_places<A: Allocator + Copy>(places: &mut Vec<Option<Message<A>>, A>, mark: u64, upto: u64)
-    requires count { length places.old.items ≡ 256 }
+    requires count { length places.old.items ≡ window_size }
     requires order { mark ≤ upto }
-    requires inside { upto ≤ mark + 256 }
-    ensures count { length places.new.items ≡ 256 }
+    requires inside { upto ≤ mark + window_size }
+    ensures count { length places.new.items ≡ window_size }
     ensures cleared { (n : ℕ) → mark < n → n ≤ upto → in_place places.new.items n ≡ None }
-    ensures others { (n : ℕ) → upto < n → n ≤ mark + 256 → in_place places.new.items n ≡ in_place places.old.items n }
+    ensures others { (n : ℕ) → upto < n → n ≤ mark + window_size → in_place places.new.items n ≡ in_place places.old.items n }
 {
     for before in mark..upto {
         places[(before % WINDOW) as usize].take();

@@ -6,6 +6,7 @@ use Rattle.ring_base.specs.Processors.{has}
 use Rattle.ring_wire.specs.Frames.{spelling_of, FrameFits}
 use Rattle.ring_core.specs.State.{Carried}
 use Rattle.ring_world.specs.declared.frames.Mark.{Mark}
+use Rattle.ring_base.specs.Numbers.{most_frame}
 
 -- what contracts see: the frames, and for how many more there is a place, and room for how many bytes
 pub record Stored (A : Type 0) : Type 0 where
@@ -16,7 +17,7 @@ pub record Stored (A : Type 0) : Type 0 where
 -- there is room for so many frames, each of 8,192 bytes at most
 pub record HasRoom {A : Type 0} (many : ℕ) (s : Stored A) : Type 0 where
   pub places : many ≤ s.places
-  pub bytes : many * 8192 ≤ s.bytes
+  pub bytes : many * most_frame ≤ s.bytes
 
 -- What is kept
 

@@ -93,11 +93,19 @@ fn is_answered_later<O: Object>(
     Ok(is_answered && is_five(&counter(client)) && order_len(shared)? == 2)
 }
 
+/// Whether the call stays open twice, and is answered later.
+fn is_tried_in_vain<O: Object>(
+    client: &mut Client<WorldPort<O>>,
+    shared: &Shared<O>,
+) -> Result<bool, Fault> {
+    let stays = stays_open(client) && stays_open(client);
+    Ok(stays && is_answered_later(client, shared)?)
+}
+
 /// Nobody hears anybody, until the call was tried twice.
 fn call_in_vain<O: Object>(alloc: O::Alloc) -> Result<bool, Fault> {
     let (shared, mut client) = opened::<O>(alloc, ProcSet::new(), 300)?;
-    let stays = stays_open(&mut client) && stays_open(&mut client);
-    Ok(stays && is_answered_later(&mut client, &shared)?)
+    is_tried_in_vain(&mut client, &shared)
 }
 
 #[test]
@@ -163,12 +171,20 @@ fn is_sent_once<O: Object>(
     Ok(is_five(&seen) && is_by_first && committed(shared, 1)? == 2 && order_len(shared)? == 2)
 }
 
+/// Whether both are so, one after the other.
+fn counts_once<O: Object>(
+    client: &mut Client<WorldPort<O>>,
+    shared: &Shared<O>,
+) -> Result<bool, Fault> {
+    let is_answered = is_answered_by_second(client, shared)?;
+    Ok(is_answered && is_sent_once(client, shared)?)
+}
+
 /// The first of the client's nodes is cut off from the others, until the second answered.
 fn call_past_a_cut<O: Object>(alloc: O::Alloc) -> Result<bool, Fault> {
     let others = everybody()?.less(ProcSet::only(Proc::new(1)));
     let (shared, mut client) = opened::<O>(alloc, others, 200)?;
-    let is_answered = is_answered_by_second(&mut client, &shared)?;
-    Ok(is_answered && is_sent_once(&mut client, &shared)?)
+    counts_once(&mut client, &shared)
 }
 
 #[test]

@@ -6,8 +6,9 @@ use ring_base::Fault;
 use ring_checker::is_linearization;
 use ring_client::{Client, Port};
 use ring_object::{Object, Reply};
+use ring_payload::Call;
 use ring_things::Counters;
-use ring_world_port::{Shared, WorldPort};
+use ring_world_port::{Shared, World, WorldPort};
 use std::alloc::Global;
 use std::process::Abort;
 
@@ -45,17 +46,26 @@ fn replied<O: Object>(heap: O::Alloc, shared: &Shared<O>) -> Result<Reply, Fault
     called(&mut client)
 }
 
+/// The order of a world, asked for once more if it is refused memory.
+fn order_of<O: Object>(world: &World<O>) -> Result<Vec<Call<O::Alloc>, O::Alloc>, Fault> {
+    match world.order() {
+        Err(Fault::Memory) => world.order(),
+        order => order,
+    }
+}
+
 /// Whether the order of the world explains its history.
+fn is_explained<O: Object>(world: &World<O>, ample: O::Alloc) -> Result<bool, Fault> {
+    let order = order_of(world)?;
+    is_linearization::<O>(ample, order.as_slice(), world.history())
+}
+
+/// The same of the world of three nodes.
 fn explains<O: Object>(shared: &Shared<O>, ample: O::Alloc) -> Result<bool, Fault> {
     let Ok(network) = shared.try_borrow() else {
         return Err(Fault::NoAnswer);
     };
-    let world = network.world();
-    let order = match world.order() {
-        Err(Fault::Memory) => world.order()?,
-        order => order?,
-    };
-    is_linearization::<O>(ample, order.as_slice(), world.history())
+    is_explained(network.world(), ample)
 }
 
 /// Whether a client's call at node 1, and at node 2 where that doesn't answer, is answered, and takes effect once.

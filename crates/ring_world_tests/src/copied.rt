@@ -32,32 +32,44 @@ fn shown<O: Object>(alloc: O::Alloc, world: &World<O>) -> Result<String<O::Alloc
     Ok(shown)
 }
 
-/// A world after some lines, and after some more; what its copy shows where it went on, and where the world went on before it did.
-fn seen<O: Object>(
+/// Whether this is to be seen of a world.
+fn shows<O: Object>(alloc: O::Alloc, world: &World<O>, text: &str) -> Result<bool, Fault> {
+    let shown = shown(alloc, world)?;
+    Ok(shown.as_str() == text)
+}
+
+/// A world goes on, and then its copy. Whether the copy showed in between what was shown before, whether the world did, and whether both
+/// show the same at the end.
+fn go_on<O: Object>(
     alloc: O::Alloc,
-) -> Result<
-    (
-        String<O::Alloc>,
-        String<O::Alloc>,
-        String<O::Alloc>,
-        String<O::Alloc>,
-    ),
-    Fault,
-> {
-    let mut world = world_after::<O>(alloc, 1, &BEFORE)?;
+    world: &mut World<O>,
+    copy: &mut World<O>,
+    before: &str,
+) -> Result<[bool; 3], Fault> {
+    run_lines(world, alloc, &BEHIND)?;
+    let copy_stays = shows(alloc, copy, before)?;
+    let world_stays = shows(alloc, world, before)?;
+    run_lines(copy, alloc, &BEHIND)?;
+    let after = shown(alloc, copy)?;
+    let are_same = shows(alloc, world, after.as_str())?;
+    Ok([copy_stays, world_stays, are_same])
+}
+
+/// The same of this world and a new copy.
+fn go_on_apart<O: Object>(alloc: O::Alloc, world: &mut World<O>) -> Result<[bool; 3], Fault> {
+    let before = shown(alloc, world)?;
     let mut copy = world.copy()?;
-    let before = shown(alloc, &world)?;
-    run_lines(&mut world, alloc, &BEHIND)?;
-    let copied = shown(alloc, &copy)?;
-    run_lines(&mut copy, alloc, &BEHIND)?;
-    Ok((before, copied, shown(alloc, &world)?, shown(alloc, &copy)?))
+    go_on(alloc, world, &mut copy, before.as_str())
+}
+
+/// The same of a new world.
+fn go_on_anew<O: Object>(alloc: O::Alloc) -> Result<[bool; 3], Fault> {
+    let mut world = world_after::<O>(alloc, 1, &BEFORE)?;
+    go_on_apart(alloc, &mut world)
 }
 
 #[test]
 fn a_copy_goes_on_by_itself(rt: HostRuntime) -> Result<(), Fail> {
-    let (before, copied, world, copy) = seen::<Counters>(rt.alloc())?;
-    assert!(rt; copied.as_str() == before.as_str());
-    assert!(rt; world.as_str() != before.as_str());
-    assert!(rt; copy.as_str() == world.as_str());
+    assert!(rt; go_on_anew::<Counters>(rt.alloc())? == [true, false, true]);
     Ok(())
 }

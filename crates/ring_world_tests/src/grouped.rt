@@ -47,23 +47,16 @@ fn place_of(number: u8) -> usize {
 /// No step gives more letters or calls.
 const MOST: u32 = 10_000;
 
-/// How many calls the last step newly committed.
-fn committed_by<O: Object>(driver: &mut Driver<O>) -> u64 {
+/// How many calls the last step newly committed, or dropped.
+fn told_by<O: Object>(driver: &mut Driver<O>, dropped: bool) -> u64 {
     let mut count = 0u64;
     for _ in 0..MOST {
-        if driver.next_committed().is_none() {
-            return count;
-        }
-        count = count.saturating_add(1);
-    }
-    count
-}
-
-/// How many calls the last step dropped.
-fn dropped_by<O: Object>(driver: &mut Driver<O>) -> u64 {
-    let mut count = 0u64;
-    for _ in 0..MOST {
-        if driver.next_dropped().is_none() {
+        let is_end = if dropped {
+            driver.next_dropped().is_none()
+        } else {
+            driver.next_committed().is_none()
+        };
+        if is_end {
             return count;
         }
         count = count.saturating_add(1);
@@ -76,11 +69,28 @@ impl<O: Object> Member<O> {
     fn follow(&mut self) {
         let (committed, dropped, restored) = self.told;
         self.told = (
-            committed.saturating_add(committed_by(&mut self.driver)),
-            dropped.saturating_add(dropped_by(&mut self.driver)),
+            committed.saturating_add(told_by(&mut self.driver, false)),
+            dropped.saturating_add(told_by(&mut self.driver, true)),
             self.driver.restored().or(restored),
         );
     }
+}
+
+/// The letter is on its way to each of its receivers.
+fn post_letter<A: Allocator + Copy>(
+    heap: A,
+    letter: &Letter<A>,
+    (from, receivers): (Proc, ProcSet),
+    mails: &mut VecDeque<Mail<A>, A>,
+) -> Result<(), Fault> {
+    for number in 1..=16 {
+        let to = Proc::new(number);
+        if receivers.contains(to) {
+            let bytes = letter.bytes(heap)?;
+            mails.push_back(Mail { from, to, bytes })?;
+        }
+    }
+    Ok(())
 }
 
 /// What a step sent is on its way to each of its receivers.
@@ -94,13 +104,23 @@ fn post<O: Object>(
         let Some((receivers, letter)) = driver.next_send() else {
             return Ok(());
         };
-        for number in 1..=16 {
-            let to = Proc::new(number);
-            if receivers.contains(to) {
-                let bytes = letter.bytes(heap)?;
-                mails.push_back(Mail { from, to, bytes })?;
-            }
-        }
+        post_letter(heap, &letter, (from, receivers), mails)?;
+    }
+    Ok(())
+}
+
+/// Adds the nodes of a group at their opening, of which the last has its memory in `last`.
+fn add_members<O: Object>(
+    heap: O::Alloc,
+    last: O::Alloc,
+    fixed: Fixed,
+    members: &mut Vec<Member<O>, O::Alloc>,
+) -> Result<(), Fault> {
+    for number in 1..=fixed.count() {
+        let memory = if number == fixed.count() { last } else { heap };
+        let driver = Driver::new(memory, fixed, number)?;
+        let told = (0, 0, None);
+        members.push(Member { driver, told })?;
     }
     Ok(())
 }
@@ -110,12 +130,7 @@ impl<O: Object> Grouped<O> {
     pub fn new(heap: O::Alloc, last: O::Alloc, count: u8) -> Result<Grouped<O>, Fault> {
         let fixed = Fixed::new(count)?;
         let mut members = Vec::new(heap);
-        for number in 1..=count {
-            let memory = if number == count { last } else { heap };
-            let driver = Driver::new(memory, fixed, number)?;
-            let told = (0, 0, None);
-            members.push(Member { driver, told })?;
-        }
+        add_members(heap, last, fixed, &mut members)?;
         Ok(Grouped {
             heap,
             fixed,
@@ -169,17 +184,17 @@ impl<O: Object> Grouped<O> {
                 return Ok(());
             };
             if self.apart.contains(mail.from) == self.apart.contains(mail.to) {
-                self.hear(mail)?;
+                self.hear(&mail)?;
             }
         }
         Ok(())
     }
 
     /// A letter comes to its receiver.
-    fn hear(&mut self, mail: Mail<O::Alloc>) -> Result<(), Fault> {
-        let letter = Letter::read(self.heap, mail.bytes.as_slice())?;
+    fn hear(&mut self, mail: &Mail<O::Alloc>) -> Result<(), Fault> {
         match self.members.get_mut(place_of(mail.to.number())) {
             Some(member) => {
+                let letter = Letter::read(self.heap, mail.bytes.as_slice())?;
                 member.driver.hear(letter)?;
                 member.follow();
                 post(self.heap, &mut member.driver, mail.to, &mut self.mails)

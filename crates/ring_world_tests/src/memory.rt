@@ -78,37 +78,37 @@ fn refused_events<O: Object>(world: &World<O>) -> Result<u64, Fault> {
     }
 }
 
-/// How often memory was refused to the order.
-fn refused_orders<O: Object>(world: &World<O>) -> Result<u64, Fault> {
-    match world.order() {
-        Ok(_) => Ok(0),
-        Err(Fault::Memory) => {
-            world.order()?;
-            Ok(1)
-        }
-        Err(fault) => Err(fault),
-    }
+/// What is asked of a world, and takes memory: its copy, its order, or the committed places of its node.
+#[derive(Clone, Copy)]
+enum Question {
+    Copy,
+    Order,
+    Committed,
 }
 
-/// How often memory was refused to the copies of the committed places.
-fn refused_copies<O: Object>(world: &World<O>) -> Result<u64, Fault> {
-    let node = world.fixed().proc(1)?;
-    match world.committed(node) {
-        Ok(_) => Ok(0),
-        Err(Fault::Memory) => {
-            world.committed(node)?;
-            Ok(1)
+/// The world is asked that.
+fn ask<O: Object>(world: &World<O>, question: Question) -> Result<(), Fault> {
+    match question {
+        Question::Copy => {
+            let _copy = world.copy()?;
         }
-        Err(fault) => Err(fault),
+        Question::Order => {
+            let _order = world.order()?;
+        }
+        Question::Committed => {
+            let node = world.fixed().proc(1)?;
+            let _calls = world.committed(node)?;
+        }
     }
+    Ok(())
 }
 
-/// How often memory was refused to a copy of the world.
-fn refused_worlds<O: Object>(world: &World<O>) -> Result<u64, Fault> {
-    match world.copy() {
-        Ok(_) => Ok(0),
+/// How often memory was refused to the answer.
+fn refused_answers<O: Object>(world: &World<O>, question: Question) -> Result<u64, Fault> {
+    match ask(world, question) {
+        Ok(()) => Ok(0),
         Err(Fault::Memory) => {
-            world.copy()?;
+            ask(world, question)?;
             Ok(1)
         }
         Err(fault) => Err(fault),
@@ -124,12 +124,12 @@ fn refused_then<O: Object>(
 ) -> Result<u64, Fault> {
     let runs = refused_runs(world, ample)?;
     let events = refused_events(world)?;
-    let worlds = refused_worlds(world)?;
-    let orders = refused_orders(world)?;
-    let copies = refused_copies(world)?;
+    let copies = refused_answers(world, Question::Copy)?;
+    let orders = refused_answers(world, Question::Order)?;
+    let committed = refused_answers(world, Question::Committed)?;
     let done = before.saturating_add(runs).saturating_add(events);
-    let copied = worlds.saturating_add(copies);
-    Ok(done.saturating_add(orders).saturating_add(copied))
+    let answered = copies.saturating_add(orders).saturating_add(committed);
+    Ok(done.saturating_add(answered))
 }
 
 /// The same of a world whose opening was refused memory once.

@@ -114,19 +114,17 @@ refused 1 7.66 8
 events 68 history 64 order 0
 ";
 
-/// How many nodes a run has, its lines, and what they show.
-const RUNS: [(u8, &[Line], &str); 4] = [
-    (1, &ALONE, ALONE_SHOWN),
-    (3, &SETTLED, SETTLED_SHOWN),
-    (3, &STRANGE, STRANGE_SHOWN),
-    (1, &REFUSED, REFUSED_SHOWN),
-];
-
 #[test]
 fn worlds_show_what_is_worked_out(rt: HostRuntime) -> Result<(), Fail> {
-    for (count, lines, want) in RUNS {
-        let shown = played::<Counters>(rt.alloc(), count, lines)?;
-        assert!(rt; shown.as_str() == want);
+    // how many nodes a run has, its lines, and what they show
+    for (count, lines, want) in &[
+        (1, &ALONE[..], ALONE_SHOWN),
+        (3, &SETTLED[..], SETTLED_SHOWN),
+        (3, &STRANGE[..], STRANGE_SHOWN),
+        (1, &REFUSED[..], REFUSED_SHOWN),
+    ] {
+        let shown = played::<Counters>(rt.alloc(), *count, *lines)?;
+        assert!(rt; shown.as_str() == *want);
     }
     Ok(())
 }

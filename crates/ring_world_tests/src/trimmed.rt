@@ -53,19 +53,26 @@ fn numbered<A: Allocator + Copy>(calls: &[Call<A>]) -> Option<usize> {
 /// says that the order is.
 type Seen = (u64, usize, Option<usize>, Option<usize>, u64);
 
+/// How many calls the world knows as committed at its only node, if they are numbered.
+fn committed<O: Object>(world: &World<O>) -> Result<Option<usize>, Fault> {
+    let number = world.fixed().proc(1)?;
+    let calls = world.committed(number)?;
+    Ok(numbered(&calls))
+}
+
+/// How many calls its order has, if they are numbered.
+fn ordered<O: Object>(world: &World<O>) -> Result<Option<usize>, Fault> {
+    let order = world.order()?;
+    Ok(numbered(&order))
+}
+
 /// What is seen of this world.
 fn seen<O: Object>(world: &World<O>) -> Result<Seen, Fault> {
     let number = world.fixed().proc(1)?;
     let node = world.node(number);
-    let committed = world.committed(number)?;
-    let order = world.order()?;
-    Ok((
-        node.trimmed(),
-        node.committed().len(),
-        numbered(&committed),
-        numbered(&order),
-        world.order_len(),
-    ))
+    let (trimmed, kept) = (node.trimmed(), node.committed().len());
+    let (committed, order) = (committed(world)?, ordered(world)?);
+    Ok((trimmed, kept, committed, order, world.order_len()))
 }
 
 /// What is seen of a world after some more lines.
