@@ -1,7 +1,8 @@
 #!/usr/bin/env python3
 """Tells what the proof of each function of a crate costs, in seconds, the dearest first.
 
-    python3 bench/functions.py CRATE [N]      from the top of the repository; N functions at most, 30 where none is given
+    python3 bench/functions.py CRATE [N] [--tests]      from the top of the repository; N functions at most, 30 where none is
+                                                        given; --tests: the crate as its tests are proved
 
 A function's proof is several modules: what its body does (`Code`), what it borrows and lets go at each exit (`Lts`), the goals
 that are left (`Answers`, `Tie`), and all of it together (`Proof`). The check keeps each module in a file of `out/incremental`
@@ -36,12 +37,14 @@ def modules(folder, began):
 
 
 def main():
-    if not 2 <= len(sys.argv) <= 3:
+    words = [it for it in sys.argv[1:] if it != "--tests"]
+    tests = ["--test"] if "--tests" in sys.argv else []
+    if not 1 <= len(words) <= 2:
         sys.exit(__doc__)
-    crate, most = sys.argv[1], int(sys.argv[2]) if len(sys.argv) > 2 else 30
+    crate, most = words[0], int(words[1]) if len(words) > 1 else 30
     shutil.rmtree(f"crates/{crate}/out/incremental", ignore_errors=True)
     began = time.time()
-    status = subprocess.run(["rt", "check", "--jobs", "1"], cwd=f"crates/{crate}").returncode
+    status = subprocess.run(["rt", "check", *tests, "--jobs", "1"], cwd=f"crates/{crate}").returncode
     kinds, functions = collections.Counter(), collections.Counter()
     for seconds, name in modules(f"crates/{crate}/out/incremental", began):
         library, *path = name.split(".")
