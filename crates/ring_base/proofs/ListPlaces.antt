@@ -1,5 +1,5 @@
 -- What stands at a list's places: with one more at its end, behind it or written over, and in a row of numbers.
-use Rattle.std.proofs.Common.{◌≡◌, ℕ, zero, suc, ◌+◌, List, [], ◌∷◌, ◌++◌, length, Some, slice_get, refl, arith, ◌⊎◌, inl, inr, ◌-◌, ◌<◌, slice_set, ◌≤◌}
+use Rattle.std.proofs.Common.{◌≡◌, ℕ, zero, suc, ◌+◌, List, [], ◌∷◌, ◌++◌, length, Some, slice_get, refl, arith, ◌⊎◌, inl, inr, ◌<◌, slice_set, ◌≤◌}
 use Rattle.std.proofs.Common.{None, ap, map, ◌∙◌, sym, Bor, option_copied, Option}
 use Rattle.std.proofs.lemmas.List.{map-append}
 use Rattle.std.proofs.lemmas.Option.{slice_get_read, slice_get_past}
@@ -90,3 +90,17 @@ map_numbers f n =
     let here : 0 + n ≡ n = omega arith in
     let more : numbers_from 0 (n + 1) ≡ numbers_from 0 n ++ n ∷ [] = rw here at (numbers_more 0 n) in
     ap (map f) more ∙ map-append f (numbers_from 0 n) (n ∷ [])
+
+-- inside a list there is an element
+pub has-place : {X : Type 0} (xs : List X) (k : ℕ) → k < length xs → (x : X) × (slice_get xs k ≡ Some x)
+has-place [] k within = absurd (omega (arith, within))
+has-place (x ∷ xs) zero within = (x, refl)
+has-place (x ∷ xs) (suc k) within = has-place xs k (omega (arith, within))
+
+-- what stands in a list with one more
+pub added_cases : {X : Type 0} (xs : List X) (y : X) (i : ℕ) (x : X) → slice_get (xs ++ y ∷ []) i ≡ Some x
+    → ((i ≡ length xs) × (x ≡ y)) ⊎ (slice_get xs i ≡ Some x)
+added_cases [] y zero x h = inl (refl, cc)
+added_cases [] y (suc i) x h = cc
+added_cases (z ∷ xs) y zero x h = inr h
+added_cases (z ∷ xs) y (suc i) x h = elim (added_cases xs y i x h) [ inl w ↦ inl (ap suc w.0, w.1) | inr w ↦ inr w ]

@@ -1,5 +1,5 @@
 -- What is said of a result that is a value, of one that is an error, and of both.
-use Rattle.std.specs.Prelude.{Result, Ok, Err, OnOk, OnErr, IfErr}
+use Rattle.std.specs.Prelude.{Result, Ok, Err, OnOk, OnErr, IfErr, IsErrAnd}
 use Rattle.std.proofs.Common.{◌≡◌, ◌∙◌, sym, subst, Option, Some, ap}
 
 -- what follows from a clause of a value
@@ -34,3 +34,8 @@ pub if-err : {X E : Type 0} (r : Result X E) (P : Type 0) (o : Option E) (e : E)
     → IfErr r (λ f. f ≡ e) → IfErr r (λ f. o ≡ Some f)
 if-err (Ok x) P o e f h k = h
 if-err (Err f') P o e f h k = f h ∙ ap (λ x. Some x) (sym k)
+
+-- what holds of an error holds of the result that it is
+pub value_at_err : {T E : Type 0} (r : Result T E) (f : E) (P : E → Type 0) → IsErrAnd r (λ (e : E). e ≡ f) → P f → IfErr r P
+value_at_err (Ok x) f P is p = tt
+value_at_err (Err e) f P is p = subst P (sym is) p

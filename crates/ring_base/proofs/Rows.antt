@@ -1,6 +1,7 @@
 -- One element more of a list that is gone through.
 use Rattle.std.proofs.Common.{◌≡◌, ℕ, zero, suc, ◌+◌, ◌<◌, List, [], ◌∷◌, ◌++◌, length, take, drop, get_or, slice_get, Some, ap, sym, ◌∙◌, add-one, arith}
-use Rattle.std.proofs.Common.{◌-◌}
+use Rattle.std.proofs.Common.{◌-◌, All}
+use Rattle.std.proofs.lemmas.List.Elements.{All-push}
 
 -- what is left of a list begins with the element at the place
 pub drop-next : {X : Type 0} (xs : List X) (i : ℕ) (x : X) → i < length xs → x ≡ get_or xs i x → drop i xs ≡ x ∷ drop (i + 1) xs
@@ -30,3 +31,7 @@ take-more xs i x e = ap (λ n. take n xs) (add-one i) ∙ take-found xs i x e
 -- how many are left: one, and what is left after it
 pub left-next : (most counter : ℕ) → counter < most → most - counter ≡ suc (most - (counter + 1))
 left-next most counter l = omega arith
+
+-- what holds of all that a list has, and of what is pushed, holds of all that it has then
+pub pushed : {X : Type 0} (P : X → Type 0) (xs ys : List X) (x : X) → All P xs → P x → ys ≡ xs ++ x ∷ [] → All P ys
+pushed P xs ys x all one e = rw e (All-push P xs x all one)

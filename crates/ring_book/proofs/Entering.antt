@@ -23,9 +23,8 @@ use Rattle.ring_book_lines.proofs.Leading.{steps_of-own, steps_of-other, steps_o
 use Rattle.ring_book_lines.proofs.Logging.{log_in-snoc}
 use Rattle.std.specs.List.{AllByRecursion as Each}
 use Rattle.ring_base.proofs.Each.{each-get, each-placed, each-push}
-use Rattle.ring_base.proofs.ListPlaces.{set_cases}
+use Rattle.ring_base.proofs.ListPlaces.{set_cases, added_cases}
 use Rattle.ring_book_lines.proofs.AnswersByTicket.{told_from-snoc, length-told_by}
-use Rattle.ring_book.proofs.AddedLines.{added_cases}
 use Rattle.ring_base.specs.Numbers.{most_frame}
 
 pub end_ring : {A : Type 0} (c d : End A) → SameConsumer c d → ring_of_consumer d ≡ ring_of_consumer c

@@ -10,4 +10,3 @@ pub mod Journaling
 pub mod Entering
 pub mod Looking
 pub mod Opened
-pub mod AddedLines

@@ -1,4 +1,3 @@
 pub mod Apart
-pub mod Pushed
 pub mod Taken
 pub mod Ports

@@ -4,8 +4,9 @@ use Rattle.std.proofs.Common.{length, take, Option, Some, None, slice_get, slice
 use Rattle.std.proofs.Common.{◌∙◌, arith, add-one, length-append, inl, inr}
 use Rattle.std.proofs.lemmas.List.Elements.{All-nil}
 use Rattle.std.proofs.lemmas.Option.{slice_get_within}
+use Rattle.std.proofs.lemmas.Bool.{cases_lt}
 use Rattle.ring_base.specs.Fronts.{front_get, front_append}
-use Rattle.ring_base.proofs.ListPlaces.{get-last}
+use Rattle.ring_base.proofs.ListPlaces.{get-last, has-place}
 use Rattle.ring_object.specs.Operations.{Sequential, content_after}
 use Rattle.ring_payload.specs.declared.call.Call.{Call}
 use Rattle.ring_session.specs.Deduplicated.{StandsAt, IsNumbered, operations}
@@ -18,8 +19,8 @@ use Rattle.ring_rules.specs.declared.item.Item.TheVariants.{Issue, Reply}
 use Rattle.ring_checker.specs.Checks.{is_issue_of, first_issue, place_in, IsIssuedBefore, AreIssuedBefore, ArePlaces, IsRightAt, IsRightIn, AreRight}
 use Rattle.ring_checker.proofs.Places.{is_same-self, place_in-stands, place_in-numbered}
 use Rattle.ring_rules.specs.Histories.{IsIssuedAt, IsRepliedAt, IsLinearization}
-use Rattle.ring_rules.proofs.Linear.{below_or_not, all-at}
-use Rattle.ring_rules.proofs.FirstPassing.{has-place, all-from_places, take-within, take-get, get-take, position-found, position-least, option-some, some-option}
+use Rattle.ring_rules.proofs.Linear.{all-at}
+use Rattle.ring_rules.proofs.FirstPassing.{all-from_places, take-within, take-get, get-take, position-found, position-least, option-some, some-option}
 
 -- ---- one call
 
@@ -87,7 +88,7 @@ module _ {O A : Type 0} (object : Sequential O) where
       → ArePlaces object order history (n + 1) (places ++ place ∷ [])
   places-push order history n places o c place are at is issued replied = record {
     many = length-append places (place ∷ []) ∙ ap (λ m. m + 1) are.many;
-    each = λ q d within there. elim (below_or_not q n) as (λ _. slice_get (places ++ place ∷ []) q ≡ Some
+    each = λ q d within there. elim (cases_lt q n) as (λ _. slice_get (places ++ place ∷ []) q ≡ Some
         (record { issued = first_issue history d; reply = call_reply object order q })) [
           | inl before ↦ front_get places (places ++ place ∷ []) q
               (record { issued = first_issue history d; reply = call_reply object order q })
@@ -175,7 +176,7 @@ module _ {O A : Type 0} (object : Sequential O) where
         (there.at, there.stands, sym (ap (λ (w : Place). w.reply) place) ∙ there.reply);
     ordered = λ k a b r q at late stands.
         let there = right-place order places k a r (right k (Reply a r) at) in
-        elim (below_or_not there.at q) as (λ _. (p : ℕ) × StandsAt order p a × (p < q)) [
+        elim (cases_lt there.at q) as (λ _. (p : ℕ) × StandsAt order p a × (p < q)) [
           | inl before ↦ (there.at, there.stands, before)
           | inr past ↦
               let early = issued-at order history places there.front k q b are stands (omega (arith, past, there.within)) there.issued in
@@ -204,14 +205,14 @@ module _ {O A : Type 0} (object : Sequential O) where
       let issued = linear.issued q b there in
       let least = first_issue-least history b issued.0 issued.1 in
       let first = first_issue-issued history b least.0 least.1 in
-      elim (below_or_not least.0 k) as (λ _. (j : ℕ) × (first_issue history b ≡ Some j) × (j < k)) [
+      elim (cases_lt least.0 k) as (λ _. (j : ℕ) × (first_issue history b ≡ Some j) × (j < k)) [
         | inl before ↦ (least.0, least.1, before)
         | inr past ↦
             let late : (j : ℕ) → IsIssuedAt history b j → k < j = λ j is.
             let none = first_issue-least history b j is in
             let one : Some none.0 ≡ Some least.0 = sym none.1 ∙ least.1 in
             let same : none.0 ≡ least.0 = cc one in
-            elim (below_or_not k j) as (λ _. k < j) [
+            elim (cases_lt k j) as (λ _. k < j) [
               | inl below ↦ below
               | inr not_below ↦
                   let here : j ≡ k = omega (arith, none.2, same, past, not_below) in

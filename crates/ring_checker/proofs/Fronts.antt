@@ -2,14 +2,16 @@
 use Rattle.std.proofs.Common.{◌≡◌, ℕ, ◌+◌, ◌<◌, ◌≤◌, ◌↔◌, Bool, true, false, IsTrue, List, length, take, Some, slice_get, refl, sym, subst, ◌∙◌, arith, inl, inr}
 use Rattle.std.proofs.lemmas.List.Elements.{All-push}
 use Rattle.std.proofs.lemmas.Option.{slice_get_within}
+use Rattle.std.proofs.lemmas.Bool.{cases_lt}
 use Rattle.ring_base.proofs.Rows.{take-more}
+use Rattle.ring_base.proofs.ListPlaces.{has-place}
 use Rattle.ring_payload.specs.declared.call.Call.{Call}
 use Rattle.ring_checker.specs.declared.check.Place.{Place}
 use Rattle.ring_checker.specs.Checks.{place_in, IsIssuedBefore, AreIssuedBefore, IsIssuedFront, IsRightAt, IsRightItem, IsRightIn, AreRight}
 use Rattle.ring_rules.specs.declared.item.Item.{Item}
 use Rattle.ring_rules.specs.declared.item.Item.TheVariants.{Issue, Reply}
-use Rattle.ring_rules.proofs.FirstPassing.{EachUpTo, has-place, all-from_places, take-within, take-get, get-take, option-some, some-option}
-use Rattle.ring_rules.proofs.Linear.{below_or_not, all-at}
+use Rattle.ring_rules.proofs.FirstPassing.{EachUpTo, all-from_places, take-within, take-get, get-take, option-some, some-option}
+use Rattle.ring_rules.proofs.Linear.{all-at}
 
 -- what was issued before a place was before the next
 issued-later : (place : Place) (k : ℕ) → IsIssuedBefore place k → IsIssuedBefore place (k + 1)
@@ -52,7 +54,7 @@ front-most : (places : List Place) (k m n at : ℕ) (place : Place) → IsIssued
     → slice_get (take n places) at ≡ Some place → slice_get (take m places) at ≡ Some place
 front-most places k m n at place front issued there =
     let here = take-get n places at place there in
-    elim (below_or_not at m) as (λ _. slice_get (take m places) at ≡ Some place) [
+    elim (cases_lt at m) as (λ _. slice_get (take m places) at ≡ Some place) [
       | inl before ↦ get-take m places at place before here
       | inr past ↦
           let last = has-place places m (omega (arith, past, slice_get_within places at place here)) in

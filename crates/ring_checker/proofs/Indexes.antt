@@ -5,7 +5,7 @@ use Rattle.std.specs.BTreeMap.{BTreeMap, get, is_at, Updates}
 use Rattle.std.specs.Prelude.{Vec, IsSome}
 use Rattle.std.specs.Ordering.{nat_cmp}
 use Rattle.std.specs.Cmp.{Equal-is}
-use Rattle.std.proofs.lemmas.Bool.{cases_Bool, cases_eq}
+use Rattle.std.proofs.lemmas.Bool.{cases_Bool, cases_eq, cases_lt}
 use Rattle.std.specs.Map.{lookup}
 use Rattle.std.proofs.lemmas.Map.Lookups.{exact_unsigned}
 use Rattle.std.proofs.lemmas.Option.{slice_get_within}
@@ -19,13 +19,12 @@ use Rattle.ring_session.specs.SessionAnswerLaws.{is_same-true}
 use Rattle.ring_checker.specs.Checks.{place_in, row_of, places_of, by_number, place_at, AddsPlace, IsIndexOf}
 use Rattle.ring_checker.proofs.Places.{none_or_some, is_same-self, place_in-stands, place_in-least}
 use Rattle.ring_rules.proofs.FirstPassing.{EachUpTo}
-use Rattle.ring_rules.proofs.Linear.{below_or_not}
 
 -- a fact of each element up to a place, and of the one there
 pub each-more : {X : Type 0} (P : ℕ → X → Type 0) (xs : List X) (n : ℕ) (x : X) → EachUpTo P xs n → slice_get xs n ≡ Some x → P n x
     → EachUpTo P xs (n + 1)
 each-more P xs n x each at holds q y within there =
-    elim (below_or_not q n) as (λ _. P q y) [
+    elim (cases_lt q n) as (λ _. P q y) [
       | inl before ↦ each q y before there
       | inr past ↦
           let same : n ≡ q = omega (arith, within, past) in
@@ -179,7 +178,7 @@ index-more {A} order n c old new is_index at next adds = record {
             (before.0, omega (arith, before.1), before.2, before.3, before.4)
       ];
   finds = λ p d within there.
-      elim (below_or_not p n) as (λ _. place_at new (d.client, d.number) ≡ Some p) [
+      elim (cases_lt p n) as (λ _. place_at new (d.client, d.number) ≡ Some p) [
         | inl before ↦
             let was = is_index.finds p d before there in
             elim (place_at-more n c old new (d.client, d.number) adds next) as (λ _. place_at new (d.client, d.number) ≡ Some p) [

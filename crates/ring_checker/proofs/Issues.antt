@@ -1,7 +1,7 @@
 -- Where calls are first issued, by one item of the history after the other.
-use Rattle.std.proofs.Common.{◌≡◌, ℕ, zero, suc, ◌+◌, ◌≤◌, ◌==◌, ◌<◌, nat_lt, not, Bool, true, false, List, [], ◌∷◌, ◌++◌, length, Option, Some, None, is_some, position, slice_get, refl, ap, sym, ◌∙◌, arith, inl, inr, cond, length-append, length-set, slice_set}
+use Rattle.std.proofs.Common.{◌≡◌, ℕ, zero, suc, ◌+◌, ◌≤◌, ◌==◌, ◌<◌, nat_lt, not, Bool, true, false, List, [], ◌∷◌, ◌++◌, length, Option, Some, None, position, slice_get, refl, ap, sym, ◌∙◌, arith, inl, inr, cond, length-append, length-set, slice_set}
 use Rattle.std.specs.List.{position_or_len}
-use Rattle.std.proofs.lemmas.Bool.{cases_Bool, cases_eq, cond-true, cond-false, eq-eqb, ne_eqb}
+use Rattle.std.proofs.lemmas.Bool.{cases_Bool, cases_eq, cond-true, cond-false, eq-eqb, ne_eqb, cases_lt}
 use Rattle.std.proofs.lemmas.Bool.Decides.{nat_tests}
 use Rattle.std.proofs.lemmas.List.Folds.{position_or_len_push}
 use Rattle.std.proofs.lemmas.List.Sums.{prefix_len-le-length}
@@ -20,7 +20,6 @@ use Rattle.ring_checker.proofs.Places.{is_same-self, place_in-stands, place_in-l
 use Rattle.ring_checker.proofs.Indexes.{index-once}
 use Rattle.ring_rules.specs.declared.item.Item.{Item}
 use Rattle.ring_rules.specs.declared.item.Item.TheVariants.{Issue, Reply}
-use Rattle.ring_rules.proofs.Linear.{below_or_not}
 
 -- ---- the first that passes, with one more at the end
 
@@ -71,7 +70,7 @@ seen_last p xs y past =
 
 -- the first of a list stays
 position-stays : {X : Type 0} (p : X → Bool) (xs : List X) (y : X) (i : ℕ) → position p xs ≡ Some i → position p (xs ++ y ∷ []) ≡ Some i
-position-stays p xs y i is = elim (below_or_not (position_or_len p xs) (length xs)) as (λ _. position p (xs ++ y ∷ []) ≡ Some i) [
+position-stays p xs y i is = elim (cases_lt (position_or_len p xs) (length xs)) as (λ _. position p (xs ++ y ∷ []) ≡ Some i) [
   | inl before ↦ let both = seen_before p xs y before in both.1 ∙ sym both.0 ∙ is
   | inr past ↦ absurd (cc ((seen_last p xs y past).0, is))
 ]
@@ -79,7 +78,7 @@ position-stays p xs y i is = elim (below_or_not (position_or_len p xs) (length x
 -- one that doesn't pass changes nothing
 position-fails : {X : Type 0} (p : X → Bool) (xs : List X) (y : X) → p y ≡ false → position p (xs ++ y ∷ []) ≡ position p xs
 position-fails p xs y fails =
-    elim (below_or_not (position_or_len p xs) (length xs)) as (λ _. position p (xs ++ y ∷ []) ≡ position p xs) [
+    elim (cases_lt (position_or_len p xs) (length xs)) as (λ _. position p (xs ++ y ∷ []) ≡ position p xs) [
       | inl before ↦ let both = seen_before p xs y before in both.1 ∙ sym both.0
       | inr past ↦
           let both = seen_last p xs y past in
@@ -89,21 +88,12 @@ position-fails p xs y fails =
 -- where none passed, one more that does is the first
 position-new : {X : Type 0} (p : X → Bool) (xs : List X) (y : X) → position p xs ≡ None → p y ≡ true → position p (xs ++ y ∷ []) ≡ Some (length xs)
 position-new p xs y none passes =
-    elim (below_or_not (position_or_len p xs) (length xs)) as (λ _. position p (xs ++ y ∷ []) ≡ Some (length xs)) [
+    elim (cases_lt (position_or_len p xs) (length xs)) as (λ _. position p (xs ++ y ∷ []) ≡ Some (length xs)) [
       | inl before ↦ absurd (cc ((seen_before p xs y before).0, none))
       | inr past ↦ (seen_last p xs y past).1 ∙ cond-true (p y) (Some (length xs)) None passes
     ]
 
 -- ---- the places, after one more item
-
--- what a test of an option found
-pub some_of : {X : Type 0} (o : Option X) → is_some o ≡ true → (x : X) × (o ≡ Some x)
-some_of None some = absurd (cc some)
-some_of (Some x) some = (x, refl)
-
-pub none_of : {X : Type 0} (o : Option X) → is_some o ≡ false → o ≡ None
-none_of None none = refl
-none_of (Some x) none = absurd (cc none)
 
 -- a place by what it has
 abbrev pub place_by : Option ℕ → List ℕ → Place

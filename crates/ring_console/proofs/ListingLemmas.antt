@@ -1,7 +1,7 @@
 -- How frames are taken from the front of an input, and how a listing goes on.
 use Rattle.std.proofs.Common.{◌≡◌, ℕ, ◌+◌, ◌-◌, ◌≤◌, true, false, List, [], ◌∷◌, ◌++◌, length, take, drop, Option, Some}
 use Rattle.std.proofs.Common.{None, Result, Ok, Err, refl, sym, ap, subst, ◌∙◌, arith, append_assoc}
-use Rattle.std.specs.Prelude.{IsSome, IfSome, OnOk, IfErr, IsErrAnd}
+use Rattle.std.specs.Prelude.{IsSome, IfSome, OnOk, IfErr}
 use Rattle.std.specs.Io.Iter.{u64_saturate}
 use Rattle.std.specs.Io.KnownBytes.{Keeps, Appends, Consumes, IsAtEnd, prepend_known}
 use Rattle.std.proofs.lemmas.List.{take-append-drop, take_at, take-append-le, append-nil, take_all, drop-drop, length-drop, length-append, flat_map_more}
@@ -132,11 +132,6 @@ both_at_ok (Err e) P Q R p q more = tt
 pub weaker_at_err : {T E : Type 0} (r : Result T E) (P Q : E → Type 0) → IfErr r P → ((e : E) → P e → Q e) → IfErr r Q
 weaker_at_err (Ok x) P Q told more = tt
 weaker_at_err (Err e) P Q told more = more e told
-
--- what holds of an error holds at `Err`, where that is the error
-pub value_at_err : {T E : Type 0} (r : Result T E) (f : E) (P : E → Type 0) → IsErrAnd r (λ (e : E). e ≡ f) → P f → IfErr r P
-value_at_err (Ok x) f P is p = tt
-value_at_err (Err e) f P is p = subst P (sym is) p
 
 -- ---- a listing that goes on
 

@@ -1,21 +1,14 @@
--- What keeps the limits of frames: a node after a submit, taken or refused. Why a submit is refused.
-use Rattle.std.proofs.Common.{◌≡◌, ℕ, List, Option, Some, None, Result, Ok, Err, refl, subst, sym, ap, ◌∙◌, inl, inr}
+-- Why a submit is refused, and what a driver is after a submit, taken or refused.
+use Rattle.std.proofs.Common.{◌≡◌, ℕ, List, Option, Some, None, Result, Ok, Err, refl, sym, ap, ◌∙◌, inl, inr}
 use Rattle.std.specs.Prelude.{OnOk, OnErr, IfErr, MatchOption}
 use Rattle.ring_base.specs.declared.fault.Fault.{Fault}
 use Rattle.ring_base.specs.declared.fault.Fault.TheVariants.{NotMember, PendingFull, OpTooLong, Conflict, Stale, NumberGap, SessionsFull}
 use Rattle.ring_base.specs.declared.fault.Fault.TheVariants.{Stopped, BookFull, Stranger, Memory, BadFrame, BadScript, NoAnswer, BadSnapshot}
 use Rattle.ring_payload.specs.declared.call.Call.{Call}
-use Rattle.ring_payload.specs.Calls.{CallFits, IsNewCall, call_of}
+use Rattle.ring_payload.specs.Calls.{IsNewCall, call_of}
 use Rattle.ring_rules.specs.Nodes.{Node}
 use Rattle.ring_rules.specs.Stepping.{submitted, submit_fault}
 use Rattle.ring_driver.specs.Driving.{Driven, IsRefused, called}
-use Rattle.ring_order_proof.specs.NodeFits.{NodeFits}
-
--- after a submit, or once it was refused
-pub takes : {A T : Type 0} (n m : Node A) (call : Call A) (r : Result T Fault) → NodeFits n → (NodeFits n → CallFits call → NodeFits (submitted n call))
-    → CallFits call → OnOk r (m ≡ submitted n call) → OnErr r (m ≡ n) → NodeFits m
-takes n m call (Ok x) fits law comes taken kept = subst NodeFits (sym taken) (law fits comes)
-takes n m call (Err x) fits law comes taken kept = subst NodeFits (sym kept) fits
 
 -- what a call isn't made for, and what a node doesn't take it for
 pub not_made : {A : Type 0} (d : Driven A) (client number : ℕ) (op : List ℕ) (fault : Fault)

@@ -94,7 +94,7 @@ decided r P tells = (tells.0, tells.1)
 pub begins-same : {A : Type 0} (front calls : List (OneCall A)) (r : Bool) → (IsTrue r ↔ (front ≡ take (length front) calls)) → r ≡ begins front calls
 begins-same front calls r tells = one_answer r (begins front calls) (decided r (front ≡ take (length front) calls) tells) (begins-Decides front calls)
 
-never : (b : Bool) → (b ≡ true → ⊥) → b ≡ false
+pub never : (b : Bool) → (b ≡ true → ⊥) → b ≡ false
 never true not = absurd (not refl)
 never false not = refl
 

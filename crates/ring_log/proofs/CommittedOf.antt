@@ -1,9 +1,9 @@
--- At a processor's birth nothing is committed, and what is handed over commits nothing.
-use Rattle.std.proofs.Common.{◌≡◌, ℕ, [], Option, None, refl, ap, List, ◌∷◌}
+-- At a processor's birth nothing is committed; what is handed over commits nothing, and what is dropped leaves what was restored.
+use Rattle.std.proofs.Common.{◌≡◌, ℕ, [], Option, None, refl, ap, List, ◌∷◌, append-nil}
 use Rattle.std.proofs.lemmas.Bool.{cond_both}
 use Rattle.ring_base.specs.Group.{Group, is_primary}
 use Rattle.ring_base.specs.Processors.{only}
-use Rattle.ring_log.specs.Stays.{born, Stay, hands}
+use Rattle.ring_log.specs.Stays.{born, Stay, hands, trims}
 use Rattle.ring_log.specs.Kept.{kept_of}
 use Rattle.ring_log.specs.Lives.{Whole, exchanged, committed_by, restored_by, committed_of}
 use Rattle.ring_wire.specs.Payloads.{Payload}
@@ -25,3 +25,15 @@ hands-committed group due (s ∷ older) = refl
 pub hands-kept : {A : Type 0} (group : Group) (due : List (Payload A)) (life : List (Stay A)) → kept_of group (hands due life) ≡ kept_of group life
 hands-kept group due [] = refl
 hands-kept group due (s ∷ older) = refl
+
+-- a life stays as it is where nothing is handed over
+pub hands-nothing : {A : Type 0} (life : List (Stay A)) → hands [] life ≡ life
+hands-nothing [] = refl
+hands-nothing {A} (s ∷ older) =
+    let with_sent : List (Payload A) → List (Stay A) = λ ps. record s { sent = ps } ∷ older in
+    ap with_sent (append-nil s.sent)
+
+-- what was restored doesn't hang on what is dropped
+pub trims-from : {A : Type 0} (group : Group) (places : ℕ) (life : List (Stay A)) → (kept_of group (trims places life)).from ≡ (kept_of group life).from
+trims-from group places [] = refl
+trims-from group places (s ∷ older) = refl

@@ -15,6 +15,7 @@ use Rattle.ring_log.specs.declared.wanted.Wanted.{Wanted}
 use Rattle.ring_log.specs.Exchanges.{Exchange, opened, wanted_by, wanted, hear_head, is_snapped, is_piece_of, is_next_piece, hear_snap, is_next}
 use Rattle.ring_log.specs.Exchanges.{is_wanted, hear_part, heard, is_brought, is_whole, snapshot_by, base_from, handed_out, base_at, relieved}
 use Rattle.ring_log.specs.Lives.{Whole, heard_by, whole_from, after_all, heard_on, exchanged, base_ending, places_below, base_on, own_base}
+use Rattle.ring_log.proofs.Calls.{never}
 
 -- ---- a whole exchange
 
@@ -38,10 +39,6 @@ whole-head e sender head whole =
 told-total : (b c : Bool) → b || c ≡ true → b ≡ false → c ≡ true
 told-total true c some not = absurd (cc not)
 told-total false c some not = some
-
-never : (b : Bool) → (b ≡ true → ⊥) → b ≡ false
-never true not = absurd (not refl)
-never false not = refl
 
 last-piece : {A : Type 0} (o : Option ℕ) (got total : ℕ) (snap : OneSnap A) → is_snapped o got total ≡ true → is_piece_of o got total snap ≡ true → ⊥
 last-piece None got total snap all next = cc next

@@ -1,5 +1,5 @@
 -- The chosen Head is one of the Heads, and none is greater; no committed length is below the least.
-use Rattle.std.proofs.Common.{if◌then◌else◌, ◌≡◌, ℕ, ◌≤◌, true, false, List, [], ◌∷◌, Option, ◌⊎◌, inl, inr, refl, ap, sym, ◌∙◌, subst, arith}
+use Rattle.std.proofs.Common.{if◌then◌else◌, ◌≡◌, ℕ, ◌≤◌, false, List, [], ◌∷◌, Option, ◌⊎◌, inl, inr, refl, ap, sym, ◌∙◌, subst, arith}
 use Rattle.std.specs.Prelude.{min}
 use Rattle.std.specs.List.{AllByRecursion as Each}
 use Rattle.std.specs.Cmp.{IsTotalOrder, nat_cmp_is}
@@ -12,6 +12,7 @@ use Rattle.std.proofs.lemmas.Cmp.{nat_cmp_total, on_total, then_total, tied_itse
 use Rattle.ring_base.specs.declared.ring_id.RingId.{RingId}
 use Rattle.ring_base.specs.Rings.{primary_cmp, IsPrimaryBelow}
 use Rattle.ring_base.specs.RingOrder.{primary_cmp_total, primary_below_total}
+use Rattle.ring_base.proofs.Cases.{Less-from}
 use Rattle.ring_payload.specs.declared.head.Head.{Head}
 use Rattle.ring_log.specs.declared.stated.Stated.{Stated}
 use Rattle.ring_log.specs.Heads.{stated_cmp, is_behind, chosen_head, least_committed}
@@ -56,11 +57,6 @@ stated_cmp_total =
 abbrev pub IsNoLess : Stated → Stated → Type 0
 IsNoLess a b = stated_cmp a b ≡ Less → ⊥
 
-lt-less : (o : Ordering) → is_lt o ≡ true → o ≡ Less
-lt-less Less e = refl
-lt-less Equal e = absurd (cc e)
-lt-less Greater e = absurd (cc e)
-
 not_lt-less : (o : Ordering) → is_lt o ≡ false → o ≡ Less → ⊥
 not_lt-less Less e h = cc e
 not_lt-less Equal e h = cc h
@@ -74,7 +70,7 @@ chosen-is P best (s ∷ rest) p h =
 
 greater-of : (best s : Stated) → IsNoLess (if is_behind best s then s else best) best × IsNoLess (if is_behind best s then s else best) s
 greater-of best s = cond_both (is_behind best s) s best (λ m. IsNoLess m best × IsNoLess m s)
-    (λ e. (not_less-back stated_cmp_total best s (lt-less (stated_cmp best s) e), not_less-self stated_cmp_total s))
+    (λ e. (not_less-back stated_cmp_total best s (Less-from (stated_cmp best s) e), not_less-self stated_cmp_total s))
     (λ e. (not_less-self stated_cmp_total best, not_lt-less (stated_cmp best s) e))
 
 -- it is as great as each of them

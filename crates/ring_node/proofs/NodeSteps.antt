@@ -19,7 +19,7 @@ use Rattle.ring_core.specs.Stepping.{ring_step}
 use Rattle.ring_srp.specs.Given.{IsGiven}
 use Rattle.ring_log.specs.Stays.{Stay, hands, trims}
 use Rattle.ring_log.specs.Kept.{Kept, kept_of, is_kept_sound}
-use Rattle.ring_log.proofs.CommittedOf.{hands-kept}
+use Rattle.ring_log.proofs.CommittedOf.{hands-kept, trims-from}
 use Rattle.ring_replica.specs.Sessions.{Answered, unanswered}
 use Rattle.ring_replica.specs.NodeRules.{lived_through, Node, node_kept, node_pending, node_stopped, is_stopped, is_closed, is_restored}
 use Rattle.ring_replica.specs.NodeRules.{NodeStepped, handed_over, drops, after_core, submit_fault}
@@ -163,14 +163,10 @@ marked-ended {A} core true places life m =
 marked-ended core false places life m = m
 
 -- what was restored doesn't hang on what is handed over and dropped
-from-trims : {A : Type 0} (group : Group) (places : ℕ) (life : List (Stay A)) → (kept_of group (trims places life)).from ≡ (kept_of group life).from
-from-trims group places [] = refl
-from-trims group places (s ∷ older) = refl
-
 from-ended : {A : Type 0} (group : Group) (b : Bool) (places : ℕ) (life : List (Stay A)) (due : List (Payload A))
     → (kept_of group (if b then trims places (hands due life) else hands due life)).from ≡ (kept_of group life).from
 from-ended group true places life due =
-    from-trims group places (hands due life) ∙ ap (λ (k : Kept _). k.from) (hands-kept group due life)
+    trims-from group places (hands due life) ∙ ap (λ (k : Kept _). k.from) (hands-kept group due life)
 from-ended group false places life due = ap (λ (k : Kept _). k.from) (hands-kept group due life)
 
 pub none-restored : {A : Type 0} → (k : Kept A) → None ≡ restored_since k k

@@ -21,13 +21,11 @@ use Rattle.ring_core.specs.State.{Core, Carried, Stepped, frame_at}
 use Rattle.ring_core.specs.Stepping.{ring_step}
 use Rattle.ring_core.specs.declared.input.Input.TheVariants.{Frame as CoreFrame, Timeout as CoreTimeout}
 use Rattle.ring_core.specs.declared.out.Out.{Out}
-use Rattle.ring_log.specs.declared.wanted.Wanted.{Wanted}
-use Rattle.ring_log.specs.Exchanges.{wanted}
 use Rattle.ring_log.specs.Stays.{Stay, born, hands, trims}
-use Rattle.ring_log.specs.Lives.{Whole, exchanged, upto, log_of, committed_of, filled, fronts_below}
-use Rattle.ring_log.specs.Kept.{Kept, restores, restored_kept, joined_kept, adopts_wanted, kept_by, nothing_kept, kept_of, log_kept, is_kept_sound}
+use Rattle.ring_log.specs.Lives.{Whole, exchanged, log_of, committed_of, filled, fronts_below}
+use Rattle.ring_log.specs.Kept.{Kept, kept_by, nothing_kept, kept_of, log_kept, is_kept_sound}
 use Rattle.ring_log.specs.Logs.{committed_calls}
-use Rattle.ring_log.proofs.CommittedOf.{hands-kept}
+use Rattle.ring_log.proofs.CommittedOf.{hands-kept, trims-from}
 use Rattle.ring_log_proof.specs.RingFacts.{IsStay, StayIn}
 use Rattle.ring_log_proof.specs.Time.{LivesOn}
 use Rattle.ring_log_proof.specs.Views.{IsView}
@@ -53,6 +51,7 @@ use Rattle.ring_rules.specs.Worlds.{handed, happens, run, lives_in, above, lives
 use Rattle.ring_order_proof.proofs.DisciplinedWorlds.{AllKept, opened_on, run_group}
 use Rattle.ring_order_proof.proofs.Orderly.{IsOrderlyWorld, run-more, orderly, lives_on}
 use Rattle.ring_order_proof.proofs.RestoredPlaces.{Restored, gone, dropped-most, most-through, restored-hands, restored-trims, restored-owned}
+use Rattle.ring_order_proof.proofs.DisciplinedDues.{kept_low}
 
 -- ---- lists
 
@@ -194,27 +193,6 @@ longest-same {A} before after count longest same is = record {
 
 -- ---- what a node knows
 
--- no place that is known was dropped by restoring
-from-low : {A : Type 0} (group : Group) (life : List (Stay A)) → (kept_of group life).from ≤ (kept_of group life).trimmed
-from-low group [] = omega arith
-from-low {A} group (s ∷ older) = low (from-low group older) (exchanged group s.members s.heard)
-  where
-    k : Kept A
-    k = kept_of group older
-
-    safe : Option (Whole A)
-    safe = exchanged group s.members (upto s.mark s.heard)
-
-    adopted : k.from ≤ k.trimmed → (w : Whole A) (o : Option Wanted) → (adopts_wanted k s.ring o w).from ≤ (adopts_wanted k s.ring o w).trimmed
-    adopted le w None = le
-    adopted le w (Some v) =
-        cond_both (restores k v) (restored_kept s.ring v w.exchange.bytes w.exchange.brought) (joined_kept k s.ring v w.exchange.brought)
-        (λ (x : Kept A). x.from ≤ x.trimmed) (λ t. omega arith) (λ f. le)
-
-    low : k.from ≤ k.trimmed → (o : Option (Whole A)) → (kept_by s.ring k o safe).from ≤ max s.trimmed (kept_by s.ring k o safe).trimmed
-    low le None = omega (arith, le)
-    low le (Some w) = let l = adopted le w (wanted w.exchange) in omega (arith, l)
-
 pub born-known : (A : Type 0) (group : Group) (me : ℕ) → (kept_of group (born {A = A} me)).committed ≡ 0
 born-known A group me =
     let none : exchanged {A = A} group (only me) [] ≡ None = cond_both (is_primary group (only me)) None None (λ (o : Option (Whole A)). o ≡ None) (λ t. refl)
@@ -238,10 +216,6 @@ pub record IsQuiet {A : Type 0} (n : Node A) (x : NodeStepped A) : Type 0 where
 trims-calls : {A : Type 0} (group : Group) (places : ℕ) (life : List (Stay A)) → (kept_of group (trims places life)).calls ≡ (kept_of group life).calls
 trims-calls group places [] = refl
 trims-calls group places (s ∷ older) = refl
-
-trims-from : {A : Type 0} (group : Group) (places : ℕ) (life : List (Stay A)) → (kept_of group (trims places life)).from ≡ (kept_of group life).from
-trims-from group places [] = refl
-trims-from group places (s ∷ older) = refl
 
 trims-many : {A : Type 0} (group : Group) (places : ℕ) (life : List (Stay A)) → (kept_of group (trims places life)).committed ≡ (kept_of group life).committed
 trims-many group places [] = refl
@@ -448,7 +422,7 @@ module _ {A : Type 0} (group : Group) (w w' : World A) (is : IsWorld group w) (i
           let v = view-is group w' is' i in
           let from : (kept_of group (lives_of w' i)).from ≡ k.from = ap (λ (y : Kept A). y.from) known ∙ new.from in
           let calls : k.calls ≡ drop k.from log = sym (ap (λ (y : Kept A). y.calls) known ∙ new.calls) ∙ v.calls ∙ ap (λ m. drop m log) from in
-          let l = from-low n.group (lived_through n.life outs) in
+          let l = kept_low n.group (lived_through n.life outs) in
           let sum : k.from + (k.trimmed - k.from) ≡ k.trimmed = omega (arith, l) in
           let front = committed-front group (lives_of w') is'.orderly.members is'.orderly.text is'.orderly.facts is'.orderly.discipline i in
           ap (λ y. take (k.committed - k.trimmed) (drop (k.trimmed - k.from) y)) calls

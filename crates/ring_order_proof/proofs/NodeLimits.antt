@@ -1,10 +1,11 @@
 -- A node keeps the limits after each step and each submit, where what comes and what is issued does; and so does each frame that a step sends.
-use Rattle.std.proofs.Common.{◌≡◌, ℕ, ◌≤◌, Bool, true, false, List, [], ◌∷◌, ◌++◌, length, refl, ap, sym, ◌∙◌, subst, arith}
-use Rattle.std.specs.Prelude.{filter_map, ◌&&◌}
+use Rattle.std.proofs.Common.{◌≡◌, ℕ, ◌≤◌, Bool, true, false, List, [], ◌∷◌, ◌++◌, length, refl, ap, sym, ◌∙◌, subst, arith, Result, Ok, Err}
+use Rattle.std.specs.Prelude.{filter_map, ◌&&◌, OnOk, OnErr}
 use Rattle.std.specs.List.{AllByRecursion as Each}
 use Rattle.std.proofs.lemmas.Bool.{cond_both, and_parts}
 use Rattle.ring_base.specs.Group.{Group}
 use Rattle.ring_base.specs.Processors.{only}
+use Rattle.ring_base.specs.declared.fault.Fault.{Fault}
 use Rattle.ring_base.proofs.Each.{each-push}
 use Rattle.ring_object.specs.Operations.{Sequential}
 use Rattle.ring_payload.specs.Calls.{CallFits}
@@ -197,3 +198,9 @@ submitted_fits {A} n c f h =
     walks n n.core n.life (due_by_submit n c) (n.tickets ++ t ∷ []) f.core f.ready
     (record { stays = f.life; safe = f.safe; drops = f.drops }) due
     (each-push (λ (t : Asked A). CallFits t.call) n.tickets t f.tickets h)
+
+-- after a submit, or once it was refused
+pub takes : {A T : Type 0} (n m : Node A) (call : OneCall A) (r : Result T Fault) → NodeFits n → (NodeFits n → CallFits call → NodeFits (submitted n call))
+    → CallFits call → OnOk r (m ≡ submitted n call) → OnErr r (m ≡ n) → NodeFits m
+takes n m call (Ok x) fits law comes taken kept = subst NodeFits (sym taken) (law fits comes)
+takes n m call (Err x) fits law comes taken kept = subst NodeFits (sym kept) fits

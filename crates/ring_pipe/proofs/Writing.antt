@@ -1,6 +1,6 @@
 -- What an output grew by, as it is said of several texts and of what comes of a record.
-use Rattle.std.proofs.Common.{◌≡◌, ℕ, ◌≤◌, List, ◌++◌, length, Option, Result, Ok, Err, sym, subst}
-use Rattle.std.specs.Prelude.{OnOk, IfErr, IsErrAnd}
+use Rattle.std.proofs.Common.{◌≡◌, ℕ, ◌≤◌, List, ◌++◌, length, Option, Result, Ok, Err}
+use Rattle.std.specs.Prelude.{OnOk}
 use Rattle.std.specs.Io.KnownBytes.{Appends}
 use Rattle.std.proofs.KnownBytes.{Appends-trans}
 use Rattle.ring_object.specs.Operations.{Sequential}
@@ -42,8 +42,3 @@ module _ {O A : Type 0} (object : Sequential O) where
       → Writes out out' (λ text. Does object old bytes what new text) → Writes out out' (λ text. Takes object old kind bytes new text)
   writes_taken out out' old kind bytes what new asks w =
       record { text = w.text; told = w.told; holds = record { what = what; asks = asks; does = w.holds } }
-
--- what holds of an error holds of the result that it is
-pub value_at_err : {T E : Type 0} (r : Result T E) (f : E) (P : E → Type 0) → IsErrAnd r (λ (e : E). e ≡ f) → P f → IfErr r P
-value_at_err (Ok x) f P is p = tt
-value_at_err (Err e) f P is p = subst P (sym is) p

@@ -11,15 +11,12 @@ use Rattle.ring_base.specs.Numbers.{greatest}
 use Rattle.ring_base.specs.Processors.{IsProc, IsMember, has, elements}
 use Rattle.ring_base.specs.Members.{has_member, member_had}
 use Rattle.ring_base.specs.Elements.{elements_members}
+use Rattle.ring_base.proofs.Cases.{or-false}
 use Rattle.ring_window.specs.Payloads.{is_user, is_end, Payload}
 use Rattle.ring_window.specs.PayloadVariants.{Call, Wrapped, End, Head, Part, Pack, Snap}
 use Rattle.ring_window.specs.Messages.{Message}
 use Rattle.ring_recover.specs.Installing.{ends, has_end_of, has_user, all_ended, is_covered, is_ready_by}
 use Rattle.ring_recover.specs.Ending.{IsCounted}
-
-pub or_none : (b : Bool) → (b || false) ≡ b
-or_none true = refl
-or_none false = refl
 
 pub or_right : (a b : Bool) → b ≡ true → (a || b) ≡ true
 or_right true b h = refl
@@ -54,7 +51,7 @@ module _ {A : Type 0} (xs : List (Message A)) (x : Message A) where
       ∙ ap (λ ys. ends xs ++ ys) (cond-false (is_end x.payload) (x ∷ []) [] h) ∙ append-nil (ends xs)
 
   user_more : has_user (xs ++ x ∷ []) ≡ (has_user xs || is_user x.payload)
-  user_more = list_any-append (λ (y : Message A). is_user y.payload) xs (x ∷ []) ∙ ap (λ b. has_user xs || b) (or_none (is_user x.payload))
+  user_more = list_any-append (λ (y : Message A). is_user y.payload) xs (x ∷ []) ∙ ap (λ b. has_user xs || b) (or-false (is_user x.payload))
 
   pub counted_end : (upto ended last : ℕ) (user : Bool) (more : ℕ) → IsCounted xs upto ended last user → is_end x.payload ≡ true → is_user x.payload ≡ false
       → ((j : ℕ) → IsMember more j ↔ (IsMember ended j ⊎ (j ≡ x.sender))) → IsCounted (xs ++ x ∷ []) (upto + 1) more (max last x.number) user
@@ -65,7 +62,7 @@ module _ {A : Type 0} (xs : List (Message A)) (x : Message A) where
         members = λ i p.
             inserted ended more x.sender i p f ∙ ap (λ b. b || (x.sender == i)) (c.members i p)
             ∙ sym (ap (λ (ys : List (Message A)). list_any (λ (y : Message A). y.sender == i) ys) e
-            ∙ list_any-append (λ (y : Message A). y.sender == i) (ends xs) (x ∷ []) ∙ ap (λ b. has_end_of xs i || b) (or_none (x.sender == i)));
+            ∙ list_any-append (λ (y : Message A). y.sender == i) (ends xs) (x ∷ []) ∙ ap (λ b. has_end_of xs i || b) (or-false (x.sender == i)));
         last_is =
             (let g : greatest (map (λ (y : Message A). y.number) (ends (xs ++ x ∷ []))) ≡ max (greatest (map
             (λ (y : Message A). y.number) (ends xs))) (greatest (x.number ∷ [])) =
@@ -73,7 +70,7 @@ module _ {A : Type 0} (xs : List (Message A)) (x : Message A) where
             ∙ ap greatest (map-append (λ (y : Message A). y.number) (ends xs) (x ∷ []))
             ∙ greatest-append (map (λ (y : Message A). y.number) (ends xs)) (x.number ∷ []) in
             omega (arith, g, c.last_is));
-        user_is = c.user_is ∙ sym (user_more ∙ ap (λ b. has_user xs || b) not_user ∙ or_none (has_user xs));
+        user_is = c.user_is ∙ sym (user_more ∙ ap (λ b. has_user xs || b) not_user ∙ or-false (has_user xs));
       }
 
   -- any other is counted as it is a user's or not

@@ -1,7 +1,7 @@
 -- What the end of a step makes of what the code keeps of a replica: places are dropped, or none are; and what is told then.
 use Rattle.std.proofs.Common.{◌≡◌, ℕ, ◌+◌, ◌-◌, ◌^◌, ◌≤◌, ◌<◌, ◌==◌, ◌&&◌, min, max, Bool, true, false, List, [], length, drop, Option, Some, None}
 use Rattle.std.proofs.Common.{inl, inr, refl, ap, sym, ◌∙◌, subst, arith, if◌then◌else◌}
-use Rattle.std.specs.Prelude.{option_map, unwrap_or, nat_le, nat_lt, fold, is_some, IfSome}
+use Rattle.std.specs.Prelude.{option_map, unwrap_or, nat_le, nat_lt, fold, is_some}
 use Rattle.std.proofs.lemmas.Bool.{and_parts, and_from, cond-true, leb-true, lt-ltb, eq-eqb}
 use Rattle.std.proofs.lemmas.List.{take-take}
 use Rattle.ring_base.specs.Fronts.{IsFront}
@@ -285,11 +285,6 @@ not-ripe object b log table e =
     none-of false t bs = refl
 
 -- ---- what comes of the places that a step commits
-
--- what a part of a result says of its value
-pub some-fact : {X : Type 0} (P : X → Type 0) (o : Option X) (x : X) → o ≡ Some x → IfSome o P → P x
-some-fact P None x e h = absurd (cc e)
-some-fact P (Some y) x e h = (let same : y ≡ x = cc e in subst P same h)
 
 -- by what is held, and the sessions before
 pub record Carries {O A : Type 0} (object : Sequential O) (held : Holding A) (table table' : Table O) (pending : List (Pending A)) (first effects : ℕ)

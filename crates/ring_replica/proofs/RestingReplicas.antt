@@ -1,5 +1,5 @@
 -- A step of which the core tells nothing: it changes nothing of a replica of which no places are to be dropped, and gives nothing.
-use Rattle.std.proofs.Common.{◌≡◌, ℕ, ◌-◌, ◌&&◌, max, Bool, true, false, List, [], ◌∷◌, ◌++◌, Option, Some, None, refl, ap, sym, ◌∙◌, arith}
+use Rattle.std.proofs.Common.{◌≡◌, ℕ, ◌-◌, ◌&&◌, max, Bool, true, false, List, [], ◌++◌, Option, Some, None, refl, ap, sym, ◌∙◌, arith}
 use Rattle.std.proofs.Common.{append-nil, if◌then◌else◌}
 use Rattle.std.specs.Prelude.{length, nat_le, nat_lt}
 use Rattle.std.proofs.lemmas.Bool.{and_from, cond-false}
@@ -8,25 +8,19 @@ use Rattle.ring_base.specs.declared.ring_id.RingId.{RingId}
 use Rattle.ring_object.specs.Operations.{Sequential}
 use Rattle.ring_payload.specs.Limits.{most_snapshot}
 use Rattle.ring_payload.specs.declared.call.Call.{Call as OneCall}
-use Rattle.ring_payload.specs.declared.content.Payload.{Payload}
 use Rattle.ring_session.specs.declared.answered.Answered.{Answered}
 use Rattle.ring_session.specs.Tickets.{answers_after}
 use Rattle.ring_log.specs.Logs.{committed_calls, is_ripe}
 use Rattle.ring_log.specs.Stays.{Stay, hands, trims}
 use Rattle.ring_log.specs.Kept.{Kept, log_kept, is_kept_sound}
+use Rattle.ring_log.proofs.CommittedOf.{hands-nothing}
 use Rattle.ring_course.proofs.Messages.{never-less}
 use Rattle.ring_course.specs.NodeRules.{is_closed, snapshot_at, is_restored, drops, newly, table_since}
 use Rattle.ring_replica.specs.Replicas.{Replica, ReplicaStepped, Rests, IsDone, replica_kept, replica_still, replica_settled, replica_ended}
 use Rattle.ring_replica.specs.Replicas.{restored_since}
 
-hands-nothing : {A : Type 0} (life : List (Stay A)) → hands [] life ≡ life
-hands-nothing [] = refl
-hands-nothing {A} (s ∷ older) =
-    let with_sent : List (Payload A) → List (Stay A) = λ ps. record s { sent = ps } ∷ older in
-    ap with_sent (append-nil s.sent)
-
 -- where nothing more is known, nothing is newly committed
-newly-nothing : {A : Type 0} (k : Kept A) → newly k k ≡ []
+pub newly-nothing : {A : Type 0} (k : Kept A) → newly k k ≡ []
 newly-nothing k =
     let short = length-take (k.committed - k.trimmed) (log_kept k).calls in
     drop_all (max k.committed k.trimmed - k.trimmed) (committed_calls (log_kept k)) (omega (arith, short))

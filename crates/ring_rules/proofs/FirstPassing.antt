@@ -3,22 +3,16 @@ use Rattle.std.proofs.Common.{◌≡◌, ℕ, zero, suc, ◌<◌, ◌≤◌, nat
 use Rattle.std.proofs.Common.{Option, Some, None, MatchOption, position, slice_get, get_or, refl, sym, subst, ap, ◌∙◌}
 use Rattle.std.proofs.Common.{arith, inl, inr}
 use Rattle.std.specs.List.{position_or_len}
-use Rattle.std.proofs.lemmas.Bool.{cond-true}
+use Rattle.std.proofs.lemmas.Bool.{cond-true, cases_lt}
 use Rattle.std.proofs.lemmas.Bool.Decides.{nat_tests}
 use Rattle.std.proofs.lemmas.List.Quantifiers.{position-Some}
 use Rattle.std.proofs.lemmas.List.Sums.{fails_before_first}
 use Rattle.std.proofs.lemmas.Option.{slice_get_within, get_or_from_slice_get, slice_get-get_or}
-use Rattle.ring_rules.proofs.Linear.{below_or_not}
+use Rattle.ring_base.proofs.ListPlaces.{has-place}
 
 -- a fact of each element and its place, for the first n places
 abbrev pub EachUpTo : {X : Type 0} → (ℕ → X → Type 0) → List X → ℕ → Type 0
 EachUpTo {X} P xs n = (k : ℕ) (x : X) → k < n → slice_get xs k ≡ Some x → P k x
-
--- inside a list there is an element
-pub has-place : {X : Type 0} (xs : List X) (k : ℕ) → k < length xs → (x : X) × (slice_get xs k ≡ Some x)
-has-place [] k within = absurd (omega (arith, within))
-has-place (x ∷ xs) zero within = (x, refl)
-has-place (x ∷ xs) (suc k) within = has-place xs k (omega (arith, within))
 
 -- a fact of the element at each place is one of each element
 pub all-from_places : {X : Type 0} (P : X → Type 0) (xs : List X) → ((k : ℕ) (x : X) → slice_get xs k ≡ Some x → P x) → All P xs
@@ -59,7 +53,7 @@ pub position-least : {X : Type 0} (p : X → Bool) (xs : List X) (k : ℕ) (x : 
 position-least p xs k x at passes =
     let within = slice_get_within xs k x at in
     let first = position_or_len p xs in
-    elim (below_or_not k first) as (λ _. (i : ℕ) × (position p xs ≡ Some i) × (i ≤ k)) [
+    elim (cases_lt k first) as (λ _. (i : ℕ) × (position p xs ≡ Some i) × (i ≤ k)) [
       | inl before ↦
           let here : p x ≡ false = ap p (sym (get_or_from_slice_get xs k x x at)) ∙ fails_before_first p xs k x before in
           absurd (cc (here, passes))

@@ -1,8 +1,9 @@
 -- The events by which an order goes on explaining a history: more calls at its end, a call that is issued, a right reply.
-use Rattle.std.proofs.Common.{◌≡◌, ℕ, zero, suc, ◌<◌, ◌≤◌, List, [], ◌∷◌, ◌++◌, length, Some, slice_get, All, sym, subst, arith, append_assoc, ◌⊎◌, inl, inr}
+use Rattle.std.proofs.Common.{◌≡◌, ℕ, zero, suc, ◌<◌, List, [], ◌∷◌, ◌++◌, length, Some, slice_get, All, sym, subst, arith, append_assoc, inl, inr}
 use Rattle.std.proofs.lemmas.List.{append-nil}
 use Rattle.std.proofs.lemmas.List.Elements.{All-head, All-tail}
 use Rattle.std.proofs.lemmas.Option.{slice_get_within, get_or_from_slice_get}
+use Rattle.std.proofs.lemmas.Bool.{cases_lt}
 use Rattle.ring_base.specs.Fronts.{IsFront, front_get, front_append}
 use Rattle.ring_base.proofs.ListPlaces.{get-push}
 use Rattle.ring_session.specs.Objects.{Sequential}
@@ -24,14 +25,6 @@ front_back (y ∷ xs) (z ∷ ys) (suc k) x front within at = front_back xs ys k 
 -- a fact of each element is one of the element at a place
 pub all-at : {X : Type 0} (P : X → Type 0) (xs : List X) (k : ℕ) (x : X) → All P xs → slice_get xs k ≡ Some x → P x
 all-at P xs k x all at = subst P (get_or_from_slice_get xs k x x at) (all k x (slice_get_within xs k x at))
-
--- a number is below another or not
-pub below_or_not : (m n : ℕ) → (m < n) ⊎ (n ≤ m)
-below_or_not zero zero = inr (omega arith)
-below_or_not zero (suc n) = inl (omega arith)
-below_or_not (suc m) zero = inr (omega arith)
-below_or_not (suc m) (suc n) = elim (below_or_not m n) as (λ _. (suc m < suc n) ⊎ (suc n ≤ suc m))
-    [ inl l ↦ inl (omega (arith, l)) | inr l ↦ inr (omega (arith, l)) ]
 
 -- calls that were issued stay issued
 issued-more : {A : Type 0} (history more : List (Item A)) (calls : List (Call A)) → AreIssued history calls → AreIssued (history ++ more) calls
@@ -59,7 +52,7 @@ module _ {O A : Type 0} (object : Sequential O) where
     ordered = λ k a b r q at late stands.
         let there = linear.replied k a r at in
         let within = slice_get_within order there.0 a there.1 in
-        elim (below_or_not q (length order)) as (λ _. (p : ℕ) × StandsAt more p a × (p < q)) [
+        elim (cases_lt q (length order)) as (λ _. (p : ℕ) × StandsAt more p a × (p < q)) [
           | inl inside ↦
               let first = linear.ordered k a b r q at late (front_back order more q b front inside stands) in
               (first.0, front_get order more first.0 a front first.1, first.2)

@@ -1,7 +1,7 @@
 -- An operation of a script is short enough for a call.
 use Rattle.std.proofs.Common.{◌≡◌, ℕ, ◌+◌, ◌-◌, ◌*◌, ◌^◌, ◌≤◌, Bool, true, false, List, [], ◌∷◌, ◌++◌, length, Option}
 use Rattle.std.proofs.Common.{Some, None, Result, Ok, Err, refl, ap, subst, arith, inl, inr}
-use Rattle.std.specs.Prelude.{option_and_then, if◌then◌else◌, IfSome, codes, not, nat_le, ◌&&◌}
+use Rattle.std.specs.Prelude.{option_and_then, if◌then◌else◌, codes, not, nat_le, ◌&&◌}
 use Rattle.std.specs.Char.{is_ascii_graphic, is_ascii_uppercase}
 use Rattle.std.specs.List.{list_all, list_any}
 use Rattle.std.specs.Result.{result_ok}
@@ -84,9 +84,6 @@ named_short forms name words x short e =
     let (form, named, made) = and_then_some (form_of forms name) _ x e in
     let low = leb-true (length form.first + 64 * length form.arguments) 1024 (found_short forms name form short named) in
     omega (arith, low, arguments_short form.first form.arguments words x made)
-
-pub some_has : {X : Type 0} (P : X → Type 0) (o : Option X) (x : X) → o ≡ Some x → IfSome o P → P x
-some_has P o x e h = rw e at h
 
 ok_from_some : {X E : Type 0} (r : Result X E) (x : X) → result_ok r ≡ Some x → r ≡ Ok x
 ok_from_some (Ok y) x e = ap Ok (same_Some y x e)

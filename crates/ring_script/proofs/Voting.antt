@@ -6,9 +6,10 @@ use Rattle.std.proofs.lemmas.Grind.{common_steps}
 use Rattle.std.proofs.lemmas.List.Elements.{All-nil, All-cons}
 use Rattle.ring_base.specs.Group.{AreVotes}
 use Rattle.ring_base.specs.Processors.{IsProc}
+use Rattle.ring_base.proofs.Cases.{some_has}
 use Rattle.ring_script.specs.Numbers.{number_at}
 use Rattle.ring_script.specs.Votes.{votes_at}
-use Rattle.ring_script.proofs.Lengths.{and_then_some, some_has}
+use Rattle.ring_script.proofs.Lengths.{and_then_some}
 
 -- what was read before, and what is read after it
 abbrev pub with_front : List ℕ → Option (List ℕ × List (List ℕ)) → Option (List ℕ × List (List ℕ))

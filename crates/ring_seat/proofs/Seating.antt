@@ -1,20 +1,14 @@
 -- Seats, one more at a time.
-use Rattle.std.proofs.Common.{◌≡◌, ℕ, zero, suc, ◌<◌, ◌≤◌, ◌++◌, ◌⊎◌, Bool, true, false, nat_lt, if◌then◌else◌, List, [], ◌∷◌, Option, Some, None}
+use Rattle.std.proofs.Common.{◌≡◌, ℕ, suc, ◌<◌, ◌≤◌, ◌++◌, Bool, true, false, nat_lt, if◌then◌else◌, List, [], ◌∷◌, Option, Some, None}
 use Rattle.std.proofs.Common.{slice_get, length, refl, ap, sym, ◌∙◌, inl, inr, arith}
 use Rattle.std.specs.Prelude.{All}
 use Rattle.std.proofs.lemmas.Bool.Decides.{nat_tests}
 use Rattle.std.proofs.lemmas.List.Elements.{All-from_recursion}
 use Rattle.ring_base.proofs.Each.{each-placed}
+use Rattle.ring_base.proofs.ListPlaces.{added_cases}
 use Rattle.atomic_table.specs.Seated.{TableId}
 use Rattle.ring_seat.specs.Clocks.{new_clock}
 use Rattle.ring_seat.specs.Seats.{SeatView, IsAt, new_seat, node_at}
-
--- what stands in a list with one more
-pub snoc_cases : {X : Type 0} (xs : List X) (y : X) (i : ℕ) (x : X) → slice_get (xs ++ y ∷ []) i ≡ Some x → ((i ≡ length xs) × (x ≡ y)) ⊎ (slice_get xs i ≡ Some x)
-snoc_cases [] y zero x h = inl (refl, cc)
-snoc_cases [] y (suc i) x h = cc
-snoc_cases (z ∷ xs) y zero x h = inr h
-snoc_cases (z ∷ xs) y (suc i) x h = elim (snoc_cases xs y i x h) [ inl w ↦ inl (ap suc w.0, w.1) | inr w ↦ inr w ]
 
 -- a seat of this gauge and node, on which nothing was published and from which nothing was seen
 pub is_new : (gauge t : TableId) (node n : Option ℕ) (published : List ℕ) (seen : List (ℕ × ℕ)) → t ≡ gauge → n ≡ node → published ≡ [] → seen ≡ []
@@ -27,7 +21,7 @@ AreNew gauge nodes seats = (i : ℕ) (s : SeatView) → slice_get seats i ≡ So
 
 pub seats_add : (gauge : TableId) (nodes n : ℕ) (seats : List SeatView) (new : SeatView) → length seats ≡ n → new ≡ new_seat gauge (node_at nodes n)
     → AreNew gauge nodes seats → AreNew gauge nodes (seats ++ new ∷ [])
-seats_add gauge nodes n seats new len is each i s h = elim (snoc_cases seats new i s h) [
+seats_add gauge nodes n seats new len is each i s h = elim (added_cases seats new i s h) [
   | inl w ↦ w.1 ∙ (is ∙ ap (λ (k : ℕ). new_seat gauge (node_at nodes k)) (sym len ∙ sym w.0))
   | inr w ↦ each i s w
 ]

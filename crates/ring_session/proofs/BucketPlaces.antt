@@ -1,14 +1,15 @@
 -- The places of a call's bucket, one after the other, are all at which a ticket's call can be the same; those between give no answer.
-use Rattle.std.proofs.Common.{◌≡◌, ℕ, zero, suc, ◌+◌, ◌-◌, ◌<◌, ◌≤◌, ◌==◌, ◌≢◌, ◌&&◌, ◌||◌, nat_lt, Bool, true, false, not, List, [], ◌∷◌, ◌++◌, length, drop}
+use Rattle.std.proofs.Common.{◌≡◌, ℕ, zero, suc, ◌+◌, ◌-◌, ◌<◌, ◌≤◌, ◌==◌, ◌≢◌, ◌&&◌, ◌||◌, Bool, true, false, not, List, [], ◌∷◌, ◌++◌, length, drop}
 use Rattle.std.proofs.Common.{Some, slice_get, get_or, replicate, append_assoc, refl, ap, sym, ◌∙◌, subst, arith, ◌⊎◌, inl, inr, if◌then◌else◌}
 use Rattle.std.specs.Prelude.{slice_index, slice_index_or}
-use Rattle.std.proofs.lemmas.Bool.{eqb-true, eqb-false, ltb-true, ltb-false, eq-eqb, cond-true, cond-false}
+use Rattle.std.proofs.lemmas.Bool.{eqb-true, eqb-false, eq-eqb, cond-true, cond-false, cases_lt}
 use Rattle.std.proofs.lemmas.List.{drop_all, get_or-replicate, length-drop}
 use Rattle.std.proofs.lemmas.List.Folds.{list_any-append}
 use Rattle.std.proofs.lemmas.Option.{slice_get_within, slice_get_read, get_or_from_slice_get}
 use Rattle.std.specs.List.{SwappedAt}
 use Rattle.std.proofs.lemmas.List.Filters.{FiltersInPlace, FiltersInPlace-more_no, FiltersInPlace-more_swap}
 use Rattle.ring_base.proofs.Rows.{drop-next}
+use Rattle.ring_base.proofs.Cases.{or-false}
 use Rattle.ring_object.specs.Operations.{Sequential}
 use Rattle.ring_payload.specs.declared.call.Call.{Call}
 use Rattle.ring_session.specs.declared.answer.Answer.{Answer}
@@ -28,13 +29,6 @@ nat_cases-by m n false e = inr (eqb-false m n e)
 
 nat_cases : (m n : ℕ) → (m ≡ n) ⊎ (m ≢ n)
 nat_cases m n = nat_cases-by m n (m == n) refl
-
-nat_le-cases : (m n : ℕ) → (m < n) ⊎ (n ≤ m)
-nat_le-cases m n = lt-cases (nat_lt m n) refl
-  where
-    lt-cases : (t : Bool) → nat_lt m n ≡ t → (m < n) ⊎ (n ≤ m)
-    lt-cases true e = inl (ltb-true m n e)
-    lt-cases false e = inr (ltb-false m n e)
 
 -- ---- places of a bucket
 
@@ -100,10 +94,6 @@ get-drop (suc i) j (x ∷ xs) = get-drop i j xs ∙ ap (slice_get (x ∷ xs)) (l
 no-more : (b same : Bool) → same ≡ false → b ≡ (b || same)
 no-more true same e = refl
 no-more false same e = sym e
-
-or-false : (b : Bool) → (b || false) ≡ b
-or-false true = refl
-or-false false = refl
 
 -- two calls of different buckets aren't one
 not-same : {A : Type 0} (c d : Call A) → (bucket_of d == bucket_of c) ≡ false → (t : Bool) → is_same d c ≡ t → t ≡ false
@@ -173,7 +163,7 @@ module _ {A : Type 0} (pending : List (Pending A)) where
       record {
         behind = λ j q e lt. elim (nat_cases j i) [
           | inl at ↦ here j q e at
-          | inr apart ↦ others j apart ∙ elsewhere j q e lt apart (nat_le-cases j i)
+          | inr apart ↦ others j apart ∙ elsewhere j q e lt apart (cases_lt j i)
         ];
         ahead = λ j q e le. let apart : j ≢ i = omega (arith, le, on) in others j apart ∙ are.ahead j q e (omega (arith, le, on));
       }

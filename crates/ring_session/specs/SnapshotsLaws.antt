@@ -3,12 +3,12 @@ use Rattle.std.proofs.Common.{◌≡◌, ℕ, zero, suc, ◌^◌, ◌<◌, ◌�
 use Rattle.std.proofs.Common.{sym, ap, subst, ◌∙◌, arith, append_assoc, inl, inr, eqb-true}
 use Rattle.std.specs.Prelude.{nat_le}
 use Rattle.std.specs.List.{flat_map}
-use Rattle.std.specs.Option.{option_map}
 use Rattle.std.proofs.lemmas.Bool.{leb-true, le-leb, cases_lt}
 use Rattle.std.proofs.lemmas.List.{append-nil, nil_from_length, length-append, get_or_past, drop_at}
 use Rattle.std.proofs.lemmas.List.Concat.{flat_map-cons}
 use Rattle.std.proofs.lemmas.List.Elements.{All-get_or, All-from_get_or, All-drop}
 use Rattle.byteorder.specs.Endian.{big_bytes}
+use Rattle.ring_base.proofs.Cases.{map_some}
 use Rattle.ring_payload.specs.Layouts.{IsBytes, IsFormat, IsWord, Takes, number_at, such_at, ◌>>=◌, bind_some, some_is, passed_some, Takes-then}
 use Rattle.ring_payload.specs.Layouts.{such_format, then_format, number_format2, word8, text, followed}
 use Rattle.ring_object.specs.Bytes.{AreBytes}
@@ -36,11 +36,6 @@ rest_bytes front back bytes is are =
     let all : AreBytes (front ++ back) = rw (← is) (bytes_each bytes are) in
     let there : drop (length front) (front ++ back) ≡ back = drop_at front back (length front) refl in
     subst (λ (w : List ℕ). AreBytes w) there (All-drop (λ byte. byte < 256) (length front) (front ++ back) all)
-
--- what was made of what was found
-map_some : {A B : Type 0} (f : A → B) (found : Option A) (y : B) → option_map f found ≡ Some y → (x : A) × (found ≡ Some x) × (f x ≡ y)
-map_some f (Some x) y is = (x, refl, cc)
-map_some f None y is = absurd cc
 
 -- ---- the clients
 

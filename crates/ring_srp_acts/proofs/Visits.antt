@@ -1,8 +1,8 @@
 -- A visit, part by part: what was asked for goes out again, what is new goes out and is held, and what the token then is.
 use Rattle.std.proofs.Common.{◌≡◌, ℕ, suc, ◌+◌, ◌<◌, ◌≤◌, max, true, List, [], ◌∷◌, ◌++◌, length, map, reverse, drop}
-use Rattle.std.proofs.Common.{get_or, Option, Some, None, Result, Ok, Err, refl, sym, ap, subst, ◌∙◌, arith}
+use Rattle.std.proofs.Common.{get_or, Option, Some, None, refl, sym, ap, subst, ◌∙◌, arith}
 use Rattle.std.proofs.Common.{append_assoc, ◌⊎◌, inl, inr}
-use Rattle.std.specs.Prelude.{◌&&◌, ◌==◌, not, nat_lt, nat_le, filter_map, if◌then◌else◌, OnOk}
+use Rattle.std.specs.Prelude.{◌&&◌, ◌==◌, not, nat_lt, nat_le, filter_map, if◌then◌else◌}
 use Rattle.std.specs.List.{cons_option}
 use Rattle.std.specs.List.Sorted.{IsStrictlyIncreasing}
 use Rattle.std.proofs.lemmas.Bool.{cases_Bool, cond-true, cond-false, and_parts, ltb-true, leb-true, true≢false}
@@ -41,10 +41,6 @@ use Rattle.ring_srp_acts.specs.Machines.{IsPart, IsMachine, IsRecovering, visits
 use Rattle.ring_srp_acts.specs.Passing.{went, passed_on}
 use Rattle.ring_srp_acts.specs.Sending.{news, holding}
 use Rattle.ring_srp_acts.proofs.OneRingOfCore.{turns_twice, raises_twice}
-
-pub if_ok : {T E P : Type 0} (r : Result T E) → P → OnOk r P
-if_ok (Ok x) p = p
-if_ok (Err e) p = tt
 
 -- no payloads are none
 pub no_payloads : {A : Type 0} (payloads : List (Payload A)) → length payloads ≡ 0 → [] ≡ payloads

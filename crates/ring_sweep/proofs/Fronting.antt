@@ -1,9 +1,9 @@
 -- Whether calls are a front of an order.
 use Rattle.std.proofs.Common.{◌≡◌, ℕ, zero, suc, ◌+◌, ◌<◌, ◌≤◌, ◌↔◌, true, false, IsTrue, List, [], ◌∷◌, length, Some, slice_get, refl, ap, sym, ◌∙◌, arith, inl, inr}
 use Rattle.std.proofs.lemmas.Option.{slice_get_within}
+use Rattle.std.proofs.lemmas.Bool.{cases_lt}
 use Rattle.ring_base.specs.Fronts.{IsFront, front_get, front_length}
 use Rattle.ring_rules.proofs.FirstPassing.{EachUpTo}
-use Rattle.ring_rules.proofs.Linear.{below_or_not}
 
 -- what stands at each place of the first list stands there in the second
 front_from_places : {X : Type 0} (xs ys : List X) → ((p : ℕ) (x : X) → slice_get xs p ≡ Some x → slice_get ys p ≡ Some x) → IsFront xs ys
@@ -21,7 +21,7 @@ AreSame {X} xs ys n = EachUpTo (λ p x. slice_get ys p ≡ Some x) xs n
 pub same-more : {X : Type 0} (xs ys : List X) (n : ℕ) (x : X) → AreSame xs ys n → slice_get xs n ≡ Some x → slice_get ys n ≡ Some x
     → AreSame xs ys (n + 1)
 same-more xs ys n x same at there p z within here =
-    elim (below_or_not p n) as (λ _. slice_get ys p ≡ Some z) [
+    elim (cases_lt p n) as (λ _. slice_get ys p ≡ Some z) [
       | inl before ↦ same p z before here
       | inr past ↦
           let place : n ≡ p = omega (arith, within, past) in

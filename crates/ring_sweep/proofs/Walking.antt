@@ -1,6 +1,6 @@
 -- A script under way, one step after another: what its steps come to.
 use Rattle.std.proofs.Common.{◌≡◌, ℕ, zero, suc, ◌+◌, ◌-◌, ◌≤◌, take, slice_get, Bool, true, false, List, [], ◌∷◌, ◌++◌}
-use Rattle.std.proofs.Common.{Option, Some, None, Result, Ok, Err, OnOk, refl, sym, ap, subst, ◌∙◌, arith, append-nil}
+use Rattle.std.proofs.Common.{Option, Some, Result, Ok, Err, OnOk, refl, sym, ap, subst, ◌∙◌, arith, append-nil}
 use Rattle.std.proofs.lemmas.Grind.{flat_map-append, replicate_next}
 use Rattle.std.proofs.lemmas.List.{replicate-append-replicate}
 use Rattle.std.specs.Prelude.{replicate}
@@ -99,11 +99,6 @@ module _ {O A : Type 0} (object : Sequential O) where
       → OnOk r (Does object l old new)
   ends_does (Ok x) l copy old new is h = copy_does l copy old new is h
   ends_does (Err x) l copy old new is h = tt
-
--- no copy is open where there is no first one
-pub none_open : (pairs : List Pair) → slice_get pairs 0 ≡ None → pairs ≡ []
-none_open [] none = refl
-none_open (p ∷ ps) none = absurd (cc (none))
 
 -- a copy of a line is as fit as the line
 pub copy_fits : {A : Type 0} (l copy : Line A) → IsCopyOf l copy → IsFit l → IsFit copy

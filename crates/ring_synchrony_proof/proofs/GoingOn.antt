@@ -1,5 +1,5 @@
 -- Who goes on by a change of rings: those of the new ring's members whose report names the old one, and who installed none between the two.
-use Rattle.std.proofs.Common.{◌≡◌, ℕ, zero, suc, ◌<◌, ◌≤◌, ◌⊎◌, inl, inr, true, List, [], ◌∷◌, length, Some, refl, ap, sym, ◌∙◌, subst, arith}
+use Rattle.std.proofs.Common.{◌≡◌, ℕ, ◌<◌, ◌≤◌, ◌⊎◌, inl, inr, true, List, ◌∷◌, length, Some, ap, sym, ◌∙◌, subst, arith}
 use Rattle.std.specs.Prelude.{slice_get}
 use Rattle.std.specs.List.{AllByRecursion as Each}
 use Rattle.ring_base.specs.Processors.{IsMember, has, at, elements, size, position_of}
@@ -9,6 +9,7 @@ use Rattle.ring_base.specs.Rings.{same_ring}
 use Rattle.ring_base.specs.declared.ring_id.RingId.{RingId}
 use Rattle.ring_base.specs.declared.state.State.TheVariants.{Gather, Commit}
 use Rattle.ring_base.proofs.SameRing.{ring_same, same-self}
+use Rattle.ring_base.proofs.ListPlaces.{has-place}
 use Rattle.ring_wire.specs.declared.commit.CommitToken.{CommitToken}
 use Rattle.ring_wire.specs.declared.entries.CommitEntry.{CommitEntry}
 use Rattle.ring_wire.specs.declared.frame.Frame.{Frame}
@@ -102,11 +103,6 @@ pub record HasCome {A : Type 0} (c : Core A) (next old : Configuration) (q : ℕ
   pub beside : AreBeside old.ring next.ring c.installs
   pub entering : has next.members q ≡ true
 
-some_at : {X : Type 0} (xs : List X) (k : ℕ) → k < length xs → (x : X) × (slice_get xs k ≡ Some x)
-some_at [] k l = absurd (omega (arith, l))
-some_at (x ∷ xs) zero l = (x, refl)
-some_at (x ∷ xs) (suc k) l = some_at xs k (omega (arith, l))
-
 module _ {A : Type 0} (n : ℕ) (events : List (RingEvent A)) (i : ℕ) (next old : Configuration) (a : HasChanged ((run (unformed n) events).cores i) next old) where
   abbrev w : World A
   w = run (unformed n) events
@@ -175,7 +171,7 @@ module _ {A : Type 0} (n : ℕ) (events : List (RingEvent A)) (i : ℕ) (next ol
       let here : at k.members x ≡ q = subst (λ ms. at ms x ≡ q) (sym (a.plan).members) (at-position_of next.members q p.0 p.1) in
       let inside : x < size k.members = subst (λ ms. x < size ms) (sym (a.plan).members) (position_of-inside next.members q p.0 p.1) in
       let many : length k.entries ≡ size k.members = is_plan.count in
-      let got = some_at k.entries x (omega (arith, inside, many)) in
+      let got = has-place k.entries x (omega (arith, inside, many)) in
       let e = got.0 in
       let h = reported q x e here got.1 in
       let b : Configuration = record { ring = e.old; members = ((h.way).from).0 } in

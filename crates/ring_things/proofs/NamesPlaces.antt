@@ -13,8 +13,9 @@ use Rattle.std.proofs.lemmas.Cmp.{nat_list_cmp_total, alike_right}
 use Rattle.std.proofs.lemmas.Bool.{cond_both, cond-true, cond-false, cases_lt, cases_eq, cases_Bool, or_cases, or_from, or_parts, false≢true}
 use Rattle.std.proofs.lemmas.List.Folds.{list_any_none, list_any_at}
 use Rattle.std.proofs.lemmas.Map.Keys.{Less-from_sorted}
+use Rattle.ring_base.proofs.Cases.{Less-from}
 use Rattle.ring_things.specs.Names.{by_bytes, AreAscending, same, has, below, without, IsFound, IsMissing}
-use Rattle.ring_things.specs.NamesLaws.{Less-from, above, All-above}
+use Rattle.ring_things.specs.NamesLaws.{above, All-above}
 
 -- a function that stays the same answers P each time
 returns_each : {F X R : Type 0} (g : Mut F X R) (P : X → R → Type 0) (f : F)

@@ -1,9 +1,9 @@
 -- Counters keep their laws.
 use Rattle.std.proofs.Common.{◌≡◌, ℕ, ◌+◌, ◌^◌, false, nat_lt, List, Option, Some, None, slice_index, refl, arith}
 use Rattle.std.proofs.lemmas.Bool.{cond_both, ltb-true}
+use Rattle.ring_base.proofs.Cases.{none_of}
 use Rattle.ring_object.specs.Bytes.{AreBytes}
 use Rattle.ring_object.specs.Operations.{IsReply, unreadable}
-use Rattle.ring_things.specs.Guards.{unread}
 use Rattle.ring_things.specs.Replies.{code_fits, code_and_value_fits}
 use Rattle.ring_things.specs.Values.{IsValues, IsValues-set}
 use Rattle.ring_things.specs.Counters.{reading, is_readable, reply, next, reply_to, after}
@@ -31,4 +31,4 @@ pub replies_fit : (counts op : List ℕ) → AreBytes op → IsValues counts →
 replies_fit counts op are is = reply_fits counts (reading op)
 
 pub ignored : (counts op : List ℕ) → is_readable op ≡ false → (reply counts op ≡ unreadable) × (next counts op ≡ counts)
-ignored counts op none = rw (unread (reading op) none) (refl, refl)
+ignored counts op none = rw (none_of (reading op) none) (refl, refl)

@@ -1,6 +1,6 @@
 -- A value under a test.
-use Rattle.std.specs.Option.{option_map, option_and_then}
-use Rattle.std.proofs.Common.{◌≡◌, Bool, true, false, if◌then◌else◌, Option, Some, None, is_some, refl}
+use Rattle.std.specs.Option.{option_and_then}
+use Rattle.std.proofs.Common.{◌≡◌, Bool, true, false, if◌then◌else◌, Option, Some, None, refl}
 
 -- a test that was passed
 pub guarded : {A : Type 0} (test : Bool) (found : Option A) (y : A) → (if test then found else None) ≡ Some y → (test ≡ true) × (found ≡ Some y)
@@ -12,12 +12,3 @@ pub and_then_some : {A B : Type 0} (f : A → Option B) (found : Option A) (y : 
     → (x : A) × (found ≡ Some x) × (f x ≡ Some y)
 and_then_some f (Some x) y is = (x, refl, is)
 and_then_some f None y is = absurd cc
-
-pub map_some : {A B : Type 0} (f : A → B) (found : Option A) (y : B) → option_map f found ≡ Some y → (x : A) × (found ≡ Some x) × (f x ≡ y)
-map_some f (Some x) y is = (x, refl, cc)
-map_some f None y is = absurd cc
-
--- what isn't there
-pub unread : {A : Type 0} (found : Option A) → is_some found ≡ false → found ≡ None
-unread (Some x) none = absurd cc
-unread None none = refl

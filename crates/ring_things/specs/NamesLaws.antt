@@ -16,10 +16,11 @@ use Rattle.std.proofs.lemmas.List.Elements.{All-nil, All-cons, All-head, All-tai
 use Rattle.std.proofs.lemmas.List.Elements.{All-weaker, All-filter, All-from_recursion, recursion_from_All}
 use Rattle.std.proofs.lemmas.List.Kept.{IsStrictlySortedBy-filter}
 use Rattle.byteorder.specs.Endian.{big_number}
+use Rattle.ring_base.proofs.Cases.{none_of, map_some, Less-from}
 use Rattle.ring_object.specs.Bytes.{AreBytes}
 use Rattle.ring_object.specs.Operations.{IsReply, unreadable}
 use Rattle.ring_object.specs.Snapshots.{Restores}
-use Rattle.ring_things.specs.Guards.{guarded, and_then_some, map_some, unread}
+use Rattle.ring_things.specs.Guards.{guarded, and_then_some}
 use Rattle.ring_things.specs.Numbers.{exact_2, apart, together}
 use Rattle.ring_things.specs.Replies.{code_fits, AreBytes-rest, AreBytes-drop, AreBytes-take}
 use Rattle.ring_things.specs.Names.{most, IsName, is_name, by_bytes, AreAscending, IsSet, same, has, below, with_name}
@@ -60,11 +61,6 @@ above_by Greater p not_less not_equal is = is
 -- a name that is neither below nor the same is above
 pub above : (other name : List ℕ) → is_lt (by_bytes other name) ≡ false → same name other ≡ false → by_bytes name other ≡ Less
 above other name not_below differs = above_by (by_bytes other name) (by_bytes name other) not_below differs (nat_list_cmp_total.antisymm name other)
-
-pub Less-from : (o : Ordering) → is_lt o ≡ true → o ≡ Less
-Less-from Less is = refl
-Less-from Equal is = absurd cc
-Less-from Greater is = absurd cc
 
 -- all names of a list are above a name that is below the first
 pub All-above : (name other : List ℕ) (names : List (List ℕ)) → by_bytes name other ≡ Less
@@ -140,7 +136,7 @@ pub replies_fit : (names : List (List ℕ)) (op : List ℕ) → AreBytes op → 
 replies_fit names op are is = reply_fits names (reading op)
 
 pub ignored : (names : List (List ℕ)) (op : List ℕ) → is_readable op ≡ false → (reply names op ≡ unreadable) × (next names op ≡ names)
-ignored names op none = rw (unread (reading op) none) (refl, refl)
+ignored names op none = rw (none_of (reading op) none) (refl, refl)
 
 -- a name and what stands behind it
 next_first : (last name rest : List ℕ) → IsName name → by_bytes last name ≡ Less → next_name last (length name ∷ (name ++ rest)) ≡ Some name

@@ -4,8 +4,9 @@ use Rattle.std.specs.Prelude.{IfSome}
 use Rattle.std.proofs.lemmas.Bool.{cond_both}
 use Rattle.std.proofs.lemmas.List.{nil_from_length}
 use Rattle.std.proofs.lemmas.Option.{same_Some}
+use Rattle.ring_base.proofs.Cases.{map_some}
 use Rattle.ring_object.specs.Bytes.{AreBytes}
-use Rattle.ring_things.specs.Guards.{and_then_some, map_some}
+use Rattle.ring_things.specs.Guards.{and_then_some}
 use Rattle.ring_things.specs.Numbers.{big_number-whole, exact_8}
 use Rattle.ring_things.specs.Outcome.{code_of, outcome_of, value_bytes, value_in, spelling, reading, ValueFits}
 use Rattle.ring_things.specs.Replies.{AreBytes-rest}
@@ -19,7 +20,7 @@ outcome_of-code NotDone = refl
 outcome_of-code Full = refl
 outcome_of-code Unreadable = refl
 
-value_in-bytes : (value : Option ℕ) → ValueFits value → value_in (value_bytes value) ≡ Some value
+pub value_in-bytes : (value : Option ℕ) → ValueFits value → value_in (value_bytes value) ≡ Some value
 value_in-bytes (Some value) fits = ap (λ n. Some (Some n)) (big_number-whole 8 value fits)
 value_in-bytes None fits = refl
 

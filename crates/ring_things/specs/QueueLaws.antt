@@ -6,10 +6,11 @@ use Rattle.std.proofs.lemmas.List.{length_push, length-drop}
 use Rattle.std.proofs.lemmas.Option.{same_Some}
 use Rattle.std.proofs.lemmas.List.Elements.{All-nil, All-push, All-drop}
 use Rattle.byteorder.specs.Endian.{big_number}
+use Rattle.ring_base.proofs.Cases.{none_of}
 use Rattle.ring_object.specs.Bytes.{AreBytes}
 use Rattle.ring_object.specs.Operations.{IsReply, unreadable}
 use Rattle.ring_object.specs.Snapshots.{Restores}
-use Rattle.ring_things.specs.Guards.{guarded, unread}
+use Rattle.ring_things.specs.Guards.{guarded}
 use Rattle.ring_things.specs.Numbers.{spelled, numbers_of, big_number-lt, exact_2, exact_8, apart, together}
 use Rattle.ring_things.specs.Numbers.{length-spelled, length-numbers_of, AreNumbers-numbers_of, numbers_of-spelled}
 use Rattle.ring_things.specs.Numbers.{spelled-numbers_of}
@@ -60,7 +61,7 @@ pub replies_fit : (items op : List ℕ) → AreBytes op → IsQueue items → Is
 replies_fit items op are is = reply_fits items (reading op)
 
 pub ignored : (items op : List ℕ) → is_readable op ≡ false → (reply items op ≡ unreadable) × (next items op ≡ items)
-ignored items op none = rw (unread (reading op) none) (refl, refl)
+ignored items op none = rw (none_of (reading op) none) (refl, refl)
 
 pub IsQueue-numbers_of : (count : ℕ) (bytes : List ℕ) → count ≤ most → AreBytes bytes → IsQueue (numbers_of 8 count bytes)
 IsQueue-numbers_of count bytes few are = record { few = omega (arith, length-numbers_of 8 count bytes); numbers = AreNumbers-numbers_of 8 count bytes are }

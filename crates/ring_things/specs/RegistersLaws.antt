@@ -1,9 +1,9 @@
 -- Registers keep their laws.
 use Rattle.std.proofs.Common.{◌≡◌, ℕ, ◌^◌, ◌<◌, false, ◌==◌, ◌&&◌, List, [], ◌∷◌, length, drop, slice_index, Option, Some, None, refl, arith}
 use Rattle.std.proofs.lemmas.Bool.{cond_both}
+use Rattle.ring_base.proofs.Cases.{none_of}
 use Rattle.ring_object.specs.Bytes.{AreBytes}
 use Rattle.ring_object.specs.Operations.{IsReply, unreadable}
-use Rattle.ring_things.specs.Guards.{unread}
 use Rattle.ring_things.specs.Numbers.{big_number-lt}
 use Rattle.ring_things.specs.Replies.{code_fits, code_and_value_fits, AreBytes-rest, AreBytes-drop}
 use Rattle.ring_things.specs.Values.{IsValues, IsValues-set}
@@ -48,4 +48,4 @@ pub replies_fit : (values op : List ℕ) → AreBytes op → IsValues values →
 replies_fit values op are is = reply_fits values (reading op)
 
 pub ignored : (values op : List ℕ) → is_readable op ≡ false → (reply values op ≡ unreadable) × (next values op ≡ values)
-ignored values op none = rw (unread (reading op) none) (refl, refl)
+ignored values op none = rw (none_of (reading op) none) (refl, refl)

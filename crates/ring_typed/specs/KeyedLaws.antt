@@ -1,21 +1,18 @@
 -- Operations of a code, a key and a value are read and spelled both ways.
-use Rattle.std.proofs.Common.{◌≡◌, ℕ, ◌<◌, ◌==◌, List, [], ◌∷◌, length, Option, Some, None, refl, sym, ap, subst, eqb-true}
+use Rattle.std.proofs.Common.{◌≡◌, ℕ, ◌<◌, ◌==◌, List, [], ◌∷◌, length, Option, Some, refl, sym, ap, subst, eqb-true}
 use Rattle.std.proofs.lemmas.Bool.{cond_both}
 use Rattle.std.proofs.lemmas.List.{nil_from_length}
 use Rattle.std.proofs.lemmas.List.Elements.{All-head}
 use Rattle.std.proofs.lemmas.Option.{same_Some}
+use Rattle.ring_base.proofs.Cases.{map_some}
 use Rattle.ring_object.specs.Bytes.{AreBytes}
-use Rattle.ring_things.specs.Guards.{map_some}
-use Rattle.ring_things.specs.Numbers.{big_number-whole, big_number-lt, exact_8}
+use Rattle.ring_things.specs.Numbers.{big_number-lt, exact_8}
 use Rattle.ring_things.specs.Outcome.{value_bytes, value_in, ValueFits}
 use Rattle.ring_things.specs.Replies.{AreBytes-rest}
+use Rattle.ring_things.specs.OutcomeLaws.{value_in-bytes}
 use Rattle.ring_typed.specs.Keyed.{spelling, reading, KeyedFits}
 use Rattle.ring_typed.specs.Reads.{Reads}
 use Rattle.ring_typed.specs.declared.keyed.Keyed.{Keyed}
-
-value_in-bytes : (value : Option ℕ) → ValueFits value → value_in (value_bytes value) ≡ Some value
-value_in-bytes (Some value) fits = ap (λ n. Some (Some n)) (big_number-whole 8 value fits)
-value_in-bytes None fits = refl
 
 pub spelled_read : (keyed : Keyed) → ValueFits keyed.value → reading (spelling keyed) ≡ Some keyed
 spelled_read keyed fits = rw (value_in-bytes keyed.value fits) refl

@@ -2,9 +2,9 @@
 -- laws of objects that follow.
 use Rattle.std.proofs.Common.{◌≡◌, ℕ, ◌<◌, Bool, false, List, ◌∷◌, Option, Some, None, is_some, refl, arith}
 use Rattle.std.specs.Option.{option_map}
+use Rattle.ring_base.proofs.Cases.{none_of}
 use Rattle.ring_object.specs.Bytes.{AreBytes}
 use Rattle.ring_object.specs.Operations.{IsReply, Sequential, unreadable}
-use Rattle.ring_things.specs.Guards.{unread}
 use Rattle.ring_things.specs.Outcome.{code_of, spelling, value_bytes}
 use Rattle.ring_things.specs.Replies.{code_fits, code_and_value_fits}
 pub use Rattle.ring_things.specs.declared.replies.Outcome.{Outcome}
@@ -69,7 +69,7 @@ typed_replies IsContent reading reply_to content bytes are is = replied_fits (op
 pub typed_ignores : {C T : Type 0} (reading : List ℕ → Option T) (reply_to : C → T → Replied) (after : C → T → C)
     (content : C) (bytes : List ℕ) → is_read reading bytes ≡ false →
     (replied (option_map (reply_to content) (reading bytes)) ≡ unreadable) × (after_read after content (reading bytes) ≡ content)
-typed_ignores reading reply_to after content bytes none = rw (unread (reading bytes) none) (refl, refl)
+typed_ignores reading reply_to after content bytes none = rw (none_of (reading bytes) none) (refl, refl)
 
 kept : {C T : Type 0} (IsContent : C → Type 0) (after : C → T → C) (content : C) (found : Option T)
     → ((op : T) → found ≡ Some op → IsContent (after content op)) → IsContent content → IsContent (after_read after content found)

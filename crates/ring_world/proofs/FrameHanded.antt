@@ -3,6 +3,7 @@ use Rattle.std.proofs.Common.{◌≡◌, ℕ, Bool, true, false, if◌then◌els
 use Rattle.std.specs.Prelude.{option_map, is_some}
 use Rattle.std.specs.List.{AllByRecursion as Each}
 use Rattle.ring_base.specs.Processors.{has}
+use Rattle.ring_base.proofs.Cases.{some_of, none_of}
 use Rattle.ring_object.specs.Operations.{Sequential}
 use Rattle.ring_wire.specs.declared.frame.Frame.{Frame}
 use Rattle.ring_wire.specs.Frames.{FrameFits}
@@ -85,14 +86,6 @@ steps_it w (Stop j) i input s e = absurd (let q : ⊥ = cc s in q)
 
 -- What was read
 
-some_is : {X : Type 0} (o : Option X) → is_some o ≡ true → (x : X) × (o ≡ Some x)
-some_is None e = absurd (let q : ⊥ = cc e in q)
-some_is (Some x) e = (x, refl)
-
-none_is : {X : Type 0} (o : Option X) → is_some o ≡ false → o ≡ None
-none_is None e = refl
-none_is (Some x) e = absurd (let q : ⊥ = cc e in q)
-
 pub step_fits : {A : Type 0} (e : Event A) (i : ℕ) → stepping e ≡ Some i → EventFits e
 step_fits (Deliver j k) i s = tt
 step_fits (Timeout j kind) i s = tt
@@ -129,13 +122,13 @@ module _ {O A : Type 0} (object : Sequential O) {p old : Played A} {frames : Lis
   module _ {is : Bool} (is_is : is ≡ is_some (input_by e (handed_by e frames))) where
     -- there is no such frame
     pub not_read : is ≡ false → happens object (world_of object old) e ≡ world_of object old
-    not_read missing = now_is ∙ takes_none (input_by e (handed_by e frames)) (none_is (input_by e (handed_by e frames)) (sym is_is ∙ missing))
+    not_read missing = now_is ∙ takes_none (input_by e (handed_by e frames)) (none_of (input_by e (handed_by e frames)) (sym is_is ∙ missing))
 
     pub read : {place : Option (Frame A)} → (is ≡ true → input_by e place ≡ input_by e (handed_by e frames)) → is ≡ true
         → Each (λ (f : Carried A). FrameFits f.frame) (world_of object p).frames → IsStepBy object old e i place
     read {place} placed there fit =
         let w = world_of object old in
-        let found = some_is (input_by e (handed_by e frames)) (sym is_is ∙ there) in
+        let found = some_of (input_by e (handed_by e frames)) (sym is_is ∙ there) in
         let sent : frames ≡ w.frames = frames_are ∙ ap (λ (r : Played A). (world_of object r).frames) was in
         record {
           input = found.0;

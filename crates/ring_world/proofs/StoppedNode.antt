@@ -1,17 +1,16 @@
 -- The step of a node that has stopped gives nothing and changes nothing, where no committed places wait to be dropped.
-use Rattle.std.proofs.Common.{◌≡◌, ◌-◌, max, Bool, true, false, ◌&&◌, List, [], ◌∷◌, ◌++◌}
-use Rattle.std.proofs.Common.{refl, ap, ◌∙◌, sym, subst, append-nil, arith}
+use Rattle.std.proofs.Common.{◌≡◌, ◌-◌, Bool, true, false, ◌&&◌, List, [], ◌++◌}
+use Rattle.std.proofs.Common.{refl, ap, ◌∙◌, sym, subst, append-nil}
 use Rattle.std.proofs.lemmas.Bool.{cond-false}
-use Rattle.std.proofs.lemmas.List.{drop_all, length-take}
 use Rattle.ring_core.specs.declared.input.Input.TheVariants.{Frame as FrameInput, Timeout}
 use Rattle.ring_core.specs.State.{Core, Stepped}
 use Rattle.ring_core.specs.Stepping.{ring_step}
 use Rattle.ring_object.specs.Operations.{Sequential}
-use Rattle.ring_payload.specs.declared.content.Payload.{Payload}
 use Rattle.ring_core.specs.declared.out.Out.{Out}
 use Rattle.ring_log.specs.Stays.{Stay, hands}
-use Rattle.ring_log.specs.Kept.{Kept, log_kept, is_kept_sound}
+use Rattle.ring_log.specs.Kept.{log_kept, is_kept_sound}
 use Rattle.ring_log.specs.Logs.{committed_calls}
+use Rattle.ring_log.proofs.CommittedOf.{hands-nothing}
 use Rattle.ring_payload.specs.declared.call.Call.{Call}
 use Rattle.ring_session.specs.Tickets.{answers_after}
 use Rattle.ring_session.specs.declared.answered.Answered.{Answered}
@@ -20,6 +19,7 @@ use Rattle.ring_rules.specs.declared.input.Input.TheVariants.{Frame as NodeFrame
 use Rattle.ring_rules.specs.Nodes.{Node, node_kept, is_stopped, is_closed, is_restored}
 use Rattle.ring_rules.specs.Stepping.{NodeStepped, newly, table_since, with_dropped, drops, ended, did, node_step, after_core, settled, walked}
 use Rattle.ring_node.proofs.StoppedCore.{GaveNothing, stopped_step}
+use Rattle.ring_node.proofs.NewlyCommitted.{newly-nothing}
 use Rattle.ring_rules.proofs.NodeChanges.{stopped_same}
 use Rattle.ring_order_proof.proofs.Undropped.{IsUndropping}
 
@@ -28,18 +28,6 @@ pub record IsSilent {A : Type 0} (s : NodeStepped A) (n : Node A) : Type 0 where
   pub sends : s.sends ≡ []
   pub answers : s.answers ≡ []
   pub committed : s.committed ≡ []
-
-hands-nothing : {A : Type 0} (life : List (Stay A)) → hands [] life ≡ life
-hands-nothing [] = refl
-hands-nothing {A} (s ∷ older) =
-    let with_sent : List (Payload A) → List (Stay A) = λ ps. record s { sent = ps } ∷ older in
-    ap with_sent (append-nil s.sent)
-
--- where nothing more is known, nothing is newly committed
-newly-nothing : {A : Type 0} (k : Kept A) → newly k k ≡ []
-newly-nothing k =
-    let short = length-take (k.committed - k.trimmed) (log_kept k).calls in
-    drop_all (max k.committed k.trimmed - k.trimmed) (committed_calls (log_kept k)) (omega (arith, short))
 
 module _ {O A : Type 0} (object : Sequential O) where
   silent-did : (n : Node A) → IsSilent (did object n (walked n n.core n.life []) [] (node_kept n) (newly (node_kept n) (node_kept n))) n

@@ -1,6 +1,6 @@
 use Rattle.std.proofs.Common.{rules, ◌≡◌, ◌∷◌, ◌++◌, [], ◌+◌, length}
+use Rattle.ring_base.proofs.Rows.{pushed}
 use Rattle.ring_seat.specs.Seats.{IsAt}
-use Rattle.ring_callers.proofs.Pushed.{pushed}
 use Rattle.ring_callers.proofs.Taken.{one_taken}
 use Rattle.ring_callers.proofs.running.seats_of.Goals as goal
 

@@ -1,9 +1,10 @@
 -- At each return: the order hasn't the call, it was issued before, or this is its first issue.
 use Rattle.std.proofs.Common.{◌≡◌, ◌<◌, get_or, is_some, length, ap, sym, ◌∙◌, arith}
 use Rattle.std.proofs.lemmas.Option.{slice_get_within, slice_get-get_or, get_or_from_slice_get}
+use Rattle.ring_base.proofs.Cases.{some_of, none_of}
 use Rattle.ring_checker.specs.declared.check.Place.{Place}
 use Rattle.ring_checker.proofs.Places.{place_in-stands}
-use Rattle.ring_checker.proofs.Issues.{some_of, none_of, strange_item, issued_again, issued_first}
+use Rattle.ring_checker.proofs.Issues.{strange_item, issued_again, issued_first}
 use Rattle.ring_checker.proofs.check.note_call.Goals as goal
 
 pub returns-in_default : goal.returns-in_default

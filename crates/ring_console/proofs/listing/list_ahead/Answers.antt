@@ -1,5 +1,6 @@
 use Rattle.std.proofs.Common.{refl}
-use Rattle.ring_console.proofs.ListingLemmas.{value_at_err, so_far_none, so_far_more, so_far_whole, so_far_cut}
+use Rattle.ring_base.proofs.Results.{value_at_err}
+use Rattle.ring_console.proofs.ListingLemmas.{so_far_none, so_far_more, so_far_whole, so_far_cut}
 use Rattle.ring_console.proofs.listing.list_ahead.Goals as goal
 
 pub loop-init : goal.loop-init

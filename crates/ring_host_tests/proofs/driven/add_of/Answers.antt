@@ -1,5 +1,5 @@
 use Rattle.std.proofs.Common.{arith}
-use Rattle.ring_host_tests.proofs.Fits.{made_fits}
+use Rattle.ring_payload.proofs.CallMade.{made_fits}
 use Rattle.ring_host_tests.proofs.driven.add_of.Goals as goal
 
 pub returns : goal.returns

@@ -1,6 +1,7 @@
 use Rattle.std.proofs.Common.{rules}
+use Rattle.ring_base.proofs.Rows.{pushed}
 use Rattle.ring_seat.specs.Seats.{IsAt}
-use Rattle.ring_host_tests.proofs.Pushed.{pushed, none_yet}
+use Rattle.ring_host_tests.proofs.NoneYet.{none_yet}
 use Rattle.ring_host_tests.proofs.driven.alone_in.Goals as goal
 
 pub returns : goal.returns

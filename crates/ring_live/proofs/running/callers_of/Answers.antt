@@ -1,7 +1,7 @@
 use Rattle.std.proofs.Common.{rules}
+use Rattle.ring_base.proofs.Rows.{pushed}
 use Rattle.ring_seat.specs.Seats.{IsAt}
 use Rattle.ring_live.specs.Callers.{HasSeatsAt}
-use Rattle.ring_live.proofs.Pushed.{pushed}
 use Rattle.ring_live.proofs.running.callers_of.Goals as goal
 
 pub loop-before-preserved : goal.loop-before-preserved

@@ -1,6 +1,6 @@
 use Rattle.std.proofs.Common.{rules}
+use Rattle.ring_base.proofs.Rows.{pushed}
 use Rattle.ring_seat.specs.Seats.{IsAt}
-use Rattle.ring_live.proofs.Pushed.{pushed}
 use Rattle.ring_live.proofs.running.seats_of.Goals as goal
 
 pub loop-preserved : goal.loop-preserved

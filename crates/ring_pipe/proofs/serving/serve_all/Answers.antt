@@ -1,7 +1,7 @@
 -- One record after another is taken, until none is left or one is at fault.
 use Rattle.std.proofs.Common.{rules, refl}
+use Rattle.ring_base.proofs.Results.{value_at_err}
 use Rattle.ring_pipe.proofs.Served.{served_none, served_more, served_end, served_cut, cut_at_once}
-use Rattle.ring_pipe.proofs.Writing.{value_at_err}
 use Rattle.ring_pipe.proofs.serving.serve_all.Goals as goal
 
 pub returns-in_err-bytes-clause-cut : goal.returns-in_err-bytes-clause-cut

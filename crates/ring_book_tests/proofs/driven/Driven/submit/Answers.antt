@@ -1,5 +1,5 @@
 use Rattle.std.proofs.Common.{arith}
-use Rattle.ring_book_tests.proofs.CallMade.{made_fits}
+use Rattle.ring_payload.proofs.CallMade.{made_fits}
 use Rattle.ring_book_tests.proofs.driven.Driven.submit.Goals as goal
 
 pub entered_submit-requires : goal.entered_submit-requires

@@ -1,8 +1,9 @@
 -- The call keeps the limits as it was made, so the submit does.
 use Rattle.std.proofs.Common.{arith}
+use Rattle.ring_order_proof.proofs.NodeLimits.{takes}
 use Rattle.ring_payload.specs.Calls.{CallFits}
 use Rattle.ring_driver.specs.Driving.{Driven}
-use Rattle.ring_driver.proofs.DriverLimits.{takes, taken_as, kept_as, not_taken}
+use Rattle.ring_driver.proofs.DriverLimits.{taken_as, kept_as, not_taken}
 use Rattle.ring_driver.proofs.driver.Driver.submit.Goals as goal
 
 pub invariant_of-self : goal.invariant_of-self

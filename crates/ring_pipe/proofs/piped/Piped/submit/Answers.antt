@@ -1,7 +1,7 @@
 -- The call keeps the limits as it was made, so the submit does.
 use Rattle.std.proofs.Common.{arith}
+use Rattle.ring_order_proof.proofs.NodeLimits.{takes}
 use Rattle.ring_payload.specs.Calls.{CallFits}
-use Rattle.ring_pipe.proofs.Limits.{takes}
 use Rattle.ring_pipe.proofs.Submits.{not_made, made}
 use Rattle.ring_pipe.proofs.piped.Piped.submit.Goals as goal
 

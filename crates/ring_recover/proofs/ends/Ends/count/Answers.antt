@@ -1,7 +1,8 @@
 -- An End is counted as its sender's, a users' message as one, and any other as none of these.
 use Rattle.std.proofs.Common.{true, sym, ◌∙◌, ap}
 use Rattle.std.specs.Prelude.{◌||◌}
-use Rattle.ring_recover.proofs.EndsCounted.{or_none, or_right, end_no_user, counted_end, counted_other}
+use Rattle.ring_base.proofs.Cases.{or-false}
+use Rattle.ring_recover.proofs.EndsCounted.{or_right, end_no_user, counted_end, counted_other}
 use Rattle.ring_recover.proofs.ends.Ends.count.Goals.{then-is_end, else-is_end+then-is_user, else-is_end+else-is_user}
 use Rattle.ring_recover.proofs.ends.Ends.count.Goals as goal
 
@@ -19,5 +20,5 @@ invariant_of-self g c =
       | else-is_end+else-is_user w ↦
           rw w.self-inside-is (counted_other c.self.inside.past.value x _ _ _ _ c.self.inside.has_user c.self.invariant (sym c.is_end.ensures
           ∙ w.if-is_end.false)
-          (sym (ap (λ b. c.self.inside.has_user || b) (sym w.is_user.ensures ∙ w.if-is_user.false) ∙ or_none c.self.inside.has_user)))
+          (sym (ap (λ b. c.self.inside.has_user || b) (sym w.is_user.ensures ∙ w.if-is_user.false) ∙ or-false c.self.inside.has_user)))
     ])

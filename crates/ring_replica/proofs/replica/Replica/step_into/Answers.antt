@@ -6,8 +6,9 @@ use Rattle.ring_log.specs.Logs.{Log}
 use Rattle.ring_replica.specs.Replicas.{is_table_held, IsCounted}
 use Rattle.ring_replica.proofs.ReplicaSteps.{ready, moved-by, steady-was, halted-counted, halted-later, stopped-same, step-halted, step-lost}
 use Rattle.ring_replica.proofs.ReplicaSteps.{applied-is, effects-are, restored-now, due-are, due-is, answers-told, committed-told, restored-told}
-use Rattle.ring_replica.proofs.ReplicaEnds.{some-fact, carries-as, ended-counted, ended-told, ended-step}
+use Rattle.ring_replica.proofs.ReplicaEnds.{carries-as, ended-counted, ended-told, ended-step}
 use Rattle.ring_base.proofs.Results.{on-err}
+use Rattle.ring_base.proofs.Cases.{some_has}
 use Rattle.ring_replica.specs.declared.given.Given.{Given}
 use Rattle.ring_replica.proofs.replica.Replica.step_into.Goals as goal
 
@@ -118,7 +119,7 @@ invariant_of-self-2 g c =
       applied = c.in_ok-reached.ensures.table fits;
       given = c.in_ok-reached.ensures.answers fits;
       committed = c.in_ok-reached.ensures.committed fits;
-      counted = some-fact _ _ x c.in-Some.is c.in_ok-reached.ensures.reached;
+      counted = some_has _ _ x c.in-Some.is c.in_ok-reached.ensures.reached;
     }) in
     ended-counted m c.carry_out.new.given.due.items c.carry_out.new.sessions (applied-is m carried.applied) (restored-now m carried.fits) (effects-are m carried.counted)
     c.hand.ensures c.in_ok-drop_if_ripe.ensures.ok c.in_ok-drop_if_ripe.ensures.dropped
@@ -138,7 +139,7 @@ returns g c =
       applied = c.in_ok-reached.ensures.table fits;
       given = c.in_ok-reached.ensures.answers fits;
       committed = c.in_ok-reached.ensures.committed fits;
-      counted = some-fact _ _ x c.in-Some.is c.in_ok-reached.ensures.reached;
+      counted = some_has _ _ x c.in-Some.is c.in_ok-reached.ensures.reached;
     }) in
     let due = c.in_ok-reached.ensures.due
     ∙ due-are m carried.fits c.pending.ensures c.requires.no_due (c.in_ok-walk.ensures.due m.fine) in

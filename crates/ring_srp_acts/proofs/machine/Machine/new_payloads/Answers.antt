@@ -2,6 +2,7 @@
 use Rattle.std.proofs.Common.{◌≡◌, ◌≤◌, List, IfOk, subst, ap, sym, ◌∙◌}
 use Rattle.std.proofs.lemmas.Result.{on_ok_weaker}
 use Rattle.ring_base.specs.declared.state.State.TheVariants.{Recovery, Operational}
+use Rattle.ring_base.proofs.Results.{ok_always}
 use Rattle.ring_payload.specs.declared.content.Payload.{Payload}
 use Rattle.ring_payload.specs.Packing.{packed, left_behind}
 use Rattle.ring_token.specs.Visits.{room}
@@ -9,7 +10,7 @@ use Rattle.ring_core.specs.State.{Core}
 use Rattle.ring_core.specs.Visiting.{offers, room_at, queue_after}
 use Rattle.ring_srp_acts.specs.Machines.{is_running}
 use Rattle.ring_srp_acts.proofs.KeptByActs.{with_queue}
-use Rattle.ring_srp_acts.proofs.Visits.{if_ok, none_runs, mark_behind, mark_by_visits}
+use Rattle.ring_srp_acts.proofs.Visits.{none_runs, mark_behind, mark_by_visits}
 use Rattle.ring_srp_acts.proofs.machine.Machine.new_payloads.Goals as goal
 
 pub room-room-requires : goal.room-room-requires
@@ -44,7 +45,7 @@ pub returns-in-Recovery-clause-core : goal.returns-in-Recovery-clause-core
 returns-in-Recovery-clause-core g c =
     let now = c.args.self.now in
     let state : now.state ≡ Recovery = sym (ap (λ (x : Core g.row.A.Denot). x.state) c.self.view_is) ∙ c.in-Recovery.is in
-    if_ok c.wraps.result (ap (λ (q : List (Payload g.row.A.Denot)). record now { queue = q })
+    ok_always c.wraps.result (ap (λ (q : List (Payload g.row.A.Denot)). record now { queue = q })
     (sym (ap (λ s. queue_after s (room_at now c.args.token.now) now.queue) state)))
 
 pub returns-in-Operational-clause-items : goal.returns-in-Operational-clause-items

@@ -1,5 +1,6 @@
 use Rattle.std.proofs.Common.{◌∙◌, sym}
-use Rattle.ring_sweep.proofs.Walking.{turns_more, turns_idle, none_open}
+use Rattle.ring_console.proofs.Turning.{none_open}
+use Rattle.ring_sweep.proofs.Walking.{turns_more, turns_idle}
 use Rattle.ring_sweep.proofs.walk.Walk.take_turns.Goals as goal
 
 pub loop-preserved : goal.loop-preserved

@@ -1,5 +1,5 @@
 use Rattle.std.proofs.Common.{◌∙◌, sym, arith}
-use Rattle.ring_sweep.proofs.Walking.{none_open}
+use Rattle.ring_console.proofs.Turning.{none_open}
 use Rattle.ring_sweep.proofs.Gapping.{turns_next, turns_ended, turns_done, turn_comes}
 use Rattle.ring_sweep.proofs.walk.Walk.take_turns_until.Goals as goal
 

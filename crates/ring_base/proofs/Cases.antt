@@ -1,0 +1,35 @@
+-- What a choice, an option or a comparison comes to.
+use Rattle.std.proofs.Common.{◌≡◌, ◌||◌, Bool, true, false, Option, Some, None, is_some, refl}
+use Rattle.std.specs.Prelude.{IfSome}
+use Rattle.std.specs.Option.{option_map}
+use Rattle.std.specs.Ordering.{is_lt}
+use Rattle.std.specs.declared.cmp.Ordering.{Ordering}
+use Rattle.std.specs.declared.cmp.Ordering.TheVariants.{Less, Equal, Greater}
+
+pub or-false : (b : Bool) → (b || false) ≡ b
+or-false true = refl
+or-false false = refl
+
+-- what a test of an option found
+pub some_of : {X : Type 0} (o : Option X) → is_some o ≡ true → (x : X) × (o ≡ Some x)
+some_of None some = absurd (cc some)
+some_of (Some x) some = (x, refl)
+
+pub none_of : {X : Type 0} (o : Option X) → is_some o ≡ false → o ≡ None
+none_of None none = refl
+none_of (Some x) none = absurd (cc none)
+
+-- what is said of what is there
+pub some_has : {X : Type 0} (P : X → Type 0) (o : Option X) (x : X) → o ≡ Some x → IfSome o P → P x
+some_has P o x e h = rw e at h
+
+-- what was made of what was found
+pub map_some : {A B : Type 0} (f : A → B) (found : Option A) (y : B) → option_map f found ≡ Some y → (x : A) × (found ≡ Some x) × (f x ≡ y)
+map_some f (Some x) y is = (x, refl, cc)
+map_some f None y is = absurd cc
+
+-- what a test of a comparison found
+pub Less-from : (o : Ordering) → is_lt o ≡ true → o ≡ Less
+Less-from Less is = refl
+Less-from Equal is = absurd cc
+Less-from Greater is = absurd cc

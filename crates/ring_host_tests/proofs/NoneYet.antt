@@ -1,0 +1,6 @@
+-- Whatever it is, it holds of all that a list has that has nothing yet.
+use Rattle.std.proofs.Common.{◌≡◌, List, [], All}
+use Rattle.std.proofs.lemmas.List.Elements.{All-nil}
+
+pub none_yet : {X : Type 0} (P : X → Type 0) (xs : List X) → xs ≡ [] → All P xs
+none_yet P xs e = rw e (All-nil P)
