@@ -22,6 +22,6 @@ AreWords after words = (j : ℕ) → is_set words j ≡ true → after + 1 + j <
 -- from an offset on, the first whose bit is set, 256 where there is none
 pub record IsFirstSet (words : List ℕ) (from k : ℕ) : Type 0 where
   pub later : from ≤ k
-  pub inside : k ≤ 256
+  pub inside : k ≤ window_size
   pub clear : (j : ℕ) → from ≤ j → j < k → is_set words j ≡ false
-  pub set : k ≢ 256 → is_set words k ≡ true
+  pub set : k ≢ window_size → is_set words k ≡ true

@@ -11,6 +11,7 @@ use Rattle.ring_window.specs.Messages.{Message}
 use Rattle.ring_window.specs.Bits.{is_set}
 use Rattle.ring_recover.specs.Plans.{Plan, safe, least_mark, low, is_known}
 use Rattle.ring_recover.specs.Wrapping.{is_wrapped, left_to_wrap, has_own_end}
+use Rattle.ring_base.specs.Numbers.{window_size}
 
 pub record Recovering (A : Type 0) : Type 0 where
   pub me : ℕ
@@ -50,8 +51,8 @@ pub record IsPlanKept {A : Type 0} (r : Recovering A) (old : RingId) (mates leas
   pub safe_is : high ≡ safe r.plan
   pub low_is : front ≡ low r.plan
   pub sound : high ≤ front
-  pub known_is : (j : ℕ) → j < 256 → is_set known j ≡ is_known r.plan (high + 1 + j)
-  pub wrapped_is : (j : ℕ) → j < 256 → is_set wrapped j ≡ is_wrapped r.seen r.plan.old (high + 1 + j)
+  pub known_is : (j : ℕ) → j < window_size → is_set known j ≡ is_known r.plan (high + 1 + j)
+  pub wrapped_is : (j : ℕ) → j < window_size → is_set wrapped j ≡ is_wrapped r.seen r.plan.old (high + 1 + j)
   pub ended_is : ended ≡ has_own_end r.me r.seen
 
 -- What it reads off the old ring's window

@@ -23,6 +23,7 @@ use Rattle.ring_core.specs.State.{Core, Sent, floor, is_stopped}
 use Rattle.ring_core.specs.Views.{front, mark, plan}
 use Rattle.ring_core.specs.Giving.{users}
 use Rattle.ring_srp_state.specs.Histories.{History}
+use Rattle.ring_base.specs.Numbers.{window_size}
 
 -- the core, of what the code keeps and of its history
 abbrev pub core_of : {A : Type 0} → ℕ → ℕ → State → Configuration → Configuration → Gathering → Option (Sent A)
@@ -63,7 +64,7 @@ pub record IsPart {A : Type 0} (c : Core A) (ring : RingId) (window : Windowed A
   pub window_is : window ≡ window_of c ring
   pub visit_is : visit ≡ visits_of c ring
   pub reached : mark c ring ≤ front c ring
-  pub near : highest c.held ring ≤ mark c ring + 256
+  pub near : highest c.held ring ≤ mark c ring + window_size
   pub led : last_aru (turns_of ring c.turns) ≤ front c ring
 
 -- What is known of the rings

@@ -4,10 +4,11 @@ use Rattle.ring_wire.specs.declared.message.Message.{Message}
 use Rattle.ring_window.specs.Bits.{is_set}
 use Rattle.ring_window.specs.Held.{found, holds, front_of, highest}
 use Rattle.ring_window.specs.Windows.{Windowed}
+use Rattle.ring_base.specs.Numbers.{window_size}
 
 -- number n stands in place (n - 1) mod 256
 abbrev pub place_of : ℕ → ℕ
-place_of n = (n - 1) % 256
+place_of n = (n - 1) % window_size
 
 -- what stands in the place of a number
 abbrev pub in_place : {A : Type 0} → List (Option (Message A)) → ℕ → Option (Message A)
@@ -19,9 +20,9 @@ pub record IsWindow {A : Type 0} (w : Windowed A) (front top : ℕ) (words : Lis
   pub front_is : front ≡ front_of w.held w.ring
   pub top_is : top ≡ highest w.held w.ring
   pub safe : w.mark ≤ front
-  pub near : front ≤ w.mark + 256
+  pub near : front ≤ w.mark + window_size
   pub none : holds w.held w.ring 0 ≡ false
-  pub beyond : (n : ℕ) → w.mark + 256 < n → holds w.held w.ring n ≡ false
+  pub beyond : (n : ℕ) → w.mark + window_size < n → holds w.held w.ring n ≡ false
   pub bits : (j : ℕ) → is_set words j ≡ holds w.held w.ring (w.mark + 1 + j)
-  pub count : length places ≡ 256
-  pub placed : (n : ℕ) → w.mark < n → n ≤ w.mark + 256 → in_place places n ≡ found w.held w.ring n
+  pub count : length places ≡ window_size
+  pub placed : (n : ℕ) → w.mark < n → n ≤ w.mark + window_size → in_place places n ≡ found w.held w.ring n

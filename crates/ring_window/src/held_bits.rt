@@ -3,6 +3,7 @@
 ghost use Rattle.std.specs.Prelude.{◌≡◌, ◌≢◌, ℕ, ◌+◌, ◌*◌, ◌/◌, ◌%◌, ◌<◌, ◌≤◌, true, false, length, slice_index};
 ghost use Rattle.ring_base.specs.Numbers.{has_bit, word_of};
 ghost use Rattle.ring_window.specs.Bits.{is_set, IsFirstClear};
+ghost use Rattle.ring_base.specs.Numbers.{window_size};
 
 use ring_base::WINDOW;
 
@@ -32,7 +33,7 @@ impl HeldBits {
 
     /// Sets a bit.
     pub(crate) fn set(&mut self, offset: usize)
-        requires { offset < 256 }
+        requires { offset < window_size }
         ensures this { is_set self.new.words offset ≡ true }
         ensures others { (j : ℕ) → j ≢ offset → is_set self.new.words j ≡ is_set self.old.words j }
     {
@@ -41,7 +42,7 @@ impl HeldBits {
 
     /// From a bit on, the first that is clear.
     pub(crate) fn first_clear(&self, from: usize) -> usize
-        requires { from ≤ 256 }
+        requires { from ≤ window_size }
         ensures { IsFirstClear self.now.words from result }
     {
         let mut offset = from;
@@ -57,7 +58,7 @@ impl HeldBits {
 
     /// The bits from one on, as the first.
     pub(crate) fn from_bit(&self, first: usize) -> HeldBits
-        requires { first ≤ 256 }
+        requires { first ≤ window_size }
         ensures { (j : ℕ) → is_set result.words j ≡ is_set self.now.words (first + j) }
     {
         HeldBits {
@@ -72,7 +73,7 @@ impl HeldBits {
 
     /// The 256 bits from one on as bytes, the first as the bit of value 1 of the first byte.
     pub(crate) fn bytes_from(&self, first: usize) -> [u8; 32]
-        requires { first ≤ 256 }
+        requires { first ≤ window_size }
         ensures count { length result ≡ 32 }
         ensures bytes { (k : ℕ) → k < 32 → slice_index result k ≡ word_of (is_set self.now.words) (first + 8 * k) 8 }
     {

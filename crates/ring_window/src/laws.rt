@@ -6,6 +6,7 @@ ghost use Rattle.ring_wire.specs.declared.message.Message.{Message};
 ghost use Rattle.ring_wire.specs.Entries.{bit_of};
 ghost use Rattle.ring_window.specs.Bits.{held_bits};
 ghost use Rattle.ring_window.specs.Held.{IsFrontIn, front_of, holds};
+ghost use Rattle.ring_base.specs.Numbers.{window_size};
 
 use std::alloc::Allocator;
 
@@ -17,5 +18,5 @@ pub fn front_law<A: Allocator + Copy>()
 
 /// The bits of an entry say exactly which of the 256 numbers after the front were held.
 pub fn bits_law<A: Allocator + Copy>()
-    ensures { (held : List (Message A)) (ring : RingId) (j : ℕ) → j < 256 → bit_of (held_bits held ring) j ≡ holds held ring (front_of held ring + 1 + j) }
+    ensures { (held : List (Message A)) (ring : RingId) (j : ℕ) → j < window_size → bit_of (held_bits held ring) j ≡ holds held ring (front_of held ring + 1 + j) }
 {}

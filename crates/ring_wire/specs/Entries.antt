@@ -164,7 +164,7 @@ pub record EntryFits (e : CommitEntry) : Type 0 where
   pub mark : e.mark ≤ e.front
   pub front : e.front ≤ max_number
   pub window : e.front ≤ e.mark + window_size
-  pub held : (j : ℕ) → j < 256 → bit_of e.held j ≡ true → MayHold e.front e.mark j
+  pub held : (j : ℕ) → j < window_size → bit_of e.held j ≡ true → MayHold e.front e.mark j
   pub nothing : e.old.seq ≡ 0 → ReportsNothing e
 
 abbrev pub nothing_test : CommitEntry → Bool
@@ -174,7 +174,7 @@ nothing_test e = (e.front == 0) && ((e.mark == 0) && are_zero e.held)
 abbrev pub entry_test : CommitEntry → Bool
 entry_test e = nat_le e.mark e.front
     && (nat_le e.front max_number && (nat_le e.front (e.mark + window_size)
-    && (held_test e.front e.mark e.held 256 && (not (e.old.seq == 0) || nothing_test e))))
+    && (held_test e.front e.mark e.held window_size && (not (e.old.seq == 0) || nothing_test e))))
 
 is_nothing : (e : CommitEntry) → (not (e.old.seq == 0) || nothing_test e) ≡ true → e.old.seq ≡ 0 → ReportsNothing e
 is_nothing e h z =
@@ -219,11 +219,11 @@ entry_format = tested_format entry_fields told entry_test entry_spelling EntryFi
         mark = leb-true _ _ a.0;
         front = leb-true _ _ b.0;
         window = leb-true _ _ c.0;
-        held = held_test-true p.1.0 p.1.1.0 p.1.1.1 256 d.0;
+        held = held_test-true p.1.0 p.1.1.0 p.1.1.1 window_size d.0;
         nothing = is_nothing (told p) d.1;
       };
   back = λ e f. ((e.old, (e.front, (e.mark, e.held))), (f.old, (omega (arith, f.front), (omega (arith, f.front, f.mark), f.bits))), refl);
-  passes = λ e f. rw (le-leb _ _ f.mark, le-leb _ _ f.front, le-leb _ _ f.window, true-held_test e.front e.mark e.held 256 f.held, nothing_is e f.nothing) refl;
+  passes = λ e f. rw (le-leb _ _ f.mark, le-leb _ _ f.front, le-leb _ _ f.window, true-held_test e.front e.mark e.held window_size f.held, nothing_is e f.nothing) refl;
 })
 
 abbrev pub entry : Format CommitEntry

@@ -3,6 +3,7 @@
 ghost use Rattle.std.specs.Prelude.{◌≡◌, ℕ, ◌+◌, ◌^◌, ◌<◌, ◌≤◌, List, [], ◌∷◌, ◌++◌, length, ◌==◌, ◌*◌, true};
 ghost use Rattle.std.specs.List.{list_all};
 ghost use Rattle.ring_payload.specs.Layouts.{Appends, Gives, GivesBy, times_at};
+ghost use Rattle.ring_payload.specs.Base.{window_size};
 
 use crate::valid::only_if;
 use arrayvec::ArrayVec;
@@ -42,7 +43,7 @@ impl CommitEntry {
 
     /// Whether bit j is set: the number front + 1 + j is held.
     pub fn is_held(&self, j: usize) -> bool
-        requires { j < 256 }
+        requires { j < window_size }
         ensures { result ≡ bit_of self.now.held j }
     {
         (self.held[j / 8] >> (j % 8)) & 1 == 1
@@ -50,7 +51,7 @@ impl CommitEntry {
 
     /// Whether bit j is set and must not be.
     fn is_wrong(&self, j: usize) -> bool
-        requires index { j < 256 }
+        requires index { j < window_size }
         requires front { self.now.front < 2 ^ 63 }
         requires mark { self.now.mark < 2 ^ 63 }
         ensures { result ≡ is_wrong_bit self.now.front self.now.mark self.now.held j }
@@ -81,7 +82,7 @@ impl CommitEntry {
     fn is_held_right(&self) -> bool
         requires front { self.now.front < 2 ^ 63 }
         requires mark { self.now.mark < 2 ^ 63 }
-        ensures { result ≡ held_test self.now.front self.now.mark self.now.held 256 }
+        ensures { result ≡ held_test self.now.front self.now.mark self.now.held window_size }
     {
         for byte in 0..32 {
             if !self.is_byte_right(byte) {
