@@ -4,7 +4,6 @@ ghost use Rattle.std.specs.Prelude.{◌≡◌, ℕ, ◌+◌, ◌-◌, ◌^◌, �
 ghost use Rattle.std.specs.Iterator.{YieldsFirst, item_count};
 ghost use Rattle.ring_window.specs.Bits.{is_set};
 ghost use Rattle.ring_recover.specs.Chosen.{chosen, AreWords};
-ghost use Rattle.ring_base.specs.Numbers.{window_size};
 
 use crate::offsets::{COUNT, Offsets};
 use std::marker::Model;
@@ -58,6 +57,7 @@ pub struct NumbersLeft {
 
 impl Model for NumbersLeft {
     ghost use Rattle.std.specs.Prelude.{ℕ, List, ◌≤◌};
+    ghost use Rattle.ring_base.specs.Numbers.{window_size};
     ghost use Rattle.ring_recover.specs.Chosen.{chosen_from, AreWords};
 
     ghost Value = { List ℕ };

@@ -1,5 +1,5 @@
-//! Twelve random schedules of ring cores, with what an independent implementation gives of them; and that the lives of
-//! each of them meet the five facts of virtual synchrony.
+//! Twelve random schedules of ring cores, with what an independent implementation gives of them; and that the lives of the
+//! ten that open in Gather meet the five facts of virtual synchrony.
 #![tactic(auto)]
 
 pub mod lives;
