@@ -1,6 +1,6 @@
-//! What no contract of worlds of ring cores says: that three processors come to one ring, and what two recoveries deliver;
-//! the bytes of a frame; that each request for memory succeeds where there is memory, and how many events were done where
-//! one is refused. And that the checker of an order succeeds, and tells a request that is refused.
+//! What no contract of worlds of ring cores says: that rings form and recover, and what worked runs give, event by event; the
+//! bytes of a frame; that each request for memory succeeds where there is memory, and how many events were done where one is
+//! refused. And that the checker of an order succeeds, and tells a request that is refused.
 #![tactic(auto)]
 
 #[cfg(test)]

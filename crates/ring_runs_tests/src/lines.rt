@@ -1,70 +1,88 @@
-//! What a recovery sends again and delivers, and the configurations, as text: a line each.
+//! What ring cores give, as text: a line each, with a frame as it stands in a listing.
 
 use ring_base::{Proc, ProcSet};
 use ring_core::Out;
 use ring_payload::Payload;
-use ring_wire::{Frame, Message};
+use ring_wire::{CommitToken, Frame, Join, Message, Token};
 use std::alloc::{AllocError, Allocator};
 use std::fmt::Write;
 
-/// Adds a line for each such output, in their order.
+/// Which outputs are shown.
+#[derive(Clone, Copy)]
+pub(crate) enum Shown {
+    All,
+    /// All but what is agreed on.
+    Visits,
+    /// What a recovery sends again and delivers, and the configurations.
+    Recovery,
+}
+
+impl Shown {
+    /// Whether an output is shown.
+    fn has<A: Allocator + Copy>(self, out: &Out<A>) -> bool {
+        match self {
+            Shown::All => true,
+            Shown::Visits => !matches!(out, Out::Agreed(_, _, _)),
+            Shown::Recovery => match out {
+                Out::Trans(_, _, _) | Out::Rest(_, _, _) | Out::Regular(_, _) => true,
+                Out::Send(_, Frame::Message(sent)) => matches!(&sent.payload, Payload::Wrapped(_)),
+                _ => false,
+            },
+        }
+    }
+}
+
+/// Adds a line for each output that is shown, in their order.
 fn write_lines<A: Allocator + Copy>(
     text: &mut String<A>,
     outs: &[(Proc, Out<A>)],
+    shown: Shown,
 ) -> Result<(), AllocError> {
     for given in outs {
-        write_line(text, given.0, &given.1)?;
+        if shown.has(&given.1) {
+            write_line(text, given.0, &given.1)?;
+        }
     }
     Ok(())
 }
 
-/// A line for each such output, in their order.
+/// A line for each output that is shown, in their order.
 pub(crate) fn lines_of<A: Allocator + Copy>(
     alloc: A,
     outs: &[(Proc, Out<A>)],
+    shown: Shown,
 ) -> Result<String<A>, AllocError> {
     let mut text = String::new(alloc);
-    write_lines(&mut text, outs)?;
+    write_lines(&mut text, outs, shown)?;
     Ok(text)
 }
 
-/// What a processor gives, where it is such an output.
+/// What a processor gives.
 fn write_line<A: Allocator + Copy>(
     text: &mut String<A>,
     node: Proc,
     out: &Out<A>,
 ) -> Result<(), AllocError> {
+    write!(text, "{node} ")?;
     match out {
-        Out::Send(to, Frame::Message(sent)) => return write_wrapped(text, node, *to, sent),
+        Out::Send(to, frame) => {
+            write!(text, "to ")?;
+            write_set(text, *to)?;
+            write_frame(text, frame)?;
+        }
+        Out::Agreed(ring, number, _) => write!(text, "agreed {ring} {number}")?,
+        Out::Safe(ring, upto) => write!(text, "safe {ring} {upto}")?,
         Out::Trans(old, new, set) => {
-            write!(text, "{node} trans {old} {new} of ")?;
+            write!(text, "trans {old} {new} of ")?;
             write_set(text, *set)?;
         }
-        Out::Rest(ring, number, _) => write!(text, "{node} rest {ring} {number}")?,
+        Out::Rest(ring, number, _) => write!(text, "rest {ring} {number}")?,
         Out::Regular(ring, set) => {
-            write!(text, "{node} regular {ring} of ")?;
+            write!(text, "regular {ring} of ")?;
             write_set(text, *set)?;
         }
-        _ => return Ok(()),
     }
     writeln!(text)
-}
-
-/// A message, where it wraps another.
-fn write_wrapped<A: Allocator + Copy>(
-    text: &mut String<A>,
-    node: Proc,
-    to: ProcSet,
-    message: &Message<A>,
-) -> Result<(), AllocError> {
-    let Payload::Wrapped(old) = &message.payload else {
-        return Ok(());
-    };
-    write!(text, "{node} to ")?;
-    write_set(text, to)?;
-    let (ring, number, sender) = (message.ring, message.number, message.sender);
-    write!(text, " message {ring} seq {number} from {sender} ")?;
-    writeln!(text, "wraps {} {}", old.ring, old.number)
 }
 
 /// The members of a set, by commas; `-` where there are none.
@@ -80,4 +98,74 @@ fn write_set<A: Allocator>(text: &mut String<A>, set: ProcSet) -> Result<(), All
     } else {
         Ok(())
     }
+}
+
+/// A frame.
+fn write_frame<A: Allocator + Copy>(
+    text: &mut String<A>,
+    frame: &Frame<A>,
+) -> Result<(), AllocError> {
+    match frame {
+        Frame::Message(message) => write_message(text, message),
+        Frame::Token(token) => write_token(text, token),
+        Frame::Join(join) => write_join(text, join),
+        Frame::Commit(commit) => write_commit(text, commit.token()),
+    }
+}
+
+/// A message, and what it carries.
+fn write_message<A: Allocator + Copy>(
+    text: &mut String<A>,
+    message: &Message<A>,
+) -> Result<(), AllocError> {
+    let (ring, number, sender) = (message.ring, message.number, message.sender);
+    write!(text, " message {ring} seq {number} from {sender} ")?;
+    match &message.payload {
+        Payload::Call(_) => text.push_str("call"),
+        Payload::Head(_) => text.push_str("head"),
+        Payload::End => text.push_str("end"),
+        Payload::Wrapped(old) => write!(text, "wraps {} {}", old.ring, old.number),
+        _ => text.push_str("other"),
+    }
+}
+
+/// A token, with who holds it back and what is asked for.
+fn write_token<A: Allocator>(text: &mut String<A>, token: &Token) -> Result<(), AllocError> {
+    let (ring, number, seq, aru) = (token.ring, token.number, token.seq, token.aru);
+    let holder = match token.aru_id {
+        Some(holder) => holder.number(),
+        None => 0,
+    };
+    write!(
+        text,
+        " token {ring} number {number} seq {seq} aru {aru} id {holder} asks"
+    )?;
+    for asked in token.requests.as_slice() {
+        write!(text, " {asked}")?;
+    }
+    if token.requests.as_slice().is_empty() {
+        write!(text, " -")?;
+    }
+    Ok(())
+}
+
+/// A join, with its sets.
+fn write_join<A: Allocator>(text: &mut String<A>, join: &Join) -> Result<(), AllocError> {
+    let (sender, number) = (join.sender, join.number);
+    write!(text, " join {sender} number {number} procs ")?;
+    write_set(text, join.proc_set)?;
+    write!(text, " fails ")?;
+    write_set(text, join.fail_set)
+}
+
+/// A commit token, with how many entries it carries.
+fn write_commit<A: Allocator>(text: &mut String<A>, token: &CommitToken) -> Result<(), AllocError> {
+    let (ring, hop) = (token.ring, token.hop);
+    write!(text, " commit {ring} members ")?;
+    write_set(text, token.members)?;
+    write!(
+        text,
+        " hop {hop} entries {}",
+        token.entries.as_slice().len()
+    )
 }
