@@ -1,5 +1,5 @@
-//! What no contract of the log says: the worked heads through the code, each call that takes memory where memory is
-//! left, and each request refused in turn.
+//! What no contract of the log says: that each call that takes memory succeeds where memory is left, and what is told as
+//! each request is refused in turn.
 #![tactic(auto)]
 
 #[cfg(test)]

@@ -1,14 +1,10 @@
-//! What no contract of worlds of ring cores says: the worked runs of a ring of two that loses a message, of a ring of
-//! three that asks for two, of three processors that gather and install their first ring, of a silent one that is given
-//! up, and of two recoveries; the bytes of a frame; that each request for memory succeeds where there is memory, and how
-//! many events were done where one is refused. And the checker of histories and their orders, over the smallest object whose replies
-//! tell its order.
+//! What no contract of worlds of ring cores says: that rings form and recover, and what worked runs give, event by event; the
+//! bytes of a frame; that each request for memory succeeds where there is memory, and how many events were done where one is
+//! refused. And that the checker of an order succeeds, and tells a request that is refused.
 #![tactic(auto)]
 
 #[cfg(test)]
 mod histories;
-#[cfg(test)]
-mod last;
 #[cfg(test)]
 mod lines;
 #[cfg(test)]

@@ -1,9 +1,7 @@
-//! What no contract of objects, sessions and tickets says: worked replies and snapshots, the session table row by row, the 64
-//! answers that tickets keep, and that a request for memory which is refused is answered as such.
+//! What no contract of objects, sessions and tickets says: worked operations, replies and snapshots as bytes, and that work
+//! which takes memory succeeds where there is memory, and tells each request that is refused.
 #![tactic(auto)]
 
-#[cfg(test)]
-mod diary;
 #[cfg(test)]
 mod memory;
 #[cfg(test)]

@@ -1,65 +1,50 @@
 //! Work that takes memory, with each request refused in turn.
 
-use crate::diary::Diary;
 use crate::sessions::refusals;
-use crate::snapshots::call_and_come_back_anew;
+use crate::snapshots::call_and_come_back;
 use crate::things::{Things, change_and_come_back_anew};
-use crate::tickets::{REPEATED, two_rounds_anew};
+use crate::tickets::answer_three;
 use refusing_alloc::{Refusing, refuse_in_turn};
 use ring_base::Fault;
-use ring_things::{Counters, Queue};
+use ring_things::{Counters, Names, Queue};
 use std::alloc::{AllocError, Global};
 
-/// What `refuse_in_turn` wants to be told: an error where a request was refused, but where the work was wrong the contrary.
-fn told(heap: &Refusing, is_right: bool) -> Result<(), AllocError> {
-    if is_right == heap.has_refused() {
-        Err(AllocError)
-    } else {
-        Ok(())
-    }
-}
-
-/// Work ends with the request that is refused, and tells so.
-fn ended(heap: &Refusing, fault: Option<Fault>) -> Result<(), AllocError> {
-    let wanted = if heap.has_refused() {
+/// Whether work ends with the request that is refused, and tells so.
+fn has_ended(heap: &Refusing, told: Result<(), Fault>) -> bool {
+    let fault = if heap.has_refused() {
         Some(Fault::Memory)
     } else {
         None
     };
-    told(heap, fault == wanted)
-}
-
-/// Work is done all the same, and counts how often it was refused memory.
-fn counted(heap: &Refusing, refusals: Result<u64, Fault>) -> Result<(), AllocError> {
-    told(heap, refusals == Ok(u64::from(heap.has_refused())))
+    told.err() == fault
 }
 
 /// Work that takes memory.
 #[derive(Clone, Copy)]
 enum Work {
+    /// It is done all the same, and counts how often it was refused memory.
     Calls,
     Snapshots,
     Shelf,
     Tickets,
 }
 
-/// What `refuse_in_turn` wants to be told of the work. The only fault is want of memory, and it comes with each request that is
-/// refused.
+/// What `refuse_in_turn` wants to be told of the work: an error where a request was refused, but where the work was wrong
+/// the contrary. The only fault is want of memory, and it comes with each request that is refused.
 fn answered(heap: &Refusing, ample: &Refusing, work: Work) -> Result<(), AllocError> {
-    match work {
-        Work::Calls => counted(heap, refusals::<Diary<&Refusing>>(heap, ample)),
-        Work::Snapshots => ended(
-            heap,
-            call_and_come_back_anew::<Queue<&Refusing>>(heap).err(),
-        ),
-        Work::Shelf => ended(
-            heap,
-            change_and_come_back_anew::<Things<&Refusing>>(heap).err(),
-        ),
-        Work::Tickets => ended(
-            heap,
-            two_rounds_anew::<Counters<&Refusing>>(heap, REPEATED).err(),
-        ),
+    let is_right = match work {
+        Work::Calls => {
+            let refusals = refusals::<Names<&Refusing>>(heap, ample);
+            refusals == Ok(u64::from(heap.has_refused()))
+        }
+        Work::Snapshots => has_ended(heap, call_and_come_back::<Queue<&Refusing>>(heap)),
+        Work::Shelf => has_ended(heap, change_and_come_back_anew::<Things<&Refusing>>(heap)),
+        Work::Tickets => has_ended(heap, answer_three::<Counters<&Refusing>>(heap)),
+    };
+    if is_right == heap.has_refused() {
+        Err(AllocError)
+    } else {
+        Ok(())
     }
 }
 

@@ -2,10 +2,8 @@
 
 use crate::spelled::is_spelled;
 use ring_base::Fault;
-use ring_object::{Object, Reply, Short, object_law};
-use ring_things::{
-    Counters, Names, Outcome, Place, Queue, Registers, Replied, Shelf, reply, reply_with,
-};
+use ring_object::{Object, Short};
+use ring_things::{Counters, Names, Place, Queue, Registers, Shelf};
 use std::alloc::Global;
 use std::process::Abort;
 use std::test::Fail;
@@ -76,16 +74,6 @@ const THINGS: [(&str, &str); 9] = [
     ("0302", "ff"),
 ];
 
-/// Rows past 1,024 values.
-const FULL_QUEUE: [(&str, &str); 2] = [("010000000000000000", "01"), ("03", "000000000000000400")];
-
-/// Rows past 1,024 names of 8 bytes.
-const FULL_NAMES: [(&str, &str); 3] = [
-    ("0109", "02"),
-    ("010000000000000009", "01"),
-    ("0309", "01"),
-];
-
 const QUEUES: [&str; 2] = ["0000", "000200000000000000070000000000000009"];
 
 const NO_QUEUES: [&str; 5] = ["", "00", "0001", "0000ff", "000100000000000000"];
@@ -104,23 +92,18 @@ const NO_SETS: [&str; 7] = [
 
 const NO_VALUES: [&str; 3] = ["", "00", "0000000000000005"];
 
-/// Whether the object replies so to the operation.
-fn replies<O: Object>(alloc: Global, object: &mut O, op: &[u8], reply: &str) -> bool {
-    match object.apply(op) {
-        Ok(bytes) => is_spelled(alloc, bytes.as_slice(), reply),
-        Err(_) => false,
-    }
-}
-
-/// The same of an operation in hexadecimal.
+/// Whether the object replies so to the operation, both in hexadecimal.
 fn is_replied<O: Object>(alloc: Global, object: &mut O, op: &str, reply: &str) -> bool {
-    match hex::decode(alloc, op) {
-        Ok(bytes) => replies(alloc, object, bytes.as_slice(), reply),
+    let Ok(bytes) = hex::decode(alloc, op) else {
+        return false;
+    };
+    match object.apply(bytes.as_slice()) {
+        Ok(given) => is_spelled(alloc, given.as_slice(), reply),
         Err(_) => false,
     }
 }
 
-/// The object does the operations in turn, and gives these replies, both in hexadecimal.
+/// The object does the operations in turn, and gives these replies.
 fn assert_replies<O: Object>(
     rt: &impl Abort,
     alloc: Global,
@@ -132,31 +115,13 @@ fn assert_replies<O: Object>(
     }
 }
 
-/// Whether the object takes this number of 8 bytes.
-fn takes<O: Object>(object: &mut O, number: u16) -> bool {
-    let [high, low] = number.to_be_bytes();
-    match object.apply(&[1, 0, 0, 0, 0, 0, 0, high, low]) {
-        Ok(reply) => reply.as_slice() == [0].as_slice(),
-        Err(_) => false,
-    }
-}
-
-/// The object takes so many such numbers.
-fn assert_fills<O: Object>(rt: &impl Abort, object: &mut O, numbers: u16) {
-    for i in 0..numbers {
-        assert!(rt; takes(object, i), "at {i}");
-    }
-}
-
-/// An object at the start does so, and then does the operations.
-fn assert_filled<O: Object<Alloc = Global>>(
+/// An object at the start does so.
+fn assert_replies_anew<O: Object<Alloc = Global>>(
     rt: &impl Abort,
     alloc: Global,
-    numbers: u16,
     rows: &[(&str, &str)],
 ) {
     let mut object = O::start(alloc).expect(rt, "memory");
-    assert_fills(rt, &mut object, numbers);
     assert_replies(rt, alloc, &mut object, rows);
 }
 
@@ -222,18 +187,15 @@ fn spelled_come_back<O: Object<Alloc = Global>>(alloc: Global, text: &str) -> Re
     }
 }
 
-/// Each of the texts is a snapshot, and what is restored from it has that snapshot.
-fn assert_restored<O: Object<Alloc = Global>>(rt: &impl Abort, alloc: Global, texts: &[&str]) {
+/// It is so told of each of the texts.
+fn assert_come_back<O: Object<Alloc = Global>>(
+    rt: &impl Abort,
+    alloc: Global,
+    texts: &[&str],
+    told: Result<(), Fault>,
+) {
     for text in texts {
-        assert!(rt; spelled_come_back::<O>(alloc, *text) == Ok(()), "{text}");
-    }
-}
-
-/// None of the texts is a snapshot.
-fn assert_refused<O: Object<Alloc = Global>>(rt: &impl Abort, alloc: Global, texts: &[&str]) {
-    for text in texts {
-        let back = spelled_come_back::<O>(alloc, *text);
-        assert!(rt; back == Err(Fault::BadSnapshot), "{text}");
+        assert!(rt; spelled_come_back::<O>(alloc, *text) == told, "{text}");
     }
 }
 
@@ -263,69 +225,23 @@ fn operations_are_spelled(rt: HostRuntime) -> Result<(), Fail> {
         (Names::has(b"a")?, "0361"),
     ];
     assert_spelled(&rt, rt.alloc(), &table);
-    Ok(())
-}
-
-#[test]
-fn operations_on_a_shelf_are_spelled(rt: HostRuntime) -> Result<(), Fail> {
-    let table = [
+    let on_a_shelf = [
         (Place::First.operation(&Registers::get(255)), "0001ff"),
         (Place::Second.operation(&Counters::read(0)), "010200"),
         (Place::Third.operation(&Queue::length()), "0203"),
         (Place::Fourth.operation(&Names::insert(b"a")?), "030161"),
     ];
-    assert_spelled(&rt, rt.alloc(), &table);
+    assert_spelled(&rt, rt.alloc(), &on_a_shelf);
     Ok(())
 }
 
 #[test]
-fn a_name_has_at_most_64_bytes(rt: HostRuntime) {
-    for (length, fault) in [(1, None), (64, None), (65, Some(Fault::OpTooLong))] {
-        let name = &[b'a'; 65][..length];
-        let faults = (
-            Names::insert(name).err(),
-            Names::remove(name).err(),
-            Names::has(name).err(),
-        );
-        assert!(rt; faults == (fault, fault, fault), "{length}");
-    }
-}
-
-/// Each outcome alone, and one with a value; and bytes that are no reply.
-#[test]
-fn replies_are_read(rt: HostRuntime) {
-    let table = [
-        (reply(Outcome::Done), Some((Outcome::Done, None))),
-        (reply(Outcome::NotDone), Some((Outcome::NotDone, None))),
-        (reply(Outcome::Full), Some((Outcome::Full, None))),
-        (
-            reply(Outcome::Unreadable),
-            Some((Outcome::Unreadable, None)),
-        ),
-        (reply_with(Outcome::Done, 5), Some((Outcome::Done, Some(5)))),
-        (Reply::from_slice(&[0, 5]), None),
-        (Reply::from_slice(&[3]), None),
-        (Reply::from_slice(&[]), None),
-    ];
-    for (bytes, told) in table {
-        let read = Replied::read(bytes.as_slice()).map(|replied| (replied.outcome, replied.value));
-        assert!(rt; read == told, "{bytes:?}");
-    }
-}
-
-#[test]
 fn operations_are_replied(rt: HostRuntime) {
-    assert_filled::<Registers>(&rt, rt.alloc(), 0, &REGISTERS);
-    assert_filled::<Counters>(&rt, rt.alloc(), 0, &COUNTERS);
-    assert_filled::<Queue>(&rt, rt.alloc(), 0, &QUEUE);
-    assert_filled::<Names>(&rt, rt.alloc(), 0, &NAMES);
-    assert_filled::<Things<Global>>(&rt, rt.alloc(), 0, &THINGS);
-}
-
-#[test]
-fn limits_are_exact(rt: HostRuntime) {
-    assert_filled::<Queue>(&rt, rt.alloc(), 1024, &FULL_QUEUE);
-    assert_filled::<Names>(&rt, rt.alloc(), 1024, &FULL_NAMES);
+    assert_replies_anew::<Registers>(&rt, rt.alloc(), &REGISTERS);
+    assert_replies_anew::<Counters>(&rt, rt.alloc(), &COUNTERS);
+    assert_replies_anew::<Queue>(&rt, rt.alloc(), &QUEUE);
+    assert_replies_anew::<Names>(&rt, rt.alloc(), &NAMES);
+    assert_replies_anew::<Things<Global>>(&rt, rt.alloc(), &THINGS);
 }
 
 #[test]
@@ -334,46 +250,31 @@ fn snapshots_come_back(rt: HostRuntime) {
     assert_snapshot::<Queue>(&rt, rt.alloc(), &pushes, QUEUES[1]);
     let inserts = [("0162", "00"), ("0161", "00")];
     assert_snapshot::<Names>(&rt, rt.alloc(), &inserts, SETS[1]);
-    assert_restored::<Queue>(&rt, rt.alloc(), &QUEUES);
-    assert_restored::<Names>(&rt, rt.alloc(), &SETS);
+    assert_come_back::<Queue>(&rt, rt.alloc(), &QUEUES, Ok(()));
+    assert_come_back::<Names>(&rt, rt.alloc(), &SETS, Ok(()));
 }
 
 #[test]
 fn only_snapshots_are_restored(rt: HostRuntime) {
-    assert_refused::<Registers>(&rt, rt.alloc(), &NO_VALUES);
-    assert_refused::<Counters>(&rt, rt.alloc(), &NO_VALUES);
-    assert_refused::<Queue>(&rt, rt.alloc(), &NO_QUEUES);
-    assert_refused::<Names>(&rt, rt.alloc(), &NO_SETS);
-    assert_refused::<Things<Global>>(&rt, rt.alloc(), &NO_VALUES);
+    let refused = Err(Fault::BadSnapshot);
+    assert_come_back::<Registers>(&rt, rt.alloc(), &NO_VALUES, refused);
+    assert_come_back::<Counters>(&rt, rt.alloc(), &NO_VALUES, refused);
+    assert_come_back::<Queue>(&rt, rt.alloc(), &NO_QUEUES, refused);
+    assert_come_back::<Names>(&rt, rt.alloc(), &NO_SETS, refused);
+    assert_come_back::<Things<Global>>(&rt, rt.alloc(), &NO_VALUES, refused);
 }
 
-/// The law at each object.
-#[test]
-fn laws_hold(_rt: HostRuntime) {
-    object_law::<Registers>();
-    object_law::<Counters>();
-    object_law::<Queue>();
-    object_law::<Names>();
-    object_law::<Things<Global>>();
-}
-
-/// Changes a shelf's objects in each way in which they take memory, once more.
-fn change_once<O: Object>(things: &mut O, i: u8) -> Result<(), Fault> {
-    let operations = [
-        Place::Second.operation(&Counters::add(i, 1)),
-        Place::Third.operation(&Queue::push(u64::from(i))),
-        Place::Fourth.operation(&Names::insert(&[i])?),
-    ];
-    for operation in &operations {
-        things.apply(operation.as_slice())?;
-    }
-    Ok(())
-}
-
-/// Changes them twenty times, and then they come back.
+/// Changes a shelf's objects in each way in which they take memory, twenty times, and then they come back.
 fn change_and_come_back<O: Object>(alloc: O::Alloc, things: &mut O) -> Result<(), Fault> {
     for i in 0..20u8 {
-        change_once(things, i)?;
+        let operations = [
+            Place::Second.operation(&Counters::add(i, 1)),
+            Place::Third.operation(&Queue::push(u64::from(i))),
+            Place::Fourth.operation(&Names::insert(&[i])?),
+        ];
+        for operation in &operations {
+            things.apply(operation.as_slice())?;
+        }
     }
     let snapshot = snapshot_of(alloc, things)?;
     come_back::<O>(alloc, snapshot.as_slice())
