@@ -36,7 +36,7 @@ type Way<A> = VecDeque<(FrameRef, Proc), A>;
 /// A book and its cells.
 #[derive(Drop)]
 pub struct Driven<O: Object, K: BookName<O::Alloc>> {
-    alloc: O::Alloc,
+    pub alloc: O::Alloc,
     pub book: Book<O, K>,
     pub cells: Vec<Cell<O, K>, O::Alloc>,
     open: Way<O::Alloc>,
@@ -77,7 +77,7 @@ impl<O: Object, K: BookName<O::Alloc>> Driven<O, K> {
     }
 
     /// The bytes of the frame that stands there.
-    fn spelled(&self, at: FrameRef) -> Result<BytesMut<O::Alloc>, Fault> {
+    pub fn spelled(&self, at: FrameRef) -> Result<BytesMut<O::Alloc>, Fault> {
         let mut bytes = BytesMut::new(self.alloc);
         self.book.spell(at, &mut bytes)?;
         Ok(bytes)
@@ -146,7 +146,7 @@ impl<O: Object, K: BookName<O::Alloc>> Driven<O, K> {
 }
 
 /// The cell of this processor, counted from 1.
-fn cell_of<O: Object, K: BookName<O::Alloc>>(
+pub fn cell_of<O: Object, K: BookName<O::Alloc>>(
     cells: &mut [Cell<O, K>],
     processor: u8,
 ) -> Result<&mut Cell<O, K>, Fault> {

@@ -4,8 +4,8 @@ ghost use Rattle.std.specs.Prelude.{◌≡◌};
 
 use crate::driven::{Driven, add_five, five};
 use crate::linear::{answered, explained};
-use ring_base::{Fault, Fixed, MOST_PROCESSORS, State};
-use ring_book::{BookName, Cell, Opening};
+use ring_base::{Fault, Fixed, Proc, State};
+use ring_book::{Book, BookName, Cell, Opening};
 use ring_node::Node;
 use ring_object::Object;
 use ring_rules::Item;
@@ -15,7 +15,7 @@ use std::alloc::Allocator;
 use std::marker::Brand;
 
 /// What is seen of a book: how long its order is, whether its history begins with the first call issued twice and then
-/// replied, whether each node has committed that, and whether the ticket is told the reply.
+/// replied, whether each node has committed that, and whether the reply is told to one ticket alone.
 type Shown = (usize, bool, bool, bool);
 
 /// Whether the node is in its first ring, and its log is one committed place for each of two submits.
@@ -31,6 +31,29 @@ fn have_committed<O: Object, K: BookName<O::Alloc>>(cells: &[Cell<O, K>]) -> boo
         have = have && has_committed(cell.node());
     }
     have
+}
+
+/// Whether it is the answer to the first call where there is to be one, and none elsewhere.
+fn is_told(answer: Option<Answer>, is_wanted: bool) -> bool {
+    if is_wanted {
+        answer == Some(Answer::Done(five()))
+    } else {
+        answer.is_none()
+    }
+}
+
+/// Whether the ticket of this processor is told the first reply, and that of no other processor.
+fn is_told_alone<O: Object, K: BookName<O::Alloc>>(
+    book: &Book<O, K>,
+    ticket: Ticket,
+    processor: u8,
+) -> bool {
+    let mut is = true;
+    for number in 1..17u8 {
+        let answer = answered(book, Proc::new(number), ticket);
+        is = is && is_told(answer, number == processor);
+    }
+    is
 }
 
 /// Whether clients saw this: the first call was issued, twice, and replied.
@@ -53,8 +76,7 @@ fn shown<O: Object, K: BookName<O::Alloc>>(
     processor: u8,
 ) -> Result<Shown, Fault> {
     let seen = explained(&driven.book)?;
-    let node = Fixed::new(MOST_PROCESSORS)?.proc(processor)?;
-    let is_told = answered(&driven.book, node, ticket) == Some(Answer::Done(five()));
+    let is_told = is_told_alone(&driven.book, ticket, processor);
     let have = have_committed(driven.cells.as_slice());
     Ok((
         seen.order.len(),

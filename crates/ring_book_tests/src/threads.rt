@@ -4,7 +4,7 @@ ghost use Rattle.std.specs.Prelude.{◌≡◌};
 
 use crate::driven::Driven;
 use ring_base::{Fault, Fixed};
-use ring_book::{BookName, Opening};
+use ring_book::{Book, BookName, Cell, Opening};
 use ring_object::Object;
 use ring_things::Counters;
 use std::alloc::Global;
@@ -15,15 +15,30 @@ use std::thread::Threads;
 /// Lends what may go to another thread.
 fn sends<T: Send>(_: &T) {}
 
-/// A book may go to another thread, and so may each of its cells, wherever its object and its name may, and its memory may be
-/// shared.
+/// A cell may go to another thread wherever its object and its name may, and its memory may be shared.
+fn lend_cell<O: Object + Send, K: BookName<O::Alloc> + Send>(cell: &Cell<O, K>)
+where
+    O::Alloc: Send + Sync,
+{
+    sends(cell)
+}
+
+/// And so may a book.
+fn lend_book<O: Object + Send, K: BookName<O::Alloc> + Send>(book: &Book<O, K>)
+where
+    O::Alloc: Send + Sync,
+{
+    sends(book)
+}
+
+/// The book may go to another thread, and so may each of its cells.
 fn lend_all<O: Object + Send, K: BookName<O::Alloc> + Send>(driven: &Driven<O, K>)
 where
     O::Alloc: Send + Sync,
 {
-    sends(&driven.book);
+    lend_book(&driven.book);
     for cell in driven.cells.as_slice() {
-        sends(cell);
+        lend_cell(cell);
     }
 }
 
