@@ -103,13 +103,6 @@ impl<O: Object> Driven<O> {
         Ok(())
     }
 
-    /// The node is stopped.
-    pub fn stop(&mut self) -> Result<(), Fault> {
-        let outs = self.node.step(Input::Stop)?;
-        self.count(&outs);
-        Ok(())
-    }
-
     /// A frame comes, which is handed over.
     fn deliver(&mut self, bytes: &[u8]) -> Result<(), Fault> {
         let frame = frame_of(self.ample, bytes)?;

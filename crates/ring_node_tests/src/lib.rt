@@ -7,8 +7,6 @@ mod driven;
 #[cfg(test)]
 mod memory;
 #[cfg(test)]
-mod sending;
-#[cfg(test)]
 mod trimming;
 #[cfg(test)]
 mod worked;

@@ -24,16 +24,6 @@ fn refused_submits<O: Object>(driven: &mut Driven<O>, number: u64) -> Result<u64
     }
 }
 
-/// How often memory was refused in the submits before the step at this place: two calls are submitted, of which one waits
-/// for the ring, and one goes out at once.
-fn submitted_before<O: Object>(driven: &mut Driven<O>, place: u8) -> Result<u64, Fault> {
-    match place {
-        2 => refused_submits(driven, 1),
-        5 => refused_submits(driven, 2),
-        _ => Ok(0),
-    }
-}
-
 /// How often the step at this place was refused memory. If it was, the node is stopped for good, and tells the log as
 /// before the step.
 fn refused_steps<O: Object>(driven: &mut Driven<O>, place: u8) -> Result<u64, Fault> {
@@ -48,14 +38,19 @@ fn refused_steps<O: Object>(driven: &mut Driven<O>, place: u8) -> Result<u64, Fa
     }
 }
 
-/// How often memory was refused in the whole run, which ends where the node stops, after so many refusals.
+/// How often memory was refused in the whole run, which ends where the node stops, after so many refusals. Two calls are submitted,
+/// of which one waits for the ring, and one goes out at once.
 fn refused_in_run<O: Object>(driven: &mut Driven<O>, before: u64) -> Result<u64, Fault> {
     let mut all = before;
     for place in 0..7u8 {
         if driven.is_stopped() {
             return Ok(all);
         }
-        let submits = submitted_before(driven, place)?;
+        let submits = match place {
+            2 => refused_submits(driven, 1)?,
+            5 => refused_submits(driven, 2)?,
+            _ => 0,
+        };
         let steps = refused_steps(driven, place)?;
         all = all.saturating_add(submits).saturating_add(steps);
     }
@@ -73,19 +68,14 @@ fn refused_then<O: Object>(driven: &mut Driven<O>, before: u64) -> Result<u64, F
     }
 }
 
-/// The same of a node whose opening was refused memory once.
-fn refused_again<O: Object>(heap: O::Alloc, ample: O::Alloc) -> Result<u64, Fault> {
-    let mut driven = Driven::<O>::new(heap, ample)?;
-    refused_then(&mut driven, 1)
-}
-
 /// The same of a node with its opening, which is tried again if it is refused memory.
 fn refusals<O: Object>(heap: O::Alloc, ample: O::Alloc) -> Result<u64, Fault> {
-    match Driven::<O>::new(heap, ample) {
-        Ok(mut driven) => refused_then(&mut driven, 0),
-        Err(Fault::Memory) => refused_again::<O>(heap, ample),
-        Err(fault) => Err(fault),
-    }
+    let (made, before) = match Driven::<O>::new(heap, ample) {
+        Err(Fault::Memory) => (Driven::<O>::new(heap, ample), 1),
+        made => (made, 0),
+    };
+    let mut driven = made?;
+    refused_then(&mut driven, before)
 }
 
 /// What `refuse_in_turn` asks of a run: an error where a request was refused, and the run tells one refusal. Where it is not as

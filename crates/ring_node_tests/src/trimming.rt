@@ -13,25 +13,24 @@ use std::test::Fail;
 /// how many are dropped, and how many calls took effect.
 type Shown = (State, u64, u64, u64, u64, u64);
 
-/// What is shown of a node.
-fn shown<O: Object>(driven: &Driven<O>) -> Shown {
+/// How many calls a node's steps committed and answered, how many they dropped, and how many committed places it keeps.
+type Counts = ((usize, usize), usize, usize);
+
+/// What is shown of a node, and what its steps come to.
+fn shown<O: Object>(driven: &Driven<O>) -> (Shown, Counts) {
     let node = &driven.node;
-    (
+    let shown = (
         node.state(),
         node.ring().seq,
         node.committed_len(),
         node.log_len(),
         node.trimmed(),
         node.order_len(),
+    );
+    (
+        shown,
+        (driven.told(), driven.dropped, node.committed().len()),
     )
-}
-
-/// How many calls a node's steps committed and answered, how many they dropped, and how many committed places it keeps.
-type Counts = ((usize, usize), usize, usize);
-
-/// What a node's steps come to.
-fn counts<O: Object>(driven: &Driven<O>) -> Counts {
-    (driven.told(), driven.dropped, driven.node.committed().len())
 }
 
 /// The next 64 calls are submitted, from this number on.
@@ -68,9 +67,9 @@ type Seen = ([(Shown, Counts); 2], Option<Answer>);
 /// What is seen of this node.
 fn seen<O: Object>(driven: &mut Driven<O>) -> Result<Seen, Fault> {
     nearly(driven)?;
-    let before = (shown(driven), counts(driven));
+    let before = shown(driven);
     driven.turn()?;
-    let after = (shown(driven), counts(driven));
+    let after = shown(driven);
     Ok(([before, after], driven.node.reply(Ticket::new(255))))
 }
 
@@ -101,10 +100,10 @@ fn trims<O: Object>(driven: &mut Driven<O>, heap: &Refusing) -> Result<(u64, u64
     nearly(driven)?;
     let before = heap.requests();
     let is_right = match driven.turn() {
-        Ok(()) => shown(driven) == (State::Operational, 1, 256, 256, 256, 256),
+        Ok(()) => shown(driven).0 == (State::Operational, 1, 256, 256, 256, 256),
         Err(Fault::Memory) => {
-            let is_stopped = shown(driven) == (State::Stopped, 1, 192, 256, 0, 192);
-            is_stopped && counts(driven) == ((192, 192), 0, 192)
+            let stopped = (State::Stopped, 1, 192, 256, 0, 192);
+            shown(driven) == (stopped, ((192, 192), 0, 192))
         }
         Err(_) => false,
     };

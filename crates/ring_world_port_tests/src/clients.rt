@@ -42,19 +42,14 @@ fn seen<P: Port>(client: &mut Client<P>, op: Option<&[u8]>) -> ClientSeen {
     }
 }
 
-/// The same of a client over nodes of a world.
-fn seen_of<O: Object>(client: &mut Client<WorldPort<O>>, op: Option<&[u8]>) -> ClientSeen {
-    seen(client, op)
-}
-
 /// What is seen of a call that adds.
-fn added<O: Object>(client: &mut Client<WorldPort<O>>) -> ClientSeen {
-    seen_of(client, Some(add().as_slice()))
+fn added<P: Port>(client: &mut Client<P>) -> ClientSeen {
+    seen(client, Some(add().as_slice()))
 }
 
 /// What is seen of a call that reads.
-fn counter<O: Object>(client: &mut Client<WorldPort<O>>) -> ClientSeen {
-    seen_of(client, Some(read().as_slice()))
+fn counter<P: Port>(client: &mut Client<P>) -> ClientSeen {
+    seen(client, Some(read().as_slice()))
 }
 
 /// Whether the reply is that the counter is at 5.
@@ -76,36 +71,29 @@ fn opened<O: Object>(
 
 /// Whether a call gets no answer and stays open: each node was polled in vain, and while a call is open another is refused
 /// at once, with no port asked.
-fn stays_open<O: Object>(client: &mut Client<WorldPort<O>>) -> bool {
+fn stays_open<P: Port>(client: &mut Client<P>) -> bool {
     let seen = added(client);
     let in_vain = Some((1, None, 300));
     seen.reply == Err(Fault::NoAnswer) && seen.is_open && seen.told == [in_vain, in_vain, None]
 }
 
-/// Whether the open call is answered once all hear each other, and the counter has it once, though two nodes waited for it.
+/// Whether the call stays open twice, and is answered once all hear each other, and the counter has it once, though two nodes waited
+/// for it.
 fn is_answered_later<O: Object>(
     client: &mut Client<WorldPort<O>>,
     shared: &Shared<O>,
 ) -> Result<bool, Fault> {
-    cut(shared, everybody()?)?;
-    let again = seen_of(client, None);
-    let is_answered = is_five(&again) && again.number == Some(2);
-    Ok(is_answered && is_five(&counter(client)) && order_len(shared)? == 2)
-}
-
-/// Whether the call stays open twice, and is answered later.
-fn is_tried_in_vain<O: Object>(
-    client: &mut Client<WorldPort<O>>,
-    shared: &Shared<O>,
-) -> Result<bool, Fault> {
     let stays = stays_open(client) && stays_open(client);
-    Ok(stays && is_answered_later(client, shared)?)
+    cut(shared, everybody()?)?;
+    let again = seen(client, None);
+    let is_answered = is_five(&again) && again.number == Some(2);
+    Ok(stays && is_answered && is_five(&counter(client)) && order_len(shared)? == 2)
 }
 
 /// Nobody hears anybody, until the call was tried twice.
 fn call_in_vain<O: Object>(alloc: O::Alloc) -> Result<bool, Fault> {
     let (shared, mut client) = opened::<O>(alloc, ProcSet::new(), 300)?;
-    is_tried_in_vain(&mut client, &shared)
+    is_answered_later(&mut client, &shared)
 }
 
 #[test]
@@ -148,36 +136,22 @@ fn committed<O: Object>(shared: &Shared<O>, number: u8) -> Result<usize, Fault> 
     Ok(world.node(node).committed().len())
 }
 
-/// Whether the call is answered by the second node, once the first was polled in vain.
-fn is_answered_by_second<O: Object>(
-    client: &mut Client<WorldPort<O>>,
-    shared: &Shared<O>,
-) -> Result<bool, Fault> {
-    let seen = added(client);
-    let is_in_vain = seen.told[0] == Some((1, None, 200));
-    Ok(is_five(&seen) && is_in_vain && order_len(shared)? == 1)
-}
-
-/// Whether the first node, once it hears the others again, commits the call as they have it, and doesn't send its own try of
-/// it: by the replicated log's rules, a call that stands in the base already isn't queued.
-fn is_sent_once<O: Object>(
-    client: &mut Client<WorldPort<O>>,
-    shared: &Shared<O>,
-) -> Result<bool, Fault> {
-    cut(shared, everybody()?)?;
-    happen(shared, Event::Timeout(Proc::new(1), Kind::Join))?;
-    let seen = counter(client);
-    let is_by_first = matches!(seen.told[0], Some((2, None, polls)) if polls < 200);
-    Ok(is_five(&seen) && is_by_first && committed(shared, 1)? == 2 && order_len(shared)? == 2)
-}
-
-/// Whether both are so, one after the other.
+/// Whether the call is answered by the second node, once the first was polled in vain; and whether the first node, once it hears
+/// the others again, commits the call as they have it, and doesn't send its own try of it: by the replicated log's rules, a call
+/// that stands in the base already isn't queued.
 fn counts_once<O: Object>(
     client: &mut Client<WorldPort<O>>,
     shared: &Shared<O>,
 ) -> Result<bool, Fault> {
-    let is_answered = is_answered_by_second(client, shared)?;
-    Ok(is_answered && is_sent_once(client, shared)?)
+    let by_second = added(client);
+    let is_in_vain = by_second.told[0] == Some((1, None, 200));
+    let is_answered = is_five(&by_second) && is_in_vain && order_len(shared)? == 1;
+    cut(shared, everybody()?)?;
+    happen(shared, Event::Timeout(Proc::new(1), Kind::Join))?;
+    let seen = counter(client);
+    let is_by_first = matches!(seen.told[0], Some((2, None, polls)) if polls < 200);
+    let is_sent_once = is_five(&seen) && is_by_first && committed(shared, 1)? == 2;
+    Ok(is_answered && is_sent_once && order_len(shared)? == 2)
 }
 
 /// The first of the client's nodes is cut off from the others, until the second answered.

@@ -36,23 +36,16 @@ pub fn three<O: Object>(alloc: O::Alloc) -> Result<Shared<O>, Fault> {
     Ok(Rc::new(alloc, RefCell::new(network))?)
 }
 
-/// Adds a port to the node of this number.
-fn add_port<O: Object>(
-    shared: &Shared<O>,
-    number: u8,
-    ports: &mut Vec<WorldPort<O>, O::Alloc>,
-) -> Result<(), Fault> {
-    let node = Fixed::new(3)?.proc(number)?;
-    Ok(ports.push(WorldPort::new(shared.clone()?, node))?)
-}
-
 /// Adds ports to nodes 1 and 2.
 fn add_ports<O: Object>(
     shared: &Shared<O>,
     ports: &mut Vec<WorldPort<O>, O::Alloc>,
 ) -> Result<(), Fault> {
-    add_port(shared, 1, ports)?;
-    add_port(shared, 2, ports)
+    for number in [1, 2] {
+        let node = Fixed::new(3)?.proc(number)?;
+        ports.push(WorldPort::new(shared.clone()?, node))?;
+    }
+    Ok(())
 }
 
 /// Client 7 with ports to nodes 1 and 2, each of which it polls at most so often.

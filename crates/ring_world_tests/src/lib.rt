@@ -1,10 +1,8 @@
 //! What no contract of worlds of nodes, or of nodes that are driven, says: worked runs of one node and of three, that each call
-//! succeeds where memory is left, and each request for memory of a short run refused in turn; that a world and its copy go on
-//! apart; what a caller knows of a world after a run; and groups of nodes whose letters come, of which one is restored that was away.
+//! succeeds where memory is left, and each request for memory of a short run refused in turn; what a caller knows of a world
+//! after a run; and groups of nodes whose letters come, of which one is restored that was away.
 #![tactic(auto)]
 
-#[cfg(test)]
-mod copied;
 #[cfg(test)]
 mod driven;
 #[cfg(test)]

@@ -132,19 +132,15 @@ fn refused_then<O: Object>(
     Ok(done.saturating_add(answered))
 }
 
-/// The same of a world whose opening was refused memory once.
-fn refused_again<O: Object>(heap: O::Alloc, ample: O::Alloc) -> Result<u64, Fault> {
-    let mut world = World::<O>::new(heap, Fixed::new(1)?)?;
-    refused_then(&mut world, ample, 1)
-}
-
 /// The same of a world with its opening, which is tried again if it is refused memory.
 fn refusals<O: Object>(heap: O::Alloc, ample: O::Alloc) -> Result<u64, Fault> {
-    match World::<O>::new(heap, Fixed::new(1)?) {
-        Ok(mut world) => refused_then(&mut world, ample, 0),
-        Err(Fault::Memory) => refused_again::<O>(heap, ample),
-        Err(fault) => Err(fault),
-    }
+    let fixed = Fixed::new(1)?;
+    let (made, before) = match World::<O>::new(heap, fixed) {
+        Err(Fault::Memory) => (World::<O>::new(heap, fixed), 1),
+        made => (made, 0),
+    };
+    let mut world = made?;
+    refused_then(&mut world, ample, before)
 }
 
 /// What `refuse_in_turn` asks of a run: an error where a request was refused, and the run tells one refusal. Where it is not as

@@ -165,8 +165,9 @@ fn tickets_that_wait_at_a_restore(rt: HostRuntime) -> Result<(), Fail> {
     Ok(())
 }
 
-/// How the step went in which node 3 is restored, or is refused memory: the requests for memory before it and with it, and its answer.
-type Restore = (u64, u64, Result<(), Fault>);
+/// How the step went in which node 3 is restored, or is refused memory: the requests for memory before it and with it, its answer, and
+/// whether all is as it should be then.
+type Restore = (u64, u64, Result<(), Fault>, bool);
 
 /// How many places node 3 has dropped.
 fn trimmed<O: Object>(group: &Grouped<O>) -> u64 {
@@ -174,26 +175,6 @@ fn trimmed<O: Object>(group: &Grouped<O>) -> u64 {
         Some(node) => node.trimmed(),
         None => 0,
     }
-}
-
-/// Letters come up to the one with which node 3 is restored, or is refused memory.
-fn restore<O: Object>(group: &mut Grouped<O>, heap: &Refusing) -> Option<Restore> {
-    for _ in 0..600 {
-        let before = heap.requests();
-        let answer = group.pump(1);
-        if answer.is_err() || trimmed(group) > 0 {
-            return Some((before, heap.requests(), answer));
-        }
-    }
-    None
-}
-
-/// Node 3, whose memory lies in `heap`, is away up to that step.
-fn restored<O: Object>(group: &mut Grouped<O>, heap: &Refusing) -> Result<Option<Restore>, Fault> {
-    formed(group)?;
-    parted(group)?;
-    met(group)?;
-    Ok(restore(group, heap))
 }
 
 /// Whether node 3 has stopped, and tells its log as it was before it was to be restored.
@@ -212,75 +193,60 @@ fn stays_stopped<O: Object>(group: &mut Grouped<O>) -> Result<bool, Fault> {
     Ok(was_stopped && refuses && has_stopped(group))
 }
 
-/// Whether node 3, whose memory lies in `heap`, is refused memory as it is to be restored, and has stopped for good.
-fn refused<O: Object>(group: &mut Grouped<O>, heap: &Refusing) -> Result<bool, Fault> {
-    match restored(group, heap)? {
-        Some((_, _, Err(Fault::Memory))) => stays_stopped(group),
-        _ => Ok(false),
+/// Whether node 3 is restored, and in the ring with the others, once their letters came.
+fn is_restored<O: Object>(group: &mut Grouped<O>) -> Result<bool, Fault> {
+    group.pump(600)?;
+    let is_in_ring = shown(group, 3) == Some((State::Operational, 300, 300, 266, 300, 34));
+    Ok(is_in_ring && group.told(3) == Some((44, 0, Some(266))))
+}
+
+/// Node 3, whose memory lies in `heap`, is away, and letters come up to the one with which it is restored, or is refused memory: it is in
+/// the ring with the others then, or has stopped for good.
+fn restore<O: Object>(group: &mut Grouped<O>, heap: &Refusing) -> Result<Restore, Fault> {
+    formed(group)?;
+    parted(group)?;
+    met(group)?;
+    for _ in 0..600 {
+        let before = heap.requests();
+        let answer = group.pump(1);
+        if answer.is_err() || trimmed(group) > 0 {
+            let after = heap.requests();
+            let is_right = if answer.is_ok() {
+                is_restored(group)?
+            } else {
+                stays_stopped(group)?
+            };
+            return Ok((before, after, answer, is_right));
+        }
     }
+    Ok((0, 0, Ok(()), false))
 }
 
 /// The same in a new group.
-fn refused_anew<O: Object>(
+fn restore_anew<O: Object>(
     ample: O::Alloc,
     last: O::Alloc,
     heap: &Refusing,
-) -> Result<bool, Fault> {
+) -> Result<Restore, Fault> {
     let mut group = Grouped::<O>::new(ample, last, 3)?;
-    refused(&mut group, heap)
+    restore(&mut group, heap)
 }
 
 /// The same where so many requests for memory are passed before.
-fn refused_after(ample: &Refusing, alloc: Global, passed: u64) -> Result<bool, Fault> {
+fn restore_after(ample: &Refusing, alloc: Global, passed: u64) -> Result<Restore, Fault> {
     let heap = Refusing::new(alloc, passed);
-    refused_anew::<Counters<&Refusing>>(ample, &heap, &heap)
-}
-
-/// Whether node 3 is restored, and in the ring with the others.
-fn is_restored<O: Object>(group: &Grouped<O>) -> bool {
-    let is_in_ring = shown(group, 3) == Some((State::Operational, 300, 300, 266, 300, 34));
-    is_in_ring && group.told(3) == Some((44, 0, Some(266)))
-}
-
-/// The requests for memory before the step in which node 3 is restored, and with it, if it is restored.
-fn requests<O: Object>(
-    group: &mut Grouped<O>,
-    heap: &Refusing,
-) -> Result<Option<(u64, u64)>, Fault> {
-    let step = restored(group, heap)?;
-    group.pump(600)?;
-    match step {
-        Some((before, after, Ok(()))) if is_restored(group) => Ok(Some((before, after))),
-        _ => Ok(None),
-    }
-}
-
-/// The same in a new group.
-fn requests_anew<O: Object>(
-    ample: O::Alloc,
-    last: O::Alloc,
-    heap: &Refusing,
-) -> Result<Option<(u64, u64)>, Fault> {
-    let mut group = Grouped::<O>::new(ample, last, 3)?;
-    requests(&mut group, heap)
-}
-
-/// The same where no request is refused.
-fn requests_in_all(ample: &Refusing, alloc: Global) -> Result<Option<(u64, u64)>, Fault> {
-    let heap = Refusing::new(alloc, u64::MAX);
-    requests_anew::<Counters<&Refusing>>(ample, &heap, &heap)
+    restore_anew::<Counters<&Refusing>>(ample, &heap, &heap)
 }
 
 #[test]
 fn restore_that_is_refused_memory_stops_the_node(rt: HostRuntime) -> Result<(), Fail> {
     let ample = Refusing::new(rt.alloc(), u64::MAX);
-    let Some((before, after)) = requests_in_all(&ample, rt.alloc())? else {
-        return Err(Fail::new("node 3 is not restored"));
-    };
+    let (before, after, answer, is_right) = restore_after(&ample, rt.alloc(), u64::MAX)?;
     let count = after.saturating_sub(before);
-    assert!(rt; 0 < count && count < 1_000);
+    assert!(rt; answer == Ok(()) && is_right && 0 < count && count < 1_000);
     for passed in before..after {
-        assert!(rt; refused_after(&ample, rt.alloc(), passed)?, "at {passed}");
+        let (_, _, answer, is_right) = restore_after(&ample, rt.alloc(), passed)?;
+        assert!(rt; answer == Err(Fault::Memory) && is_right, "at {passed}");
     }
     Ok(())
 }

@@ -5,10 +5,8 @@ use crate::driven::{run_lines, world_after};
 use crate::events::Line;
 use ring_base::Fault;
 use ring_object::Object;
-use ring_payload::Call;
 use ring_things::Counters;
 use ring_world::World;
-use std::alloc::Allocator;
 use std::test::Fail;
 
 /// One node alone forms its ring. Then four times 64 calls are submitted, each time followed by the next two frames: by these the
@@ -36,43 +34,15 @@ const TRIMMED: [Line; 17] = [
 /// One call more, and its two frames.
 const ONE_MORE: [Line; 3] = [Line::Issue(1, 257), Line::Hand(1, 13), Line::Hand(1, 14)];
 
-/// How many calls there are, if they are client 7's, numbered from 1 on.
-fn numbered<A: Allocator + Copy>(calls: &[Call<A>]) -> Option<usize> {
-    let mut number = 0u64;
-    for call in calls {
-        number = number.saturating_add(1);
-        if call.client != 7 || call.number != number {
-            return None;
-        }
-    }
-    Some(calls.len())
-}
-
-/// What is seen of the only node of a world: how many places it has dropped, and how many committed ones it keeps; then, of
-/// the calls that the world knows as committed, and of its order, how many there are, if they are numbered; and how long the world
-/// says that the order is.
-type Seen = (u64, usize, Option<usize>, Option<usize>, u64);
-
-/// How many calls the world knows as committed at its only node, if they are numbered.
-fn committed<O: Object>(world: &World<O>) -> Result<Option<usize>, Fault> {
-    let number = world.fixed().proc(1)?;
-    let calls = world.committed(number)?;
-    Ok(numbered(&calls))
-}
-
-/// How many calls its order has, if they are numbered.
-fn ordered<O: Object>(world: &World<O>) -> Result<Option<usize>, Fault> {
-    let order = world.order()?;
-    Ok(numbered(&order))
-}
+/// What is seen of the only node of a world: how many places it has dropped, and how many committed ones it keeps; and how long
+/// the world says that the order is.
+type Seen = (u64, usize, u64);
 
 /// What is seen of this world.
 fn seen<O: Object>(world: &World<O>) -> Result<Seen, Fault> {
     let number = world.fixed().proc(1)?;
     let node = world.node(number);
-    let (trimmed, kept) = (node.trimmed(), node.committed().len());
-    let (committed, order) = (committed(world)?, ordered(world)?);
-    Ok((trimmed, kept, committed, order, world.order_len()))
+    Ok((node.trimmed(), node.committed().len(), world.order_len()))
 }
 
 /// What is seen of a world after some more lines.
@@ -92,15 +62,9 @@ fn seen_anew<O: Object>(alloc: O::Alloc, more: &[Line]) -> Result<Seen, Fault> {
 }
 
 #[test]
-fn a_world_has_what_its_nodes_drop(rt: HostRuntime) -> Result<(), Fail> {
-    let seen = seen_anew::<Counters>(rt.alloc(), &[])?;
-    assert!(rt; seen == (256, 0, Some(256), Some(256), 256));
-    Ok(())
-}
-
-#[test]
 fn a_world_goes_on_behind_what_its_nodes_drop(rt: HostRuntime) -> Result<(), Fail> {
-    let seen = seen_anew::<Counters>(rt.alloc(), &ONE_MORE)?;
-    assert!(rt; seen == (256, 1, Some(257), Some(257), 257));
+    for (more, want) in &[(&[][..], (256, 0, 256)), (&ONE_MORE[..], (256, 1, 257))] {
+        assert!(rt; seen_anew::<Counters>(rt.alloc(), *more)? == *want);
+    }
     Ok(())
 }
