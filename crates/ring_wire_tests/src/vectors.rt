@@ -63,14 +63,18 @@ pub const SNAP: &str = "\
 /// One of each kind of frame: the join, the token, the message, the commit token.
 pub const EACH_KIND: [&str; 4] = [JOIN, TOKEN, MESSAGE, COMMIT];
 
-/// One message of each payload.
-pub const EACH_PAYLOAD: [&str; 9] = [
+/// All of them.
+pub const ALL: [&str; 13] = [
+    JOIN,
+    TOKEN,
     MESSAGE,
-    WRAPPED,
+    COMMIT,
+    COMMIT_AFTER_A_RING,
     END,
-    HEAD,
     HEAD_OF_NONE,
+    HEAD,
     PART,
+    WRAPPED,
     PACK,
     TRIMMED_HEAD,
     SNAP,
