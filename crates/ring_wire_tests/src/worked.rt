@@ -2,7 +2,8 @@
 
 use crate::spelled::{bytes_of, is_frame};
 use crate::vectors::{
-    ALL, COMMIT, EACH_KIND, HEAD, JOIN, MESSAGE, PACK, PART, SNAP, TOKEN, TRIMMED_HEAD, WRAPPED,
+    ALL, COMMIT, COMMIT_OF_TWO, EACH_KIND, HEAD, JOIN, MESSAGE, PACK, PART, SNAP, TOKEN,
+    TRIMMED_HEAD, WRAPPED,
 };
 use ring_base::Fault;
 use ring_wire::{Frame, Wire};
@@ -57,24 +58,54 @@ fn fronts_and_changed_bits(rt: HostRuntime) -> Result<(), Fail> {
 }
 
 /// What stands from a place of a vector on instead, in hexadecimal, so that it is no frame.
-const NO_FRAMES: [(&str, usize, &str); 38] = [
+const NO_FRAMES: [(&str, usize, &str); 66] = [
     (JOIN, 2, "00"),
     (JOIN, 2, "02"),
     (JOIN, 2, "03"),
-    (TOKEN, 2, "02"),
-    (MESSAGE, 2, "02"),
-    (MESSAGE, 2, "03"),
-    (COMMIT, 2, "02"),
-    (PACK, 2, "01"),
-    (PACK, 2, "03"),
     (JOIN, 3, "00"),
     (JOIN, 3, "05"),
     (JOIN, 4, "0000000c"),
     (JOIN, 4, "0000000e"),
+    (TOKEN, 2, "00"),
+    (TOKEN, 2, "02"),
+    (TOKEN, 2, "03"),
+    (TOKEN, 3, "00"),
+    (TOKEN, 3, "05"),
+    (TOKEN, 4, "00000032"),
+    (TOKEN, 4, "00000034"),
+    (MESSAGE, 2, "00"),
+    (MESSAGE, 2, "02"),
+    (MESSAGE, 2, "03"),
+    (MESSAGE, 3, "00"),
+    (MESSAGE, 3, "05"),
+    (MESSAGE, 4, "0000002b"),
+    (MESSAGE, 4, "0000002d"),
+    (COMMIT, 2, "00"),
+    (COMMIT, 2, "02"),
+    (COMMIT, 2, "03"),
+    (COMMIT, 3, "00"),
+    (COMMIT, 3, "05"),
+    (COMMIT, 4, "00000044"),
+    (COMMIT, 4, "00000046"),
+    (PACK, 2, "01"),
+    (PACK, 2, "03"),
+    (PACK, 3, "00"),
+    (PACK, 3, "05"),
+    (PACK, 4, "0000003d"),
+    (PACK, 4, "0000003f"),
     (TOKEN, 43, "000000000000000a 0000000000000009"),
     (TOKEN, 41, "00"),
     (COMMIT, 19, "03"),
     (COMMIT, 19, "00"),
+    (COMMIT, 17, "000302"),
+    (COMMIT_OF_TWO, 19, "01"),
+    (COMMIT_OF_TWO, 77, "000000000000000002"),
+    (
+        COMMIT_OF_TWO,
+        20,
+        "000000000000000003 0000000000000000 0000000000000000 \
+        0000000000000000000000000000000000000000000000000000000000000000 000000000000000001",
+    ),
     (JOIN, 19, "0008"),
     (WRAPPED, 45, "02"),
     (WRAPPED, 45, "03"),
@@ -88,12 +119,15 @@ const NO_FRAMES: [(&str, usize, &str); 38] = [
     (SNAP, 35, "00000000"),
     (SNAP, 35, "00001b5a 00001b57"),
     (SNAP, 35, "00001b59 00001b58"),
+    (SNAP, 35, "00001b59 00001b57"),
     (SNAP, 43, "0001"),
     (WRAPPED, 27, "0000000000000002"),
     (PART, 35, "00"),
     (PART, 35, "02"),
     (MESSAGE, 31, "0000000000000000"),
     (PART, 40, "0000000000000000"),
+    (PACK, 57, "0000000000000000"),
+    (WRAPPED, 50, "0000000000000000"),
     (MESSAGE, 39, "000a"),
     (HEAD, 27, "000000000000000000"),
 ];
