@@ -36,18 +36,13 @@ fn list_in<A: Allocator>(heap: A, room: usize) -> Result<Vec<u8, A>, AllocError>
     Ok(list)
 }
 
-/// Makes room for so many more bytes, and answers whether there is.
-fn makes_room<A: Allocator>(list: &mut Vec<u8, A>, more: usize) -> bool {
-    list.reserve_exact(more).is_ok()
-}
-
 #[test]
 fn counts_growth(rt: HostRuntime) -> Result<(), AllocError> {
     let heap = Refusing::new(rt.alloc(), 2);
     let mut list = list_in(&heap, 1)?;
-    assert!(rt; heap.requests() == 1 && makes_room(&mut list, 1) && heap.requests() == 2);
-    assert!(rt; !makes_room(&mut list, 100) && heap.requests() == 3 && heap.has_refused());
-    assert!(rt; makes_room(&mut list, 100) && heap.requests() == 4);
+    assert!(rt; heap.requests() == 1 && list.reserve_exact(1).is_ok() && heap.requests() == 2);
+    assert!(rt; !list.reserve_exact(100).is_ok() && heap.requests() == 3 && heap.has_refused());
+    assert!(rt; list.reserve_exact(100).is_ok() && heap.requests() == 4);
     assert!(rt; list.as_slice() == [7].as_slice());
     Ok(())
 }

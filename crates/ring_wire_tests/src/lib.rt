@@ -1,15 +1,11 @@
-//! Frames against `docs/FORMATS.md`: worked bytes, each limit just kept and just passed, and memory that is
-//! refused. What no contract says.
+//! Frames against `docs/FORMATS.md`: its vectors both ways, what they are read to, its rows of what is no frame, and memory that is
+//! refused. Which other bytes are frames, and what equals what, is said by contracts.
 #![tactic(auto)]
 
 #[cfg(test)]
-mod counts;
-#[cfg(test)]
-mod limits;
+mod lists;
 #[cfg(test)]
 mod memory;
-#[cfg(test)]
-mod reports;
 #[cfg(test)]
 mod spelled;
 #[cfg(test)]

@@ -2,12 +2,12 @@
 
 ghost use Rattle.ring_wire.specs.Frames.{FrameFits};
 
-use crate::counts::{message_of, payload_of};
 use crate::spelled::bytes_of;
 use crate::vectors::{COMMIT, HEAD, JOIN, MESSAGE, PACK, PART, SNAP, TOKEN, TRIMMED_HEAD, WRAPPED};
 use bytes::BytesMut;
 use refusing_alloc::{Refusing, refuse_in_turn};
 use ring_base::Fault;
+use ring_payload::Call;
 use ring_wire::{Frame, Wire, decode_frame};
 use std::alloc::{AllocError, Allocator, Global};
 use std::test::Fail;
@@ -44,16 +44,6 @@ fn read_and_copy<A: Allocator + Copy + Drop>(alloc: A, bytes: &[u8]) -> Result<(
     copy(&frame)
 }
 
-/// How often a frame that is read and copied asks for memory, each time refused once.
-fn requests_of(alloc: Global, vector: &str) -> Result<Option<u64>, Fail> {
-    let bytes = bytes_of(alloc, vector)?;
-    let frame = bytes.as_slice();
-    Ok(refuse_in_turn(
-        alloc,
-        &|heap: &Refusing| answered(heap, read_and_copy(heap, frame), read_and_copy(heap, frame)),
-    ))
-}
-
 /// A call takes memory for its operation, when it is read and when it is copied; a part and a pack take some for
 /// their lists too, a snapshot's piece for its bytes, a commit token for itself. Heads, tokens, joins lie in place.
 #[test]
@@ -70,7 +60,16 @@ fn refused_reads_and_copies(rt: HostRuntime) -> Result<(), Fail> {
         (TOKEN, 0),
         (JOIN, 0),
     ] {
-        let requests = requests_of(rt.alloc(), *vector)?;
+        let bytes = bytes_of(rt.alloc(), *vector)?;
+        let frame = bytes.as_slice();
+        let requests = refuse_in_turn(
+            rt.alloc(),
+            &|heap: &Refusing| answered(
+                heap,
+                read_and_copy(heap, frame),
+                read_and_copy(heap, frame),
+            ),
+        );
         let are_enough = requests >= Some(*least) && (requests == Some(0)) == (*least == 0);
         assert!(rt; are_enough, "at least {least}");
     }
@@ -122,37 +121,67 @@ fn put_often<A: Allocator + Copy + Drop>(
     Ok(())
 }
 
-/// How often memory is asked for as the frame is written again and again, each time refused once.
-fn requests_of_puts(alloc: Global, bytes: &[u8]) -> Option<u64> {
-    refuse_in_turn(
+/// The greatest frame: a message of ring 3.1 from 2, which wraps one of ring 2.1 from 1, a part of seven calls of 1,024 bytes each.
+fn greatest(alloc: Global) -> Result<Vec<u8>, Fail> {
+    let mut bytes = bytes_of(
         alloc,
-        &|heap: &Refusing| answered(
-            heap,
-            put_often(heap, alloc, bytes),
-            put_often(heap, alloc, bytes),
-        ),
-    )
-}
-
-/// The same of a vector.
-fn requests_of_vector(alloc: Global, vector: &str) -> Result<Option<u64>, Fail> {
-    let bytes = bytes_of(alloc, vector)?;
-    Ok(requests_of_puts(alloc, bytes.as_slice()))
-}
-
-/// The same of the greatest frame.
-fn requests_of_greatest(alloc: Global) -> Result<Option<u64>, Fail> {
-    let part = payload_of(alloc, &[5, 0, 0, 0, 0, 0, 0, 0, 0, 7], 7, 1024)?;
-    let greatest = message_of(alloc, true, part.as_slice())?;
-    Ok(requests_of_puts(alloc, greatest.as_slice()))
+        "5452010100001c91 000000000000000301 0000000000000001 02 02 000000000000000201 0000000000000001 01 \
+        05 0000000000000000 07",
+    )?;
+    for number in 1..8u8 {
+        bytes.extend_from_slice(&[0, 0, 0, 7, 0, 0, 0, 0, 0, 0, 0, number, 4, 0])?;
+        bytes.extend_from_slice(&[number; 1024])?;
+    }
+    Ok(bytes)
 }
 
 /// The buffer asks for memory as it grows; the greatest frame does so for seven operations and their list,
 /// too.
 #[test]
 fn refused_puts(rt: HostRuntime) -> Result<(), Fail> {
-    assert!(rt; requests_of_vector(rt.alloc(), TOKEN)? >= Some(4));
-    assert!(rt; requests_of_vector(rt.alloc(), MESSAGE)? >= Some(4));
-    assert!(rt; requests_of_greatest(rt.alloc())? >= Some(4));
+    let alloc = rt.alloc();
+    let token = bytes_of(alloc, TOKEN)?;
+    let message = bytes_of(alloc, MESSAGE)?;
+    let greatest = greatest(alloc)?;
+    for frame in &[token.as_slice(), message.as_slice(), greatest.as_slice()] {
+        let requests = refuse_in_turn(
+            alloc,
+            &|heap: &Refusing| answered(
+                heap,
+                put_often(heap, alloc, *frame),
+                put_often(heap, alloc, *frame),
+            ),
+        );
+        assert!(rt; requests >= Some(4));
+    }
     Ok(())
+}
+
+/// The client, the number and the bytes of a new call whose operation has so many bytes.
+fn new_call<A: Allocator + Copy>(
+    heap: A,
+    alloc: Global,
+    number: u64,
+    length: usize,
+) -> Result<(u32, u64, usize), Fault> {
+    let op = vec![in alloc; 7u8; length]?;
+    let call = Call::new(heap, 1, number, op.as_slice())?;
+    Ok((call.client, call.number, call.op.as_slice().len()))
+}
+
+/// A new call is refused in this order: too long, number 0, want of memory.
+#[test]
+fn new_calls(rt: HostRuntime) {
+    let heap = Refusing::new(rt.alloc(), 0);
+    for (number, length, told) in &[
+        (0, 1025, Err(Fault::OpTooLong)),
+        (0, 1024, Err(Fault::NumberGap)),
+        (1, 1024, Err(Fault::Memory)),
+        (1, 1024, Ok((1, 1, 1024))),
+    ] {
+        assert!(rt;
+            new_call(&heap, rt.alloc(), *number, *length) == *told,
+            "{number} {length}"
+        );
+    }
 }

@@ -1,56 +1,20 @@
-//! Bytes from texts and numbers, and whether they are a frame.
+//! Bytes from texts, and whether they are a frame.
 
 ghost use Rattle.ring_wire.specs.Frames.{FrameFits};
 
 use bytes::BytesMut;
 use ring_base::Fault;
 use ring_wire::{Frame, Wire, decode_frame};
-use std::alloc::{AllocError, Allocator, Global};
+use std::alloc::{Allocator, Global};
 use std::test::Fail;
-
-/// Appends the bytes that the words spell in hexadecimal, one behind another.
-fn append(alloc: Global, bytes: &mut Vec<u8>, words: &str) -> Result<(), Fail> {
-    for word in words.split_whitespace() {
-        let spelled = hex::decode(alloc, word)?;
-        bytes.extend_from_slice(spelled.as_slice())?;
-    }
-    Ok(())
-}
 
 /// The bytes that the words spell in hexadecimal, one behind another.
 pub fn bytes_of(alloc: Global, words: &str) -> Result<Vec<u8>, Fail> {
     let mut bytes = Vec::new(alloc);
-    append(alloc, &mut bytes, words)?;
-    Ok(bytes)
-}
-
-/// Puts these bytes at a place.
-pub fn put_at(bytes: &mut [u8], place: usize, patch: &[u8]) {
-    for (i, byte) in patch.iter().enumerate() {
-        if let Some(target) = bytes.get_mut(place.wrapping_add(i)) {
-            *target = *byte;
-        }
+    for word in words.split_whitespace() {
+        let spelled = hex::decode(alloc, word)?;
+        bytes.extend_from_slice(spelled.as_slice())?;
     }
-}
-
-/// The bytes with those from a place on replaced.
-pub fn patched(
-    alloc: Global,
-    bytes: &[u8],
-    place: usize,
-    patch: &[u8],
-) -> Result<Vec<u8>, AllocError> {
-    let mut changed = Vec::from_slice(alloc, bytes)?;
-    put_at(changed.as_mut_slice(), place, patch);
-    Ok(changed)
-}
-
-/// The head of a frame of this version and kind, with the length of this body, and the body.
-pub fn framed(alloc: Global, version: u8, kind: u8, body: &[u8]) -> Result<Vec<u8>, Fail> {
-    let length = u32::try_from(body.len())?;
-    let mut bytes = Vec::from_slice(alloc, &[0x54, 0x52, version, kind])?;
-    bytes.extend_from_slice(&length.to_be_bytes())?;
-    bytes.extend_from_slice(body)?;
     Ok(bytes)
 }
 

@@ -1,14 +1,8 @@
-//! The numbers and texts of refusals.
+//! The numbers and texts of refusals, and how rings and processors are named.
 
-use ring_base::Fault;
-use std::alloc::{AllocError, Global};
+use ring_base::{Fault, Proc, RingId};
+use std::alloc::AllocError;
 use std::test::Fail;
-
-/// Whether a refusal has this number, and shows this text.
-fn is_told_as(alloc: Global, fault: Fault, number: u8, text: &str) -> Result<bool, Fail> {
-    let shown = format!(in alloc; "{fault}")?;
-    Ok(fault.number() == number && shown.as_str() == text)
-}
 
 #[test]
 fn refusals(rt: HostRuntime) -> Result<(), Fail> {
@@ -30,8 +24,20 @@ fn refusals(rt: HostRuntime) -> Result<(), Fail> {
         (Fault::BadSnapshot, 15, "bad snapshot"),
     ];
     for (fault, number, text) in &table {
-        assert!(rt; is_told_as(rt.alloc(), *fault, *number, *text)?, "{text}");
+        let shown = format!(in rt.alloc(); "{fault}")?;
+        assert!(rt;
+            fault.number() == *number && shown.as_str() == *text,
+            "{text}"
+        );
     }
     assert!(rt; Fault::from(AllocError) == Fault::Memory);
+    Ok(())
+}
+
+#[test]
+fn names(rt: HostRuntime) -> Result<(), Fail> {
+    let rep = Proc::new(3);
+    let shown = format!(in rt.alloc(); "{} {rep}", RingId { seq: 1, rep })?;
+    assert!(rt; shown.as_str() == "1.3 3");
     Ok(())
 }
