@@ -93,6 +93,25 @@ fn runs<A: Allocator + Copy + Drop>(
     Ok(are_so(&mut client, steps))
 }
 
+/// The first port refuses, the second answers at the third poll. The next call has number 2.
+#[test]
+fn a_refused_submit_is_passed_over(rt: HostRuntime) -> Result<(), Fail> {
+    let five = Answer::Done(reply(5));
+    let ports = [
+        Behaviour::Refuses(Fault::Stopped),
+        Behaviour::AnswersAfter(2, five),
+    ];
+    let told = [(1, Some(8), 0, None), (1, None, 3, Some(five))];
+    let steps = [
+        Step::Does(Deed::Call(b"a"), Ok(5), 2, false),
+        Step::Tell(&told),
+        Step::Does(Deed::Call(b"b"), Ok(5), 3, false),
+        Step::Submitted(&[&[], &[1, 2]]),
+    ];
+    assert!(rt; runs(rt.alloc(), &ports, 3, &steps)?);
+    Ok(())
+}
+
 /// Two ports that never answer are polled three times each. Then the call is open: another is refused at once, and
 /// `again` submits the same call anew.
 #[test]
