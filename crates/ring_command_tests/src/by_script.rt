@@ -96,19 +96,15 @@ impl<O: Object> Driven<O> {
                 return Ok(());
             };
             self.came = self.came.saturating_add(1);
-            if self.is_heard(frame, to) {
+            let is_heard = match (&self.cut, self.sent.get(frame)) {
+                (Some(groups), Some(sent)) => groups.are_together(sent.from, to),
+                _ => true,
+            };
+            if is_heard {
                 self.deliver(frame, to)?;
             }
         }
         Ok(())
-    }
-
-    /// Whether the cut lets a frame through to this receiver.
-    fn is_heard(&self, frame: usize, to: Proc) -> bool {
-        match (&self.cut, self.sent.get(frame)) {
-            (Some(groups), Some(sent)) => groups.are_together(sent.from, to),
-            _ => true,
-        }
     }
 
     /// A frame comes to one of its receivers.
@@ -257,7 +253,13 @@ impl<O: Object> Driven<O> {
         let (committed, behind) = first_number(behind, 8);
         let (log, behind) = first_number(behind, 8);
         let (trimmed, _) = first_number(behind, 8);
-        let word = word_of(state);
+        let word = match state {
+            0 => "gather",
+            1 => "commit",
+            2 => "recovery",
+            3 => "operational",
+            _ => "stopped",
+        };
         write!(
             self.printed,
             "node {node} {word} {seq}.{rep} committed {committed} log {log}"
@@ -277,16 +279,5 @@ fn number_of(kind: Kind) -> u8 {
         Kind::Join => 1,
         Kind::Consensus => 2,
         Kind::Loss => 3,
-    }
-}
-
-/// The word for the state of this number.
-fn word_of(state: u64) -> &'static str {
-    match state {
-        0 => "gather",
-        1 => "commit",
-        2 => "recovery",
-        3 => "operational",
-        _ => "stopped",
     }
 }

@@ -27,18 +27,13 @@ fn printed<R: AllocGlobal + Threads + Clock + Sync>(rt: &R, threads: u16) -> Vec
     out
 }
 
-/// Whether one thread prints the totals, and whether two and seven print the same.
-fn print_alike<R: AllocGlobal + Threads + Clock + Sync>(rt: &R) -> (bool, bool, bool) {
-    let one = printed(rt, 1);
-    let text = one.as_slice();
-    (
-        text.starts_with(b"seeds 6\nevents ") && text.ends_with(b"\nlegal yes\n"),
-        printed(rt, 2).as_slice() == text,
-        printed(rt, 7).as_slice() == text,
-    )
-}
-
+/// One thread prints the totals, and two and seven print the same.
 #[test]
 fn threads_change_nothing(rt: HostRuntime) {
-    assert!(rt; print_alike(&rt) == (true, true, true));
+    let one = printed(&rt, 1);
+    let text = one.as_slice();
+    assert!(rt; text.starts_with(b"seeds 6\nevents ") && text.ends_with(b"\nlegal yes\n"));
+    for threads in [2, 7] {
+        assert!(rt; printed(&rt, threads).as_slice() == text, "{threads}");
+    }
 }

@@ -26,53 +26,27 @@ fn first_frame(told: &[u8]) -> &[u8] {
     }
 }
 
-/// Makes the call.
-fn call<O: Object>(node: &mut Beside<O>) -> Result<(), Fault> {
-    let _ = node.ask(0x43, &CALL)?;
-    Ok(())
-}
-
-/// Hands the node the frame that it told, in whose place comes what it tells of that.
-fn hear<O: Object>(node: &mut Beside<O>, told: &mut Vec<u8, O::Alloc>) -> Result<(), Fault> {
-    *told = node.ask(0x46, first_frame(told.as_slice()))?;
-    Ok(())
-}
-
-/// Hands the node so many frames, each of which it told before.
-fn hear_often<O: Object>(
-    node: &mut Beside<O>,
-    told: &mut Vec<u8, O::Alloc>,
-    times: u8,
-) -> Result<(), Fault> {
-    for _ in 0..times {
-        hear(node, told)?;
-    }
-    Ok(())
-}
-
-/// What the node tells of the last of six frames, a call being made before the fifth.
+/// What the node tells of the last of six frames, each of which it told before, a call being made before the fifth.
 fn last_told<O: Object>(node: &mut Beside<O>) -> Result<Vec<u8, O::Alloc>, Fault> {
     let mut told = node.ask(0x54, &[1])?;
-    hear_often(node, &mut told, 4)?;
-    call(node)?;
-    hear_often(node, &mut told, 2)?;
+    for heard in 0..6u8 {
+        if heard == 4 {
+            let _ = node.ask(0x43, &CALL)?;
+        }
+        told = node.ask(0x46, first_frame(told.as_slice()))?;
+    }
     Ok(told)
 }
 
-/// Whether the node tells this at last, behind a frame.
-fn tells_at_last<O: Object>(node: &mut Beside<O>, wanted: &[u8]) -> Result<bool, Fault> {
-    let told = last_told(node)?;
+/// Whether a node at its opening tells this at last, behind a frame.
+fn tells_at_last<O: Object>(alloc: O::Alloc, wanted: &[u8]) -> Result<bool, Fault> {
+    let mut node = Beside::<O>::new(alloc, Fixed::new(1)?, 1)?;
+    let told = last_told(&mut node)?;
     let frame = 5 + first_frame(told.as_slice()).len();
     Ok(told.as_slice().get(frame..) == Some(wanted))
 }
 
-/// The same of a node at its opening.
-fn opened_tells_at_last<O: Object>(alloc: O::Alloc, wanted: &[u8]) -> Result<bool, Fault> {
-    let mut node = Beside::<O>::new(alloc, Fixed::new(1)?, 1)?;
-    tells_at_last(&mut node, wanted)
-}
-
 #[test]
 fn a_ring_of_one_answers_a_call(rt: HostRuntime) {
-    assert!(rt; opened_tells_at_last::<Counters>(rt.alloc(), &TOLD) == Ok(true));
+    assert!(rt; tells_at_last::<Counters>(rt.alloc(), &TOLD) == Ok(true));
 }

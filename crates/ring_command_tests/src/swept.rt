@@ -8,7 +8,8 @@ use std::time::Clock;
 /// A node alone forms its ring, and answers a call.
 const FIRST_REPLY: &[u8] = b"nodes 1\ntimeout 1 join\npump 4\ncall 1 7 1 add 0 5\npump 2\nshow\n";
 
-/// After a sweep by so many threads: whether this stands on standard output, nothing on standard error, and nothing on a terminal.
+/// After a sweep by so many threads: whether this stands on standard output, nothing on standard error, and nothing on a terminal:
+/// nothing was told there, or it was taken away.
 fn is_swept<R: AllocGlobal + Threads + Clock + Sync>(
     rt: &R,
     threads: u16,
@@ -35,13 +36,8 @@ fn is_swept<R: AllocGlobal + Threads + Clock + Sync>(
     (
         out.as_slice() == told,
         err.is_empty(),
-        is_clear(progress.as_slice()),
+        progress.is_empty() || progress.as_slice().ends_with(b"\r\x1b[K"),
     )
-}
-
-/// Whether a terminal that was told this shows nothing of it: nothing was told, or it was taken away.
-fn is_clear(told: &[u8]) -> bool {
-    told.is_empty() || told.ends_with(b"\r\x1b[K")
 }
 
 #[test]

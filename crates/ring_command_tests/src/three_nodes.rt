@@ -42,33 +42,19 @@ fn printed<O: Object>(alloc: O::Alloc, text: &str) -> Result<String<O::Alloc>, F
     Ok(printed)
 }
 
-/// Whether a node that takes all these records, one after the other, tells this.
-fn tells<O: Object>(alloc: O::Alloc, fixed: Fixed, me: u8, asked: &[u8], told: &[u8]) -> bool {
-    let written = served_on::<O, _>(alloc, alloc, fixed, me, asked);
-    written.status == 0 && written.err.is_empty() && written.out.as_slice() == told
-}
-
-/// How many of the nodes, handed all their records once more, tell the same.
+/// How many of the nodes, handed all their records once more, one after the other, tell the same.
 fn tell_again<O: Object>(alloc: O::Alloc, fixed: Fixed, nodes: &[Beside<O>]) -> u8 {
     let mut me = 0u8;
     let mut telling = 0u8;
     for node in nodes {
         me = me.saturating_add(1);
-        let (asked, told) = (node.asked.as_slice(), node.told.as_slice());
-        if tells::<O>(alloc, fixed, me, asked, told) {
+        let written = served_on::<O, _>(alloc, alloc, fixed, me, node.asked.as_slice());
+        let is_well = written.status == 0 && written.err.is_empty();
+        if is_well && written.out.as_slice() == node.told.as_slice() {
             telling = telling.saturating_add(1);
         }
     }
     telling
-}
-
-/// Whether all these words stand in the text.
-fn has_all(text: &str, words: &[&str]) -> bool {
-    let mut has = true;
-    for word in words {
-        has = has && text.contains(*word);
-    }
-    has
 }
 
 /// Nodes that were handed the events of a script.
@@ -91,9 +77,13 @@ fn seen<O: Object>(
     let fixed = Fixed::new(3)?;
     let driven = driven::<O>(alloc, text)?;
     let wanted = printed::<O>(alloc, text)?;
+    let mut has_all = true;
+    for word in words {
+        has_all = has_all && wanted.as_str().contains(*word);
+    }
     Ok((
         wanted.as_str() == driven.printed.as_str(),
-        has_all(wanted.as_str(), words),
+        has_all,
         driven.nodes.len(),
         tell_again(alloc, fixed, driven.nodes.as_slice()),
     ))

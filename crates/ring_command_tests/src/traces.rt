@@ -1,6 +1,6 @@
 //! What is traced.
 
-use ring_base::{Fault, Proc};
+use ring_base::Proc;
 use ring_script_maker::made_script;
 use ring_sweep::{frames, script};
 use ring_trace::{Format, Selection, TraceOptions, trace};
@@ -47,30 +47,6 @@ fn word_behind<'a>(part: &'a str, words: &str) -> Option<(&'a str, &'a str)> {
     Some((node, rest.split(' ').next().unwrap_or("")))
 }
 
-/// Writes the nodes and the calls of all replies that a script prints, in order.
-fn write_printed<A: Allocator>(out: &mut String<A>, text: &str) -> Result<(), AllocError> {
-    for line in text.lines() {
-        if let Some(rest) = line.strip_prefix("reply ")
-            && let Some((node, call)) = word_behind(rest, " ")
-        {
-            writeln!(out, "{node} {call}")?;
-        }
-    }
-    Ok(())
-}
-
-/// Writes the nodes and the calls of all answers that a trace tells, in order.
-fn write_told<A: Allocator>(out: &mut String<A>, text: &str) -> Result<(), AllocError> {
-    for line in text.lines() {
-        for part in line.split("; node ") {
-            if let Some((node, call)) = word_behind(part, " answers ") {
-                writeln!(out, "{node} {call}")?;
-            }
-        }
-    }
-    Ok(())
-}
-
 /// Whether this is the word that a trace tells last of a node behind these words. Where it tells none: whether none need be told.
 fn is_told_last(text: &str, node: &str, words: &str, wanted: &str, at_first: bool) -> bool {
     let mut is_last = at_first;
@@ -97,26 +73,28 @@ fn is_as_told(line: &str, told: &str) -> bool {
         && is_told_last(told, node, " has committed ", committed, committed == "0")
 }
 
-/// Whether the lines of `show` are as told.
-fn are_as_told(shown: &str, told: &str) -> bool {
-    for line in shown.lines() {
-        if line.starts_with("node ") && !is_as_told(line, told) {
-            return false;
-        }
-    }
-    true
-}
-
-/// Whether there are replies, and those told are those shown.
+/// Whether there are replies, and those that a trace tells are those shown: their nodes and calls, in order.
 fn has_same_replies<A: Allocator + Copy>(
     alloc: A,
     shown: &str,
     told: &str,
 ) -> Result<bool, AllocError> {
     let mut replies = String::new(alloc);
-    write_printed(&mut replies, shown)?;
+    for line in shown.lines() {
+        if let Some(rest) = line.strip_prefix("reply ")
+            && let Some((node, call)) = word_behind(rest, " ")
+        {
+            writeln!(replies, "{node} {call}")?;
+        }
+    }
     let mut answers = String::new(alloc);
-    write_told(&mut answers, told)?;
+    for line in told.lines() {
+        for part in line.split("; node ") {
+            if let Some((node, call)) = word_behind(part, " answers ") {
+                writeln!(answers, "{node} {call}")?;
+            }
+        }
+    }
     Ok(!replies.is_empty() && replies.as_str() == answers.as_str())
 }
 
@@ -124,20 +102,19 @@ fn has_same_replies<A: Allocator + Copy>(
 fn tells_what_is_printed(alloc: Global, text: &str) -> Result<bool, AllocError> {
     let shown = printed(alloc, text);
     let told = traced(alloc, text, Format::Text, Selection::all());
-    let is_told = are_as_told(shown.as_str(), told.as_str());
-    Ok(is_told && has_same_replies(alloc, shown.as_str(), told.as_str())?)
-}
-
-/// Whether that is so of what this seed makes.
-fn is_told_of_seed(alloc: Global, seed: u64) -> Result<bool, Fault> {
-    let text = made_script(alloc, &[1, 1, 1], seed, 80)?;
-    Ok(tells_what_is_printed(alloc, text.as_str())?)
+    let mut are_as_told = true;
+    for line in shown.as_str().lines() {
+        are_as_told = are_as_told
+            && (!line.starts_with("node ") || is_as_told(line, told.as_str()));
+    }
+    Ok(are_as_told && has_same_replies(alloc, shown.as_str(), told.as_str())?)
 }
 
 #[test]
 fn a_trace_tells_what_a_script_prints(rt: HostRuntime) -> Result<(), Fail> {
     for seed in 1..5u64 {
-        assert!(rt; is_told_of_seed(rt.alloc(), seed)?, "{seed}");
+        let text = made_script(rt.alloc(), &[1, 1, 1], seed, 80)?;
+        assert!(rt; tells_what_is_printed(rt.alloc(), text.as_str())?, "{seed}");
     }
     Ok(())
 }
@@ -157,25 +134,20 @@ const ALONE: &str =
     "nodes 3\nvotes 2 2 1\ntimeout 1 join\ntimeout 2 join\ntimeout 3 join\npump 100\ncut 1,2 3\ntimeout 3 loss\n\
     pump 50\ntimeout 3 consensus\npump 20\ncall 3 8 1 pop\npump 20\nstop 2\ncall 2 9 1 pop\n";
 
-/// Whether a text begins and ends so, and has each of these words so often.
-fn has(text: &str, (front, end): (&str, &str), words: &[(&str, usize)]) -> bool {
-    for (word, often) in words {
-        if count(text, word) != *often {
-            return false;
-        }
-    }
-    text.starts_with(front) && text.ends_with(end)
-}
-
-/// Whether the trace of `ALONE` does.
+/// Whether the trace of `ALONE` begins and ends so, and has each of these words so often.
 fn tells(
     alloc: Global,
     (format, selection): (Format, Selection),
-    ends: (&str, &str),
+    (front, end): (&str, &str),
     words: &[(&str, usize)],
 ) -> bool {
     let told = traced(alloc, ALONE, format, selection);
-    has(told.as_str(), ends, words)
+    let text = told.as_str();
+    let mut tells = text.starts_with(front) && text.ends_with(end);
+    for (word, often) in words {
+        tells = tells && count(text, word) == *often;
+    }
+    tells
 }
 
 #[test]
@@ -191,15 +163,6 @@ fn why_a_call_waits_is_told(rt: HostRuntime) {
     assert!(rt; tells(rt.alloc(), asked, ("", end), &words));
 }
 
-/// How many lines the listing of these frames has, if it is told whole.
-fn lines_listed(alloc: Global, sent: &[u8]) -> Option<usize> {
-    let mut out = Vec::new(alloc);
-    let mut err = Vec::new(alloc);
-    let status = frames(alloc, &mut &*sent, &mut out, &mut err);
-    let lines = str::from_utf8(out.as_slice()).unwrap_or("").lines().count();
-    (status == 0 && err.is_empty()).then_some(lines)
-}
-
 /// How many frames the trace of `ALONE` counts, and how many lines the listing of those has that it sends, if both are told whole.
 fn frames_counted(alloc: Global) -> Option<(usize, usize)> {
     let asked = TraceOptions {
@@ -210,12 +173,15 @@ fn frames_counted(alloc: Global) -> Option<(usize, usize)> {
     let mut err = Vec::new(alloc);
     let mut sent = Vec::new(alloc);
     let text = ALONE.as_bytes();
-    let status = trace(alloc, text, asked, &mut out, &mut sent, &mut err);
+    let traced = trace(alloc, text, asked, &mut out, &mut sent, &mut err);
+    let mut lines = Vec::new(alloc);
+    let listed = frames(alloc, &mut sent.as_slice(), &mut lines, &mut err);
     let told = frames_told(str::from_utf8(out.as_slice()).unwrap_or(""));
-    match lines_listed(alloc, sent.as_slice()) {
-        Some(listed) if status == 0 && err.is_empty() => Some((told, listed)),
-        _ => None,
-    }
+    let lines = str::from_utf8(lines.as_slice())
+        .unwrap_or("")
+        .lines()
+        .count();
+    (traced == 0 && listed == 0 && err.is_empty()).then_some((told, lines))
 }
 
 #[test]
@@ -234,23 +200,10 @@ fn from_event(from: u64, node: Option<Proc>) -> Selection {
 }
 
 #[test]
-fn events_are_selected(rt: HostRuntime) {
-    let asked = (Format::Text, from_event(4, None));
-    let words = [("times out: join", 0), ("times out: loss", 1)];
-    assert!(rt; tells(rt.alloc(), asked, ("", ""), &words));
-}
-
-/// How many lines the trace of `ALONE` has in JSON, and how often they begin as such a line does.
-fn lines_in_json(alloc: Global) -> (usize, usize) {
-    let json = traced(alloc, ALONE, Format::Json, Selection::all());
-    let begun = count(json.as_str(), "{\"version\":1,\"kind\":\"");
-    (json.as_str().lines().count(), begun)
-}
-
-#[test]
 fn each_form_tells_the_same_run(rt: HostRuntime) {
-    let (lines, begun) = lines_in_json(rt.alloc());
-    assert!(rt; begun == lines);
+    let json = traced(rt.alloc(), ALONE, Format::Json, Selection::all());
+    let begun = count(json.as_str(), "{\"version\":1,\"kind\":\"");
+    assert!(rt; begun == json.as_str().lines().count());
     let words = [
         (
             "\"members\":[1,2,3],\"votes\":5,\"all_votes\":5,\"is_primary\":true",
@@ -274,8 +227,12 @@ fn each_form_tells_the_same_run(rt: HostRuntime) {
     assert!(rt; tells(rt.alloc(), asked, ("<svg ", "</svg>\n"), &words));
 }
 
+/// A later part of a picture shows how nodes stand.
 #[test]
-fn a_later_part_shows_how_nodes_stand(rt: HostRuntime) {
+fn events_are_selected(rt: HostRuntime) {
+    let asked = (Format::Text, from_event(4, None));
+    let words = [("times out: join", 0), ("times out: loss", 1)];
+    assert!(rt; tells(rt.alloc(), asked, ("", ""), &words));
     let later = (Format::Svg, from_event(40, None));
     let words = [(">1.1 {1,2,3}</text>", 3)];
     assert!(rt; tells(rt.alloc(), later, ("", ""), &words));
@@ -284,26 +241,15 @@ fn a_later_part_shows_how_nodes_stand(rt: HostRuntime) {
     assert!(rt; tells(rt.alloc(), at_three, ("", ""), &words));
 }
 
-/// A script that so often tells the one node that it lost the token.
-fn losses<A: Allocator>(alloc: A, count: u32) -> Result<String<A>, AllocError> {
-    let mut text = String::new(alloc);
-    text.push_str("nodes 1\n")?;
-    for _ in 0..count {
-        text.push_str("timeout 1 loss\n")?;
-    }
-    Ok(text)
-}
-
-/// How often a picture of so many losses says where it goes on.
-fn ways_on(alloc: Global, losses_told: u32) -> Result<usize, AllocError> {
-    let text = losses(alloc, losses_told)?;
-    let svg = traced(alloc, text.as_str(), Format::Svg, Selection::all());
-    let way_on = ">There is more: --from 2001 --to 2001</text>";
-    Ok(count(svg.as_str(), way_on))
-}
-
+/// The one node loses the token 2,001 times.
 #[test]
 fn a_long_picture_says_where_it_goes_on(rt: HostRuntime) -> Result<(), Fail> {
-    assert!(rt; ways_on(rt.alloc(), 2_001)? == 1);
+    let mut text = String::from_str(rt.alloc(), "nodes 1\n")?;
+    for _ in 0..2_001 {
+        text.push_str("timeout 1 loss\n")?;
+    }
+    let svg = traced(rt.alloc(), text.as_str(), Format::Svg, Selection::all());
+    let way_on = ">There is more: --from 2001 --to 2001</text>";
+    assert!(rt; count(svg.as_str(), way_on) == 1);
     Ok(())
 }

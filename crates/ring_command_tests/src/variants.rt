@@ -3,51 +3,53 @@
 use ring_base::{Fault, Proc};
 use ring_report::Failure;
 use ring_sweep::{Blow, Swept, Upset, verdict_status};
-use std::alloc::Allocator;
 
-/// A sweep of 40 events with this first variant that is not legal.
-fn swept(illegal: Option<Upset>) -> Result<Swept, Failure> {
-    Ok(Swept {
-        events: 40,
-        variants: 246,
-        illegal,
-    })
-}
-
-/// This befalls a node before the event with so many before it.
-fn upset(before: u64, node: Proc, blow: Blow) -> Option<Upset> {
-    Some(Upset { before, node, blow })
-}
-
-/// Whether what came of a sweep has this exit status, and this stands on standard error.
-fn tells<A: Allocator>(alloc: A, done: Result<Swept, Failure>, status: u8, line: &str) -> bool {
-    let mut err = Vec::new(alloc);
-    verdict_status(&mut err, done) == status && err.as_slice() == line.as_bytes()
-}
+/// Of a sweep of 40 events: what befalls which node before the event with so many before it, in the first variant that is not legal,
+/// and the line on standard error.
+const ILLEGAL: [(u64, u8, Blow, &str); 4] = [
+    (16, 2, Blow::Stop, "stop 2 before event 17\n"),
+    (16, 2, Blow::Cut, "cut 2 before event 17\n"),
+    (39, 3, Blow::Stop, "stop 3 before event 40\n"),
+    (40, 3, Blow::Cut, "cut 3 at the end\n"),
+];
 
 #[test]
 fn the_first_that_is_not_legal_is_named(rt: HostRuntime) {
-    let stopped = swept(upset(16, Proc::new(2), Blow::Stop));
-    assert!(rt; tells(rt.alloc(), stopped, 1, "stop 2 before event 17\n"));
-    let cut = swept(upset(16, Proc::new(2), Blow::Cut));
-    assert!(rt; tells(rt.alloc(), cut, 1, "cut 2 before event 17\n"));
+    for (before, node, blow, line) in ILLEGAL {
+        let illegal = Upset {
+            before,
+            node: Proc::new(node),
+            blow,
+        };
+        let swept = Swept {
+            events: 40,
+            variants: 246,
+            illegal: Some(illegal),
+        };
+        let mut err = Vec::new(rt.alloc());
+        let status = verdict_status(&mut err, Ok(swept));
+        assert!(rt; status == 1 && err.as_slice() == line.as_bytes(), "{line}");
+    }
 }
 
+/// All variants are legal, or memory was refused.
 #[test]
-fn behind_the_last_event_the_end_is_named(rt: HostRuntime) {
-    let before_last = swept(upset(39, Proc::new(3), Blow::Stop));
-    assert!(rt; tells(rt.alloc(), before_last, 1, "stop 3 before event 40\n"));
-    let behind_last = swept(upset(40, Proc::new(3), Blow::Cut));
-    assert!(rt; tells(rt.alloc(), behind_last, 1, "cut 3 at the end\n"));
-}
-
-#[test]
-fn nothing_is_told_where_all_are_legal(rt: HostRuntime) {
-    assert!(rt; tells(rt.alloc(), swept(None), 0, ""));
-}
-
-#[test]
-fn a_fault_is_told(rt: HostRuntime) {
-    let refused = Err(Failure::Refused(Fault::Memory));
-    assert!(rt; tells(rt.alloc(), refused, 1, "totem: 11 out of memory\n"));
+fn nothing_is_told_but_a_fault(rt: HostRuntime) {
+    let legal = Swept {
+        events: 40,
+        variants: 246,
+        illegal: None,
+    };
+    let refused = Failure::Refused(Fault::Memory);
+    for (done, status, line) in [
+        (Ok(legal), 0, ""),
+        (Err(refused), 1, "totem: 11 out of memory\n"),
+    ] {
+        let mut err = Vec::new(rt.alloc());
+        let told = verdict_status(&mut err, done);
+        assert!(rt;
+            told == status && err.as_slice() == line.as_bytes(),
+            "{line}"
+        );
+    }
 }

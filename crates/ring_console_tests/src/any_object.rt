@@ -2,7 +2,6 @@
 
 use crate::printed::Printed;
 use ring_console::{NoWords, script_of};
-use ring_object::Object;
 use ring_things::Counters;
 use std::alloc::Global;
 
@@ -14,18 +13,19 @@ const COUNTED: &str = "nodes 1\n\
     call 1 7 2 raw 0101\n\
     pump 2\n";
 
-/// What is printed of a script of such an object, with the verdict.
-fn printed_of<O: Object>(heap: O::Alloc, alloc: Global, text: &str) -> Printed {
-    let mut out = Vec::new(alloc);
-    let mut err = Vec::new(alloc);
-    let mut input = text.as_bytes();
-    let status = script_of::<O, NoWords, _, _, _>(heap, &mut input, true, &mut out, &mut err);
-    Printed { out, err, status }
-}
-
 #[test]
 fn a_script_is_of_any_object(rt: HostRuntime) {
+    let mut out = Vec::new(rt.alloc());
+    let mut err = Vec::new(rt.alloc());
+    let mut input = COUNTED.as_bytes();
+    let status = script_of::<Counters<Global>, NoWords, _, _, _>(
+        rt.alloc(),
+        &mut input,
+        true,
+        &mut out,
+        &mut err,
+    );
+    let told = Printed { out, err, status };
     let printed = "reply 1 7.1 done 000000000000000005\nreply 1 7.2 done ff\nlegal yes\n";
-    let told = printed_of::<Counters<Global>>(rt.alloc(), rt.alloc(), COUNTED);
     assert!(rt; told.is(printed, "", 0));
 }

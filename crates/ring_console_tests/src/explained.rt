@@ -12,54 +12,42 @@ const TWO_CLIENTS: &str =
     "nodes 1\ntimeout 1 join\npump 4\ncall 1 7 1 add 0 5\ncall 1 7 1 add 0 5\npump 2\n\
     call 1 8 1 read 0\npump 2\nshow\n";
 
-/// The refusal that an unread script comes to.
-fn fault_of(fault: ScriptFault) -> Fault {
-    match fault {
-        ScriptFault::Memory => Fault::Memory,
-        ScriptFault::AtLine(_) => Fault::BadScript,
-    }
-}
-
 /// Whether the order of a run's world explains its history.
 fn order_explains<O: Object>(heap: O::Alloc, run: &Run<O>) -> Result<bool, Fault> {
     let order = run.world().order()?;
     is_linearization::<O>(heap, order.as_slice(), run.world().history())
 }
 
-/// Whether what a script of such an object comes to is explained, as far as it comes.
-fn is_explained_of<O: Object>(heap: O::Alloc, alloc: Global, text: &str) -> Result<bool, Fault> {
-    let script = Script::read(heap, &mut text.as_bytes()).map_err(fault_of)?;
-    let mut run = Run::<O>::new(heap, script.nodes)?;
-    let mut out = Vec::<u8>::new(alloc);
-    let _ = run.take(script, &mut out);
-    order_explains(heap, &run)
-}
-
-/// The same of the program's object.
+/// Whether what a script comes to is explained, as far as it comes.
 pub fn is_explained<A: Allocator + Copy + Drop>(
     heap: A,
     alloc: Global,
     text: &str,
 ) -> Result<bool, Fault> {
-    is_explained_of::<Things<A>>(heap, alloc, text)
+    let script = match Script::read(heap, &mut text.as_bytes()) {
+        Ok(script) => script,
+        Err(ScriptFault::Memory) => return Err(Fault::Memory),
+        Err(ScriptFault::AtLine(_)) => return Err(Fault::BadScript),
+    };
+    let mut run = Run::<Things<A>>::new(heap, script.nodes)?;
+    let mut out = Vec::<u8>::new(alloc);
+    let _ = run.take(script, &mut out);
+    order_explains(heap, &run)
 }
 
-/// Answers an error exactly where memory was refused and all is explained; where it isn't, the other answer.
-fn one_refused(heap: &Refusing, alloc: Global) -> Result<(), AllocError> {
-    match is_explained(heap, alloc, TWO_CLIENTS) {
-        Ok(true) | Err(Fault::Memory) => refusal_of(heap.has_refused()),
-        _ => refusal_of(!heap.has_refused()),
-    }
-}
-
-fn refusal_of(is_refused: bool) -> Result<(), AllocError> {
-    if is_refused { Err(AllocError) } else { Ok(()) }
-}
-
+/// Where a request was refused all is explained, and only there is memory told to be refused.
 #[test]
 fn each_refused_run_is_explained(rt: HostRuntime) {
     let alloc = rt.alloc();
     assert!(rt; is_explained(alloc, alloc, TWO_CLIENTS) == Ok(true));
-    let requests = refuse_in_turn(alloc, &|heap: &Refusing| one_refused(heap, alloc));
-    assert!(rt; requests > Some(20));
+    let run = |heap: &Refusing| {
+        let told = is_explained(heap, alloc, TWO_CLIENTS);
+        let is_well = matches!(told, Ok(true) | Err(Fault::Memory));
+        if is_well == heap.has_refused() {
+            Err(AllocError)
+        } else {
+            Ok(())
+        }
+    };
+    assert!(rt; refuse_in_turn(alloc, &run) > Some(20));
 }

@@ -6,6 +6,7 @@ use crate::printed::Printed;
 use refusing_alloc::{Refusing, refuse_in_turn};
 use ring_console::script;
 use std::alloc::{AllocError, Allocator, Global};
+use std::io::Read;
 use std::str;
 
 const FIRST_REPLY: &str =
@@ -15,42 +16,27 @@ const FIRST_REPLY: &str =
 const FIRST_REPLY_LINES: &str =
     "reply 1 7.1 done 000000000000000005\nnode 1 operational 1.1 committed 1 log 1\norder 1\n";
 
-fn run_of<A: Allocator + Copy + Drop>(heap: A, alloc: Global, text: &str) -> Printed {
+fn run_of<A: Allocator + Copy + Drop, R: Read>(heap: A, alloc: Global, input: &mut R) -> Printed {
     let mut out = Vec::new(alloc);
     let mut err = Vec::new(alloc);
-    let status = script(heap, &mut text.as_bytes(), &mut out, &mut err);
-    Printed { out, err, status }
-}
-
-/// What is printed of the first reply where its input fails behind it.
-fn run_of_broken(alloc: Global) -> Printed {
-    let mut out = Vec::new(alloc);
-    let mut err = Vec::new(alloc);
-    let mut input = Broken(FIRST_REPLY.as_bytes());
-    let status = script(alloc, &mut input, &mut out, &mut err);
+    let status = script(heap, input, &mut out, &mut err);
     Printed { out, err, status }
 }
 
 #[test]
 fn an_input_that_fails_prints_nothing(rt: HostRuntime) {
-    assert!(rt; run_of_broken(rt.alloc()).is("", "totem: 13 bad script at line 0\n", 1));
-}
-
-/// The exit status of the first reply for whose lines there is so much room, if nothing is said on standard error.
-fn status_with_room(alloc: Global, room: usize) -> Option<u8> {
-    let mut err = Vec::new(alloc);
-    let mut input = FIRST_REPLY.as_bytes();
-    let status = script(alloc, &mut input, &mut Narrow(room), &mut err);
-    err.is_empty().then_some(status)
+    let alloc = rt.alloc();
+    let printed = run_of(alloc, alloc, &mut Broken(FIRST_REPLY.as_bytes()));
+    assert!(rt; printed.is("", "totem: 13 bad script at line 0\n", 1));
 }
 
 #[test]
 fn an_output_that_fails_says_nothing(rt: HostRuntime) {
     for room in [0, 1, 40, FIRST_REPLY_LINES.len() - 1] {
-        assert!(rt;
-            status_with_room(rt.alloc(), room) == Some(1),
-            "room for {room}"
-        );
+        let mut err = Vec::new(rt.alloc());
+        let mut input = FIRST_REPLY.as_bytes();
+        let status = script(rt.alloc(), &mut input, &mut Narrow(room), &mut err);
+        assert!(rt; status == 1 && err.is_empty(), "room for {room}");
     }
 }
 
@@ -66,20 +52,18 @@ fn tells_refusal(printed: &Printed) -> bool {
     ends || (is_told && printed.is_refused("", 0))
 }
 
-/// Runs the first reply, and answers an error where it is told that memory was refused.
-fn run_over(heap: &Refusing, alloc: Global) -> Result<(), AllocError> {
-    let printed = run_of(heap, alloc, FIRST_REPLY);
-    if tells_refusal(&printed) {
-        Err(AllocError)
-    } else {
-        Ok(())
-    }
-}
-
 #[test]
 fn each_request_for_memory_may_be_refused(rt: HostRuntime) {
     let alloc = rt.alloc();
-    assert!(rt; run_of(alloc, alloc, FIRST_REPLY).is(FIRST_REPLY_LINES, "", 0));
-    let requests = refuse_in_turn(alloc, &|heap: &Refusing| run_over(heap, alloc));
-    assert!(rt; requests > Some(20));
+    let printed = run_of(alloc, alloc, &mut FIRST_REPLY.as_bytes());
+    assert!(rt; printed.is(FIRST_REPLY_LINES, "", 0));
+    let run = |heap: &Refusing| {
+        let printed = run_of(heap, alloc, &mut FIRST_REPLY.as_bytes());
+        if tells_refusal(&printed) {
+            Err(AllocError)
+        } else {
+            Ok(())
+        }
+    };
+    assert!(rt; refuse_in_turn(alloc, &run) > Some(20));
 }

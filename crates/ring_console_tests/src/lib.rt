@@ -1,5 +1,5 @@
-//! Tests of which texts are scripts, and of what the program prints where memory is refused, an input or an output fails; and
-//! of scripts that are made by seeds.
+//! Tests of what the program prints where memory is refused, an input or an output fails; of how long a script may be; and of
+//! scripts that are made by seeds. Which texts are scripts, and what their lines ask for, contracts say.
 //! What scripts and listings print, the data of `totem_examples` shows. Expected values are those of the tables and worked
 //! examples in `docs/FORMATS.md`.
 #![tactic(auto)]
@@ -20,10 +20,6 @@ mod listings;
 mod made_scripts;
 #[cfg(test)]
 mod making_refused;
-#[cfg(test)]
-mod operations;
-#[cfg(test)]
-mod orders;
 #[cfg(test)]
 mod partition;
 #[cfg(test)]

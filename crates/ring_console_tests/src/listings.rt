@@ -6,6 +6,7 @@ use crate::printed::Printed;
 use refusing_alloc::{Refusing, refuse_in_turn};
 use ring_console::frames;
 use std::alloc::{AllocError, Allocator, Global};
+use std::io::Read;
 use std::test::Fail;
 
 /// A join.
@@ -26,28 +27,23 @@ const FOUR_LINES: &str = "join 2 number 5 procs 1,2,3 fails 3\n\
     message 1.1 seq 3 from 1 call 7.1 op 11\n\
     commit 1.1 members 1 hop 1 entries 1\n";
 
-fn listing_of<A: Allocator + Copy>(heap: A, alloc: Global, bytes: &[u8]) -> Printed {
+fn listing_of<A: Allocator + Copy, R: Read>(heap: A, alloc: Global, input: &mut R) -> Printed {
     let mut out = Vec::new(alloc);
     let mut err = Vec::new(alloc);
-    let status = frames(heap, &mut &*bytes, &mut out, &mut err);
+    let status = frames(heap, input, &mut out, &mut err);
     Printed { out, err, status }
 }
 
-/// Adds so many joins, one behind another, and then one byte.
-fn add_joins<A: Allocator>(bytes: &mut Vec<u8, A>, count: usize) -> Result<(), AllocError> {
-    for _ in 0..count {
-        bytes.extend_from_slice(JOIN)?;
-    }
-    bytes.push(0)?;
-    Ok(())
-}
-
-/// How many requests for memory a listing of so many joins makes, and how many bytes it prints, if it ends with this complaint.
+/// How many requests for memory a listing of so many joins and one byte more makes, and how many bytes it prints, if it ends with
+/// this complaint.
 fn requests_of(alloc: Global, count: usize, err: &str) -> Result<Option<(u64, usize)>, AllocError> {
     let mut joins = Vec::new(alloc);
-    add_joins(&mut joins, count)?;
+    for _ in 0..count {
+        joins.extend_from_slice(JOIN)?;
+    }
+    joins.push(0)?;
     let heap = Refusing::new(alloc, u64::MAX);
-    let printed = listing_of(&heap, alloc, joins.as_slice());
+    let printed = listing_of(&heap, alloc, &mut joins.as_slice());
     let told = (heap.requests(), printed.out.len());
     Ok(printed.is_refused(err, 1).then_some(told))
 }
@@ -60,58 +56,42 @@ fn a_long_file_takes_no_more_memory_than_a_short_one(rt: HostRuntime) -> Result<
     Ok(())
 }
 
-/// How many lines a listing has of so many bytes of a file that fails then, if it is refused as such.
-fn lines_before_failure(alloc: Global, bytes: &[u8], length: usize) -> Option<usize> {
-    let read = bytes.get(..length)?;
-    let mut out = Vec::new(alloc);
-    let mut err = Vec::new(alloc);
-    let status = frames(alloc, &mut Broken(read), &mut out, &mut err);
-    let lines = out.iter().filter(|byte| **byte == b'\n').count();
-    let printed = Printed { out, err, status };
-    printed
-        .is_refused("totem: 12 bad frame at byte 0\n", 1)
-        .then_some(lines)
-}
-
+/// A file of so many bytes that fails then, and how many lines its listing has.
 #[test]
 fn a_file_that_fails_is_bad_at_byte_0_after_its_whole_frames(rt: HostRuntime) {
     for (length, lines) in [(0, 0), (20, 0), (21, 1), (80, 2), (208, 3), (209, 4)] {
-        let told = lines_before_failure(rt.alloc(), FOUR, length);
-        assert!(rt; told == Some(lines), "of {length}");
+        let read = FOUR.get(..length).unwrap_or(FOUR);
+        let printed = listing_of(rt.alloc(), rt.alloc(), &mut Broken(read));
+        let told = printed.out.iter().filter(|byte| **byte == b'\n').count();
+        let is_refused = printed.is_refused("totem: 12 bad frame at byte 0\n", 1);
+        assert!(rt; is_refused && told == lines, "of {length}");
     }
-}
-
-/// The exit status of a listing for which there is so much room, if nothing is said on standard error.
-fn status_with_room(alloc: Global, bytes: &[u8], room: usize) -> Option<u8> {
-    let mut err = Vec::new(alloc);
-    let status = frames(alloc, &mut &*bytes, &mut Narrow(room), &mut err);
-    err.is_empty().then_some(status)
 }
 
 #[test]
 fn an_output_that_fails_says_nothing(rt: HostRuntime) {
     let all = FOUR_LINES.len();
-    for (room, status) in [(0, 1), (1, 1), (40, 1), (all - 1, 1), (all, 0)] {
-        let told = status_with_room(rt.alloc(), FOUR, room);
-        assert!(rt; told == Some(status), "room for {room}");
+    for (room, wanted) in [(0, 1), (1, 1), (40, 1), (all - 1, 1), (all, 0)] {
+        let mut err = Vec::new(rt.alloc());
+        let mut input = FOUR;
+        let status = frames(rt.alloc(), &mut input, &mut Narrow(room), &mut err);
+        assert!(rt; status == wanted && err.is_empty(), "room for {room}");
     }
 }
 
-/// Lists the frames, and answers an error where that is refused for want of memory and what stands on
-/// standard output is a front of these lines.
-fn list_over(heap: &Refusing, alloc: Global, bytes: &[u8], lines: &str) -> Result<(), AllocError> {
-    let printed = listing_of(heap, alloc, bytes);
-    let is_front = lines.as_bytes().starts_with(printed.out.as_slice());
-    if is_front && printed.is_refused("totem: 11 out of memory\n", 1) {
-        Err(AllocError)
-    } else {
-        Ok(())
-    }
-}
-
+/// Where a request is refused, what stands on standard output is a front of the lines.
 #[test]
 fn each_request_for_memory_may_be_refused(rt: HostRuntime) {
     let alloc = rt.alloc();
-    let list = |heap: &Refusing| list_over(heap, alloc, FOUR, FOUR_LINES);
+    let list = |heap: &Refusing| {
+        let mut input = FOUR;
+        let printed = listing_of(heap, alloc, &mut input);
+        let is_front = FOUR_LINES.as_bytes().starts_with(printed.out.as_slice());
+        if is_front && printed.is_refused("totem: 11 out of memory\n", 1) {
+            Err(AllocError)
+        } else {
+            Ok(())
+        }
+    };
     assert!(rt; refuse_in_turn(alloc, &list) > Some(2));
 }

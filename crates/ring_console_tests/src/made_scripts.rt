@@ -18,65 +18,36 @@ fn lines_of<A: Allocator + Copy + Drop>(
     Ok(script.lines.len())
 }
 
-/// The votes, how many lines are asked for, and how many the script has.
-const LENGTHS: [(&[u8], u32, usize); 4] = [
-    (&[1], 60, 61),
-    (&[1, 255], 60, 61),
-    (&[1, 1, 1, 1, 1], 200, 201),
-    (&[1, 1, 1, 1, 1, 1, 1, 1, 1, 1, 1, 1, 1, 1, 1, 1], 100, 101),
+/// The votes, and how many lines are asked for.
+const LENGTHS: [(&[u8], u32); 4] = [
+    (&[1], 60),
+    (&[1, 255], 60),
+    (&[1, 1, 1, 1, 1], 200),
+    (&[1, 1, 1, 1, 1, 1, 1, 1, 1, 1, 1, 1, 1, 1, 1, 1], 100),
 ];
 
-/// `show` stands behind as many lines as were asked for.
+/// `show` stands behind as many lines as were asked for, of which the most are 10,000.
 #[test]
-fn what_is_made_is_a_script(rt: HostRuntime) -> Result<(), Fail> {
+fn what_is_made_has_so_many_lines(rt: HostRuntime) -> Result<(), Fail> {
     for seed in 0..8u64 {
-        for (votes, lines, wanted) in LENGTHS {
-            assert!(rt; lines_of(rt.alloc(), votes, seed, lines)? == wanted);
+        for (votes, lines) in LENGTHS {
+            assert!(rt; lines_of(rt.alloc(), votes, seed, lines)? == lines as usize + 1);
         }
     }
-    Ok(())
-}
-
-#[test]
-fn each_length_is_made(rt: HostRuntime) -> Result<(), Fail> {
     for lines in 1..40u32 {
         assert!(rt; lines_of(rt.alloc(), &[2, 1, 1], 3, lines)? == lines as usize + 1);
     }
-    Ok(())
-}
-
-/// The most lines are 10,000.
-#[test]
-fn no_more_than_the_most_lines_are_made(rt: HostRuntime) -> Result<(), Fail> {
     assert!(rt; lines_of(rt.alloc(), &[1, 1, 1], 5, 10_001)? == 10_001);
     Ok(())
 }
 
-/// Whether two seeds make the same script.
-fn make_the_same<A: Allocator + Copy + Drop>(
-    alloc: A,
-    one: u64,
-    other: u64,
-) -> Result<bool, Fault> {
-    let one = made_script(alloc, &[1, 1, 1], one, 50)?;
-    let other = made_script(alloc, &[1, 1, 1], other, 50)?;
-    Ok(one.as_str() == other.as_str())
-}
-
 #[test]
 fn a_seed_makes_one_script(rt: HostRuntime) -> Result<(), Fail> {
-    let told = (
-        make_the_same(rt.alloc(), 7, 7)?,
-        make_the_same(rt.alloc(), 7, 8)?,
-    );
-    assert!(rt; told == (true, false));
+    let one = made_script(rt.alloc(), &[1, 1, 1], 7, 50)?;
+    let again = made_script(rt.alloc(), &[1, 1, 1], 7, 50)?;
+    let other = made_script(rt.alloc(), &[1, 1, 1], 8, 50)?;
+    assert!(rt; one.as_str() == again.as_str() && one.as_str() != other.as_str());
     Ok(())
-}
-
-/// Whether a script of these votes begins so.
-fn begins<A: Allocator + Copy + Drop>(alloc: A, votes: &[u8], front: &str) -> Result<bool, Fault> {
-    let text = made_script(alloc, votes, 7, 5)?;
-    Ok(text.as_str().starts_with(front))
 }
 
 #[test]
@@ -89,21 +60,16 @@ fn votes_are_told_where_one_is_more(rt: HostRuntime) -> Result<(), Fail> {
         ),
     ];
     for (votes, front) in cases {
-        assert!(rt; begins(rt.alloc(), votes, front)?, "{front}");
+        let text = made_script(rt.alloc(), votes, 7, 5)?;
+        assert!(rt; text.as_str().starts_with(front), "{front}");
     }
     Ok(())
-}
-
-/// Whether what is made for an object without words is a script for it, and calls by the one byte 0.
-fn calls_by_bytes<A: Allocator + Copy + Drop>(alloc: A) -> Result<bool, Fault> {
-    let text = made_script_by::<NoWords, A>(alloc, &[1], 7, 50)?;
-    let is_script = Script::parse_by::<NoWords>(alloc, text.as_bytes()).is_ok();
-    Ok(is_script && text.as_str().contains(" raw 00\n"))
 }
 
 /// An object without words is called by the one byte 0.
 #[test]
 fn an_object_without_words_is_called_by_its_bytes(rt: HostRuntime) -> Result<(), Fail> {
-    assert!(rt; calls_by_bytes(rt.alloc())?);
+    let text = made_script_by::<NoWords, _>(rt.alloc(), &[1], 7, 50)?;
+    assert!(rt; text.as_str().contains(" raw 00\n"));
     Ok(())
 }

@@ -13,15 +13,11 @@ fn groups_that_are_none_are_refused(rt: HostRuntime) {
     }
 }
 
-/// A script is made, or memory is refused.
-fn makes(heap: &Refusing) -> Result<(), AllocError> {
-    match made_script(heap, &[1, 1, 1], 7, 50) {
-        Err(Fault::Memory) => Err(AllocError),
-        _ => Ok(()),
-    }
-}
-
 #[test]
 fn refused_memory_is_told(rt: HostRuntime) {
-    assert!(rt; refuse_in_turn(rt.alloc(), &makes).is_some());
+    let make = |heap: &Refusing| match made_script(heap, &[1, 1, 1], 7, 50) {
+        Err(Fault::Memory) => Err(AllocError),
+        _ => Ok(()),
+    };
+    assert!(rt; refuse_in_turn(rt.alloc(), &make).is_some());
 }

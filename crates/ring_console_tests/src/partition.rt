@@ -24,25 +24,12 @@ fn printed_over(heap: &Refusing, alloc: Global) -> Printed {
     Printed { out, err, status }
 }
 
-/// Whether all is explained, as far as the script comes where the request after so many others is refused.
-fn is_explained_past(alloc: Global, passed: u64) -> bool {
-    let heap = Refusing::new(alloc, passed);
-    matches!(
-        is_explained(&heap, alloc, CUT_AND_MERGED),
-        Ok(true) | Err(Fault::Memory)
-    )
-}
-
-/// Whether the text has a line that tells of a refused call, for want of memory.
-fn has_refused_call(text: &str) -> bool {
-    text.lines().any(|line| line.starts_with("refused ") && line.ends_with(" 11"))
-}
-
 /// Whether it is printed that memory was refused to a node, which has stopped, or did not take a call, and that the whole run is
 /// legal.
 fn goes_on(printed: &Printed) -> bool {
     let text = str::from_utf8(printed.out.as_slice()).unwrap_or("");
-    let is_told = text.contains(" stopped ") || has_refused_call(text);
+    let is_told = text.contains(" stopped ")
+        || text.lines().any(|line| line.starts_with("refused ") && line.ends_with(" 11"));
     is_told && text.ends_with("legal yes\n") && printed.is_refused("", 0)
 }
 
@@ -51,15 +38,15 @@ fn goes_on(printed: &Printed) -> bool {
 fn is_told(alloc: Global, passed: u64) -> bool {
     let heap = Refusing::new(alloc, passed);
     let printed = printed_over(&heap, alloc);
-    let ends = printed.is_refused("totem: 11 out of memory\n", 1);
-    heap.has_refused() && (goes_on(&printed) || (ends && is_explained_past(alloc, passed)))
-}
-
-/// How many requests for memory are made where none is refused.
-fn requests(alloc: Global) -> u64 {
-    let heap = Refusing::new(alloc, u64::MAX);
-    let _printed = printed_over(&heap, alloc);
-    heap.requests()
+    if !heap.has_refused() {
+        return false;
+    }
+    if !printed.is_refused("totem: 11 out of memory\n", 1) {
+        return goes_on(&printed);
+    }
+    let heap = Refusing::new(alloc, passed);
+    let told = is_explained(&heap, alloc, CUT_AND_MERGED);
+    matches!(told, Ok(true) | Err(Fault::Memory))
 }
 
 /// How many parts the requests are tried in, so that each test is short.
@@ -67,7 +54,9 @@ const PARTS: u64 = 6;
 
 /// Each request of this part may be refused.
 fn refuse_each(rt: &impl Abort, alloc: Global, part: u64) {
-    let requests = requests(alloc);
+    let heap = Refusing::new(alloc, u64::MAX);
+    let _printed = printed_over(&heap, alloc);
+    let requests = heap.requests();
     assert!(rt; requests > 200, "{requests}");
     for passed in 0..requests {
         if passed % PARTS == part {
