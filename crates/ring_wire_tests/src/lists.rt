@@ -1,7 +1,7 @@
 //! Rows of what is no frame that need long inputs: each list one longer than may be, beside the longest that is a frame.
 
 use crate::spelled::{bytes_of, is_frame};
-use std::alloc::{AllocError, Allocator};
+use std::alloc::Global;
 use std::test::Fail;
 
 /// The version and the kind of a frame, and how its body begins.
@@ -77,7 +77,9 @@ const LAST_OF_MORE: Item = ("00000000000000", "01000001 00ffeba0 1461", 5217);
 
 /// How a frame begins, what stands before its items (their count, the hop, the payload's tag); the items and how many they
 /// are, with the numbers from 1 on; how many bytes the whole has, and whether it is a frame.
-const LISTS: [(Start, &str, Item, u8, u32, bool); 49] = [
+type Row = (Start, &'static str, Item, u8, u32, bool);
+
+const LISTS: [Row; 49] = [
     (TOKEN, "20", REQUEST, 32, 299, true),
     (TOKEN, "21", REQUEST, 33, 307, false),
     (COMMIT, "0f", ENTRY, 15, 875, true),
@@ -136,50 +138,49 @@ const LISTS: [(Start, &str, Item, u8, u32, bool); 49] = [
     (WRAPPED_PACKING, "01", CALL, 1, 60, false),
 ];
 
-/// Appends so many items.
-fn put_items<A: Allocator>(
-    out: &mut Vec<u8, A>,
-    before: &[u8],
-    behind: &[u8],
-    zeros: u16,
-    times: u8,
-) -> Result<(), AllocError> {
-    for number in 0..times {
-        out.extend_from_slice(before)?;
-        out.push(number.wrapping_add(1))?;
-        out.extend_from_slice(behind)?;
-        for _ in 0..zeros {
-            out.push(0)?;
-        }
+/// Appends the bytes that the words spell.
+fn put(alloc: Global, out: &mut Vec<u8>, words: &str) -> Result<(), Fail> {
+    let bytes = bytes_of(alloc, words)?;
+    out.extend_from_slice(bytes.as_slice())?;
+    Ok(())
+}
+
+/// Appends an item of this number.
+fn put_item(alloc: Global, out: &mut Vec<u8>, item: &Item, number: u8) -> Result<(), Fail> {
+    put(alloc, out, item.0)?;
+    out.push(number)?;
+    put(alloc, out, item.1)?;
+    for _ in 0..item.2 {
+        out.push(0)?;
     }
     Ok(())
 }
 
-/// Each list is as long as told, and a frame or none.
+/// Appends the bytes of a row.
+fn put_row(alloc: Global, out: &mut Vec<u8>, row: &Row) -> Result<(), Fail> {
+    let (start, then, item, times, length, _) = row;
+    put(alloc, out, start.0)?;
+    out.extend_from_slice(&length.wrapping_sub(8).to_be_bytes())?;
+    put(alloc, out, start.1)?;
+    put(alloc, out, *then)?;
+    for number in 0..*times {
+        put_item(alloc, out, item, number.wrapping_add(1))?;
+    }
+    Ok(())
+}
+
+/// Whether a row's bytes are as many as told, and a frame or none.
+fn is_as_told(alloc: Global, row: &Row) -> Result<bool, Fail> {
+    let mut bytes = Vec::new(alloc);
+    put_row(alloc, &mut bytes, row)?;
+    let is = is_frame(alloc, bytes.as_slice())?;
+    Ok(is == row.5 && bytes.as_slice().len() == row.4 as usize)
+}
+
 #[test]
 fn longest_lists(rt: HostRuntime) -> Result<(), Fail> {
-    for (start, then, item, times, length, wanted) in &LISTS {
-        let mut bytes = bytes_of(rt.alloc(), start.0)?;
-        bytes.extend_from_slice(&length.wrapping_sub(8).to_be_bytes())?;
-        bytes.extend_from_slice(bytes_of(rt.alloc(), start.1)?.as_slice())?;
-        bytes.extend_from_slice(bytes_of(rt.alloc(), *then)?.as_slice())?;
-        let before = bytes_of(rt.alloc(), item.0)?;
-        let behind = bytes_of(rt.alloc(), item.1)?;
-        put_items(
-            &mut bytes,
-            before.as_slice(),
-            behind.as_slice(),
-            item.2,
-            *times,
-        )?;
-        assert!(rt;
-            bytes.as_slice().len() == *length as usize,
-            "{then} {times}"
-        );
-        assert!(rt;
-            is_frame(rt.alloc(), bytes.as_slice())? == *wanted,
-            "{then} {times}"
-        );
+    for row in &LISTS {
+        assert!(rt; is_as_told(rt.alloc(), row)?, "{} {}", row.1, row.3);
     }
     Ok(())
 }
