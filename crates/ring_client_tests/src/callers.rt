@@ -4,11 +4,11 @@ use refusing_alloc::Refusing;
 use ring_base::{Fault, Fixed};
 use ring_callers::{Caller, run_callers};
 use ring_client::{Client, Port};
+use ring_object::Object;
 use ring_things::Counters;
 use std::alloc::{Allocator, Global};
 use std::sync::Wait;
 use std::sync::atomic::{AtomicBool, Ordering};
-use std::test::Fail;
 use std::thread::Threads;
 
 /// A client that makes no calls: the node that it would try first, and whether it was let make some.
@@ -33,7 +33,31 @@ impl Caller for Silent {
 /// What a run answers, how many calls or a refusal, and whether a caller was let make calls.
 type Seen = (Result<usize, Fault>, bool);
 
-/// What is seen of a run of so many nodes with counters, which take their memory from this allocator. These of them have stopped.
+/// How many calls were made in a run of a group, of whose nodes these have stopped, with these clients; or with what it is refused.
+fn calls_of<O: Object + Send, W: Threads + Wait + Sync>(
+    rt: &W,
+    alloc: O::Alloc,
+    group: Fixed,
+    stopped: &[u8],
+    callers: &[Silent],
+) -> Result<usize, Fault>
+where
+    O::Alloc: Send + Sync,
+{
+    let calls = run_callers::<O, _, _>(rt, alloc, group, stopped, callers)?;
+    Ok(calls.order.len())
+}
+
+/// Whether one of the clients was let make calls.
+fn is_any_let(callers: &[Silent]) -> bool {
+    let mut is = false;
+    for caller in callers {
+        is = is || caller.was_let.load(Ordering::SeqCst);
+    }
+    is
+}
+
+/// What is seen of such a run of so many nodes with counters, which take their memory from this allocator.
 fn run_of<A: Allocator + Copy + Drop + Send + Sync, W: Threads + Wait + Sync>(
     rt: &W,
     alloc: A,
@@ -42,15 +66,8 @@ fn run_of<A: Allocator + Copy + Drop + Send + Sync, W: Threads + Wait + Sync>(
     callers: &[Silent],
 ) -> Result<Seen, Fault> {
     let group = Fixed::new(nodes)?;
-    let answered = match run_callers::<Counters<A>, _, _>(rt, alloc, group, stopped, callers) {
-        Ok(calls) => Ok(calls.order.len()),
-        Err(fault) => Err(fault),
-    };
-    let mut is_any_let = false;
-    for caller in callers {
-        is_any_let = is_any_let || caller.was_let.load(Ordering::SeqCst);
-    }
-    Ok((answered, is_any_let))
+    let answered = calls_of::<Counters<A>, W>(rt, alloc, group, stopped, callers);
+    Ok((answered, is_any_let(callers)))
 }
 
 /// Clients with these first nodes.
@@ -65,41 +82,73 @@ fn clients(alloc: Global, firsts: &[u8]) -> Result<Vec<Silent>, Fault> {
     Ok(callers)
 }
 
-/// A node with 257 clients, and 16 nodes with 17 and with 16.
-#[test]
-fn more_than_256_ports(rt: HostRuntime) -> Result<(), Fail> {
-    let refused = (Err(Fault::NotMember), false);
-    let cases: [(u8, &[u8], Seen); 3] = [
-        (1, &[1; 257], refused),
-        (16, &[1; 17], refused),
-        (16, &[1; 16], (Ok(0), true)),
-    ];
-    for (nodes, firsts, wanted) in cases {
-        let callers = clients(rt.alloc(), firsts)?;
-        let seen = run_of(&rt, rt.alloc(), nodes, &[], callers.as_slice())?;
-        assert!(rt; seen == wanted, "{nodes}");
-    }
-    Ok(())
+/// The same of clients with these first nodes.
+fn seen<W: Threads + Wait + Sync>(
+    rt: &W,
+    alloc: Global,
+    nodes: u8,
+    stopped: &[u8],
+    firsts: &[u8],
+) -> Result<Seen, Fault> {
+    let callers = clients(alloc, firsts)?;
+    run_of(rt, alloc, nodes, stopped, callers.as_slice())
 }
 
-/// The first request for memory is refused, of three nodes.
 #[test]
-fn memory_is_asked_for_where_nothing_else_refuses(rt: HostRuntime) -> Result<(), Fail> {
-    let cases: [(&[u8], &[u8], Fault, bool); 4] = [
-        (&[4], &[1], Fault::NotMember, false),
-        (&[], &[1, 4], Fault::NotMember, false),
-        (&[2, 2], &[1], Fault::Stopped, false),
-        (&[2], &[1], Fault::Memory, true),
+fn numbers_that_are_of_no_node_and_those_that_stand_twice(rt: HostRuntime) {
+    let cases: [(&[u8], &[u8], Fault); 9] = [
+        (&[0], &[1], Fault::NotMember),
+        (&[4], &[1], Fault::NotMember),
+        (&[1, 2, 4], &[1], Fault::NotMember),
+        (&[], &[0], Fault::NotMember),
+        (&[], &[1, 4], Fault::NotMember),
+        (&[1, 1], &[1], Fault::Stopped),
+        (&[3, 1, 2, 3], &[1], Fault::Stopped),
+        (&[1, 1, 4], &[1], Fault::NotMember),
+        (&[1, 1], &[4], Fault::NotMember),
     ];
-    for (stopped, firsts, fault, is_asked) in cases {
-        let callers = clients(rt.alloc(), firsts)?;
-        let heap = Refusing::new(rt.alloc(), 0);
-        let seen = run_of(&rt, &heap, 3, stopped, callers.as_slice())?;
-        let told = (seen, heap.requests() > 0);
-        assert!(rt;
-            told == ((Err(fault), false), is_asked),
-            "{stopped:?} {firsts:?}"
-        );
+    for (stopped, firsts, fault) in cases {
+        let seen = seen(&rt, rt.alloc(), 3, stopped, firsts);
+        assert!(rt; seen == Ok((Err(fault), false)), "{stopped:?} {firsts:?}");
     }
-    Ok(())
+}
+
+/// What is seen of a node with 257 clients, and of 16 nodes with 17 and with 16.
+fn with_ports<W: Threads + Wait + Sync>(rt: &W, alloc: Global) -> [Result<Seen, Fault>; 3] {
+    [
+        seen(rt, alloc, 1, &[], &[1; 257]),
+        seen(rt, alloc, 16, &[], &[1; 17]),
+        seen(rt, alloc, 16, &[], &[1; 16]),
+    ]
+}
+
+#[test]
+fn more_than_256_ports(rt: HostRuntime) {
+    let refused = Ok((Err(Fault::NotMember), false));
+    assert!(rt; with_ports(&rt, rt.alloc()) == [refused, refused, Ok((Ok(0), true))]);
+}
+
+/// What is seen where the first request for memory is refused, of three nodes and a client, and whether any request was made.
+fn without_memory<W: Threads + Wait + Sync>(
+    rt: &W,
+    alloc: Global,
+    stopped: &[u8],
+) -> Result<(Seen, bool), Fault> {
+    let callers = clients(alloc, &[1])?;
+    let heap = Refusing::new(alloc, 0);
+    let seen = run_of(rt, &heap, 3, stopped, callers.as_slice())?;
+    Ok((seen, heap.requests() > 0))
+}
+
+#[test]
+fn memory_is_asked_for_where_nothing_else_refuses(rt: HostRuntime) {
+    let cases: [(&[u8], Fault, bool); 3] = [
+        (&[4], Fault::NotMember, false),
+        (&[2, 2], Fault::Stopped, false),
+        (&[2], Fault::Memory, true),
+    ];
+    for (stopped, fault, is_asked) in cases {
+        let seen = without_memory(&rt, rt.alloc(), stopped);
+        assert!(rt; seen == Ok(((Err(fault), false), is_asked)), "{stopped:?}");
+    }
 }

@@ -1,7 +1,6 @@
 //! What no contract of the client says: that a port is asked once a call, worked runs over ports that are scripted and
-//! over nodes of rings of one, and that a request for memory which is refused is answered as such. And that
-//! a run of callers that is refused for its arguments asks for no memory, that no caller calls in one that is refused, and that 256
-//! ports aren't too many.
+//! over nodes of rings of one, and that a request for memory which is refused is answered as such. And that a run of callers is refused
+//! where the rules say, with the right one of several refusals, and before any caller calls.
 #![tactic(auto)]
 
 #[cfg(test)]

@@ -6,7 +6,7 @@ use ring_base::Fault;
 use ring_client::{Client, Port};
 use ring_object::Reply;
 use ring_session::Answer;
-use std::alloc::Global;
+use std::alloc::{Allocator, Global};
 use std::test::Fail;
 
 /// The reply that the third port gives.
@@ -54,12 +54,35 @@ fn is_refused_once<P: Port>(client: &mut Client<P>, passed: u64) -> bool {
     is_refused && is_kept && is_replied
 }
 
-/// The same of a new client to whom the request after so many is refused.
+/// The same of a new client, whose calls have their memory in `heap`.
+fn is_new_refused<A: Allocator + Copy + Drop>(
+    heap: A,
+    ample: A,
+    passed: u64,
+) -> Result<bool, Fault> {
+    let mut client = client_of(heap, ample, &ports(), 2)?;
+    Ok(is_refused_once(&mut client, passed))
+}
+
+/// The same of one to whom the request after so many is refused.
 fn is_refused(alloc: Global, passed: u64) -> Result<bool, Fault> {
     let ample = Refusing::new(alloc, u64::MAX);
     let heap = Refusing::new(alloc, passed);
-    let mut client = client_of(&heap, &ample, &ports(), 2)?;
-    Ok(is_refused_once(&mut client, passed))
+    is_new_refused(&heap, &ample, passed)
+}
+
+/// What the call of a new client is answered, whose calls have their memory in `heap`.
+fn answered<A: Allocator + Copy + Drop>(heap: A, ample: A) -> Result<Reply, Fault> {
+    let mut client = client_of(heap, ample, &ports(), 2)?;
+    called(&mut client)
+}
+
+/// How many requests for memory a call makes that isn't refused any, and what it is answered.
+fn requests(alloc: Global) -> (u64, Result<Reply, Fault>) {
+    let ample = Refusing::new(alloc, u64::MAX);
+    let heap = Refusing::new(alloc, u64::MAX);
+    let answer = answered(&heap, &ample);
+    (heap.requests(), answer)
 }
 
 /// Each port's call takes memory of its own.
@@ -68,9 +91,6 @@ fn each_request_is_refused_in_turn(rt: HostRuntime) -> Result<(), Fail> {
     for passed in 0..3 * A_CALL {
         assert!(rt; is_refused(rt.alloc(), passed)?, "at {passed}");
     }
-    let ample = Refusing::new(rt.alloc(), u64::MAX);
-    let heap = Refusing::new(rt.alloc(), u64::MAX);
-    let mut client = client_of(&heap, &ample, &ports(), 2)?;
-    assert!(rt; called(&mut client) == Ok(replied()) && heap.requests() == 3 * A_CALL);
+    assert!(rt; requests(rt.alloc()) == (3 * A_CALL, Ok(replied())));
     Ok(())
 }

@@ -4,10 +4,11 @@ ghost use Rattle.std.specs.Prelude.{IfSome};
 ghost use Rattle.ring_client.specs.Asking.{IsTold};
 
 use crate::asked::tell;
+use crate::scripted::told;
 use ring_base::{Fault, Fixed, Kind};
-use ring_client::{Asked, Client, Port, tellable};
+use ring_client::{Asked, Client, Port};
 use ring_driver::Driver;
-use ring_object::Object;
+use ring_object::{Object, Reply};
 use ring_payload::Call;
 use ring_session::{Answer, Ticket};
 use ring_things::{Counters, Outcome, reply_with};
@@ -30,11 +31,22 @@ impl<O: Object> Alone<O> {
         })
     }
 
+    /// Stops the node.
+    fn stop(&mut self) -> Result<(), Fault> {
+        self.node.stop()
+    }
+
+    /// Submits a call of these words.
+    fn submit(&mut self, call: &Call<O::Alloc>) -> Result<Ticket, Fault> {
+        self.node
+            .submit(call.client, call.number, call.op.as_slice())
+    }
+
     /// The answer to a ticket, if it came and a call can have it.
     fn reply(&self, ticket: &Ticket) -> Option<Answer>
         ensures { IfSome result IsTold }
     {
-        self.node.reply(*ticket).and_then(tellable)
+        self.node.reply(*ticket).and_then(told)
     }
 
     /// Lets the ring take a turn: its join timeout comes first, then each time the letter that the last step sent.
@@ -79,8 +91,7 @@ impl<O: Object> Port for NodePort<O> {
 
     fn submit(&mut self, call: &Call<O::Alloc>) -> Result<Ticket, Fault> {
         self.asked.note_submit(call);
-        let node = &mut self.alone.node;
-        let submit = node.submit(call.client, call.number, call.op.as_slice());
+        let submit = self.alone.submit(call);
         if let Err(fault) = submit {
             self.asked.note_refusal(fault);
         }
@@ -102,17 +113,36 @@ impl<O: Object> Port for NodePort<O> {
     }
 }
 
-/// A stopped node, one that hears nothing, so that its ring never forms, and one whose ring forms, and answers.
+/// The reply of a counter that has this count.
+fn counted(count: u64) -> Reply {
+    reply_with(Outcome::Done, count)
+}
+
+/// A node that has stopped.
+fn stopped<O: Object>(alloc: O::Alloc) -> Result<NodePort<O>, Fault> {
+    let mut port = NodePort::new(alloc, false)?;
+    port.alone.stop()?;
+    Ok(port)
+}
+
+/// A node that hears nothing, so that its ring never forms.
+fn cut_off<O: Object>(alloc: O::Alloc) -> Result<NodePort<O>, Fault> {
+    NodePort::new(alloc, false)
+}
+
+/// A node whose ring forms, and answers.
+fn alive<O: Object>(alloc: O::Alloc) -> Result<NodePort<O>, Fault> {
+    NodePort::new(alloc, true)
+}
+
+/// A stopped node, one that hears nothing, and one that answers.
 fn add_ports<O: Object>(
     alloc: O::Alloc,
     ports: &mut Vec<NodePort<O>, O::Alloc>,
 ) -> Result<(), Fault> {
-    for is_turning in [false, false, true] {
-        ports.push(NodePort::new(alloc, is_turning)?)?;
-    }
-    if let Some(first) = ports.first_mut() {
-        first.alone.node.stop()?;
-    }
+    ports.push(stopped(alloc)?)?;
+    ports.push(cut_off(alloc)?)?;
+    ports.push(alive(alloc)?)?;
     Ok(())
 }
 
@@ -125,23 +155,28 @@ fn client_of<O: Object>(alloc: O::Alloc) -> Result<Client<NodePort<O>>, Fault> {
 
 /// Whether a call, of this number, is answered by the third node, at the last of so many polls: the counter is at 5.
 fn third_answers<P: Port>(client: &mut Client<P>, op: &[u8], number: u64, polls: u64) -> bool {
-    let five = reply_with(Outcome::Done, 5);
+    let five = Answer::Done(counted(5));
     let told = [
         (number, Some(8), 0, None),
         (number, None, 100, None),
-        (number, None, polls, Some(Answer::Done(five))),
+        (number, None, polls, Some(five)),
     ];
-    client.call(op) == Ok(five) && tell(client, &told)
+    client.call(op) == Ok(counted(5)) && tell(client, &told)
 }
 
-/// Whether that is so of a call that adds, by the last of 8 polls, and of one that reads, by the last of 3. The reply comes with the
-/// sixth frame after the join timeout, and the poll after these seven turns tells it. Of a ring that runs, it comes with the second
-/// frame.
+/// Whether that is so of a call that adds, by the last of 8 polls, and of one that reads, by the last of 3.
+fn are_answered<O: Object>(alloc: O::Alloc) -> Result<(bool, bool), Fault> {
+    let mut client = client_of::<O>(alloc)?;
+    Ok((
+        third_answers(&mut client, Counters::add(0, 5).as_slice(), 1, 8),
+        third_answers(&mut client, Counters::read(0).as_slice(), 2, 3),
+    ))
+}
+
+/// The reply comes with the sixth frame after the join timeout, and the poll after these seven turns tells it. Of a ring that
+/// runs, it comes with the second frame.
 #[test]
 fn a_call_survives_nodes_that_stop_or_never_answer(rt: HostRuntime) -> Result<(), Fail> {
-    let mut client = client_of::<Counters>(rt.alloc())?;
-    let is_added = third_answers(&mut client, Counters::add(0, 5).as_slice(), 1, 8);
-    let is_read = third_answers(&mut client, Counters::read(0).as_slice(), 2, 3);
-    assert!(rt; is_added && is_read);
+    assert!(rt; are_answered::<Counters>(rt.alloc())? == (true, true));
     Ok(())
 }

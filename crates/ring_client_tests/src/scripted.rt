@@ -4,7 +4,7 @@ ghost use Rattle.std.specs.Prelude.{◌≡◌, IfSome};
 ghost use Rattle.ring_client.specs.Asking.{IsTold};
 
 use ring_base::Fault;
-use ring_client::{Asked, Client, Port, tellable};
+use ring_client::{Asked, Client, Port};
 use ring_payload::Call;
 use ring_session::Answer;
 use std::alloc::Allocator;
@@ -20,6 +20,22 @@ pub enum Behaviour {
     AnswersAfter(u64, Answer),
 }
 
+/// The answer, if a call can have it.
+pub fn told(answer: Answer) -> Option<Answer>
+    ensures { IfSome result IsTold }
+{
+    match answer {
+        Answer::Done(_) | Answer::Kept(_) => Some(answer),
+        Answer::Refused(number) => {
+            if number < 4 || number > 7 {
+                None
+            } else {
+                Some(answer)
+            }
+        }
+    }
+}
+
 /// What a port that behaves so gives at a poll, after so many since the submit.
 fn answer_of(behaviour: &Behaviour, polls: u64) -> Option<Answer>
     ensures { IfSome result IsTold }
@@ -27,12 +43,20 @@ fn answer_of(behaviour: &Behaviour, polls: u64) -> Option<Answer>
     match behaviour {
         Behaviour::AnswersAfter(silent, answer) => {
             if polls >= *silent {
-                tellable(*answer)
+                told(*answer)
             } else {
                 None
             }
         }
         _ => None,
+    }
+}
+
+/// Whether a port that behaves so takes a call.
+fn takes(behaviour: &Behaviour) -> Result<(), Fault> {
+    match behaviour {
+        Behaviour::Refuses(fault) => Err(*fault),
+        _ => Ok(()),
     }
 }
 
@@ -59,9 +83,7 @@ impl<A: Allocator + Copy + Drop> Scripted<A> {
     fn take(&mut self, client: u32, number: u64) -> Result<(), Fault>
         ensures { self.new.asked ≡ self.old.asked }
     {
-        if let Behaviour::Refuses(fault) = self.behaviour {
-            return Err(fault);
-        }
+        takes(&self.behaviour)?;
         self.submits.push((client, number))?;
         Ok(())
     }
@@ -94,6 +116,18 @@ impl<A: Allocator + Copy + Drop> Port for Scripted<A> {
     }
 }
 
+/// Adds a port for each of these.
+fn add_ports<A: Allocator + Copy + Drop>(
+    ample: A,
+    ports: &mut Vec<Scripted<A>, A>,
+    behaviours: &[Behaviour],
+) -> Result<(), Fault> {
+    for behaviour in behaviours {
+        ports.push(Scripted::new(ample, *behaviour))?;
+    }
+    Ok(())
+}
+
 /// Client 7, whose calls have their memory in `heap`, with a port for each of these, which it polls at most so often.
 pub fn client_of<A: Allocator + Copy + Drop>(
     heap: A,
@@ -102,8 +136,6 @@ pub fn client_of<A: Allocator + Copy + Drop>(
     turns: u64,
 ) -> Result<Client<Scripted<A>>, Fault> {
     let mut ports = Vec::new(ample);
-    for behaviour in behaviours {
-        ports.push(Scripted::new(ample, *behaviour))?;
-    }
+    add_ports(ample, &mut ports, behaviours)?;
     Ok(Client::new(heap, 7, ports, turns))
 }

@@ -3,8 +3,9 @@
 use crate::asked::{Told, tell};
 use crate::scripted::{Behaviour, Scripted, client_of};
 use ring_base::Fault;
-use ring_client::{Client, Port};
+use ring_client::{Asked, Client, Op, Port};
 use ring_object::Reply;
+use ring_payload::{Call, Operation};
 use ring_session::Answer;
 use std::alloc::Allocator;
 use std::test::Fail;
@@ -12,6 +13,11 @@ use std::test::Fail;
 /// The reply of this byte.
 fn reply(byte: u8) -> Reply {
     Reply::from_slice(&[byte])
+}
+
+/// What a port does that answers at the first poll.
+fn answers_at_once() -> Behaviour {
+    Behaviour::AnswersAfter(0, Answer::Done(reply(1)))
 }
 
 /// What a client does.
@@ -23,15 +29,28 @@ enum Deed {
     UntilAnswered(&'static [u8], u64),
 }
 
+/// The reply, or the refusal.
+fn done<P: Port>(client: &mut Client<P>, deed: Deed) -> Result<Reply, Fault> {
+    match deed {
+        Deed::Call(op) => client.call(op),
+        Deed::Again => client.again(),
+        Deed::UntilAnswered(op, limit) => client.until_answered(op, limit),
+    }
+}
+
 /// A step of a run: what a client does, or what is seen of it.
 #[derive(Clone, Copy)]
 enum Step<'a> {
     /// What it does, the byte that it is replied or why it is refused, and its next number and whether a call is open then.
     Does(Deed, Result<u8, Fault>, u64, bool),
+    /// Its next number.
+    Next(u64),
     /// What its ports tell.
     Tell(&'a [Told]),
     /// The numbers of the calls that each of its ports was submitted, in order; all are client 7's.
     Submitted(&'a [&'a [u64]]),
+    /// The operation that each of its ports was handed last.
+    Handed(&'a [u8]),
 }
 
 /// Whether a client that does this comes to this.
@@ -42,12 +61,17 @@ fn does<P: Port>(
     number: u64,
     is_open: bool,
 ) -> bool {
-    let told = match deed {
-        Deed::Call(op) => client.call(op),
-        Deed::Again => client.again(),
-        Deed::UntilAnswered(op, limit) => client.until_answered(op, limit),
-    };
-    told == want.map(reply) && client.next_number() == Some(number) && client.is_open() == is_open
+    let is_done = done(client, deed) == want.map(reply);
+    is_done && client.next_number() == Some(number) && client.is_open() == is_open
+}
+
+/// Whether these are client 7's calls of these numbers.
+fn are_calls(calls: &[(u32, u64)], numbers: &[u64]) -> bool {
+    let mut are = calls.len() == numbers.len();
+    for (call, number) in calls.iter().zip(numbers) {
+        are = are && *call == (7, *number);
+    }
+    are
 }
 
 /// Whether the ports were submitted just these calls.
@@ -57,12 +81,29 @@ fn were_submitted<A: Allocator + Copy + Drop>(
 ) -> bool {
     let mut were = client.ports().len() == want.len();
     for (port, numbers) in client.ports().iter().zip(want) {
-        were = were && port.submits.len() == numbers.len();
-        for (call, number) in port.submits.iter().zip(*numbers) {
-            were = were && *call == (7, *number);
-        }
+        were = were && are_calls(port.submits.as_slice(), numbers);
     }
     were
+}
+
+/// Whether each port was handed this operation last.
+fn have_operation<P: Port>(client: &Client<P>, op: &[u8]) -> bool {
+    let mut have = true;
+    for port in client.ports() {
+        have = have && port.asked().op.as_slice() == op;
+    }
+    have
+}
+
+/// Whether this step is so.
+fn is_so<A: Allocator + Copy + Drop>(client: &mut Client<Scripted<A>>, step: Step<'_>) -> bool {
+    match step {
+        Step::Does(deed, want, number, is_open) => does(client, deed, want, number, is_open),
+        Step::Next(number) => client.next_number() == Some(number),
+        Step::Tell(want) => tell(client, want),
+        Step::Submitted(want) => were_submitted(client, want),
+        Step::Handed(op) => have_operation(client, op),
+    }
 }
 
 /// Whether all these steps are so, one after another.
@@ -72,12 +113,7 @@ fn are_so<A: Allocator + Copy + Drop>(
 ) -> bool {
     let mut are = true;
     for step in steps {
-        let is = match *step {
-            Step::Does(deed, want, number, is_open) => does(client, deed, want, number, is_open),
-            Step::Tell(want) => tell(client, want),
-            Step::Submitted(want) => were_submitted(client, want),
-        };
-        are = are && is;
+        are = are && is_so(client, *step);
     }
     are
 }
@@ -125,6 +161,7 @@ fn an_unanswered_call_stays_open(rt: HostRuntime) -> Result<(), Fail> {
         Step::Submitted(&[&[1], &[1]]),
         Step::Does(Deed::Again, unanswered, 1, true),
         Step::Submitted(&[&[1, 1], &[1, 1]]),
+        Step::Handed(b"a"),
     ];
     assert!(rt; runs(rt.alloc(), &ports, 3, &steps)?);
     Ok(())
@@ -141,39 +178,76 @@ fn a_call_is_tried_anew_so_often(rt: HostRuntime) -> Result<(), Fail> {
     Ok(())
 }
 
-/// What four ports tell of the call of this number, which the third answers.
-fn third_answers(number: u64) -> [Told; 4] {
-    [
+/// Whether the call of this number is answered by the third of four ports.
+fn third_answers<A: Allocator + Copy + Drop>(
+    client: &mut Client<Scripted<A>>,
+    number: u64,
+) -> bool {
+    let nine = Answer::Kept(reply(9));
+    let told = [
         (number, Some(2), 0, None),
         (number, None, 4, None),
-        (number, None, 1, Some(Answer::Kept(reply(9)))),
+        (number, None, 1, Some(nine)),
         (0, None, 0, None),
-    ]
+    ];
+    let steps = [
+        Step::Next(number),
+        Step::Does(Deed::Call(&[]), Ok(9), number.saturating_add(1), false),
+        Step::Tell(&told),
+    ];
+    are_so(client, &steps)
 }
 
-/// A refusing, a silent and an answering port, and one behind them that isn't asked.
-#[test]
-fn each_port_is_asked_once_a_call(rt: HostRuntime) -> Result<(), Fail> {
+/// Whether three calls are, one after another.
+fn third_answers_thrice<A: Allocator + Copy + Drop>(client: &mut Client<Scripted<A>>) -> bool {
+    let mut are = true;
+    for number in 1..4u64 {
+        are = are && third_answers(client, number);
+    }
+    are
+}
+
+/// Whether three calls of a client are, and were submitted at the ports before the fourth once each, where not refused.
+fn asks_each_once<A: Allocator + Copy + Drop>(alloc: A) -> Result<bool, Fault> {
     let ports = [
         Behaviour::Refuses(Fault::PendingFull),
         Behaviour::IsSilent,
         Behaviour::AnswersAfter(0, Answer::Kept(reply(9))),
         Behaviour::IsSilent,
     ];
-    let steps = [
-        Step::Does(Deed::Call(&[]), Ok(9), 2, false),
-        Step::Tell(&third_answers(1)),
-        Step::Does(Deed::Call(&[]), Ok(9), 3, false),
-        Step::Tell(&third_answers(2)),
-        Step::Does(Deed::Call(&[]), Ok(9), 4, false),
-        Step::Tell(&third_answers(3)),
-        Step::Submitted(&[&[], &[1, 2, 3], &[1, 2, 3], &[]]),
-    ];
-    assert!(rt; runs(rt.alloc(), &ports, 4, &steps)?);
+    let mut client = client_of(alloc, alloc, &ports, 4)?;
+    let want: [&[u64]; 4] = [&[], &[1, 2, 3], &[1, 2, 3], &[]];
+    Ok(third_answers_thrice(&mut client) && were_submitted(&client, &want))
+}
+
+/// A refusing, a silent and an answering port, and one behind them that isn't asked.
+#[test]
+fn each_port_is_asked_once_a_call(rt: HostRuntime) -> Result<(), Fail> {
+    assert!(rt; asks_each_once(rt.alloc())?);
     Ok(())
 }
 
-/// A refusal that the first of two ports tells, twice, closes the call, which isn't tried again. The next call has the same number.
+/// Whether a call is closed where the first of two ports tells this refusal, twice.
+fn is_closed<A: Allocator + Copy + Drop>(
+    alloc: A,
+    number: u8,
+    fault: Fault,
+) -> Result<bool, Fault> {
+    let ports = [
+        Behaviour::AnswersAfter(0, Answer::Refused(number)),
+        Behaviour::IsSilent,
+    ];
+    let steps = [
+        Step::Does(Deed::Call(b"a"), Err(fault), 1, false),
+        Step::Does(Deed::Again, Err(Fault::NoAnswer), 1, false),
+        Step::Does(Deed::Call(b"a"), Err(fault), 1, false),
+        Step::Does(Deed::Again, Err(Fault::NoAnswer), 1, false),
+        Step::Submitted(&[&[1, 1], &[]]),
+    ];
+    runs(alloc, &ports, 1, &steps)
+}
+
+/// A refusal that a port tells closes the call. The next call has the same number.
 #[test]
 fn a_told_refusal_closes_the_call(rt: HostRuntime) -> Result<(), Fail> {
     for (number, fault) in [
@@ -182,18 +256,74 @@ fn a_told_refusal_closes_the_call(rt: HostRuntime) -> Result<(), Fail> {
         (6, Fault::NumberGap),
         (7, Fault::SessionsFull),
     ] {
-        let ports = [
-            Behaviour::AnswersAfter(0, Answer::Refused(number)),
-            Behaviour::IsSilent,
-        ];
-        let steps = [
-            Step::Does(Deed::Call(b"a"), Err(fault), 1, false),
-            Step::Does(Deed::Again, Err(Fault::NoAnswer), 1, false),
-            Step::Does(Deed::Call(b"a"), Err(fault), 1, false),
-            Step::Does(Deed::Again, Err(Fault::NoAnswer), 1, false),
-            Step::Submitted(&[&[1, 1], &[]]),
-        ];
-        assert!(rt; runs(rt.alloc(), &ports, 1, &steps)?, "{number}");
+        assert!(rt; is_closed(rt.alloc(), number, fault)?, "{number}");
     }
+    Ok(())
+}
+
+/// With no ports and with no open call.
+#[test]
+fn no_port_is_asked(rt: HostRuntime) -> Result<(), Fail> {
+    let steps = [
+        Step::Does(Deed::Again, Err(Fault::NoAnswer), 1, false),
+        Step::Does(Deed::Call(b"a"), Err(Fault::NoAnswer), 1, true),
+        Step::Does(Deed::Again, Err(Fault::NoAnswer), 1, true),
+    ];
+    assert!(rt; runs(rt.alloc(), &[], 3, &steps)?);
+    Ok(())
+}
+
+/// With no turns.
+#[test]
+fn a_port_is_not_polled(rt: HostRuntime) -> Result<(), Fail> {
+    let steps = [
+        Step::Does(Deed::Again, Err(Fault::NoAnswer), 1, false),
+        Step::Submitted(&[&[]]),
+        Step::Does(Deed::Call(b"a"), Err(Fault::NoAnswer), 1, true),
+        Step::Tell(&[(1, None, 0, None)]),
+    ];
+    assert!(rt; runs(rt.alloc(), &[answers_at_once()], 0, &steps)?);
+    Ok(())
+}
+
+#[test]
+fn an_operation_has_at_most_1024_bytes(rt: HostRuntime) -> Result<(), Fail> {
+    let steps = [
+        Step::Does(Deed::Call(&[7; 1025]), Err(Fault::OpTooLong), 1, false),
+        Step::Submitted(&[&[]]),
+        Step::Does(Deed::Call(&[7; 1024]), Ok(1), 2, false),
+        Step::Submitted(&[&[1]]),
+    ];
+    assert!(rt; runs(rt.alloc(), &[answers_at_once()], 1, &steps)?);
+    Ok(())
+}
+
+/// What is noted of a call of this operation.
+fn noted<A: Allocator + Copy>(alloc: A, op: &[u8]) -> Result<Asked, Fault> {
+    let mut asked = Asked::new();
+    let call = Call {
+        client: 7,
+        number: 1,
+        op: Operation::from_slice(alloc, op)?,
+    };
+    asked.note_submit(&call);
+    Ok(asked)
+}
+
+/// How many polls are noted after each of two more.
+fn noted_polls(asked: &mut Asked) -> (u64, u64) {
+    asked.note_poll(None);
+    let first = asked.polls;
+    asked.note_poll(None);
+    (first, asked.polls)
+}
+
+/// What is noted of a call whose operation is too long, and of polls that can't be counted.
+#[test]
+fn what_asked_has_no_room_for(rt: HostRuntime) -> Result<(), Fail> {
+    let mut asked = noted(rt.alloc(), &[3; 2000])?;
+    assert!(rt; asked.op == Op::from_slice(&[3; 1024]));
+    asked.polls = u64::MAX - 1;
+    assert!(rt; noted_polls(&mut asked) == (u64::MAX, u64::MAX));
     Ok(())
 }
