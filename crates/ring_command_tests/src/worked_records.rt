@@ -34,36 +34,23 @@ const TOKEN: [u8; 62] = [
     0, 0, 0, 10,
 ];
 
-/// Records, and what is told of them.
-const WORKED: [(&[u8], &[u8]); 8] = [
-    (&[], &[]),
-    (&CALL, &CALL_TOLD),
-    (&[0x51, 0, 0], &STANDING_TOLD),
-    (&JOIN, &JOIN_TOLD),
-    (&TOKEN, &[0x45, 0, 2, 0, 2]),
-    (&[0x46, 0, 1, 0], &[0x45, 0, 2, 0, 0]),
-    (&[0x53, 0, 0], &[0x45, 0, 2, 4, 0]),
-    (
-        &[0x53, 0, 0, 0x53, 0, 0],
-        &[0x45, 0, 2, 4, 0, 0x58, 0, 1, 8, 0x45, 0, 2, 4, 0],
-    ),
-];
-
-/// Then a call of number 0, and one of an operation of 1,025 bytes, which are refused.
 #[test]
 fn the_worked_records_are_told_so(rt: HostRuntime) -> Result<(), Fail> {
-    let mut without_number = CALL;
-    without_number[14] = 0;
-    let mut long = [0; 1040];
-    long[..3].copy_from_slice(&[0x43, 4, 13]);
-    let refused: [(&[u8], &[u8]); 2] = [
-        (&without_number, &[0x58, 0, 1, 6, 0x45, 0, 2, 0, 0]),
-        (&long, &[0x58, 0, 1, 3, 0x45, 0, 2, 0, 0]),
+    let rows: [(&[u8], &[u8]); 8] = [
+        (&[], &[]),
+        (&CALL, &CALL_TOLD),
+        (&[0x51, 0, 0], &STANDING_TOLD),
+        (&JOIN, &JOIN_TOLD),
+        (&TOKEN, &[0x45, 0, 2, 0, 2]),
+        (&[0x46, 0, 1, 0], &[0x45, 0, 2, 0, 0]),
+        (&[0x53, 0, 0], &[0x45, 0, 2, 4, 0]),
+        (
+            &[0x53, 0, 0, 0x53, 0, 0],
+            &[0x45, 0, 2, 4, 0, 0x58, 0, 1, 8, 0x45, 0, 2, 4, 0],
+        ),
     ];
-    for rows in [&WORKED[..], &refused] {
-        for (input, told) in rows {
-            assert!(rt; serves::<Counters>(rt.alloc(), input, told, "", 0)?);
-        }
+    for (input, told) in rows {
+        assert!(rt; serves::<Counters>(rt.alloc(), input, told, "", 0)?);
     }
     Ok(())
 }
@@ -86,6 +73,23 @@ fn a_bad_record_ends_the_node_after_those_before_it(rt: HostRuntime) -> Result<(
     ];
     for (input, told, line) in rows {
         assert!(rt; serves::<Counters>(rt.alloc(), input, told, line, 1)?);
+    }
+    Ok(())
+}
+
+/// A call of number 0, and one of an operation of 1,025 bytes.
+#[test]
+fn a_call_is_refused_by_its_number(rt: HostRuntime) -> Result<(), Fail> {
+    let mut without_number = CALL;
+    without_number[14] = 0;
+    let mut long = [0; 1040];
+    long[..3].copy_from_slice(&[0x43, 4, 13]);
+    let rows: [(&[u8], &[u8]); 2] = [
+        (&without_number, &[0x58, 0, 1, 6, 0x45, 0, 2, 0, 0]),
+        (&long, &[0x58, 0, 1, 3, 0x45, 0, 2, 0, 0]),
+    ];
+    for (input, told) in rows {
+        assert!(rt; serves::<Counters>(rt.alloc(), input, told, "", 0)?);
     }
     Ok(())
 }
