@@ -84,6 +84,18 @@ fn are_kept<O: Object, K: BookName<O::Alloc>>(driven: &mut Driven<O, K>, nodes: 
 
 /// Answers `Memory` where a call was refused memory and all that was done before is kept, and else whether all is as it
 /// should be.
+fn ran_or_kept<O: Object, K: BookName<O::Alloc>>(
+    driven: &mut Driven<O, K>,
+    nodes: u8,
+) -> Result<bool, Fault> {
+    let ran = goes_on(driven, nodes);
+    if ran == Err(Fault::Memory) && !are_kept(driven, nodes) {
+        return Ok(false);
+    }
+    ran
+}
+
+/// The same at an opening.
 fn ran<O: Object, K: BookName<O::Alloc>>(
     alloc: O::Alloc,
     opening: Opening<O>,
@@ -92,10 +104,8 @@ fn ran<O: Object, K: BookName<O::Alloc>>(
     requires { opening ≡ K.name }
 {
     let mut driven = Driven::<O, K>::new(alloc, opening)?;
-    let ran = goes_on(&mut driven, nodes);
-    if ran == Err(Fault::Memory) && !are_kept(&mut driven, nodes) {
-        return Ok(false);
-    }
+    let ran = ran_or_kept(&mut driven, nodes);
+    drop(driven);
     ran
 }
 

@@ -121,7 +121,9 @@ fn refused_bytes<O: Object, K: BookName<O::Alloc>>(
     requires { opening ≡ K.name }
 {
     let mut driven = Driven::<O, K>::new(alloc, opening)?;
-    strange_join(&mut driven)
+    let strange = strange_join(&mut driven);
+    drop(driven);
+    strange
 }
 
 /// The refusal of entering a step, if it is refused, and how many places are used or reserved then.
@@ -180,7 +182,9 @@ fn refused_entries<O: Object, K: BookName<O::Alloc>>(
     requires { opening ≡ K.name }
 {
     let mut driven = Driven::<O, K>::new(alloc, opening)?;
-    entered_at_both(&mut driven)
+    let entered = entered_at_both(&mut driven);
+    drop(driven);
+    entered
 }
 
 /// How many places can be reserved, which refusal comes behind them, and how many places are used or reserved then.
@@ -203,8 +207,11 @@ fn reserved<O: Object, K: BookName<O::Alloc>>(
 ) -> Result<(u32, Option<Fault>, u32), Fault>
     requires { opening ≡ K.name }
 {
-    let (mut book, _cells) = opening.parts::<K>()?;
-    Ok(reserve_all(&mut book))
+    let (mut book, cells) = opening.parts::<K>()?;
+    drop(cells);
+    let reserved = reserve_all(&mut book);
+    drop(book);
+    Ok(reserved)
 }
 
 /// The places reserved in a book of counters of one.

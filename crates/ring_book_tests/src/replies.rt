@@ -120,7 +120,9 @@ fn replied<O: Object, K: BookName<O::Alloc>>(
     requires { opening ≡ K.name }
 {
     let mut driven = Driven::<O, K>::new(alloc, opening)?;
-    both_shown(&mut driven, nodes, processor)
+    let shown = both_shown(&mut driven, nodes, processor);
+    drop(driven);
+    shown
 }
 
 /// The same of counters.

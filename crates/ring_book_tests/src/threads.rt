@@ -57,7 +57,9 @@ where
     lend_all(&driven);
     let lent = &mut driven;
     let (done, ()) = thread::join(rt, move || lent.time(1), || ());
-    Ok((done, driven.book.places()))
+    let places = driven.book.places();
+    drop(driven);
+    Ok((done, places))
 }
 
 /// The same of counters.

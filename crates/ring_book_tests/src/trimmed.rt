@@ -98,7 +98,9 @@ fn alone<O: Object, K: BookName<O::Alloc>>(
     requires { opening ≡ K.name }
 {
     let mut driven = Driven::<O, K>::new(alloc, opening)?;
-    done_alone(&mut driven)
+    let done = done_alone(&mut driven);
+    drop(driven);
+    done
 }
 
 /// Three nodes form a ring, and 10 calls are done.
@@ -151,7 +153,9 @@ fn restored<O: Object, K: BookName<O::Alloc>>(
     requires { opening ≡ K.name }
 {
     let mut driven = Driven::<O, K>::new(alloc, opening)?;
-    merged(&mut driven)
+    let merged = merged(&mut driven);
+    drop(driven);
+    merged
 }
 
 /// The first of counters.

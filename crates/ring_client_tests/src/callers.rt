@@ -45,7 +45,9 @@ where
     O::Alloc: Send + Sync,
 {
     let calls = run_callers::<O, _, _>(rt, alloc, group, stopped, callers)?;
-    Ok(calls.order.len())
+    let count = calls.order.len();
+    drop(calls);
+    Ok(count)
 }
 
 /// Whether one of the clients was let make calls.

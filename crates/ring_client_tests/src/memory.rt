@@ -61,7 +61,9 @@ fn is_new_refused<A: Allocator + Copy + Drop>(
     passed: u64,
 ) -> Result<bool, Fault> {
     let mut client = client_of(heap, ample, &ports(), 2)?;
-    Ok(is_refused_once(&mut client, passed))
+    let is_refused = is_refused_once(&mut client, passed);
+    drop(client);
+    Ok(is_refused)
 }
 
 /// The same of one to whom the request after so many is refused.
@@ -74,7 +76,9 @@ fn is_refused(alloc: Global, passed: u64) -> Result<bool, Fault> {
 /// What the call of a new client is answered, whose calls have their memory in `heap`.
 fn answered<A: Allocator + Copy + Drop>(heap: A, ample: A) -> Result<Reply, Fault> {
     let mut client = client_of(heap, ample, &ports(), 2)?;
-    called(&mut client)
+    let answer = called(&mut client);
+    drop(client);
+    answer
 }
 
 /// How many requests for memory a call makes that isn't refused any, and what it is answered.

@@ -5,7 +5,7 @@ ghost use Rattle.ring_client.specs.Asking.{IsTold};
 
 use crate::asked::tell;
 use crate::scripted::told;
-use ring_base::{Fault, Fixed, Kind};
+use ring_base::{Fault, Fixed, Kind, paired};
 use ring_client::{Asked, Client, Port};
 use ring_driver::Driver;
 use ring_object::{Object, Reply};
@@ -121,7 +121,8 @@ fn counted(count: u64) -> Reply {
 /// A node that has stopped.
 fn stopped<O: Object>(alloc: O::Alloc) -> Result<NodePort<O>, Fault> {
     let mut port = NodePort::new(alloc, false)?;
-    port.alone.stop()?;
+    let stopped = port.alone.stop();
+    let (port, ()) = paired(port, stopped)?;
     Ok(port)
 }
 
@@ -149,7 +150,8 @@ fn add_ports<O: Object>(
 /// Client 7 over these.
 fn client_of<O: Object>(alloc: O::Alloc) -> Result<Client<NodePort<O>>, Fault> {
     let mut ports = Vec::new(alloc);
-    add_ports(alloc, &mut ports)?;
+    let added = add_ports(alloc, &mut ports);
+    let (ports, ()) = paired(ports, added)?;
     Ok(Client::new(alloc, 7, ports, 100))
 }
 
@@ -167,10 +169,10 @@ fn third_answers<P: Port>(client: &mut Client<P>, op: &[u8], number: u64, polls:
 /// Whether that is so of a call that adds, by the last of 8 polls, and of one that reads, by the last of 3.
 fn are_answered<O: Object>(alloc: O::Alloc) -> Result<(bool, bool), Fault> {
     let mut client = client_of::<O>(alloc)?;
-    Ok((
-        third_answers(&mut client, Counters::add(0, 5).as_slice(), 1, 8),
-        third_answers(&mut client, Counters::read(0).as_slice(), 2, 3),
-    ))
+    let adds = third_answers(&mut client, Counters::add(0, 5).as_slice(), 1, 8);
+    let reads = third_answers(&mut client, Counters::read(0).as_slice(), 2, 3);
+    drop(client);
+    Ok((adds, reads))
 }
 
 /// The reply comes with the sixth frame after the join timeout, and the poll after these seven turns tells it. Of a ring that

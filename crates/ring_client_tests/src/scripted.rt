@@ -3,7 +3,7 @@
 ghost use Rattle.std.specs.Prelude.{◌≡◌, IfSome};
 ghost use Rattle.ring_client.specs.Asking.{IsTold};
 
-use ring_base::Fault;
+use ring_base::{Fault, paired};
 use ring_client::{Asked, Client, Port};
 use ring_payload::Call;
 use ring_session::Answer;
@@ -136,6 +136,7 @@ pub fn client_of<A: Allocator + Copy + Drop>(
     turns: u64,
 ) -> Result<Client<Scripted<A>>, Fault> {
     let mut ports = Vec::new(ample);
-    add_ports(ample, &mut ports, behaviours)?;
+    let added = add_ports(ample, &mut ports, behaviours);
+    let (ports, ()) = paired(ports, added)?;
     Ok(Client::new(heap, 7, ports, turns))
 }

@@ -126,7 +126,9 @@ fn runs<A: Allocator + Copy + Drop>(
     steps: &[Step<'_>],
 ) -> Result<bool, Fault> {
     let mut client = client_of(alloc, alloc, ports, turns)?;
-    Ok(are_so(&mut client, steps))
+    let are_so = are_so(&mut client, steps);
+    drop(client);
+    Ok(are_so)
 }
 
 /// The first port refuses, the second answers at the third poll. The next call has number 2.
@@ -217,7 +219,9 @@ fn asks_each_once<A: Allocator + Copy + Drop>(alloc: A) -> Result<bool, Fault> {
     ];
     let mut client = client_of(alloc, alloc, &ports, 4)?;
     let want: [&[u64]; 4] = [&[], &[1, 2, 3], &[1, 2, 3], &[]];
-    Ok(third_answers_thrice(&mut client) && were_submitted(&client, &want))
+    let answers = third_answers_thrice(&mut client) && were_submitted(&client, &want);
+    drop(client);
+    Ok(answers)
 }
 
 /// A refusing, a silent and an answering port, and one behind them that isn't asked.

@@ -1,7 +1,7 @@
 //! What clients see of a script is explained by the order of its world, also where memory was refused on the way.
 
 use refusing_alloc::{Refusing, refuse_in_turn};
-use ring_base::Fault;
+use ring_base::{Fault, paired};
 use ring_checker::is_linearization;
 use ring_console::{Run, Script, ScriptFault, Things};
 use ring_object::Object;
@@ -29,10 +29,13 @@ pub fn is_explained<A: Allocator + Copy + Drop>(
         Err(ScriptFault::Memory) => return Err(Fault::Memory),
         Err(ScriptFault::AtLine(_)) => return Err(Fault::BadScript),
     };
-    let mut run = Run::<Things<A>>::new(heap, script.nodes)?;
+    let made = Run::<Things<A>>::new(heap, script.nodes);
+    let (script, mut run) = paired(script, made)?;
     let mut out = Vec::<u8>::new(alloc);
     let _ = run.take(script, &mut out);
-    order_explains(heap, &run)
+    let explains = order_explains(heap, &run);
+    drop(run);
+    explains
 }
 
 /// Where a request was refused all is explained, and only there is memory told to be refused.

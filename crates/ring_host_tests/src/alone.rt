@@ -49,7 +49,9 @@ fn opened<O: Object, K: BookName<O::Alloc>, W: Wait>(
     requires { opening ≡ K.name }
 {
     let mut driven = Driven::<O, K>::new(alloc, opening, 1, INBOX)?;
-    both_rows(rt, &mut driven)
+    let rows = both_rows(rt, &mut driven);
+    drop(driven);
+    rows
 }
 
 /// The same of counters.
@@ -93,7 +95,9 @@ fn many<O: Object, K: BookName<O::Alloc>, W: Wait>(
     requires { opening ≡ K.name }
 {
     let mut driven = Driven::<O, K>::new(alloc, opening, 1, INBOX)?;
-    all_told(rt, &mut driven)
+    let told = all_told(rt, &mut driven);
+    drop(driven);
+    told
 }
 
 /// The same of counters.

@@ -3,7 +3,7 @@
 ghost use Rattle.std.specs.Prelude.{◌≡◌};
 
 use crate::driven::Driven;
-use ring_base::{Fault, Fixed, Kind};
+use ring_base::{Fault, Fixed, Kind, paired};
 use ring_host::{BookName, HostTicket, INBOX, Opening};
 use ring_object::Object;
 use ring_things::Counters;
@@ -102,6 +102,15 @@ fn seen<O: Object, K: BookName<O::Alloc>, W: Wait>(
     }
 }
 
+/// What is seen of a host once its book is full.
+fn seen_full<O: Object, K: BookName<O::Alloc>, W: Wait>(
+    rt: &W,
+    driven: &mut Driven<O, K>,
+) -> Result<Shown, Fault> {
+    let ticket = filled(rt, driven)?;
+    Ok(seen(rt, driven, &ticket))
+}
+
 /// The same at an opening, and whether a run of node 1 ends by itself then.
 fn opened<O: Object + Send, K: BookName<O::Alloc> + Send + Sync, W: Threads + Wait + Sync>(
     rt: &W,
@@ -113,8 +122,8 @@ where
     requires { opening ≡ K.name }
 {
     let mut driven = Driven::<O, K>::new(alloc, opening, 2, INBOX)?;
-    let ticket = filled(rt, &mut driven)?;
-    let shown = seen(rt, &mut driven, &ticket);
+    let shown = seen_full(rt, &mut driven);
+    let (driven, shown) = paired(driven, shown)?;
     Ok((shown, driven.run_first(rt).is_ok()))
 }
 

@@ -166,7 +166,10 @@ where
     requires { opening ≡ K.name }
 {
     let (host, mut seats) = Host::<O, K>::new(alloc, opening, 0)?;
-    held_up(rt, alloc, &host, &mut seats)
+    let is_working = held_up(rt, alloc, &host, &mut seats);
+    drop(host);
+    drop(seats);
+    is_working
 }
 
 /// The same of counters.

@@ -34,7 +34,9 @@ fn opened<O: Object, K: BookName<O::Alloc>, W: Wait>(
     requires { opening ≡ K.name }
 {
     let mut driven = Driven::<O, K>::new(alloc, opening, 2, 1)?;
-    dropped(rt, &mut driven)
+    let dropped = dropped(rt, &mut driven);
+    drop(driven);
+    dropped
 }
 
 /// The same of counters.
@@ -107,7 +109,9 @@ fn opened_cramped<O: Object, K: BookName<O::Alloc>, W: Wait>(
     requires { opening ≡ K.name }
 {
     let mut driven = Driven::<O, K>::new(alloc, opening, 3, 2)?;
-    crowd(rt, &mut driven)
+    let crowded = crowd(rt, &mut driven);
+    drop(driven);
+    crowded
 }
 
 /// The same of counters.

@@ -59,7 +59,9 @@ fn opened<O: Object, K: BookName<O::Alloc>, W: Wait>(
     requires { opening ≡ K.name }
 {
     let mut driven = Driven::<O, K>::new(alloc, opening, 1, INBOX)?;
-    Ok(refuses(rt, &mut driven))
+    let refuses = refuses(rt, &mut driven);
+    drop(driven);
+    Ok(refuses)
 }
 
 /// The same of counters.
@@ -104,7 +106,9 @@ fn short<O: Object, K: BookName<O::Alloc>, W: Wait>(
     requires { opening ≡ K.name }
 {
     let mut driven = Driven::<O, K>::new(alloc, opening, 1, INBOX)?;
-    Ok(short_submit(rt, heap, &mut driven))
+    let short = short_submit(rt, heap, &mut driven);
+    drop(driven);
+    Ok(short)
 }
 
 /// The same of counters that take their memory from this heap.

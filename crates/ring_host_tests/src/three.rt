@@ -169,7 +169,9 @@ fn opened<O: Object, K: BookName<O::Alloc>, W: Wait>(
     requires { opening ≡ K.name }
 {
     let mut driven = Driven::<O, K>::new(alloc, opening, 3, INBOX)?;
-    story(rt, heap, &mut driven)
+    let story = story(rt, heap, &mut driven);
+    drop(driven);
+    story
 }
 
 /// The same of counters that take their memory from this heap.

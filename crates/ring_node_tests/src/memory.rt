@@ -75,7 +75,9 @@ fn refusals<O: Object>(heap: O::Alloc, ample: O::Alloc) -> Result<u64, Fault> {
         made => (made, 0),
     };
     let mut driven = made?;
-    refused_then(&mut driven, before)
+    let refused = refused_then(&mut driven, before);
+    drop(driven);
+    refused
 }
 
 /// What `refuse_in_turn` asks of a run: an error where a request was refused, and the run tells one refusal. Where it is not as

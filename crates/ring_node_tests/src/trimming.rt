@@ -76,7 +76,9 @@ fn seen<O: Object>(driven: &mut Driven<O>) -> Result<Seen, Fault> {
 /// What is seen of a new node.
 fn seen_anew<O: Object>(alloc: O::Alloc) -> Result<Seen, Fault> {
     let mut driven = Driven::<O>::new(alloc, alloc)?;
-    seen(&mut driven)
+    let seen = seen(&mut driven);
+    drop(driven);
+    seen
 }
 
 #[test]
@@ -117,7 +119,9 @@ fn trims_in<O: Object>(
     refusing: &Refusing,
 ) -> Result<(u64, u64, bool), Fault> {
     let mut driven = Driven::<O>::new(heap, ample)?;
-    trims(&mut driven, refusing)
+    let trims = trims(&mut driven, refusing);
+    drop(driven);
+    trims
 }
 
 /// The same where so many requests for memory are passed.

@@ -48,7 +48,9 @@ fn told<O: Object>(rt: &impl Abort, driven: &mut Driven<O>) -> Result<Told, Faul
 /// The same of a new node.
 fn told_anew<O: Object>(rt: &impl Abort, alloc: O::Alloc) -> Result<Told, Fault> {
     let mut driven = Driven::<O>::new(alloc, alloc)?;
-    told(rt, &mut driven)
+    let told = told(rt, &mut driven);
+    drop(driven);
+    told
 }
 
 #[test]
@@ -79,7 +81,9 @@ where
     O::Alloc: Send + Sync,
 {
     let mut driven = Driven::<O>::new(alloc, alloc)?;
-    stepped_there(rt, &mut driven)
+    let seen = stepped_there(rt, &mut driven);
+    drop(driven);
+    seen
 }
 
 #[test]

@@ -1,7 +1,7 @@
 //! Frames that come in the order in which they were sent.
 
 use crate::steps::{happened, happens};
-use ring_base::{Fault, Fixed, Proc, ProcSet};
+use ring_base::{Fault, Fixed, Proc, ProcSet, paired};
 use ring_core::Out;
 use ring_runs::{Cores, RingEvent};
 use std::alloc::Allocator;
@@ -66,8 +66,25 @@ fn handed<A: Allocator + Copy>(
     (node, frame): (Proc, u64),
     lines: &mut String<A>,
 ) -> Result<Cores<A>, Fault> {
-    writeln!(lines, "hand {node} {frame}")?;
-    happens(cores, &RingEvent::Deliver(node, frame))
+    let written = writeln!(lines, "hand {node} {frame}");
+    let (cores, ()) = paired(cores, written)?;
+    let event = RingEvent::Deliver(node, frame);
+    let happened = happens(cores, &event);
+    drop(event);
+    happened
+}
+
+/// What the line says happens, and the line stands behind the others.
+fn told<A: Allocator + Copy>(
+    alloc: A,
+    fixed: Fixed,
+    cores: Cores<A>,
+    line: &str,
+    lines: &mut String<A>,
+) -> Result<Cores<A>, Fault> {
+    let written = writeln!(lines, "{line}");
+    let (cores, ()) = paired(cores, written)?;
+    happened(alloc, fixed, cores, line)
 }
 
 /// The processors, once what these lines say has happened.
@@ -79,8 +96,7 @@ fn opened<A: Allocator + Copy>(
 ) -> Result<Cores<A>, Fault> {
     let mut cores = Cores::unformed(alloc, fixed)?;
     for line in opening.lines() {
-        writeln!(lines, "{line}")?;
-        cores = happened(alloc, fixed, cores, line)?;
+        cores = told(alloc, fixed, cores, line, lines)?;
     }
     Ok(cores)
 }
@@ -93,11 +109,14 @@ fn turn<A: Allocator + Copy>(
     lines: &mut String<A>,
 ) -> Result<(), Fault> {
     for _ in 0..turns {
-        match way.next(cores.outs())? {
-            Some(next) => cores = handed(cores, next, lines)?,
-            None => return Ok(()),
-        }
+        let next = way.next(cores.outs());
+        let (kept, next) = paired(cores, next)?;
+        cores = match next {
+            Some(next) => handed(kept, next, lines)?,
+            None => kept,
+        };
     }
+    drop(cores);
     Ok(())
 }
 

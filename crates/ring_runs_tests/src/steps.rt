@@ -5,7 +5,7 @@ ghost use Rattle.std.specs.List.{AllByRecursion};
 ghost use Rattle.ring_core_proof.specs.Limits.{EventFits};
 ghost use Rattle.ring_payload.specs.Payloads.{PayloadFits};
 
-use ring_base::{Fault, Fixed, Kind, Proc};
+use ring_base::{Fault, Fixed, Kind, Proc, paired};
 use ring_core::Out;
 use ring_payload::Payload;
 use ring_runs::{Cores, FixedRing, RingEvent, Rings};
@@ -76,8 +76,11 @@ pub(crate) fn happened<A: Allocator + Copy>(
     cores: Cores<A>,
     line: &str,
 ) -> Result<Cores<A>, Fault> {
-    let event = event_of(alloc, fixed, line)?;
-    happens(cores, &event)
+    let event = event_of(alloc, fixed, line);
+    let (cores, event) = paired(cores, event)?;
+    let happened = happens(cores, &event);
+    drop(event);
+    happened
 }
 
 /// The events of the first lines.

@@ -1,7 +1,7 @@
 //! Worked runs of a client over three nodes of one world.
 
 use crate::shared::{add, client_of, counted, cut, everybody, happen, order_len, read, three};
-use ring_base::{Fault, Kind, Proc, ProcSet};
+use ring_base::{Fault, Kind, Proc, ProcSet, paired};
 use ring_client::{Client, Port};
 use ring_object::{Object, Reply};
 use ring_things::Counters;
@@ -29,7 +29,7 @@ struct ClientSeen {
 }
 
 /// What is seen of a call of this operation, or where there is none, of the open call tried anew.
-fn seen<P: Port>(client: &mut Client<P>, op: Option<&[u8]>) -> ClientSeen {
+fn seen_of<P: Port>(client: &mut Client<P>, op: Option<&[u8]>) -> ClientSeen {
     let reply = match op {
         Some(op) => client.call(op),
         None => client.again(),
@@ -42,19 +42,35 @@ fn seen<P: Port>(client: &mut Client<P>, op: Option<&[u8]>) -> ClientSeen {
     }
 }
 
+/// The same over ports to a world.
+fn seen<O: Object>(client: &mut Client<WorldPort<O>>, op: Option<&[u8]>) -> ClientSeen {
+    seen_of(client, op)
+}
+
 /// What is seen of a call that adds.
-fn added<P: Port>(client: &mut Client<P>) -> ClientSeen {
+fn added<O: Object>(client: &mut Client<WorldPort<O>>) -> ClientSeen {
     seen(client, Some(add().as_slice()))
 }
 
 /// What is seen of a call that reads.
-fn counter<P: Port>(client: &mut Client<P>) -> ClientSeen {
+fn counter<O: Object>(client: &mut Client<WorldPort<O>>) -> ClientSeen {
     seen(client, Some(read().as_slice()))
 }
 
 /// Whether the reply is that the counter is at 5.
 fn is_five(seen: &ClientSeen) -> bool {
     seen.reply == Ok(counted(5))
+}
+
+/// A client of three nodes, of which those of this group hear each other, that polls each of its ports at most so often.
+fn client_in<O: Object>(
+    alloc: O::Alloc,
+    shared: &Shared<O>,
+    group: ProcSet,
+    polls: u64,
+) -> Result<Client<WorldPort<O>>, Fault> {
+    cut(shared, group)?;
+    client_of(alloc, shared, polls)
 }
 
 /// Three nodes, of which those of this group hear each other, and a client that polls each of its ports at most so often.
@@ -64,14 +80,13 @@ fn opened<O: Object>(
     polls: u64,
 ) -> Result<(Shared<O>, Client<WorldPort<O>>), Fault> {
     let shared = three::<O>(alloc)?;
-    cut(&shared, group)?;
-    let client = client_of(alloc, &shared, polls)?;
-    Ok((shared, client))
+    let client = client_in(alloc, &shared, group, polls);
+    paired(shared, client)
 }
 
 /// Whether a call gets no answer and stays open: each node was polled in vain, and while a call is open another is refused
 /// at once, with no port asked.
-fn stays_open<P: Port>(client: &mut Client<P>) -> bool {
+fn stays_open<O: Object>(client: &mut Client<WorldPort<O>>) -> bool {
     let seen = added(client);
     let in_vain = Some((1, None, 300));
     seen.reply == Err(Fault::NoAnswer) && seen.is_open && seen.told == [in_vain, in_vain, None]
@@ -90,18 +105,6 @@ fn is_answered_later<O: Object>(
     Ok(stays && is_answered && is_five(&counter(client)) && order_len(shared)? == 2)
 }
 
-/// Nobody hears anybody, until the call was tried twice.
-fn call_in_vain<O: Object>(alloc: O::Alloc) -> Result<bool, Fault> {
-    let (shared, mut client) = opened::<O>(alloc, ProcSet::new(), 300)?;
-    is_answered_later(&mut client, &shared)
-}
-
-#[test]
-fn an_open_call_is_answered_once_all_hear_each_other(rt: HostRuntime) -> Result<(), Fail> {
-    assert!(rt; call_in_vain::<Counters>(rt.alloc())?);
-    Ok(())
-}
-
 /// Whether a stopped node refuses the submit and isn't polled, and the others, which are a majority, answer.
 fn is_passed_over<O: Object>(
     client: &mut Client<WorldPort<O>>,
@@ -112,18 +115,6 @@ fn is_passed_over<O: Object>(
     let second = counter(client);
     let is_refused = second.told[0] == Some((2, Some(8), 0));
     Ok(is_five(&first) && is_five(&second) && is_refused && order_len(shared)? == 2)
-}
-
-/// The first of the client's nodes stops.
-fn call_past_a_stop<O: Object>(alloc: O::Alloc) -> Result<bool, Fault> {
-    let (shared, mut client) = opened::<O>(alloc, everybody()?, 400)?;
-    is_passed_over(&mut client, &shared)
-}
-
-#[test]
-fn a_stopped_node_is_passed_over(rt: HostRuntime) -> Result<(), Fail> {
-    assert!(rt; call_past_a_stop::<Counters>(rt.alloc())?);
-    Ok(())
 }
 
 /// How many calls the node of this number has committed, repeats included.
@@ -154,15 +145,65 @@ fn counts_once<O: Object>(
     Ok(is_answered && is_sent_once && order_len(shared)? == 2)
 }
 
-/// The first of the client's nodes is cut off from the others, until the second answered.
-fn call_past_a_cut<O: Object>(alloc: O::Alloc) -> Result<bool, Fault> {
-    let others = everybody()?.less(ProcSet::only(Proc::new(1)));
-    let (shared, mut client) = opened::<O>(alloc, others, 200)?;
-    counts_once(&mut client, &shared)
+/// What becomes of the nodes that a client tries.
+#[derive(Clone, Copy)]
+enum Story {
+    /// Nobody hears anybody, until the call was tried twice.
+    NobodyHears,
+    /// The first node stops.
+    FirstStops,
+    /// The first node is cut off from the others, until the second answered.
+    FirstIsCutOff,
+}
+
+impl Story {
+    /// Which nodes hear each other at first, and how often the client polls each of its ports at most.
+    fn opening(self) -> Result<(ProcSet, u64), Fault> {
+        match self {
+            Story::NobodyHears => Ok((ProcSet::new(), 300)),
+            Story::FirstStops => Ok((everybody()?, 400)),
+            Story::FirstIsCutOff => Ok((everybody()?.less(ProcSet::only(Proc::new(1))), 200)),
+        }
+    }
+}
+
+/// Whether the client's calls go as they should.
+fn goes_well<O: Object>(
+    client: &mut Client<WorldPort<O>>,
+    shared: &Shared<O>,
+    story: Story,
+) -> Result<bool, Fault> {
+    match story {
+        Story::NobodyHears => is_answered_later(client, shared),
+        Story::FirstStops => is_passed_over(client, shared),
+        Story::FirstIsCutOff => counts_once(client, shared),
+    }
+}
+
+/// The same of a new client of three nodes.
+fn goes_well_anew<O: Object>(alloc: O::Alloc, story: Story) -> Result<bool, Fault> {
+    let (group, polls) = story.opening()?;
+    let (shared, mut client) = opened::<O>(alloc, group, polls)?;
+    let goes_well = goes_well(&mut client, &shared, story);
+    drop(client);
+    drop(shared);
+    goes_well
+}
+
+#[test]
+fn an_open_call_is_answered_once_all_hear_each_other(rt: HostRuntime) -> Result<(), Fail> {
+    assert!(rt; goes_well_anew::<Counters>(rt.alloc(), Story::NobodyHears)?);
+    Ok(())
+}
+
+#[test]
+fn a_stopped_node_is_passed_over(rt: HostRuntime) -> Result<(), Fail> {
+    assert!(rt; goes_well_anew::<Counters>(rt.alloc(), Story::FirstStops)?);
+    Ok(())
 }
 
 #[test]
 fn a_call_that_two_nodes_took_counts_once(rt: HostRuntime) -> Result<(), Fail> {
-    assert!(rt; call_past_a_cut::<Counters>(rt.alloc())?);
+    assert!(rt; goes_well_anew::<Counters>(rt.alloc(), Story::FirstIsCutOff)?);
     Ok(())
 }

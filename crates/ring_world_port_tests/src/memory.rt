@@ -43,7 +43,9 @@ fn called<P: Port>(client: &mut Client<P>) -> Result<Reply, Fault> {
 /// What the client's call is replied, at the second try at the latest.
 fn replied<O: Object>(heap: O::Alloc, shared: &Shared<O>) -> Result<Reply, Fault> {
     let mut client = client(heap, shared)?;
-    called(&mut client)
+    let replied = called(&mut client);
+    drop(client);
+    replied
 }
 
 /// The order of a world, asked for once more if it is refused memory.
@@ -57,7 +59,9 @@ fn order_of<O: Object>(world: &World<O>) -> Result<Vec<Call<O::Alloc>, O::Alloc>
 /// Whether the order of the world explains its history.
 fn is_explained<O: Object>(world: &World<O>, ample: O::Alloc) -> Result<bool, Fault> {
     let order = order_of(world)?;
-    is_linearization::<O>(ample, order.as_slice(), world.history())
+    let explains = is_linearization::<O>(ample, order.as_slice(), world.history());
+    drop(order);
+    explains
 }
 
 /// The same of the world of three nodes.
@@ -81,7 +85,9 @@ fn is_answered_by<O: Object>(
 /// The same of three nodes whose memory comes from `heap` too.
 fn is_answered_once<O: Object>(heap: O::Alloc, ample: O::Alloc) -> Result<bool, Fault> {
     let shared = opened::<O>(heap)?;
-    is_answered_by(&shared, heap, ample)
+    let is_answered = is_answered_by(&shared, heap, ample);
+    drop(shared);
+    is_answered
 }
 
 /// Whether that is so where the request after so many others is refused, whether that came, and how many requests came.

@@ -12,9 +12,9 @@ use ring_world_port::{Event, Shared, WorldPort};
 use std::alloc::Allocator;
 use std::test::Fail;
 
-/// The answer to the call of the first 200 polls that has one, and that of a poll once more.
-fn answers<P: Port>(port: &mut P, call: &Call<P::Alloc>) -> Result<[Option<Answer>; 2], Fault> {
-    let ticket = port.submit(call)?;
+/// The answer to client 7's first call of the first 200 polls that has one, and that of a poll once more.
+fn answers<P: Port>(port: &mut P, alloc: P::Alloc) -> Result<[Option<Answer>; 2], Fault> {
+    let ticket = port.submit(&Call::new(alloc, 7, 1, add().as_slice())?)?;
     let mut first = None;
     for _ in 0..200 {
         if first.is_none() {
@@ -26,9 +26,10 @@ fn answers<P: Port>(port: &mut P, call: &Call<P::Alloc>) -> Result<[Option<Answe
 
 /// The same at the first of three nodes that hear each other.
 fn answers_of_first<O: Object>(alloc: O::Alloc) -> Result<[Option<Answer>; 2], Fault> {
-    let call = Call::new(alloc, 7, 1, add().as_slice())?;
     let mut port = WorldPort::new(three::<O>(alloc)?, Proc::new(1));
-    answers(&mut port, &call)
+    let answers = answers(&mut port, alloc);
+    drop(port);
+    answers
 }
 
 #[test]
@@ -62,7 +63,9 @@ fn refused_of_stranger<O: Object>(
     call: &Call<O::Alloc>,
 ) -> Result<Refused, Fault> {
     let mut stranger = WorldPort::new(shared.clone()?, Proc::new(4));
-    Ok(refused(&mut stranger, call))
+    let refused = refused(&mut stranger, call);
+    drop(stranger);
+    Ok(refused)
 }
 
 /// The refusal while another has the network.
@@ -120,7 +123,9 @@ fn refused_at_first<O: Object>(
     calls: &Calls<O::Alloc>,
 ) -> Result<[Refused; 6], Fault> {
     let mut port = WorldPort::new(shared.clone()?, Proc::new(1));
-    refused_in_turn(shared, &mut port, calls)
+    let refused = refused_in_turn(shared, &mut port, calls);
+    drop(port);
+    refused
 }
 
 /// The same at the first of three nodes.
@@ -131,7 +136,9 @@ fn refused_by_three<O: Object>(alloc: O::Alloc) -> Result<[Refused; 6], Fault> {
         first: Call::new(alloc, 7, 1, add().as_slice())?,
     };
     let shared = three::<O>(alloc)?;
-    refused_at_first(&shared, &calls)
+    let refused = refused_at_first(&shared, &calls);
+    drop(shared);
+    refused
 }
 
 #[test]
@@ -174,7 +181,9 @@ fn refused_once_at_first<O: Object>(
     call: &Call<O::Alloc>,
 ) -> Result<(Refused, usize, usize), Fault> {
     let mut port = WorldPort::new(shared.clone()?, Proc::new(1));
-    refused_once(shared, &mut port, call)
+    let refused = refused_once(shared, &mut port, call);
+    drop(port);
+    refused
 }
 
 /// The same of a submit of a call whose memory is at its end once the call is made.
@@ -184,7 +193,9 @@ fn submitted_from_full_memory<O: Object>(
 ) -> Result<(Refused, usize, usize), Fault> {
     let call = Call::new(heap, 7, 1, add().as_slice())?;
     let shared = three::<O>(ample)?;
-    refused_once_at_first(&shared, &call)
+    let refused = refused_once_at_first(&shared, &call);
+    drop(shared);
+    refused
 }
 
 /// A call is made with two requests for memory, and its copy that a submit hands on takes none.

@@ -2,7 +2,7 @@
 
 ghost use Rattle.ring_rules.specs.WorldLimits.{EventFits};
 
-use ring_base::{Fault, Fixed, ProcSet};
+use ring_base::{Fault, Fixed, ProcSet, paired};
 use ring_client::Client;
 use ring_object::{Object, Reply};
 use ring_things::{Counters, Operation};
@@ -55,7 +55,8 @@ pub fn client_of<O: Object>(
     polls: u64,
 ) -> Result<Client<WorldPort<O>>, Fault> {
     let mut ports = Vec::new(alloc);
-    add_ports(shared, &mut ports)?;
+    let added = add_ports(shared, &mut ports);
+    let (ports, ()) = paired(ports, added)?;
     Ok(Client::new(alloc, 7, ports, polls))
 }
 

@@ -20,16 +20,16 @@ pub fn run_lines<O: Object>(
 /// A world of nodes, and the copies of its frames that were not handed over yet: of one frame those to some receivers,
 /// and of each frame after it all.
 #[derive(Drop)]
-struct Driven<O: Object> {
+pub struct Driven<O: Object> {
     alloc: O::Alloc,
-    world: World<O>,
+    pub world: World<O>,
     frame: u64,
     receivers: ProcSet,
 }
 
 impl<O: Object> Driven<O> {
     /// So many nodes at their opening.
-    fn new(alloc: O::Alloc, count: u8) -> Result<Driven<O>, Fault> {
+    pub fn new(alloc: O::Alloc, count: u8) -> Result<Driven<O>, Fault> {
         let world = World::new(alloc, Fixed::new(count)?)?;
         Ok(Driven {
             alloc,
@@ -101,7 +101,7 @@ impl<O: Object> Driven<O> {
     }
 
     /// What all the lines say is done, or shown.
-    fn play_all(&mut self, lines: &[Line]) -> Result<String<O::Alloc>, Fault> {
+    pub fn play_all(&mut self, lines: &[Line]) -> Result<String<O::Alloc>, Fault> {
         let mut shown = String::new(self.alloc);
         for line in lines {
             self.play(*line, &mut shown)?;
@@ -117,17 +117,7 @@ pub fn played<O: Object>(
     lines: &[Line],
 ) -> Result<String<O::Alloc>, Fault> {
     let mut driven = Driven::<O>::new(alloc, count)?;
-    driven.play_all(lines)
-}
-
-/// The world of so many nodes after the lines.
-pub fn world_after<O: Object>(
-    alloc: O::Alloc,
-    count: u8,
-    lines: &[Line],
-) -> Result<World<O>, Fault> {
-    let mut driven = Driven::<O>::new(alloc, count)?;
-    driven.play_all(lines)?;
-    let Driven { world, .. } = driven;
-    Ok(world)
+    let played = driven.play_all(lines);
+    drop(driven);
+    played
 }

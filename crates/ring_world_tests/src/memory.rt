@@ -89,16 +89,9 @@ enum Question {
 /// The world is asked that.
 fn ask<O: Object>(world: &World<O>, question: Question) -> Result<(), Fault> {
     match question {
-        Question::Copy => {
-            let _copy = world.copy()?;
-        }
-        Question::Order => {
-            let _order = world.order()?;
-        }
-        Question::Committed => {
-            let node = world.fixed().proc(1)?;
-            let _calls = world.committed(node)?;
-        }
+        Question::Copy => drop(world.copy()?),
+        Question::Order => drop(world.order()?),
+        Question::Committed => drop(world.committed(world.fixed().proc(1)?)?),
     }
     Ok(())
 }
@@ -140,7 +133,9 @@ fn refusals<O: Object>(heap: O::Alloc, ample: O::Alloc) -> Result<u64, Fault> {
         made => (made, 0),
     };
     let mut world = made?;
-    refused_then(&mut world, ample, before)
+    let refused = refused_then(&mut world, ample, before);
+    drop(world);
+    refused
 }
 
 /// What `refuse_in_turn` asks of a run: an error where a request was refused, and the run tells one refusal. Where it is not as

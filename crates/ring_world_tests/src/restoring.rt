@@ -116,7 +116,9 @@ fn seen<O: Object>(group: &mut Grouped<O>) -> Result<Seen, Fault> {
 /// What is seen of node 3 of a new group.
 fn seen_anew<O: Object>(alloc: O::Alloc) -> Result<Seen, Fault> {
     let mut group = Grouped::<O>::new(alloc, alloc, 3)?;
-    seen(&mut group)
+    let seen = seen(&mut group);
+    drop(group);
+    seen
 }
 
 #[test]
@@ -149,7 +151,9 @@ fn waited<O: Object>(group: &mut Grouped<O>) -> Result<Waited, Fault> {
 /// Two calls wait at node 3 of a new group.
 fn waited_anew<O: Object>(alloc: O::Alloc) -> Result<Waited, Fault> {
     let mut group = Grouped::<O>::new(alloc, alloc, 3)?;
-    waited(&mut group)
+    let waited = waited(&mut group);
+    drop(group);
+    waited
 }
 
 /// Of two calls that wait at a node that is restored, one stands behind the places of the snapshot, and is answered there. The other is one
@@ -229,7 +233,9 @@ fn restore_anew<O: Object>(
     heap: &Refusing,
 ) -> Result<Restore, Fault> {
     let mut group = Grouped::<O>::new(ample, last, 3)?;
-    restore(&mut group, heap)
+    let restored = restore(&mut group, heap);
+    drop(group);
+    restored
 }
 
 /// The same where so many requests for memory are passed before.

@@ -1,7 +1,7 @@
 //! A lone node that drops what it has committed: the world has it still. Expected values are those of `docs/PROTOCOL.md` (*The
 //! replicated log*, rule 20).
 
-use crate::driven::{run_lines, world_after};
+use crate::driven::Driven;
 use crate::events::Line;
 use ring_base::Fault;
 use ring_object::Object;
@@ -45,20 +45,19 @@ fn seen<O: Object>(world: &World<O>) -> Result<Seen, Fault> {
     Ok((node.trimmed(), node.committed().len(), world.order_len()))
 }
 
-/// What is seen of a world after some more lines.
-fn seen_after<O: Object>(
-    world: &mut World<O>,
-    alloc: O::Alloc,
-    more: &[Line],
-) -> Result<Seen, Fault> {
-    run_lines(world, alloc, more)?;
-    seen(world)
+/// What is seen of a world after those lines, and some more.
+fn seen_after<O: Object>(driven: &mut Driven<O>, more: &[Line]) -> Result<Seen, Fault> {
+    driven.play_all(&TRIMMED)?;
+    driven.play_all(more)?;
+    seen(&driven.world)
 }
 
-/// What is seen of a new world after those lines, and some more.
+/// The same of a new world.
 fn seen_anew<O: Object>(alloc: O::Alloc, more: &[Line]) -> Result<Seen, Fault> {
-    let mut world = world_after::<O>(alloc, 1, &TRIMMED)?;
-    seen_after(&mut world, alloc, more)
+    let mut driven = Driven::<O>::new(alloc, 1)?;
+    let seen = seen_after(&mut driven, more);
+    drop(driven);
+    seen
 }
 
 #[test]

@@ -132,7 +132,9 @@ fn call_over<O: Object>(
     second: Proc,
 ) -> Result<RetryStory, Fault> {
     let mut client = client_of(alloc, shared, first, second)?;
-    story_of(&mut client, shared, first)
+    let story = story_of(&mut client, shared, first);
+    drop(client);
+    story
 }
 
 /// The story of three nodes at their opening.
@@ -140,7 +142,9 @@ fn call_twice<O: Object>(alloc: O::Alloc) -> Result<RetryStory, Fault> {
     let fixed = Fixed::new(3)?;
     let (first, second) = (fixed.proc(1)?, fixed.proc(2)?);
     let shared = cut_network::<O>(alloc, fixed, first)?;
-    call_over(alloc, &shared, first, second)
+    let story = call_over(alloc, &shared, first, second);
+    drop(shared);
+    story
 }
 
 /// How often the first of the client's nodes was polled for its last call, if all these polls were in vain.

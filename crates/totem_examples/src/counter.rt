@@ -52,5 +52,7 @@ fn ask<O: Object>(alloc: O::Alloc, node: &mut Driver<O>) -> Result<Option<Answer
 /// The answer of a node at its opening.
 fn answered<O: Object>(alloc: O::Alloc) -> Result<Option<Answer>, Fault> {
     let mut node = Driver::<O>::new(alloc, Fixed::new(1)?, 1)?;
-    ask(alloc, &mut node)
+    let answer = ask(alloc, &mut node);
+    drop(node);
+    answer
 }

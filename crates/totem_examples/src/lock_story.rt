@@ -132,16 +132,32 @@ fn call_all<O: Object>(
     })
 }
 
+/// The story of this client, and of another that tries nodes 2 and 3.
+fn call_with<O: Object>(
+    alloc: O::Alloc,
+    shared: &Shared<O>,
+    group: Fixed,
+    one: &mut Client<WorldPort<O>>,
+) -> Result<Story, Fault> {
+    let mut two = client_of(alloc, shared, group, 2, (2, 3))?;
+    let story = call_all(shared, group, one, &mut two);
+    drop(two);
+    story
+}
+
 /// The story of two clients of these nodes.
 fn call_over<O: Object>(alloc: O::Alloc, shared: &Shared<O>, group: Fixed) -> Result<Story, Fault> {
     let mut one = client_of(alloc, shared, group, 1, (1, 2))?;
-    let mut two = client_of(alloc, shared, group, 2, (2, 3))?;
-    call_all(shared, group, &mut one, &mut two)
+    let story = call_with(alloc, shared, group, &mut one);
+    drop(one);
+    story
 }
 
 /// The story of three nodes at their opening.
 fn ask_for_lock<O: Object>(alloc: O::Alloc) -> Result<Story, Fault> {
     let group = Fixed::new(3)?;
     let shared = network_of::<O>(alloc, group)?;
-    call_over(alloc, &shared, group)
+    let story = call_over(alloc, &shared, group);
+    drop(shared);
+    story
 }

@@ -55,7 +55,9 @@ where
         },
     ];
     let calls = run_callers::<O, _, _>(rt, alloc, group, &[3], &clients)?;
-    Ok(calls.order.len())
+    let count = calls.order.len();
+    drop(calls);
+    Ok(count)
 }
 
 /// Prints it.

@@ -138,7 +138,9 @@ fn call_over<O: Object>(
     two: Proc,
 ) -> Result<OutageStory, Fault> {
     let mut client = client_of(alloc, shared, one, two)?;
-    story_of(&mut client, shared, fixed, one, two)
+    let story = story_of(&mut client, shared, fixed, one, two);
+    drop(client);
+    story
 }
 
 /// The story of three nodes at their opening.
@@ -146,5 +148,7 @@ fn call_through<O: Object>(alloc: O::Alloc) -> Result<OutageStory, Fault> {
     let fixed = Fixed::new(3)?;
     let (one, two) = (fixed.proc(1)?, fixed.proc(2)?);
     let shared = cut_network::<O>(alloc, fixed, one)?;
-    call_over(alloc, &shared, fixed, one, two)
+    let story = call_over(alloc, &shared, fixed, one, two);
+    drop(shared);
+    story
 }

@@ -48,7 +48,9 @@ where
     let group = Fixed::new(3)?;
     let clients = [Adder { first: 1 }, Adder { first: 3 }];
     let calls = run_callers::<O, _, _>(rt, alloc, group, &[3], &clients)?;
-    Ok(calls.order.len())
+    let count = calls.order.len();
+    drop(calls);
+    Ok(count)
 }
 
 /// Prints that.
