@@ -6,7 +6,9 @@
 The gate runs the prover once for a crate's proof, once more for its tests, and once for each wrong body of
 `must-fail/`. This script looks twice a second at the provers that run and at what each has used, and adds
 that up by crate and by what it was run for. What a prover uses in its last half second can be missed, and so can
-linking and the runs of the built tests: the table tells where the time goes, not the last second of it.
+linking and the runs of the built tests: the table tells where the time goes, not the last second of it. Below the
+table stands what the gate itself used, which reads the texts of crates and starts the provers, and how loaded the
+machine was: the mean of the load that the system tells for the last minute.
 It ends with the gate's own status.
 """
 import os
@@ -26,6 +28,13 @@ def is_below(process, gate):
         with open(f"/proc/{process}/stat", encoding="utf-8") as it:
             process = it.read().rpartition(")")[2].split()[1]
     return False
+
+
+def own_seconds(process):
+    """Returns the seconds of processor time that a process has used, without its children's."""
+    with open(f"/proc/{process}/stat", encoding="utf-8") as it:
+        numbers = it.read().rpartition(")")[2].split()
+    return sum(int(numbers[at]) for at in (11, 12)) / TICKS
 
 
 def provers(gate):
@@ -52,11 +61,13 @@ def provers(gate):
 
 def main():
     command = sys.argv[1:] or ["rt", "ci"]
-    began, seen = time.time(), {}
+    began, seen, own, loads = time.time(), {}, 0.0, []
     gate = subprocess.Popen(command)
     while gate.poll() is None:
         for process, since, crate, kind, used in provers(gate.pid):
             seen[process, since] = (crate, kind, used)
+        own = own_seconds(gate.pid)
+        loads.append(os.getloadavg()[0])
         time.sleep(0.5)
     minutes = (time.time() - began) / 60
     sums = {}
@@ -69,6 +80,7 @@ def main():
     whole = {kind: sum(row[kind] for row in sums.values()) for kind in KINDS}
     print("| all | " + " | ".join(f"{whole[kind]:.0f}" for kind in KINDS) + f" | {sum(whole.values()):.0f} |")
     print(f"\n{sum(whole.values()) / 60:.0f} minutes of processor time, {minutes:.0f} minutes by the clock, {os.cpu_count()} processors")
+    print(f"{own:.0f} seconds of the gate itself; a load of {sum(loads) / max(len(loads), 1):.1f}")
     return gate.returncode
 
 

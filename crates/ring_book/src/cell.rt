@@ -80,6 +80,7 @@ impl<O: Object, K: BookName<O::Alloc>> Cell<O, K> {
             MatchResult result (λ _. Journals m self.old self.new (Came input at)) (StepRefused m self.old self.new input at) }
     {
         if self.ahead {
+            drop(input);
             return Err(Fault::Stranger);
         }
         // A law: no effect at run time. The proof takes from it that a node keeps the limits along a step, and what it sends keeps them.
@@ -99,16 +100,20 @@ impl<O: Object, K: BookName<O::Alloc>> Cell<O, K> {
                 self.ahead = true;
                 Ok(())
             }
-            Err(fault) => match fault {
-                Fault::Memory => {
-                    let committed = self.node.committed_len() as usize;
-                    let stop = Step::stop(self.alloc, self.me, at, committed);
-                    self.journal.push_reserved(stop);
-                    self.ahead = true;
-                    Err(Fault::Memory)
+            Err(fault) => {
+                drop(outs);
+                drop(input);
+                match fault {
+                    Fault::Memory => {
+                        let committed = self.node.committed_len() as usize;
+                        let stop = Step::stop(self.alloc, self.me, at, committed);
+                        self.journal.push_reserved(stop);
+                        self.ahead = true;
+                        Err(Fault::Memory)
+                    }
+                    _ => Err(fault),
                 }
-                _ => Err(fault),
-            },
+            }
         }
     }
 

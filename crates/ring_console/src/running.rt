@@ -15,7 +15,7 @@ use crate::run::Run;
 use ring_base::Fault;
 use ring_checker::is_linearization;
 use ring_object::Object;
-use ring_report::{Failure, Lent, exit_status, report};
+use ring_report::{Failure, Lent, NOT_LEGAL, exit_status, report};
 use ring_script::{Script, ShelfWords, Vocabulary};
 use ring_things::{Counters, Names, Queue, Registers, Shelf};
 use std::alloc::Allocator;
@@ -23,9 +23,6 @@ use std::io::{BufWriter, Read, Write};
 
 /// The program's object.
 pub type Things<A> = Shelf<Registers<A>, Counters<A>, Queue<A>, Names<A>>;
-
-/// The exit status where a run is not legal.
-const NOT_LEGAL: u8 = 1;
 
 /// Reads a script, checks the whole of it, and runs it: what comes of its events is printed on `out`. The exit
 /// status is 0, or else 1:

@@ -14,15 +14,13 @@ use crate::plan::Plan;
 use ring_base::Fault;
 use ring_console::{Failure, ShelfWords, Things, Vocabulary, report};
 use ring_object::Object;
+use ring_report::NOT_LEGAL;
 use ring_script_maker::made_script_by;
 use ring_shares::{Meter, round_end, share_begin};
 use std::alloc::{AllocError, Global};
 use std::io::Write;
 use std::thread::{self, Threads};
 use std::time::Clock;
-
-/// The exit status where a run is not legal.
-const NOT_LEGAL: u8 = 1;
 
 /// So many seeds a thread make the first round.
 const FIRST: u64 = 16;

@@ -10,14 +10,12 @@ use crate::running::{Lived, Setting, run_live};
 use ring_base::{Fault, Fixed};
 use ring_console::{Failure, Things, report};
 use ring_host_port::{INBOX, Opening};
+use ring_report::NOT_LEGAL;
 use std::alloc::Global;
 use std::io::Write;
 use std::marker::Brand;
 use std::sync::Wait;
 use std::thread::Threads;
-
-/// The exit status where a run is not legal.
-const NOT_LEGAL: u8 = 1;
 
 /// Runs so many nodes, 1 to 16, and as many clients, each in a thread of its own. Client c tries node c first, and then the
 /// others in order. It adds 1 to a counter so many times, one call after the other, and ends at its first fault. Then client 1

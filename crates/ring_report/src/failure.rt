@@ -7,14 +7,12 @@ ghost use Rattle.ring_report.specs.declared.failure.Failure.TheVariants.{Output}
 ghost use Rattle.ring_report.specs.Failures.{failure_text};
 ghost use Rattle.ring_report.specs.Texts.{line_of};
 
+use crate::status::FAILED;
 use ring_base::Fault;
 use ring_script::ScriptFault;
 use std::alloc::Allocator;
 use std::io::{BufWriter, Write};
 use std::{fmt, io};
-
-/// The exit status where the work was not done.
-const FAILED: u8 = 1;
 
 /// Why a function ended before its work was done.
 #[derive(Clone, Copy, Debug, PartialEq, Eq)]

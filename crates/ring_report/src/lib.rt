@@ -5,7 +5,9 @@
 mod failure;
 mod lent;
 mod state_words;
+mod status;
 
 pub use failure::{Failure, exit_status, or_output, report};
 pub use lent::Lent;
 pub use state_words::state_word;
+pub use status::{BAD_COMMAND_LINE, FAILED, NOT_LEGAL};

@@ -17,6 +17,7 @@ pub use ring_console::{
     Failure, Groups, Line, Script, ShelfWords, Things, Vocabulary, frames, is_linearization,
     report, script, script_check, script_of,
 };
+pub use ring_report::{BAD_COMMAND_LINE, FAILED};
 pub use spelling::{print_variant, print_variant_of};
 pub use sweeping::{Swept, sweep, sweep_by_threads, sweep_of, sweep_of_by_threads, verdict_status};
 pub use upset::{Blow, Upset};

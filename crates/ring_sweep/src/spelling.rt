@@ -8,13 +8,10 @@ use crate::upset::{Blow, Told, Upset};
 use ring_base::Proc;
 use ring_console::{Failure, Line, Numbered, Script, ShelfWords, Things, Vocabulary, report};
 use ring_object::Object;
-use ring_report::or_output;
+use ring_report::{BAD_COMMAND_LINE, or_output};
 use std::alloc::Allocator;
 use std::fmt;
 use std::io::Write;
-
-/// The exit status of a bad command line.
-const BAD_COMMAND_LINE: u8 = 2;
 
 /// Prints the script of that variant of a script which has this place among them, counted from 1: the script's own text, with the line
 /// more that a run of the variant has, and a comment above it. Where it comes within a pump, that is parted in two. The exit status is

@@ -21,15 +21,12 @@ use crate::walk::Walk;
 use ring_base::Fault;
 use ring_console::{Failure, Script, ShelfWords, Things, Vocabulary, report};
 use ring_object::Object;
-use ring_report::or_output;
+use ring_report::{NOT_LEGAL, or_output};
 use std::alloc::{Allocator, Global};
 use std::io;
 use std::io::{Read, Write};
 use std::thread::Threads;
 use std::time::Clock;
-
-/// The exit status where a variant is not legal.
-const NOT_LEGAL: u8 = 1;
 
 /// What came of a sweep.
 #[derive(Clone, Copy, Debug, PartialEq, Eq)]

@@ -11,7 +11,7 @@ use ring_explore::{Plan, explore_of};
 use ring_live::live;
 use ring_object::Object;
 use ring_script_maker::generate_by;
-use ring_sweep::{Failure, ShelfWords, Things, Vocabulary, frames, report};
+use ring_sweep::{BAD_COMMAND_LINE, Failure, ShelfWords, Things, Vocabulary, frames, report};
 use ring_trace::Replies;
 use std::alloc::Global;
 use std::io::{Read, Write};
@@ -23,9 +23,6 @@ use std::{env, fs, io};
 
 /// The name of a file that is none: the input.
 pub(crate) const INPUT: &str = "-";
-
-/// The exit status of a bad command line, and of a call for help.
-const BAD_COMMAND_LINE: u8 = 2;
 
 /// The words of the command line, the program's own name first.
 pub fn words_of<R: env::Env + Alloc>(rt: &R) -> io::Result<Vec<String<R::A>, R::A>> {

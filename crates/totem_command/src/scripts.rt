@@ -5,16 +5,15 @@ use crate::commands::{INPUT, processors};
 use ring_base::Fault;
 use ring_explanation::reason_by;
 use ring_object::Object;
-use ring_sweep::{Failure, Vocabulary, print_variant_of, report, script_of, sweep_of_by_threads};
+use ring_sweep::{
+    FAILED, Failure, Vocabulary, print_variant_of, report, script_of, sweep_of_by_threads,
+};
 use std::alloc::Global;
 use std::io::{Error, ErrorKind, Read, Write};
 use std::rt::Files;
 use std::thread::Threads;
 use std::time::Clock;
 use std::{fs, io};
-
-/// The exit status where the work was not done.
-const FAILED: u8 = 1;
 
 /// So many bytes are read of a script at most: one more than it may have, so that a longer one is seen to be one.
 const MOST_READ: u64 = 1_048_577;

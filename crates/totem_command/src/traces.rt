@@ -4,15 +4,12 @@ use crate::scripts::{tell_unread, text_of};
 use clap::ArgMatches;
 use ring_base::Proc;
 use ring_object::Object;
-use ring_sweep::Vocabulary;
+use ring_sweep::{FAILED, Vocabulary};
 use ring_trace::{Format, Replies, Selection, TraceOptions, trace_of};
 use std::alloc::Global;
 use std::io::{Read, Write};
 use std::rt::Files;
 use std::{fs, io};
-
-/// The exit status where the work was not done.
-const FAILED: u8 = 1;
 
 /// What `trace` is asked for: the file of the script, the file into which the frames are written, where one is named, the form of
 /// what is told, and of which events: of the node of this number, or of all, from one event to another.

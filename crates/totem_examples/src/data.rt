@@ -9,7 +9,7 @@
 //! there, and the exit status is 0. `NAME.trace` and `NAME.svg` are what `totem trace` must print of `NAME.script`, as text and as
 //! a picture.
 
-use ring_sweep::{frames, script, script_check, sweep};
+use ring_sweep::{BAD_COMMAND_LINE, frames, script, script_check, sweep};
 use std::alloc::Global;
 use std::io::{Error, ErrorKind, Write};
 use std::rt::Files;
@@ -48,9 +48,6 @@ const KINDS: [Kind; 9] = [
     Kind::Trace,
     Kind::Picture,
 ];
-
-/// The exit status of a bad command line, and of a call for help.
-const BAD_COMMAND_LINE: u8 = 2;
 
 impl Kind {
     /// What the name of such an example ends with.

@@ -116,8 +116,8 @@ invariant_of-self-in_default g c =
     subst (λ (s : Node g.row.O-Alloc.Denot). IsCell m NodeFits g.K.BookName.name c.self.inside.me c.self.inside.ahead
     s c.self.inside.journal (length c.self.inside.text.items + c.self.inside.text.spare)) (sym same) c.self.invariant
 
-pub returns : goal.returns
-returns g c =
+pub returns-in_default : goal.returns-in_default
+returns-in_default g c =
     let other = other_stopped _ c.in-Err.fault c.in-Err.ensures.refused c.in_default.not-Memory in
     let same = c.in-Err.ensures.err ∙ stopped_same c.self.inside.node other.0 in
     let seen : Node g.row.O-Alloc.Denot → CellView (Node g.row.O-Alloc.Denot) g.row.O-Alloc.Denot =
