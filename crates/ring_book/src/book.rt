@@ -27,7 +27,7 @@ use std::marker::{Model, PhantomData};
 
 /// A reserved place of the book. It is a count and no position: any reserved place serves.
 #[derive(Clone, Copy, Debug, PartialEq, Eq)]
-pub struct Place {
+pub struct ReservedPlace {
     _private: (),
 }
 
@@ -139,7 +139,7 @@ impl<O: Object, K: BookName<O::Alloc>> Book<O, K> {
 
     /// Reserves a place for a line, so that `enter` needs no memory. Refused with `BookFull` at exactly 262,144 places
     /// used or reserved, then with `Memory`; nothing is changed then.
-    pub fn reserve(&mut self) -> Result<Place, Fault>
+    pub fn reserve(&mut self) -> Result<ReservedPlace, Fault>
         ensures lines { self.new.lines ≡ self.old.lines }
         ensures ok { OnOk result (self.new.reserved ≡ self.old.reserved + 1) }
         ensures err { IfErr result (λ e. (self.new ≡ self.old) × ((e ≡ Memory) ⊎ (e ≡ BookFull))) }
@@ -155,11 +155,11 @@ impl<O: Object, K: BookName<O::Alloc>> Book<O, K> {
             self.reserved + 1,
         )?;
         self.reserved += 1;
-        Ok(Place { _private: () })
+        Ok(ReservedPlace { _private: () })
     }
 
     /// Gives a reserved place back. Where none is reserved, it changes nothing.
-    pub fn release(&mut self, _place: Place)
+    pub fn release(&mut self, _place: ReservedPlace)
         ensures lines { self.new.lines ≡ self.old.lines }
         ensures none { self.old.reserved ≡ 0 → self.new.reserved ≡ 0 }
         ensures some { 0 < self.old.reserved → self.old.reserved ≡ self.new.reserved + 1 }
@@ -283,7 +283,11 @@ impl<O: Object, K: BookName<O::Alloc>> Book<O, K> {
     /// Refused with `Stranger` only where all the cell's steps are entered, no place is reserved, or the frame that came
     /// doesn't stand in the list where its `FrameRef` says, for this node. Then book and cell are unchanged, and what
     /// was reserved stays reserved.
-    pub fn enter(&mut self, _place: Place, cell: &mut Cell<O, K>) -> Result<&Line<O::Alloc>, Fault>
+    pub fn enter(
+        &mut self,
+        _place: ReservedPlace,
+        cell: &mut Cell<O, K>,
+    ) -> Result<&Line<O::Alloc>, Fault>
         ensures* after { sem 𝓛 (follows_so (the_row O.row K.row O.Alloc.row O.Object O.Alloc.Allocator K.BookName)
             (the_row O.row K.row O.Alloc.row O.Object O.Alloc.Allocator K.BookName) self.entry.ghost_name none
             (λ _ _. ⊤) (λ n. EnterGives self.old n cell.old cell.new result)) }

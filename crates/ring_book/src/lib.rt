@@ -8,7 +8,7 @@ mod name;
 mod opening;
 mod told;
 
-pub use book::{Book, Place};
+pub use book::{Book, ReservedPlace};
 pub use cell::Cell;
 pub use name::BookName;
 pub use opening::Opening;

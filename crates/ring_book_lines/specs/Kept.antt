@@ -8,8 +8,8 @@ use Rattle.ring_wire.specs.declared.frame.Frame.{Frame}
 use Rattle.ring_wire.specs.declared.frame.Frame.TheVariants as frames
 use Rattle.ring_rules.specs.declared.input.Input.TheVariants.{Frame as Comes, Noise}
 use Rattle.ring_book_lines.specs.declared.cause.Cause.{Cause}
-use Rattle.ring_book_lines.specs.declared.frames.Kept.{Kept}
-use Rattle.ring_book_lines.specs.declared.frames.Kept.TheVariants.{Spelled, Given}
+use Rattle.ring_book_lines.specs.declared.frames.KeptFrames.{KeptFrames}
+use Rattle.ring_book_lines.specs.declared.frames.KeptFrames.TheVariants.{Spelled, Given}
 use Rattle.ring_book_lines.specs.declared.input.LineInput.{LineInput}
 use Rattle.ring_book_lines.specs.declared.input.LineInput.TheVariants.{Came}
 use Rattle.ring_book_lines.specs.declared.input.StepInput.{StepInput}
@@ -18,7 +18,7 @@ use Rattle.ring_book_lines.specs.Lines.{cause_of}
 use Rattle.ring_book_lines.specs.Steps.{StepView}
 
 -- what was sent, of frames as they are kept
-abbrev pub sends_of : {A : Type 0} → Kept A → List (Sent A)
+abbrev pub sends_of : {A : Type 0} → KeptFrames A → List (Sent A)
 sends_of (Spelled frames) = frames.items
 sends_of (Given frames) = frames.items
 

@@ -22,7 +22,7 @@ use std::marker::Model;
 
 /// Frames as their bytes, or, where memory was refused to those, as they were given.
 #[derive(Drop)]
-pub enum Kept<A: Allocator + Copy + Drop = Global> {
+pub enum KeptFrames<A: Allocator + Copy + Drop = Global> {
     Spelled(Vec<SpelledFrame<A>, A>),
     Given(Vec<Sent<A>, A>),
 }
@@ -30,7 +30,7 @@ pub enum Kept<A: Allocator + Copy + Drop = Global> {
 /// Frames with their receivers, each of which keeps the limits of frames. Contracts see what was sent.
 #[derive(Drop)]
 pub struct Frames<A: Allocator + Copy + Drop = Global> {
-    kept: Kept<A>,
+    kept: KeptFrames<A>,
 }
 
 impl<A: Allocator + Copy + Drop> Model for Frames<A> {
@@ -232,7 +232,7 @@ impl<A: Allocator + Copy + Drop> Frames<A> {
         ensures { result ≡ [] }
     {
         Frames {
-            kept: Kept::Given(Vec::new(alloc)),
+            kept: KeptFrames::Given(Vec::new(alloc)),
         }
     }
 
@@ -245,10 +245,10 @@ impl<A: Allocator + Copy + Drop> Frames<A> {
     {
         match spell_all(alloc, sends.as_slice(), text) {
             Ok(spelled) => Frames {
-                kept: Kept::Spelled(spelled),
+                kept: KeptFrames::Spelled(spelled),
             },
             Err(_) => Frames {
-                kept: Kept::Given(sends),
+                kept: KeptFrames::Given(sends),
             },
         }
     }
@@ -268,14 +268,14 @@ impl<A: Allocator + Copy + Drop> Frames<A> {
         ensures room { most_frame ≤ length text.new.items + text.new.spare }
     {
         match &self.kept {
-            Kept::Spelled(spelled) => spelled_has_frame(
+            KeptFrames::Spelled(spelled) => spelled_has_frame(
                 spelled.as_slice(),
                 place,
                 node,
                 frame,
                 text,
             ),
-            Kept::Given(given) => given_has_frame(given.as_slice(), place, node, frame),
+            KeptFrames::Given(given) => given_has_frame(given.as_slice(), place, node, frame),
         }
     }
 
@@ -305,8 +305,13 @@ impl<A: Allocator + Copy + Drop> Frames<A> {
         ensures room { most_frame ≤ length text.new.items + text.new.spare }
     {
         match &self.kept {
-            Kept::Spelled(spelled) => spelled_has_bytes(spelled.as_slice(), place, node, bytes),
-            Kept::Given(given) => given_has_bytes(given.as_slice(), place, node, bytes, text),
+            KeptFrames::Spelled(spelled) => spelled_has_bytes(
+                spelled.as_slice(),
+                place,
+                node,
+                bytes,
+            ),
+            KeptFrames::Given(given) => given_has_bytes(given.as_slice(), place, node, bytes, text),
         }
     }
 
@@ -315,8 +320,8 @@ impl<A: Allocator + Copy + Drop> Frames<A> {
         ensures { result ≡ option_map (λ (s : SentFrame A). s.to) (slice_get self.now place) }
     {
         match &self.kept {
-            Kept::Spelled(spelled) => spelled_receivers(spelled.as_slice(), place),
-            Kept::Given(given) => given_receivers(given.as_slice(), place),
+            KeptFrames::Spelled(spelled) => spelled_receivers(spelled.as_slice(), place),
+            KeptFrames::Given(given) => given_receivers(given.as_slice(), place),
         }
     }
 
@@ -326,8 +331,8 @@ impl<A: Allocator + Copy + Drop> Frames<A> {
         ensures { IsPut (slice_get self.now place) out.old.items out.new.items result }
     {
         match &self.kept {
-            Kept::Spelled(spelled) => put_spelled(spelled.as_slice(), place, out),
-            Kept::Given(given) => put_given(given.as_slice(), place, out),
+            KeptFrames::Spelled(spelled) => put_spelled(spelled.as_slice(), place, out),
+            KeptFrames::Given(given) => put_given(given.as_slice(), place, out),
         }
     }
 
@@ -336,8 +341,8 @@ impl<A: Allocator + Copy + Drop> Frames<A> {
         ensures { result ≡ length self.now }
     {
         match &self.kept {
-            Kept::Spelled(spelled) => spelled.len(),
-            Kept::Given(given) => given.len(),
+            KeptFrames::Spelled(spelled) => spelled.len(),
+            KeptFrames::Given(given) => given.len(),
         }
     }
 }

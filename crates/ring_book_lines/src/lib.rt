@@ -20,7 +20,7 @@ mod stories;
 pub use answers::tell;
 pub use cause::Cause;
 pub use frame_ref::FrameRef;
-pub use frames::{Frames, Kept};
+pub use frames::{Frames, KeptFrames};
 pub use heard::HeardFrame;
 pub use histories::history;
 pub use input::LineInput;

@@ -7,7 +7,7 @@ ghost use Rattle.ring_payload.specs.Calls.{CallFits};
 use crate::linear::in_order;
 use bytes::BytesMut;
 use ring_base::{Fault, Kind, Proc, ProcSet};
-use ring_book::{Book, BookName, Cell, FrameRef, Opening, Place};
+use ring_book::{Book, BookName, Cell, FrameRef, Opening, ReservedPlace};
 use ring_node::Input;
 use ring_object::{Object, Reply};
 use ring_payload::Call;
@@ -157,7 +157,7 @@ pub fn cell_of<O: Object, K: BookName<O::Alloc>>(
 /// Enters what the cell did and tells its line, or gives the place back where there is nothing to enter.
 fn enter<O: Object, K: BookName<O::Alloc>>(
     book: &mut Book<O, K>,
-    place: Place,
+    place: ReservedPlace,
     cell: &mut Cell<O, K>,
 ) -> Result<u32, Fault> {
     match book.enter(place, cell) {

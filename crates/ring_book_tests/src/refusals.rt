@@ -5,7 +5,7 @@ ghost use Rattle.ring_base.specs.Processors.{IsProc};
 
 use crate::driven::{Driven, FIRST, cell_of};
 use ring_base::{Fault, Fixed, Proc};
-use ring_book::{Book, BookName, Cell, FrameRef, Opening, Place};
+use ring_book::{Book, BookName, Cell, FrameRef, Opening, ReservedPlace};
 use ring_node::Input;
 use ring_object::Object;
 use ring_things::Counters;
@@ -132,7 +132,7 @@ type Entered = (Option<Fault>, u32);
 /// Enters the cell's step.
 fn entered<O: Object, K: BookName<O::Alloc>>(
     book: &mut Book<O, K>,
-    place: Place,
+    place: ReservedPlace,
     cell: &mut Cell<O, K>,
 ) -> Entered {
     let refusal = book.enter(place, cell).err();
@@ -142,7 +142,7 @@ fn entered<O: Object, K: BookName<O::Alloc>>(
 /// At processor 2 nothing is left to enter, and then a frame that doesn't stand where it is said to.
 fn entered_at_two<O: Object, K: BookName<O::Alloc>>(
     driven: &mut Driven<O, K>,
-    place: Place,
+    place: ReservedPlace,
 ) -> Result<(Entered, Entered), Fault> {
     let sent = driven.spelled(FIRST)?;
     let frame = decode_frame(driven.alloc, sent.as_slice())?;
@@ -155,7 +155,7 @@ fn entered_at_two<O: Object, K: BookName<O::Alloc>>(
 /// At processor 1 a step takes the reserved place, and none is left for the next.
 fn entered_at_one<O: Object, K: BookName<O::Alloc>>(
     driven: &mut Driven<O, K>,
-    place: Place,
+    place: ReservedPlace,
 ) -> Result<(Entered, Entered), Fault> {
     let cell = cell_of(driven.cells.as_mut_slice(), 1)?;
     cell.step(Input::Noise, FIRST)?;

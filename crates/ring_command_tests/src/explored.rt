@@ -1,6 +1,6 @@
 //! What is explored.
 
-use ring_explore::{Plan, explore};
+use ring_explore::{ExplorePlan, explore};
 use std::thread::Threads;
 use std::time::Clock;
 
@@ -14,7 +14,7 @@ fn printed<R: AllocGlobal + Threads + Clock + Sync>(rt: &R, threads: u16) -> Vec
     } else {
         None
     };
-    let plan = Plan {
+    let plan = ExplorePlan {
         votes: &[1, 1, 1],
         first: 1,
         last: 6,

@@ -10,7 +10,7 @@ ghost use Rattle.ring_explore.specs.Tried.{IsTried};
 
 use crate::found::Found;
 use crate::one::try_seed;
-use crate::plan::Plan;
+use crate::plan::ExplorePlan;
 use ring_base::Fault;
 use ring_console::{Failure, ShelfWords, Things, Vocabulary, report};
 use ring_object::Object;
@@ -39,7 +39,7 @@ const FIRST: u64 = 16;
 pub fn explore<R: Threads + Clock + Sync, O: Write, E: Write, P: Write>(
     rt: &R,
     alloc: Global,
-    plan: Plan<'_>,
+    plan: ExplorePlan<'_>,
     threads: u16,
     out: &mut O,
     err: &mut E,
@@ -67,7 +67,7 @@ pub fn explore_of<
 >(
     rt: &R,
     alloc: Global,
-    plan: Plan<'_>,
+    plan: ExplorePlan<'_>,
     threads: u16,
     out: &mut O,
     err: &mut E,
@@ -95,7 +95,7 @@ fn explore_all<
 >(
     rt: &R,
     alloc: Global,
-    plan: &Plan<'_>,
+    plan: &ExplorePlan<'_>,
     threads: u16,
     out: &mut O,
     progress: Option<&mut P>,
@@ -112,7 +112,7 @@ fn explore_all<
 /// Prints what was found. Answers whether all runs are legal.
 fn print_found<T: Object, V: Vocabulary, O: Write>(
     alloc: Global,
-    plan: &Plan<'_>,
+    plan: &ExplorePlan<'_>,
     found: &Found,
     out: &mut O,
 ) -> Result<bool, Failure>
@@ -137,7 +137,7 @@ fn print_found<T: Object, V: Vocabulary, O: Write>(
 /// Prints the script of a seed whose run is not legal.
 fn print_illegal<V: Vocabulary, O: Write>(
     alloc: Global,
-    plan: &Plan<'_>,
+    plan: &ExplorePlan<'_>,
     seed: u64,
     out: &mut O,
 ) -> Result<(), Failure>
@@ -170,7 +170,7 @@ fn try_all<
 >(
     rt: &R,
     alloc: Global,
-    plan: &Plan<'_>,
+    plan: &ExplorePlan<'_>,
     threads: u16,
     progress: Option<&mut P>,
 ) -> Result<Found, Fault>
@@ -199,7 +199,7 @@ fn try_rounds<
 >(
     rt: &R,
     alloc: Global,
-    plan: &Plan<'_>,
+    plan: &ExplorePlan<'_>,
     from: u64,
     threads: u16,
     meter: &mut Meter,
@@ -228,7 +228,7 @@ fn try_rounds<
 fn try_part<O: Object<Alloc = Global> + Send, V: Vocabulary + Send, R: Threads + Sync>(
     rt: &R,
     alloc: Global,
-    plan: &Plan<'_>,
+    plan: &ExplorePlan<'_>,
     threads: u16,
 ) -> Result<Found, Fault>
     ensures { IfOk result (λ found.
@@ -242,7 +242,7 @@ fn try_part<O: Object<Alloc = Global> + Send, V: Vocabulary + Send, R: Threads +
 fn try_shares<O: Object<Alloc = Global> + Send, V: Vocabulary + Send, R: Threads + Sync>(
     rt: &R,
     alloc: Global,
-    plan: &Plan<'_>,
+    plan: &ExplorePlan<'_>,
     shares: u16,
 ) -> Result<Vec<Result<Found, Fault>>, AllocError>
     ensures len { IfOk result (λ parts. vec_len parts ≡ max shares 1) }
@@ -261,7 +261,7 @@ fn try_shares<O: Object<Alloc = Global> + Send, V: Vocabulary + Send, R: Threads
 
 /// What was found of all shares, where this was found of each.
 fn joined<O: Object<Alloc = Global>, V: Vocabulary>(
-    plan: &Plan<'_>,
+    plan: &ExplorePlan<'_>,
     shares: u16,
     parts: Vec<Result<Found, Fault>>,
 ) -> Result<Found, Fault>
@@ -286,7 +286,7 @@ fn joined<O: Object<Alloc = Global>, V: Vocabulary>(
 /// Tries the seeds of a share, of so many: in their order, up to the first whose run is not legal.
 fn try_share<O: Object<Alloc = Global>, V: Vocabulary>(
     alloc: Global,
-    plan: &Plan<'_>,
+    plan: &ExplorePlan<'_>,
     shares: u16,
     share: u64,
 ) -> Result<Found, Fault>

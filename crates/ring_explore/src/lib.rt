@@ -7,4 +7,4 @@ mod one;
 mod plan;
 
 pub use exploring::{explore, explore_of};
-pub use plan::Plan;
+pub use plan::ExplorePlan;

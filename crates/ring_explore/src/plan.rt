@@ -5,7 +5,7 @@ ghost use Rattle.ring_explore.specs.Explored.{seeds_in};
 
 /// The scripts that are tried: those of all seeds from the first to the last, the last included.
 #[derive(Clone, Copy)]
-pub struct Plan<'a> {
+pub struct ExplorePlan<'a> {
     /// The votes of each node: as many as there are nodes.
     pub votes: &'a [u8],
     pub first: u64,
@@ -14,7 +14,7 @@ pub struct Plan<'a> {
     pub lines: u32,
 }
 
-impl Plan<'_> {
+impl ExplorePlan<'_> {
     /// How many seeds there are: none where the last stands before the first. Of all 2^64 the last is left out.
     pub fn many(&self) -> u64
         ensures { result ≡ seeds_in self.now.first self.now.last }
@@ -26,13 +26,13 @@ impl Plan<'_> {
     }
 
     /// Of these seeds those from one place up to another, that left out.
-    pub(crate) fn part(&self, from: u64, upto: u64) -> Plan<'_>
+    pub(crate) fn part(&self, from: u64, upto: u64) -> ExplorePlan<'_>
         requires some { from < upto }
         requires within { upto ≤ seeds_in self.now.first self.now.last }
         ensures first { result.first ≡ self.now.first + from }
         ensures last { result.last + 1 ≡ self.now.first + upto }
     {
-        Plan {
+        ExplorePlan {
             votes: self.votes,
             first: self.first + from,
             last: self.first + (upto - 1),

@@ -4,7 +4,7 @@ ghost use Rattle.std.specs.Prelude.{◌≡◌, ◌<◌, IfErr};
 ghost use Rattle.ring_base.specs.declared.fault.Fault.TheVariants.{Memory};
 
 use crate::bell::Bell;
-use crate::item::Item;
+use crate::item::InboxFrame;
 use crossbeam_queue::ArrayQueue;
 use ring_base::Fault;
 use std::alloc::{Allocator, Global};
@@ -14,7 +14,7 @@ use std::time::Duration;
 /// A node's inbox: its items, and a bell by which the node's thread naps until one comes.
 #[derive(Drop)]
 pub(crate) struct Inbox<A: Allocator + Copy + Drop = Global> {
-    items: ArrayQueue<Item<A>, A>,
+    items: ArrayQueue<InboxFrame<A>, A>,
     bell: Bell,
 }
 
@@ -32,7 +32,7 @@ impl<A: Allocator + Copy + Drop> Inbox<A> {
     }
 
     /// Puts an item behind the others, and wakes who naps. Tells whether it did: a full inbox drops it.
-    pub(crate) fn push<W: Wait>(&self, rt: &W, item: Item<A>) -> bool {
+    pub(crate) fn push<W: Wait>(&self, rt: &W, item: InboxFrame<A>) -> bool {
         let is_pushed = self.items.push(rt, item).is_ok();
         // Asked after the push, as who naps looks for items once it is counted as resting: so none is overlooked.
         if self.bell.has_resting() {
@@ -42,7 +42,7 @@ impl<A: Allocator + Copy + Drop> Inbox<A> {
     }
 
     /// Takes the first item.
-    pub(crate) fn pop<W: Wait>(&self, rt: &W) -> Option<Item<A>> {
+    pub(crate) fn pop<W: Wait>(&self, rt: &W) -> Option<InboxFrame<A>> {
         self.items.pop(rt)
     }
 

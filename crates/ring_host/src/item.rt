@@ -13,7 +13,7 @@ use std::alloc::{Allocator, Global};
 
 /// A frame on its way: its bytes, and where they stand in the book.
 #[derive(Drop)]
-pub struct Item<A: Allocator + Copy + Drop = Global> {
+pub struct InboxFrame<A: Allocator + Copy + Drop = Global> {
     pub at: FrameRef,
     pub bytes: Vec<u8, A>,
 }
@@ -42,14 +42,14 @@ impl<A: Allocator + Copy + Drop> Task<A> {
     /// would: with `Stranger`.
     pub(crate) fn read(
         alloc: A,
-        item: Item<A>,
+        item: InboxFrame<A>,
         place: &mut Option<Frame<A>>,
     ) -> Result<Task<A>, Fault>
         ensures came { IfOk result (λ task. task ≡ Came item.bytes item.at) }
         ensures fits { IfOk result (TaskFits place.new) }
         ensures refused { IfErr result (λ fault. (fault ≡ Memory) ⊎ (fault ≡ Stranger)) }
     {
-        let Item { at, bytes } = item;
+        let InboxFrame { at, bytes } = item;
         match read_frame(alloc, bytes.as_slice(), place) {
             Ok(()) => Ok(Task::Came(bytes, at)),
             Err(Fault::Memory) => Err(Fault::Memory),

@@ -17,7 +17,7 @@ mod turn;
 pub use answers::Answers;
 pub use gate::{Gate, GatePlace, Open, Stir};
 pub use host::{Host, HostOf, HostTicket};
-pub use item::Item;
+pub use item::InboxFrame;
 pub use paced::Paced;
 pub use ring_book::{Book, BookName, Cause, Opening, linear_law};
 pub use ring_seat::{Gauge, Seat};

@@ -8,11 +8,11 @@ ghost use Rattle.ring_host.specs.Turns.{published_by};
 
 use crate::gate::{Gate, GatePlace, Stir};
 use crate::host::HostOf;
-use crate::item::{Found, Item, Task};
+use crate::item::{Found, InboxFrame, Task};
 use crate::taking::take;
 use crate::turn::Turn;
 use ring_base::{Fault, Kind, Proc, State};
-use ring_book::{Book, BookName, Cell, FrameRef, Input, Line, Node, Place};
+use ring_book::{Book, BookName, Cell, FrameRef, Input, Line, Node, ReservedPlace};
 use ring_object::Object;
 use ring_seat::{Outbox, Seat};
 use ring_wire::Frame;
@@ -77,7 +77,7 @@ impl<C, B, A: Allocator + Copy + Drop> HostOf<C, B, A> {
         let Ok(bytes) = bytes.to_vec(self.alloc) else {
             return false;
         };
-        inbox.push(rt, Item { at, bytes })
+        inbox.push(rt, InboxFrame { at, bytes })
     }
 }
 
@@ -184,7 +184,12 @@ impl<O: Object, K: BookName<O::Alloc>> HostOf<Cell<O, K>, Book<O, K>, O::Alloc> 
     }
 
     // A place for the task's line, if what it delivers stands in the book.
-    fn place_for<W: Wait>(&self, rt: &W, node: Proc, task: &Task<O::Alloc>) -> Result<Place, Fault>
+    fn place_for<W: Wait>(
+        &self,
+        rt: &W,
+        node: Proc,
+        task: &Task<O::Alloc>,
+    ) -> Result<ReservedPlace, Fault>
         ensures refused { IfErr result IsTurnFault }
     {
         let mut book = take(rt, &self.book);
@@ -199,7 +204,7 @@ impl<O: Object, K: BookName<O::Alloc>> HostOf<Cell<O, K>, Book<O, K>, O::Alloc> 
     pub(crate) fn entered<W: Wait>(
         &self,
         rt: &W,
-        place: Place,
+        place: ReservedPlace,
         cell: &mut Cell<O, K>,
         stepped: Result<(), Fault>,
         outbox: &mut Outbox<O::Alloc>,

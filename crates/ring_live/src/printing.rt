@@ -6,7 +6,7 @@ ghost use Rattle.ring_report.specs.declared.failure.Failure.TheVariants.{Output}
 ghost use Rattle.ring_live.specs.Lived.{lived_text};
 ghost use Rattle.ring_live.specs.declared.running.Lived.{Lived};
 
-use crate::running::{Lived, Setting, run_live};
+use crate::running::{LiveSetting, Lived, run_live};
 use ring_base::{Fault, Fixed};
 use ring_console::{Failure, Things, report};
 use ring_host_port::{INBOX, Opening};
@@ -64,7 +64,7 @@ fn run<W: Threads + Wait + Sync>(
 {
     let group = Fixed::new(nodes)?;
     let opening = Opening::<Things<Global>>::new(alloc, group)?;
-    let setting = Setting {
+    let setting = LiveSetting {
         nodes: group.count(),
         inbox: INBOX,
         calls,

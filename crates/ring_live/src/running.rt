@@ -17,7 +17,7 @@ use std::thread::Threads;
 
 /// How a live run goes.
 #[derive(Clone, Copy, Debug, PartialEq, Eq)]
-pub struct Setting {
+pub struct LiveSetting {
     /// How many nodes there are, and as many clients.
     pub nodes: u8,
     /// How many items an inbox has at most.
@@ -160,7 +160,7 @@ pub fn run_live<O: Object + Send, K: BookName<O::Alloc> + Send + Sync, W: Thread
     rt: &W,
     alloc: O::Alloc,
     opening: Opening<O>,
-    setting: Setting,
+    setting: LiveSetting,
 ) -> Result<Lived, Fault>
 where
     O::Alloc: Send + Sync,
@@ -169,7 +169,7 @@ where
     requires inbox { (1 ≤ setting.inbox) × (setting.inbox ≤ 1024) }
     ensures { IfOk result (λ lived. (lived.nodes ≡ setting.nodes) × (lived.is_legal ≡ true)) }
 {
-    let Setting {
+    let LiveSetting {
         nodes,
         inbox,
         calls,

@@ -8,5 +8,5 @@ mod picture;
 mod shapes;
 
 pub use mark::{Mark, Shade};
-pub use members::Members;
+pub use members::MemberNumbers;
 pub use picture::Picture;

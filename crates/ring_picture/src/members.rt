@@ -5,9 +5,9 @@ use std::fmt;
 
 /// The numbers of a set's members, parted by commas.
 #[derive(Clone, Copy)]
-pub struct Members(pub ProcSet);
+pub struct MemberNumbers(pub ProcSet);
 
-impl fmt::Display for Members {
+impl fmt::Display for MemberNumbers {
     fn fmt<W: fmt::Write>(&self, f: &mut fmt::Formatter<W>) -> fmt::Result {
         let mut parting = "";
         for before in 0..16u8 {

@@ -2,7 +2,7 @@
 
 use crate::frame::Frame;
 use crate::mark::Shade;
-use crate::members::Members;
+use crate::members::MemberNumbers;
 use ring_base::{Proc, ProcSet, RingId, State};
 use std::fmt::Display;
 use std::io::{self, Write};
@@ -150,7 +150,7 @@ pub(crate) fn write_ring<W: Write>(
 ) -> io::Result<()> {
     let x = frame.x(column).saturating_add(3);
     let y = frame.y(node).saturating_add(BASE);
-    let members = Members(members);
+    let members = MemberNumbers(members);
     write_text(
         out,
         (x, y),
@@ -253,7 +253,7 @@ pub(crate) fn write_side<W: Write>(
 ) -> io::Result<()> {
     let behind = before.saturating_mul(LETTER).saturating_add(4);
     let x = frame.x(column).saturating_add(behind);
-    let members = Members(side);
+    let members = MemberNumbers(side);
     write_text(
         out,
         (x, 13),

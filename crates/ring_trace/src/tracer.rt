@@ -15,8 +15,8 @@ use ring_base::{Fault, Proc, ProcSet, State};
 use ring_console::{Failure, Groups, Line, Pair, Run, Script};
 use ring_object::Object;
 use ring_trace_forms::{
-    Change, Counts, Drawing, Fold, Form, Format, Happening, Queue, Told, Votes, Waiting, Why,
-    Wording,
+    Change, Counts, Drawing, Fold, Form, Format, Happening, Told, Votes, Waiting, WaitingCalls,
+    Why, Wording,
 };
 use std::alloc::Allocator;
 use std::io::Write;
@@ -36,7 +36,7 @@ pub(crate) struct Tracer<O: Object> {
     standings: Vec<Standing, O::Alloc>,
     /// How many frames were sent.
     frames: u64,
-    queue: Queue<O::Alloc>,
+    queue: WaitingCalls<O::Alloc>,
     changes: Vec<Change, O::Alloc>,
     /// How much of what the world told was told.
     told: usize,
@@ -75,7 +75,7 @@ impl<O: Object> Tracer<O> {
             selection,
             standings,
             frames: 0,
-            queue: Queue::new(alloc),
+            queue: WaitingCalls::new(alloc),
             changes: Vec::new(alloc),
             told: 0,
             events: 0,

@@ -9,6 +9,6 @@ mod text;
 pub use drawing::Drawing;
 pub use form::{Form, Format};
 pub use ring_trace_words::{
-    CallWords, Change, Counts, Fold, Happening, Queue, Replies, ReplyForm, Told, Votes, Waiting,
-    Why, Wording,
+    CallWords, Change, Counts, Fold, Happening, Replies, ReplyForm, Told, Votes, Waiting,
+    WaitingCalls, Why, Wording,
 };

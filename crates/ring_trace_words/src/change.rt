@@ -2,7 +2,7 @@
 
 use crate::votes::Share;
 use ring_base::{ProcSet, RingId, State};
-use ring_picture::Members;
+use ring_picture::MemberNumbers;
 use ring_report::state_word;
 use std::fmt;
 
@@ -42,7 +42,7 @@ impl fmt::Display for Change {
                 write!(
                     f,
                     "installs ring {ring} of {} with {share}, {kind}",
-                    Members(members)
+                    MemberNumbers(members)
                 )
             }
             Change::Committed(length) => write!(f, "has committed {length}"),

@@ -27,6 +27,6 @@ pub use reply_words::ReplyWords;
 pub use ring_rules::Told;
 pub use told_words::ToldWords;
 pub use votes::{Share, Votes};
-pub use waiting::{Queue, Waiting};
+pub use waiting::{Waiting, WaitingCalls};
 pub use why::Why;
 pub use wording::{Replies, ReplyForm, Wording};

@@ -46,11 +46,11 @@ impl Waiting {
 
 /// The calls that wait, in the order in which they were submitted. Contracts see it as their list.
 #[derive(Drop)]
-pub struct Queue<A: Allocator> {
+pub struct WaitingCalls<A: Allocator> {
     calls: Vec<Waiting, A>,
 }
 
-impl<A: Allocator> Model for Queue<A> {
+impl<A: Allocator> Model for WaitingCalls<A> {
     ghost use Rattle.std.specs.Prelude.{List};
     ghost use Rattle.ring_trace_words.specs.declared.waiting.Waiting.{Waiting as OneWaiting};
 
@@ -59,12 +59,12 @@ impl<A: Allocator> Model for Queue<A> {
     ghost view = { λ q. q.calls.items };
 }
 
-impl<A: Allocator + Copy> Queue<A> {
+impl<A: Allocator + Copy> WaitingCalls<A> {
     /// None yet.
-    pub fn new(alloc: A) -> Queue<A>
+    pub fn new(alloc: A) -> WaitingCalls<A>
         ensures { result ≡ [] }
     {
-        Queue {
+        WaitingCalls {
             calls: Vec::new(alloc),
         }
     }

@@ -2,7 +2,7 @@
 
 use crate::votes::Share;
 use ring_base::{ProcSet, State};
-use ring_picture::Members;
+use ring_picture::MemberNumbers;
 use ring_report::state_word;
 use std::fmt;
 
@@ -27,7 +27,7 @@ impl fmt::Display for Why {
             Why::Stopped => write!(f, "its node has stopped"),
             Why::State(state) => write!(f, "its node is in {}", state_word(state)),
             Why::Minority { members, share } => {
-                write!(f, "its ring {{{}}} has {share}", Members(members))
+                write!(f, "its ring {{{}}} has {share}", MemberNumbers(members))
             }
             Why::NotSent => write!(f, "not sent yet"),
             Why::NotSafe => write!(f, "sent, and not safe yet"),

@@ -8,7 +8,7 @@ mod answers;
 mod network;
 mod port;
 
-pub use network::{Network, Ticket};
+pub use network::{Network, WorldTicket};
 pub use port::{Shared, WorldPort};
 pub use ring_rules::Event;
 pub use ring_world::{Item, Noise, Pump, Told, World, stopped_for_memory_law};

@@ -53,13 +53,13 @@ impl<O: Object> Model for Network<O> {
 
 /// What is polled for the answer to a call that was submitted at a node. Contracts see the call with its node.
 #[derive(Drop)]
-pub struct Ticket {
+pub struct WorldTicket {
     question: Question,
     /// How many of those that the world told were looked at in vain.
     looked: Cell<usize>,
 }
 
-impl Model for Ticket {
+impl Model for WorldTicket {
     ghost use Rattle.ring_world_port.specs.declared.answers.Question.{Question};
 
     ghost Value = { Question };
@@ -145,14 +145,14 @@ impl<O: Object> Network<O> {
     }
 
     /// Submits a call at a node as `submit` does, and gives what is polled for its answer.
-    pub(crate) fn ask(&mut self, node: Proc, call: &Call<O::Alloc>) -> Result<Ticket, Fault>
+    pub(crate) fn ask(&mut self, node: Proc, call: &Call<O::Alloc>) -> Result<WorldTicket, Fault>
         ensures ticket { IfOk result (λ ticket. ticket ≡ question_of node (submitted call.now)) }
         ensures issued { OnOk result (IsIssued O.sequential node call.now self.old self.new) }
         ensures refused { IfErr result (IsNotIssued O.sequential node call.now self.old self.new) }
     {
         self.submit(node, call)?;
         let op = call.op.as_slice();
-        Ok(Ticket {
+        Ok(WorldTicket {
             question: Question {
                 node,
                 client: call.client,
@@ -165,7 +165,7 @@ impl<O: Object> Network<O> {
 
     /// The answer to the ticket's call, if the world has told it since the last look. Where it has not, a turn is taken; one
     /// that memory was refused to is left out.
-    pub(crate) fn answer_to(&mut self, ticket: &Ticket) -> Option<Answer>
+    pub(crate) fn answer_to(&mut self, ticket: &WorldTicket) -> Option<Answer>
         ensures told { IfSome result IsTold }
         ensures given { IfSome result (HasTold O.Alloc O.sequential ticket.now) }
         ensures same { IfSome result (λ _. self.new ≡ self.old) }

@@ -4,7 +4,7 @@ ghost use Rattle.std.specs.Prelude.{◌≡◌, IfOk, IfErr, IfSome, OnOk};
 ghost use Rattle.ring_client.specs.Asking.{unasked, submitted, refused_with, polled, IsTold};
 ghost use Rattle.ring_world_port.specs.Answers.{question_of, HasTold};
 
-use crate::network::{Network, Ticket};
+use crate::network::{Network, WorldTicket};
 use ring_base::{Fault, Proc};
 use ring_client::{Asked, Port};
 use ring_object::Object;
@@ -39,7 +39,7 @@ impl<O: Object> WorldPort<O> {
     }
 
     /// Submits the call at the port's node, in the network.
-    fn try_submit(&mut self, call: &Call<O::Alloc>) -> Result<Ticket, Fault>
+    fn try_submit(&mut self, call: &Call<O::Alloc>) -> Result<WorldTicket, Fault>
         ensures same { self.new ≡ self.old }
         ensures ticket { IfOk result (λ ticket. ticket ≡ question_of self.old.node (submitted call.now)) }
     {
@@ -51,7 +51,7 @@ impl<O: Object> WorldPort<O> {
 
     /// The answer to the ticket's call, if the world has told it; else the network takes a turn. One that memory was refused
     /// to is left out.
-    fn try_poll(&mut self, ticket: &Ticket) -> Option<Answer>
+    fn try_poll(&mut self, ticket: &WorldTicket) -> Option<Answer>
         ensures same { self.new ≡ self.old }
         ensures told { IfSome result IsTold }
         ensures given { IfSome result (HasTold O.Alloc O.sequential ticket.now) }
@@ -66,12 +66,12 @@ impl<O: Object> WorldPort<O> {
 impl<O: Object> Port for WorldPort<O> {
     type Alloc = O::Alloc;
 
-    type Ticket = Ticket;
+    type Ticket = WorldTicket;
 
     ghost asked_of = { λ port. port.asked };
 
     /// The ticket is one of the port's node.
-    fn submit(&mut self, call: &Call<O::Alloc>) -> Result<Ticket, Fault>
+    fn submit(&mut self, call: &Call<O::Alloc>) -> Result<WorldTicket, Fault>
         ensures ok { OnOk result (self.new.asked ≡ submitted call.now) }
         ensures refused { IfErr result (λ fault. self.new.asked ≡ refused_with fault (submitted call.now)) }
         ensures ticket { IfOk result (λ ticket. ticket ≡ question_of self.old.node (submitted call.now)) }
@@ -86,7 +86,7 @@ impl<O: Object> Port for WorldPort<O> {
     }
 
     /// The answer is one that the ticket's node told the call in a run.
-    fn poll(&mut self, ticket: &Ticket) -> Option<Answer>
+    fn poll(&mut self, ticket: &WorldTicket) -> Option<Answer>
         ensures asked { self.new.asked ≡ polled result self.old.asked }
         ensures told { IfSome result IsTold }
         ensures given { IfSome result (HasTold O.Alloc O.sequential ticket.now) }

@@ -7,7 +7,7 @@ use crate::traces::trace_file;
 use clap::Error;
 use clap::error::ErrorKind;
 use ring_base::Fault;
-use ring_explore::{Plan, explore_of};
+use ring_explore::{ExplorePlan, explore_of};
 use ring_live::live;
 use ring_object::Object;
 use ring_script_maker::generate_by;
@@ -126,7 +126,7 @@ fn explore_seeds<
     E: Write,
     P: Write,
 >(rt: &R, asked: &Explored, out: &mut O, err: &mut E, progress: Option<&mut P>) -> u8 {
-    let plan = Plan {
+    let plan = ExplorePlan {
         votes: asked.votes.as_slice(),
         first: asked.first,
         last: asked.last,

@@ -15,7 +15,7 @@ pub use ring_callers::{
     Book, BookName, Caller, Calls, Gate, GatePlace, Gauge, Host, HostPort, HostTicket, Open,
     Opening, Paced, Seat, Stir, Turn, run_callers,
 };
-pub use ring_explore::{Plan, explore_of};
+pub use ring_explore::{ExplorePlan, explore_of};
 pub use totem_ring::{
     Answer, Answered, Argument, Asked, Call, Client, Counters, Driver, Event, Fault, Fixed, Form,
     Format, Frame, Input, Item, Keyed, Kind, Letter, MOST_PROCESSORS, Names, Network, NoWords,
