@@ -14,7 +14,7 @@ use std::sync::Wait;
 
 /// The calls of a group's clients, as the host's book tells them: of a run of the group.
 #[derive(Drop)]
-pub struct Calls<A: Allocator + Copy + Drop = Global> {
+pub struct CallsTold<A: Allocator + Copy + Drop = Global> {
     /// The calls in their one order, as far as it came.
     pub order: Vec<Call<A>, A>,
     /// Which calls were issued and which replied, one after the other. The order explains it.
@@ -25,13 +25,13 @@ pub struct Calls<A: Allocator + Copy + Drop = Global> {
 pub(crate) fn calls_of<O: Object, K: BookName<O::Alloc>, W: Wait>(
     rt: &W,
     host: &Host<O, K>,
-) -> Result<Calls<O::Alloc>, Fault>
+) -> Result<CallsTold<O::Alloc>, Fault>
     ensures calls { IfOk result (AreOfRun O.sequential K.name.group) }
     ensures refused { IfErr result (λ fault. fault ≡ Memory) }
 {
     host.read_book(
         rt,
-        |book| -> Result<Calls<O::Alloc>, Fault>
+        |book| -> Result<CallsTold<O::Alloc>, Fault>
             ensures calls { IfOk result (AreOfRun O.sequential K.name.group) }
             ensures refused { IfErr result (λ fault. fault ≡ Memory) }
         { told_by(book) },
@@ -39,7 +39,9 @@ pub(crate) fn calls_of<O: Object, K: BookName<O::Alloc>, W: Wait>(
 }
 
 /// The calls of a book. Or `Memory`.
-fn told_by<O: Object, K: BookName<O::Alloc>>(book: &Book<O, K>) -> Result<Calls<O::Alloc>, Fault>
+fn told_by<O: Object, K: BookName<O::Alloc>>(
+    book: &Book<O, K>,
+) -> Result<CallsTold<O::Alloc>, Fault>
     ensures calls { IfOk result (AreOfRun O.sequential K.name.group) }
     ensures lines { IfOk result (AreOfLines O.sequential K.name.group book.now.lines) }
     ensures refused { IfErr result (λ fault. fault ≡ Memory) }
@@ -49,5 +51,5 @@ fn told_by<O: Object, K: BookName<O::Alloc>>(book: &Book<O, K>) -> Result<Calls<
     linear_law::<O>();
     let order = book.order()?;
     let history = book.history()?;
-    Ok(Calls { order, history })
+    Ok(CallsTold { order, history })
 }

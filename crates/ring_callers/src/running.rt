@@ -7,7 +7,7 @@ ghost use Rattle.ring_callers.specs.Callers.{AreOfRun};
 ghost use Rattle.ring_callers.specs.Clients.{AreSeats, AreForAll};
 
 use crate::caller::{Caller, call_from};
-use crate::calls::{Calls, calls_of};
+use crate::calls::{CallsTold, calls_of};
 use crate::checking::check_arguments;
 use crate::progress::Progress;
 use ring_base::{Fault, Fixed, Proc};
@@ -36,7 +36,7 @@ pub fn run_callers<O: Object + Send, C: Caller + Sync, W: Threads + Wait + Sync>
     group: Fixed,
     stopped: &[u8],
     callers: &[C],
-) -> Result<Calls<O::Alloc>, Fault>
+) -> Result<CallsTold<O::Alloc>, Fault>
 where
     O::Alloc: Send + Sync,
     ensures calls { IfOk result (AreOfRun O.sequential group) }
@@ -61,7 +61,7 @@ fn run_named<
     nodes: u8,
     stopped: &[u8],
     callers: &[C],
-) -> Result<Calls<O::Alloc>, Fault>
+) -> Result<CallsTold<O::Alloc>, Fault>
 where
     O::Alloc: Send + Sync,
     requires name { opening ≡ K.name }

@@ -2,7 +2,7 @@
 
 use crate::part::{Part, Wanted};
 use crate::shown::Shown;
-use ring_base::{Proc, ProcSet};
+use ring_base::{MOST_PROCESSORS, Proc, ProcSet};
 use std::alloc::{AllocError, Global};
 use std::str::Split;
 
@@ -43,7 +43,9 @@ fn member_reason(
         nodes,
     };
     let number = match word.parse::<u8>() {
-        Ok(number) if number >= 1 && number <= 16 && Part::Node.takes(nodes, word) => number,
+        Ok(number) if number >= 1 && number <= MOST_PROCESSORS && Part::Node.takes(nodes, word) => {
+            number
+        }
         _ => {
             let reason = format!(in alloc;
                 "{} is not {wanted}; commas alone part the nodes of a group",
@@ -60,7 +62,7 @@ fn member_reason(
 
 /// That a node stands in no group, if one does.
 fn missing_reason(alloc: Global, nodes: u8, seen: ProcSet) -> Result<Option<String>, AllocError> {
-    for before in 0..nodes.min(16) {
+    for before in 0..nodes.min(MOST_PROCESSORS) {
         let number = before + 1;
         if !seen.contains(Proc::new(number)) {
             return Ok(Some(format!(in alloc; "node {number} stands in no group")?));

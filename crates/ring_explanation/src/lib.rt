@@ -13,4 +13,5 @@ mod part;
 mod reason;
 mod shown;
 
-pub use reason::{reason_by, reason_in};
+pub use reason::reason_by;
+pub use ring_script::LONGEST_TEXT;

@@ -2,6 +2,8 @@
 
 ghost use Rattle.std.specs.Prelude.{◌≡◌, ◌==◌, position};
 
+use ring_base::MOST_PROCESSORS;
+
 /// Where the byte first stands.
 fn place_of(text: &[u8], byte: u8) -> Option<usize>
     ensures { result ≡ position (λ other. other == byte) text.now }
@@ -69,13 +71,13 @@ fn after(stand: Stand, line: &[u8]) -> Stand {
     }
 }
 
-/// How many nodes the line `nodes N` tells; 16 where it is none, since then it is itself at fault.
+/// How many nodes the line `nodes N` tells; as many as there may be where it is none, since then it is itself at fault.
 fn count_in(line: &[u8]) -> u8 {
     let Ok(text) = str::from_utf8(line) else {
-        return 16;
+        return MOST_PROCESSORS;
     };
     match text.strip_prefix("nodes ") {
-        Some(count) => count.parse::<u8>().unwrap_or(16),
-        None => 16,
+        Some(count) => count.parse::<u8>().unwrap_or(MOST_PROCESSORS),
+        None => MOST_PROCESSORS,
     }
 }

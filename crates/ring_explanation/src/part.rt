@@ -106,13 +106,21 @@ impl fmt::Display for Wanted {
             Part::Value => "a number",
             Part::Frame => "the number of a frame, 1 or more",
             Part::Timeout => "`retransmit`, `join`, `consensus` or `loss`",
-            Part::Bytes => "1 to 8192 bytes, each as two digits of `0` to `9` and `a` to `f`",
-            Part::Operation => "1 to 1024 bytes, each as two digits of `0` to `9` and `a` to `f`",
-            Part::Name => "a name of 1 to 64 bytes",
+            Part::Bytes => return write_bytes(f, FRAME_BYTES),
+            Part::Operation => return write_bytes(f, MOST_OPERATION),
+            Part::Name => return write!(f, "a name of 1 to {LONGEST_NAME} bytes"),
         };
         match self.part.bounds(self.nodes) {
             Some((least, most)) => write!(f, "{words}, {least} to {most}"),
             None => write!(f, "{words}"),
         }
     }
+}
+
+/// That bytes are wanted, this many at most.
+fn write_bytes<W: fmt::Write>(f: &mut fmt::Formatter<W>, most: usize) -> fmt::Result {
+    write!(
+        f,
+        "1 to {most} bytes, each as two digits of `0` to `9` and `a` to `f`"
+    )
 }

@@ -7,23 +7,19 @@ use crate::nearest::{Meant, nearest};
 use crate::operation::operation_reason;
 use crate::part::{Part, TIMEOUTS, Wanted};
 use crate::shown::Shown;
-use ring_script::{LONGEST_TEXT, Script, ScriptFault, ShelfWords, Vocabulary};
+use ring_base::MOST_PROCESSORS;
+use ring_script::{LONGEST_TEXT, Script, ScriptFault, Vocabulary};
 use std::alloc::{AllocError, Global};
 use std::str::Split;
 
 /// What is found wrong, if anything is.
 pub(crate) type Reason = Result<Option<String>, AllocError>;
 
-/// Why the text is no script, in words: what stands in the line that `Script::parse` finds at fault, and what was expected there.
-/// None where it is a script. Memory refused is the only refusal.
-pub fn reason_in(alloc: Global, text: &[u8]) -> Result<Option<String>, AllocError> {
-    reason_by::<ShelfWords>(alloc, text)
-}
-
-/// As [`reason_in`], by the words of another object's operations.
+/// Why the text is no script by the words of this object's operations: what stands in the line that `Script::parse_by` finds at
+/// fault, and what was expected there. None where it is a script. Memory refused is the only refusal.
 pub fn reason_by<V: Vocabulary>(alloc: Global, text: &[u8]) -> Result<Option<String>, AllocError> {
     if text.len() as u64 > LONGEST_TEXT {
-        return said(alloc, "the text is longer than 1048576 bytes");
+        return Ok(Some(format!(in alloc; "the text is longer than {LONGEST_TEXT} bytes")?));
     }
     match Script::parse_by::<V>(alloc, text) {
         Ok(_) => Ok(None),
@@ -113,7 +109,7 @@ fn first_reason(alloc: Global, first: &str, words: &mut Split<'_, char>) -> Reas
         )?;
         return Ok(Some(reason));
     }
-    match part_reason(alloc, 16, Part::Count, words)? {
+    match part_reason(alloc, MOST_PROCESSORS, Part::Count, words)? {
         Some(reason) => Ok(Some(reason)),
         None => end_reason(alloc, words),
     }
@@ -121,7 +117,7 @@ fn first_reason(alloc: Global, first: &str, words: &mut Split<'_, char>) -> Reas
 
 /// Why the words behind `votes` aren't the votes of so many nodes.
 fn votes_reason(alloc: Global, nodes: u8, words: &mut Split<'_, char>) -> Reason {
-    for before in 0..nodes.min(16) {
+    for before in 0..nodes.min(MOST_PROCESSORS) {
         let node = before + 1;
         let Some(word) = words.next() else {
             return Ok(Some(format!(in alloc;

@@ -16,10 +16,11 @@ use crate::bell::Bell;
 use crate::gate::Open;
 use crate::inbox::Inbox;
 use crate::item::Task;
+use crate::step::NOWHERE;
 use crate::taking::take;
 use crate::turn::Turn;
-use ring_base::{Fault, Kind, Proc};
-use ring_book::{Book, BookName, Cell, FrameRef, Input};
+use ring_base::{Fault, Kind, MOST_PROCESSORS, Proc};
+use ring_book::{Book, BookName, Cell, Input};
 use ring_object::Object;
 use ring_payload::Call;
 use ring_seat::{Gauge, Outbox, Seat};
@@ -83,7 +84,7 @@ impl<C, B, A: Allocator + Copy + Drop> HostOf<C, B, A> {
         ensures err { OnErr result (1 ≤ number → number ≤ 16 → self.now.words < number) }
         ensures refused { IfErr result (λ fault. fault ≡ NotMember) }
     {
-        if number == 0 || number > 16 || usize::from(number) > self.inboxes.len() {
+        if number == 0 || number > MOST_PROCESSORS || usize::from(number) > self.inboxes.len() {
             return Err(Fault::NotMember);
         }
         Ok(Proc::new(number))
@@ -185,7 +186,7 @@ impl<O: Object, K: BookName<O::Alloc>> HostOf<Cell<O, K>, Book<O, K>, O::Alloc> 
     {
         let mut cell = take(rt, &self.cells[node.number() as usize - 1]);
         let place = take(rt, &self.book).reserve()?;
-        let stopped = cell.step(Input::Stop, FrameRef { line: 0, place: 0 });
+        let stopped = cell.step(Input::Stop, NOWHERE);
         let mut none = Outbox::new(self.alloc);
         self.entered(rt, place, &mut cell, stopped, &mut none)?;
         Ok(())

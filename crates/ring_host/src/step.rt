@@ -21,7 +21,7 @@ use std::sync::Wait;
 use std::thread;
 
 /// What is said to stand somewhere though no frame came.
-const NOWHERE: FrameRef = FrameRef { line: 0, place: 0 };
+pub(crate) const NOWHERE: FrameRef = FrameRef { line: 0, place: 0 };
 
 /// What a step made: how many places the node has committed, whether it took a token, and whether there is anything to do.
 #[derive(Clone, Copy)]

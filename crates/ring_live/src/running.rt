@@ -6,7 +6,7 @@ ghost use Rattle.ring_live.specs.Callers.{HasSeatsAt};
 
 use crate::caller::{Caller, call};
 use crate::legal::is_legal;
-use ring_base::Fault;
+use ring_base::{Fault, MOST_PROCESSORS};
 use ring_host_port::{BookName, Gate, Host, Open, Opening, Seat};
 use ring_object::Object;
 use std::alloc::Allocator;
@@ -103,7 +103,7 @@ where
     requires seats { All (IsAt host.now) seats.items }
     requires callers { All (HasSeatsAt host.now) callers.old }
 {
-    let nodes = callers.len().min(16) as u8;
+    let nodes = callers.len().min(usize::from(MOST_PROCESSORS)) as u8;
     let refused = AtomicBool::new(false);
     let running = AtomicU64::new(u64::from(nodes));
     let (told, left) = (&refused, &running);

@@ -11,4 +11,4 @@ mod step;
 mod tale;
 mod tales;
 
-pub use making::{generate, generate_by, made_script, made_script_by};
+pub use making::{MOST_LINES, generate, generate_by, made_script, made_script_by};

@@ -129,11 +129,8 @@ impl<V: Vocabulary, A: Allocator> Maker<V, A> {
 
     /// A timeout comes at each of these.
     pub fn time_out_all(&mut self, nodes: ProcSet, kind: Kind) -> Result<(), Fault> {
-        for before in 0..16u8 {
-            let node = Proc::new(before + 1);
-            if nodes.contains(node) {
-                self.time_out(node, kind)?;
-            }
+        for node in nodes.iter() {
+            self.time_out(node, kind)?;
         }
         Ok(())
     }

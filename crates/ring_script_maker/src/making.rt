@@ -68,7 +68,7 @@ fn read_back<V: Vocabulary, A: Allocator + Copy + Drop>(alloc: A, text: &[u8]) -
 }
 
 /// A script that is made has at most so many lines that ask for something, `show` left out.
-const MOST_LINES: u32 = 10_000;
+pub const MOST_LINES: u32 = 10_000;
 
 /// How the script was made, how many nodes there are, and their votes, where one has more than one.
 fn write_head<A: Allocator>(

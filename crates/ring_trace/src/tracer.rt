@@ -11,12 +11,12 @@ use crate::sent::{frames_behind, sent_of, write_frames};
 use crate::sides::sides_of;
 use crate::sight::{Sight, sight_of, write_turn, write_what};
 use crate::standing::Standing;
-use ring_base::{Fault, Proc, ProcSet, State};
+use ring_base::{Fault, MOST_PROCESSORS, Proc, ProcSet, State};
 use ring_console::{Failure, Groups, Line, Pair, Run, Script};
 use ring_object::Object;
 use ring_trace_forms::{
-    Change, Counts, Drawing, Fold, Form, Format, Happening, Told, Votes, Waiting, WaitingCalls,
-    Why, Wording,
+    Change, Counts, Drawing, Fold, Format, Happening, Told, TraceForm, Votes, Waiting,
+    WaitingCalls, Why, Wording,
 };
 use std::alloc::Allocator;
 use std::io::Write;
@@ -26,7 +26,7 @@ use std::io::Write;
 pub(crate) struct Tracer<O: Object> {
     alloc: O::Alloc,
     run: Run<O>,
-    form: Form,
+    form: TraceForm,
     wording: Wording,
     drawing: Drawing<O::Alloc>,
     votes: Votes,
@@ -51,7 +51,7 @@ impl<O: Object> Tracer<O> {
     /// The nodes of a script at their opening.
     pub fn new(
         alloc: O::Alloc,
-        form: Form,
+        form: TraceForm,
         wording: Wording,
         script: &Script<O::Alloc>,
         votes: Votes,
@@ -255,7 +255,9 @@ impl<O: Object> Tracer<O> {
             return Ok(());
         }
         for (before, standing) in self.standings.iter().enumerate() {
-            if before < 16 && self.selection.has(next, Some(Proc::new(before as u8 + 1))) {
+            if before < usize::from(MOST_PROCESSORS)
+                && self.selection.has(next, Some(Proc::new(before as u8 + 1)))
+            {
                 let changes = standing.changes(&self.votes);
                 self.drawing
                     .add_standing(Proc::new(before as u8 + 1), changes.as_slice())?;

@@ -13,7 +13,7 @@ use ring_base::Fault;
 use ring_console::{Failure, Script, ShelfWords, Things, Vocabulary, report};
 use ring_object::Object;
 use ring_report::{Lent, exit_status};
-use ring_trace_forms::{Form, Format, Replies, Votes, Wording};
+use ring_trace_forms::{Format, Replies, TraceForm, Votes, Wording};
 use std::alloc::Global;
 use std::io::{BufWriter, Write};
 
@@ -103,7 +103,7 @@ fn trace_script<O: Object<Alloc = Global>, V: Vocabulary + Replies, W: Write, F:
     requires { AreFit script.lines.items }
     ensures { OnOk result (Sends O.sequential script (F.contents frames.old) (F.contents frames.new)) }
 {
-    let form = Form {
+    let form = TraceForm {
         alloc,
         format: asked.format,
     };

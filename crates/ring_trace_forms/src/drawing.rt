@@ -186,10 +186,8 @@ impl<A: Allocator + Copy> Drawing<A> {
 /// How many letters a set takes, in the braces that stand round it.
 fn letters_of(set: ProcSet) -> u64 {
     let mut letters = 2u64;
-    for before in 0..16u8 {
-        if set.contains(Proc::new(before + 1)) {
-            letters = letters.saturating_add(if before < 9 { 2 } else { 3 });
-        }
+    for node in set.iter() {
+        letters = letters.saturating_add(if node.number() < 10 { 2 } else { 3 });
     }
     letters
 }

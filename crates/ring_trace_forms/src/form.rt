@@ -23,12 +23,12 @@ pub enum Format {
 
 /// The form that was asked for. JSON is made in memory of its own.
 #[derive(Clone, Copy)]
-pub struct Form {
+pub struct TraceForm {
     pub alloc: Global,
     pub format: Format,
 }
 
-impl Form {
+impl TraceForm {
     /// Prints an event, what it changed at its node, and what its node told, in the words of the object.
     pub fn print_event<A: Allocator + Copy, W: Write>(
         self,

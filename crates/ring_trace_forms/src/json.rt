@@ -4,7 +4,7 @@ ghost use Rattle.std.specs.Prelude.{◌≡◌, IfErr};
 ghost use Rattle.ring_base.specs.declared.fault.Fault.TheVariants.{Memory};
 ghost use Rattle.ring_report.specs.Failures.{IsOutputOrMemory};
 
-use ring_base::{Fault, Proc, ProcSet};
+use ring_base::{Fault, ProcSet};
 use ring_object::Reply;
 use ring_payload::Call;
 use ring_report::{Failure, state_word};
@@ -267,11 +267,8 @@ fn told_value<A: Allocator + Copy>(
 /// The numbers of a set's members.
 fn numbers_of(alloc: Global, set: ProcSet) -> Result<Vec<u8>, AllocError> {
     let mut numbers = Vec::new(alloc);
-    for before in 0..16u8 {
-        let number = before + 1;
-        if set.contains(Proc::new(number)) {
-            numbers.push(number)?;
-        }
+    for node in set.iter() {
+        numbers.push(node.number())?;
     }
     Ok(numbers)
 }

@@ -7,7 +7,7 @@ mod json;
 mod text;
 
 pub use drawing::Drawing;
-pub use form::{Form, Format};
+pub use form::{Format, TraceForm};
 pub use ring_trace_words::{
     CallWords, Change, Counts, Fold, Happening, Replies, ReplyForm, Told, Votes, Waiting,
     WaitingCalls, Why, Wording,

@@ -3,7 +3,7 @@
 ghost use Rattle.std.specs.Prelude.{◌≡◌};
 ghost use Rattle.ring_base.specs.Group.{is_primary};
 
-use ring_base::{Fixed, Proc, ProcSet};
+use ring_base::{Fixed, MOST_PROCESSORS, Proc, ProcSet};
 use std::fmt;
 
 /// The votes of each node.
@@ -43,7 +43,7 @@ impl Votes {
     fn of(&self, set: ProcSet) -> u32 {
         let mut many = 0u32;
         for (before, votes) in self.votes.iter().enumerate() {
-            if before < 16 && set.contains(Proc::new(before as u8 + 1)) {
+            if before < usize::from(MOST_PROCESSORS) && set.contains(Proc::new(before as u8 + 1)) {
                 many = many.saturating_add(u32::from(*votes));
             }
         }

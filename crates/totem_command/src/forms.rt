@@ -2,6 +2,8 @@
 
 use clap::builder::ValueParser;
 use clap::{Arg, ArgAction, Command};
+use ring_base::MOST_PROCESSORS;
+use ring_script_maker::MOST_LINES;
 use std::alloc::{AllocError, Global};
 
 /// A command: its name, what it does, what its help ends with, and its words.
@@ -162,8 +164,11 @@ const FORMATS: &[&str] = &["text", "json", "svg"];
 /// At most so many threads are started.
 const MOST_THREADS: u64 = 256;
 
-/// A script that is made has at most so many lines that ask for something.
-const MOST_EVENTS: u64 = 10_000;
+/// A group has at most so many nodes.
+const MOST_NODES: u64 = MOST_PROCESSORS as u64;
+
+/// `live` lets each client make at most so many calls.
+const MOST_LIVE_CALLS: u64 = 100;
 
 /// The word that asks whether a run is legal.
 const CHECK: Word = Word {
@@ -218,7 +223,7 @@ const NODES: Word = Word {
     name: "nodes",
     help: "How many nodes",
     is_required: true,
-    takes: Takes::Number(1, 16),
+    takes: Takes::Number(1, MOST_NODES),
 };
 
 /// The word for a number of lines.
@@ -226,7 +231,7 @@ const EVENTS: Word = Word {
     name: "events",
     help: "How many lines that ask for something",
     is_required: true,
-    takes: Takes::Number(1, MOST_EVENTS),
+    takes: Takes::Number(1, MOST_LINES as u64),
 };
 
 /// The word for a seed.
@@ -259,13 +264,13 @@ const LIVE_WORDS: &[Word] = &[
         name: "nodes",
         help: "How many nodes, and as many clients",
         is_required: true,
-        takes: Takes::Number(1, 16),
+        takes: Takes::Number(1, MOST_NODES),
     },
     Word {
         name: "calls",
         help: "How many adds each client makes",
         is_required: true,
-        takes: Takes::Number(1, 100),
+        takes: Takes::Number(1, MOST_LIVE_CALLS),
     },
 ];
 
@@ -275,13 +280,13 @@ const NODE_WORDS: &[Word] = &[
         name: "me",
         help: "Which node of its group it is",
         is_required: true,
-        takes: Takes::Number(1, 16),
+        takes: Takes::Number(1, MOST_NODES),
     },
     Word {
         name: "of",
         help: "How many nodes the group has",
         is_required: true,
-        takes: Takes::Number(1, 16),
+        takes: Takes::Number(1, MOST_NODES),
     },
     VOTES,
 ];
@@ -298,7 +303,7 @@ const TRACE_WORDS: &[Word] = &[
         name: "node",
         help: "Tells what happens at this node alone",
         is_required: false,
-        takes: Takes::Number(1, 16),
+        takes: Takes::Number(1, MOST_NODES),
     },
     Word {
         name: "from",

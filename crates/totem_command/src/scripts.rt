@@ -3,7 +3,7 @@
 use crate::command_line::{AskedScript, Way};
 use crate::commands::{INPUT, processors};
 use ring_base::Fault;
-use ring_explanation::reason_by;
+use ring_explanation::{LONGEST_TEXT, reason_by};
 use ring_object::Object;
 use ring_sweep::{
     FAILED, Failure, Vocabulary, print_variant_of, report, script_of, sweep_of_by_threads,
@@ -16,7 +16,7 @@ use std::time::Clock;
 use std::{fs, io};
 
 /// So many bytes are read of a script at most: one more than it may have, so that a longer one is seen to be one.
-const MOST_READ: u64 = 1_048_577;
+const MOST_READ: u64 = LONGEST_TEXT + 1;
 
 /// Runs the script that is asked for.
 pub(crate) fn run_script<

@@ -2,7 +2,7 @@
 
 use crate::scripts::{tell_unread, text_of};
 use clap::ArgMatches;
-use ring_base::Proc;
+use ring_base::{MOST_PROCESSORS, Proc};
 use ring_object::Object;
 use ring_sweep::{FAILED, Vocabulary};
 use ring_trace::{Format, Replies, Selection, TraceOptions, trace_of};
@@ -59,7 +59,7 @@ fn asked_of(traced: &Traced<'_>) -> TraceOptions {
 /// The processor of this number, if there is one.
 fn proc_of(number: Option<u8>) -> Option<Proc> {
     match number {
-        Some(number) if 1 <= number && number <= 16 => Some(Proc::new(number)),
+        Some(number) if 1 <= number && number <= MOST_PROCESSORS => Some(Proc::new(number)),
         _ => None,
     }
 }

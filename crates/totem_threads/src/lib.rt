@@ -12,7 +12,7 @@
 #![tactic(auto)]
 
 pub use ring_callers::{
-    Book, BookName, Caller, Calls, Gate, GatePlace, Gauge, Host, HostPort, HostTicket, Open,
+    Book, BookName, Caller, CallsTold, Gate, GatePlace, Gauge, Host, HostPort, HostTicket, Open,
     Opening, Paced, Seat, Stir, Turn, run_callers,
 };
 pub use ring_explore::{ExplorePlan, explore_of};
