@@ -44,6 +44,7 @@ impl<B: Allocator> Refusing<B> {
     }
 }
 
+// Sound where `inner` is: each block that is given is one of `inner`'s, and goes back to it as it came. A refused request gives none.
 unsafe impl<B: Allocator> Allocator for Refusing<B> {
     // A block is freed by the allocator that gave it.
     ghost dealloc_token = { λ heap ty ptr. B.dealloc_token heap.inner ty ptr };

@@ -41,6 +41,7 @@ pub position_of-at : (set k : ℕ) → k < size set → position_of set (at set 
 unfolding elements
 position_of-at set k lt = before-at (has set) 1 most_processors k lt
 
+-- a set has at most 16 members
 pub size_le : (set : ℕ) → size set ≤ most_processors
 unfolding elements
 size_le set = few (has set) 1 most_processors
@@ -68,6 +69,7 @@ smallest-least set i proc m least =
     let first = at_member set 0 (omega (arith, position_of-inside set i proc m)) in
     omega (arith, smallest_le set i proc m, least (smallest set) first.1)
 
+-- in the list stand just the processors that belong to the set
 pub elements_members : (set i : ℕ) → Contains (elements set) i ↔ (IsProc i × IsMember set i)
 elements_members set i = (
   λ found.

@@ -5,10 +5,12 @@ use Rattle.std.proofs.Common.{◌≡◌, ℕ, zero, suc, ◌≤◌, List, [], �
 abbrev pub IsFront : {A : Type 0} → List A → List A → Type 0
 IsFront {A} xs ys = (rest : List A) × (xs ++ rest ≡ ys)
 
+-- each list is a front of itself
 pub front_self : {A : Type 0} (xs : List A) → IsFront xs xs
 front_self [] = ([], refl)
 front_self (x ∷ xs) = let s = front_self xs in (s.0, ap (λ ys. x ∷ ys) s.1)
 
+-- a front of a front is a front
 pub front_trans : {A : Type 0} (xs ys zs : List A) → IsFront xs ys → IsFront ys zs → IsFront xs zs
 front_trans xs ys zs p q = (p.0 ++ q.0, sym (append_assoc xs p.0 q.0) ∙ (ap (λ w. w ++ q.0) p.1 ∙ q.1))
 
@@ -22,6 +24,7 @@ front_shorter (x ∷ xs) (y ∷ ys) (z ∷ zs) p q le =
     let rest = front_shorter xs ys zs (p.0, cc (p.1)) (q.0, cc (q.1)) (omega arith) in
     (rest.0, cc (heads, rest.1))
 
+-- a front isn't longer than the whole
 pub front_length : {A : Type 0} (xs ys : List A) → IsFront xs ys → length xs ≤ length ys
 front_length xs ys p = omega (arith, sym (ap length p.1) ∙ length-append xs p.0)
 

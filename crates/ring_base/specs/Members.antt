@@ -14,9 +14,11 @@ member_at set k h =
     let e : k + 1 - 1 ≡ k = omega arith in
     (omega arith, rw e h)
 
+-- a member passes the test
 pub has_member : (set i : ℕ) → IsMember set i → has set i ≡ true
 has_member set i m = eq-eqb _ _ m.1
 
+-- a number from 1 on that passes the test is a member
 pub member_had : (set i : ℕ) → 1 ≤ i → has set i ≡ true → IsMember set i
 member_had set i low h = (low, eqb-true _ _ h)
 
@@ -30,9 +32,11 @@ member_proc set i lt m =
       | inr le ↦ (m.0, le)
     ]
 
+-- the empty set has no member
 pub nobody_member : (i : ℕ) → IsMember nobody i → ⊥
 nobody_member i m = let none = bit_at_above 0 0 (i - 1) (omega arith) (omega arith) in omega (arith, m.1)
 
+-- the set of one processor alone has just that member
 pub only_members : (j i : ℕ) → 1 ≤ j → IsMember (only j) i ↔ (i ≡ j)
 only_members j i low = (
   λ m. elim (cases_lt i j) [
@@ -51,6 +55,7 @@ only_members j i low = (
   λ e. rw e (low, bit_at-pow_same (j - 1)),
 )
 
+-- the set of processors 1 to n has just these members
 pub everybody_members : (n i : ℕ) → IsMember (everybody n) i ↔ ((1 ≤ i) × (i ≤ n))
 everybody_members n i = (
   λ m. elim (cases_lt n i) [
@@ -62,6 +67,7 @@ everybody_members n i = (
   λ p. (p.0, bit_at_ones n (i - 1) (omega (arith, p.0, p.1))),
 )
 
+-- the members of a union are those of either set
 pub union_members : (a b i : ℕ) → IsMember (union a b) i ↔ (IsMember a i ⊎ IsMember b i)
 union_members a b i =
     let e = bit_at_or a b (i - 1) in
@@ -77,6 +83,7 @@ union_members a b i =
       ],
     )
 
+-- the members in common are those of both sets
 pub common_members : (a b i : ℕ) → IsMember (common a b) i ↔ (IsMember a i × IsMember b i)
 common_members a b i =
     let e = bit_at_and a b (i - 1) in
@@ -97,6 +104,7 @@ less-xor a b =
     let le = and_le_l a b in
     omega arith
 
+-- a bit of a word is left where the other word lacks it
 pub bit_at_less : (a b k : ℕ) → bit_at (less a b) k ≡ bit_at a k - bit_at b k
 bit_at_less a b k =
     let e : bit_at (less a b) k ≡ bit_at (bit_xor a (bit_and a b)) k = ap (λ (x : ℕ). bit_at x k) (less-xor a b) in
@@ -106,6 +114,7 @@ bit_at_less a b k =
     let bl = bit_at-lt b k in
     omega arith
 
+-- the members that are left of a set are those that the other lacks
 pub less_members : (a b i : ℕ) → IsMember (less a b) i ↔ (IsMember a i × (IsMember b i → ⊥))
 less_members a b i =
     let e = bit_at_less a b (i - 1) in
@@ -118,6 +127,7 @@ less_members a b i =
       ],
     )
 
+-- the test of a subset holds just of subsets
 pub within_members : (a b : ℕ) → (within a b ≡ true) ↔ IsSubset a b
 within_members a b = (
   λ h i m.

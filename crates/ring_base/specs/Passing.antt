@@ -27,6 +27,7 @@ passing p first n = filter p (numbers_from first n)
 abbrev pub before : List ℕ → ℕ → ℕ
 before xs i = length (filter (λ j. nat_lt j i) xs)
 
+-- of n numbers at most n pass
 pub few : (p : ℕ → Bool) (first n : ℕ) → length (passing p first n) ≤ n
 few p first zero = omega arith
 few p first (suc n) =
@@ -44,6 +45,7 @@ pub record Stands (p : ℕ → Bool) (first n i : ℕ) : Type 0 where
 later : (p : ℕ → Bool) (first n i : ℕ) → Stands p (suc first) n i → Stands p first (suc n) i
 later p first n i s = record { low = omega (arith, s.low); high = omega (arith, s.high); passes = s.passes }
 
+-- each that stands in the list is one of the numbers, and passes
 pub stands : (p : ℕ → Bool) (first n k : ℕ) → k < length (passing p first n) → Stands p first n (slice_index (passing p first n) k)
 stands p first zero k lt = absurd (omega arith)
 stands p first (suc n) zero lt =
@@ -73,6 +75,7 @@ pub record IsPlace (xs : List ℕ) (i : ℕ) : Type 0 where
   pub inside : before xs i < length xs
   pub there : slice_index xs (before xs i) ≡ i
 
+-- each of the numbers that passes has its place in the list
 pub place : (p : ℕ → Bool) (first n i : ℕ) → first ≤ i → i < first + n → p i ≡ true → IsPlace (passing p first n) i
 place p first zero i low high pass = absurd (omega arith)
 place p first (suc n) i low high passes =

@@ -65,6 +65,7 @@ weight_front w first (suc n) (v ∷ votes) weighs =
 pub votes_front : (group : Group) (n : ℕ) → sum_by (votes_of group) (numbers_from 1 n) ≡ sum (take n group.votes)
 votes_front group n = weight_front (votes_of group) 1 n group.votes (λ k. let e : 1 + k - 1 ≡ k = omega arith in rw e refl)
 
+-- any two primary sets share a processor
 pub primaries_share : PrimariesMeet
 unfolding elements
 primaries_share group a b p q =

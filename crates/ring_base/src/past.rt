@@ -36,6 +36,7 @@ pub fn past_of<T, A>(from: &A) -> Past<T>
     ghost told: { T }
     ensures { result.value ≡ told }
 {
+    // The caller's proof alone reads it.
     let _ = from;
     Past {
         marker: PhantomData,
@@ -74,6 +75,7 @@ impl<T> Clone for Past<T> {
     }
 }
 
+// Sound, as the next: it has no bytes and no `T` is ever made for it, so nothing of a `T` goes to another thread or is shared.
 unsafe impl<T> Send for Past<T> {}
 
 unsafe impl<T> Sync for Past<T> {}

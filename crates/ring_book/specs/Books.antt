@@ -19,6 +19,7 @@ use Rattle.ring_base.specs.Numbers.{most_frame}
 abbrev pub most_places : ℕ
 most_places = 262144
 
+-- the reading end of a journal, as the book has one of each node's
 abbrev pub End : Type 0 → Type 0
 End A = Consumer (StepView A) A AnyItems
 

@@ -21,8 +21,10 @@ pub record Name (A : Type 0) : Type 0 where
   pub rings : List (Ring A)
 
 module _ {T A : Type 0} where
+  -- a journal's ring, by the writing end
   abbrev pub ring_of_producer : Producer T A AnyItems → Ring A
   ring_of_producer p = record { words = p.end.words; slots = p.end.slots; names = p.end.names; heap = p.end.heap }
 
+  -- and by the reading end
   abbrev pub ring_of_consumer : Consumer T A AnyItems → Ring A
   ring_of_consumer c = record { words = c.end.words; slots = c.end.slots; names = c.end.names; heap = c.end.heap }

@@ -10,9 +10,11 @@ use Rattle.ring_book_lines.specs.Machines.{Machine}
 use Rattle.ring_book.specs.Seen.{CellView, BookView}
 use Rattle.ring_book_lines.specs.Steps.{StepView}
 
+-- the writing end of a journal, as each node's cell has one
 abbrev pub Writer : Type 0 → Type 0
 Writer A = Producer (StepView A) A AnyItems
 
+-- the rings of journals, by their writing ends
 abbrev pub rings_of : {A : Type 0} → List (Writer A) → List (Ring A)
 rings_of {A} ps = map (λ (p : Writer A). ring_of_producer p) ps
 
@@ -22,12 +24,14 @@ pub record IsStartEnd {A : Type 0} (p : Writer A) (c : End A) : Type 0 where
   pub received_is : received c ≡ []
   pub one : consumer_capacity c ≡ 1
 
+-- these are the reading ends of these journals, one by one, and as many
 abbrev pub AllStartEnds : {A : Type 0} → List (Writer A) → List (End A) → Type 0
 AllStartEnds [] [] = Unit {0}
 AllStartEnds [] (c ∷ cs) = ⊥
 AllStartEnds (p ∷ ps) [] = ⊥
 AllStartEnds (p ∷ ps) (c ∷ cs) = IsStartEnd p c × AllStartEnds ps cs
 
+-- a book without lines, with no place reserved
 abbrev pub new_book : {A : Type 0} → BookView A
 new_book = record { lines = []; reserved = 0 }
 
@@ -46,6 +50,7 @@ module _ {S A : Type 0} (m : Machine S A) where
   AllStart me (n ∷ ns) [] = ⊥
   AllStart me (n ∷ ns) (p ∷ ps) = IsStart me n p × AllStart (suc me) ns ps
 
+  -- a processor's cell: its node has done nothing, and its journal is empty
   abbrev pub new_cell : ℕ → CellView S A
   new_cell me = record { me = me; ahead = false; node = m.opening me; journal = [] }
 

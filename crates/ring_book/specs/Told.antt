@@ -13,6 +13,7 @@ pub record IsRoomier (old new : ToldView) : Type 0 where
   pub answers : new.answers ≡ old.answers
   pub room : old.room ≤ new.room
 
+-- the same of as many nodes, one by one
 abbrev pub AreRoomier : List ToldView → List ToldView → Type 0
 AreRoomier [] [] = Unit {0}
 AreRoomier [] (y ∷ ys) = ⊥

@@ -192,7 +192,8 @@ impl<O: Object, K: BookName<O::Alloc>> Book<O, K> {
         }
     }
 
-    /// The answers to the node's tickets, in the order of tickets, each if the list gives one.
+    /// The answers to the node's tickets, in the order of tickets, each if the list gives one. There are none of a processor outside
+    /// the group.
     pub fn answers(&self, node: Proc) -> &[Option<Answer>]
         ensures { result.now ≡ told_to node self.now.lines }
     {

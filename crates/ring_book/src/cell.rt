@@ -70,7 +70,7 @@ impl<O: Object, K: BookName<O::Alloc>> Cell<O, K> {
     }
 
     /// Hands the node an input, and adds what it did to the journal. The `FrameRef` counts for a frame alone: it says
-    /// where the frame stands in the book.
+    /// where the frame stands in the book. A frame keeps the limits of frames, as a decoded one does.
     ///
     /// Refused with `Stranger` while the last step isn't entered, then with `Stopped`; both change nothing. `Memory`
     /// leaves the node stopped, and its stop in the journal. A stop takes no memory.
@@ -80,6 +80,7 @@ impl<O: Object, K: BookName<O::Alloc>> Cell<O, K> {
             MatchResult result (λ _. Journals m self.old self.new (Came input at)) (StepRefused m self.old self.new input at) }
     {
         if self.ahead {
+            // By name, so that nothing lives at the exit.
             drop(input);
             return Err(Fault::Stranger);
         }
@@ -101,6 +102,7 @@ impl<O: Object, K: BookName<O::Alloc>> Cell<O, K> {
                 Ok(())
             }
             Err(fault) => {
+                // By name, so that nothing lives at the exit.
                 drop(outs);
                 drop(input);
                 match fault {
@@ -165,9 +167,10 @@ impl<O: Object, K: BookName<O::Alloc>> Cell<O, K> {
         }
     }
 
-    /// Submits a call at the node, and adds that to the journal.
+    /// Submits a call at the node, and adds that to the journal. The call keeps the limits of frames, as each does that `Call::new` makes.
     ///
-    /// Refused with `Stranger` while the last step isn't entered, then as by the node; nothing is changed then.
+    /// Refused with `Stranger` while the last step isn't entered, then as by the node, with `Stopped`, `PendingFull` or `Memory`; nothing
+    /// is changed then.
     pub fn submit(&mut self, call: Call<O::Alloc>) -> Result<Ticket, Fault>
         requires { CallFits call }
         ensures given { let m = node_machine O.sequential K.name.group in

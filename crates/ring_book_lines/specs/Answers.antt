@@ -23,6 +23,7 @@ abbrev pub told_by : {A : Type 0} → List (Option Answer) → LineInput A → L
 told_by told (Called c) answers = told ++ None ∷ []
 told_by told (Came input at) answers = answered_in told answers
 
+-- the answers of the tickets, after these steps more
 abbrev pub told_from : {A : Type 0} → List (Option Answer) → List (StepView A) → List (Option Answer)
 told_from told [] = told
 told_from told (s ∷ ss) = told_from (told_by told s.input s.answers) ss

@@ -47,6 +47,7 @@ event_on lines node at Noise = events.Deliver node 0
 event_on lines node at (Timeout kind) = events.Timeout node kind
 event_on lines node at Stop = events.Stop node
 
+-- the event that what happened at a node is, after these lines: a call was issued, or an input came
 abbrev pub event_of : {A : Type 0} → List (LineView A) → ℕ → LineInput A → Event A
 event_of lines node (Called c) = events.Issue node c
 event_of lines node (Came input at) = event_on lines node at input

@@ -12,6 +12,7 @@ pub record LogView : Type 0 where
   pub total : ℕ
   pub segments : List Segment
 
+-- nothing is committed
 abbrev pub no_log : LogView
 no_log = record { total = 0; segments = [] }
 
@@ -31,6 +32,7 @@ abbrev pub logged_from : {A : Type 0} → ℕ → LogView → List (LineView A) 
 logged_from n log [] = log
 logged_from n log (l ∷ ls) = logged_from (suc n) (logged_by n log l.step) ls
 
+-- the longest committed log of the lines: how long it is, and by which of them it grew
 abbrev pub log_in : {A : Type 0} → List (LineView A) → LogView
 log_in lines = logged_from 0 no_log lines
 

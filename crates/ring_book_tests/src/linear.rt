@@ -35,6 +35,8 @@ pub fn explained<O: Object, K: BookName<O::Alloc>>(
     ensures ok { IfOk result (λ seen. IsLinearization O.sequential seen.order.items seen.history.items) }
     ensures refused { IfErr result (λ fault. fault ≡ Memory) }
 {
+    // Laws: no effect at run time. The proof takes from them that the book's lines are a run of the group, and that the order of such
+    // a run explains its history.
     book.run_law();
     linear_law::<O>();
     let order = book.order()?;
@@ -53,6 +55,8 @@ pub fn in_order<O: Object, K: BookName<O::Alloc>>(book: &Book<O, K>, cell: &Cell
     ensures follows { Follows O.sequential cell.now.node (committed_to cell.now.me book.now.lines)
         × FollowsOrder O.sequential cell.now.node (order (run O.sequential (world_opening K.name.group) (events_of book.now.lines))) }
 {
+    // Laws: no effect at run time. The proof takes from them that the book's lines are a run of the group, that the cell's node is the
+    // node of that run, and how what a node committed and its snapshot stand to the run's order.
     book.run_law();
     book.node_law(cell);
     linear_law::<O>();
@@ -69,6 +73,7 @@ pub fn answered<O: Object, K: BookName<O::Alloc>>(
         let w = run O.sequential (world_opening K.name.group) (events_of book.now.lines) in
         result ≡ told_at (answers_of (w.nodes node)) ticket }
 {
+    // A law: no effect at run time. The proof takes from it that the book's lines are a run of the group.
     book.run_law();
     book.answer(node, ticket)
 }

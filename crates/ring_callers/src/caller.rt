@@ -18,8 +18,8 @@ pub trait Caller {
     /// The number of the node that the client tries first.
     ghost first: { Self → ℕ };
 
-    /// That number. Where this node refuses a call or doesn't answer it, the client passes on to the next node, with the same call under
-    /// the same number: in the order of their numbers, and node 1 after the last.
+    /// That number. Where this node refuses a call or doesn't answer it within 1,000,000 polls, the client passes on to the next node,
+    /// with the same call under the same number: in the order of their numbers, and node 1 after the last.
     fn first_node(&self) -> u8
         ensures { result ≡ first self.now };
 

@@ -39,6 +39,7 @@ impl Progress {
         self.has_refused.store(true, Ordering::SeqCst);
         for number in 1..=MOST_PROCESSORS {
             if let Ok(node) = host.proc(number) {
+                // A stop that is refused changes nothing, and the host is closed all the same.
                 let _ = host.stop(rt, node);
             }
         }

@@ -26,6 +26,7 @@ pub record TakesPart (q : ℕ) (p : Configuration) : Type 0 where
   pub member : IsMember p.members q
   pub first : at p.members 0 ≡ p.ring.rep
 
+-- so does each processor in each of the rings that it took part in
 abbrev pub AllTakePart : {A : Type 0} → (ℕ → Core A) → Type 0
 AllTakePart cores = (q : ℕ) → IsProc q → AllByRecursion (TakesPart q) (cores q).rings
 
@@ -43,6 +44,7 @@ pub record AreChains {A : Type 0} (visits : Chains A) (cores : ℕ → Core A) :
   pub rounds : (r : RingId) → (visits r ≡ []) ⊎ IsRound cores r (visits r)
   pub turns : (q : ℕ) (r : RingId) → turns_of r (cores q).turns ≡ picked q (visits r)
 
+-- there are such lists: the visits of each ring, of which each core's own are those that it took
 abbrev pub HasChains : {A : Type 0} → (ℕ → Core A) → Type 0
 HasChains {A} cores = (visits : Chains A) × AreChains visits cores
 
@@ -51,6 +53,7 @@ pub record AreNumbered {A : Type 0} (visits : Chains A) (cores : ℕ → Core A)
   pub held : (q : ℕ) → AllByRecursion (IsGenuine visits) (cores q).held
   pub wraps : (r : RingId) → AllByRecursion (λ (v : VisitBy A). AllByRecursion (WrapsGenuine visits) v.turn.fresh) (visits r)
 
+-- there are such lists by which all that is held, and all that visits wrap, was numbered by its sender
 abbrev pub HasNumbered : {A : Type 0} → (ℕ → Core A) → Type 0
 HasNumbered {A} cores = (visits : Chains A) × AreChains visits cores × AreNumbered visits cores
 
@@ -88,6 +91,7 @@ pub record IsPlan {A : Type 0} (cores : ℕ → Core A) (k : CommitToken) : Type
   pub count : length k.entries ≡ size k.members
   pub reports : AreReports cores k
 
+-- so does each commit token on which a core ever began recovery
 abbrev pub ArePlans : {A : Type 0} → (ℕ → Core A) → Type 0
 ArePlans cores = (q : ℕ) → AllByRecursion (IsPlan cores) (cores q).plans
 
@@ -120,6 +124,7 @@ agreed_of (Trans old new set) = None
 agreed_of (Rest ring n x) = None
 agreed_of (Regular ring set) = None
 
+-- the same, if this processor told it
 abbrev pub agreed_number : {A : Type 0} → ℕ → ℕ × Out A → Option ℕ
 agreed_number i o = if o.0 == i then agreed_of o.1 else None
 
@@ -141,6 +146,7 @@ IsHeldAsTold c (Safe ring upto) = Unit {0}
 IsHeldAsTold c (Trans old new set) = Unit {0}
 IsHeldAsTold c (Regular ring set) = Unit {0}
 
+-- so of all that was given in a world, each by the core of the processor that gave it
 abbrev pub ToldIsHeld : {A : Type 0} → World A → Type 0
 ToldIsHeld {A} w = AllByRecursion (λ (o : ℕ × Out A). IsHeldAsTold (w.cores o.0) o.1) w.outs
 
@@ -163,5 +169,6 @@ IsOfFormed n cores (Trans old new set) = ⊥
 IsOfFormed n cores (Rest ring k x) = ⊥
 IsOfFormed n cores (Regular ring set) = ⊥
 
+-- so of all that was given in a world, at any processor
 abbrev pub AllIsOfFormed : {A : Type 0} → ℕ → World A → Type 0
 AllIsOfFormed {A} n w = AllByRecursion (λ (o : ℕ × Out A). IsOfFormed n w.cores o.1) w.outs

@@ -101,7 +101,8 @@ pub fn formed_facts_law<A: Allocator + Copy>()
     ensures { (n i : ℕ) (events : List (RingEvent A)) → 1 ≤ i → i ≤ n → LocalFacts ((run_formed n events).cores i) }
 {}
 
-/// The laws at the allocator that programs use; of one of them it says what it gives.
+/// The laws at the allocator that programs use; of one of them it says what it gives. Nothing calls it: a law is proved of all
+/// allocators that meet its bounds, and this shows one that does.
 pub fn laws_at_global()
     ensures { (n : ℕ) (events : List (RingEvent Heap)) (ring : RingId) → HasOneText (run (unformed n) events) ring }
 {

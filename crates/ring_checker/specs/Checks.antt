@@ -25,11 +25,12 @@ first_issue history c = position (is_issue_of c) history
 abbrev pub place_in : {A : Type 0} → List (Call A) → Call A → Option ℕ
 place_in order c = position (is_same c) order
 
--- the places of a client's calls by the index, that of its first call first; none of a client that it doesn't know
+-- the places that a client's entry of the index has; none where there is no entry
 abbrev pub row_of : {A : Type 0} → Option (Vec ℕ A) → List ℕ
 row_of None = []
 row_of (Some row) = row.items
 
+-- the places of a client's calls by the index, that of its first call first; none of a client that it doesn't know
 abbrev pub places_of : {A : Type 0} → BTreeMap ℕ (Vec ℕ A) → ℕ → List ℕ
 places_of index client = row_of (get nat_cmp index client)
 

@@ -28,6 +28,7 @@ module _ {P : Type 0} (asked : P → Asked) (call : Asked) (turns : ℕ) (old ne
   abbrev pub AreCutOff : Type 0
   AreCutOff = (count : ℕ) × (1 ≤ count) × (count < length old) × AreAsked count
 
+  -- what comes of the call: a port has answered; each was asked in vain; or memory was refused, for the first one's call or a later one's
   abbrev pub IsOutcome : CallOutcome → Type 0
   IsOutcome (Answered answer) = IsTold answer × HasAnswer answer
   IsOutcome Unanswered = AreAsked (length old)

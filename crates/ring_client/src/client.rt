@@ -39,7 +39,8 @@ impl<P: Port> Model for Client<P> {
 
 impl<P: Port> Client<P> {
     /// The client of this number before its first call. It tries the ports in this order, and polls each at most `turns`
-    /// times a call.
+    /// times a call: with no port, or where that is 0, no call is answered. Two clients of one number are one to the sessions of
+    /// a group, so that each is answered by the other's calls.
     pub fn new(alloc: P::Alloc, client: u32, ports: Vec<P, P::Alloc>, turns: u64) -> Client<P>
         ensures { result ≡ record { client = client; next = 1; open_call = None; turns = turns; ports = ports.items } }
     {
@@ -90,7 +91,8 @@ impl<P: Port> Client<P> {
     /// Makes a call as [`call`](Client::call), and where no port answered tries it anew, up to `limit` times, each time from
     /// the first port on and under the same number, so that it takes effect once.
     ///
-    /// Refused as `call`, with `NoAnswer` where no port answered in all these tries: then the call is open.
+    /// Refused as `call`, with `NoAnswer` where no port answered in all these tries: then the call is open. So it is after
+    /// `Memory` in a later try.
     pub fn until_answered(&mut self, op: &[u8], limit: u64) -> Result<Reply, Fault>
         ensures ready { IfOk result (λ _. IsReady self.old × IsShort op.now) }
         ensures replied { IfOk result (IsRepliedWithin P.asked_of limit self.old self.new op.now) }

@@ -41,7 +41,8 @@ pub trait Port: Drop {
         ensures { result.now ≡ asked_of self.now };
 }
 
-/// The answer, if a call can have it, for a port that asks a node: a node tells no other.
+/// The answer, if a call can have it, for a port that asks a node: `Done`, `Kept`, or `Refused` with a number from 4 to 7. A node
+/// tells no other.
 pub fn tellable(answer: Answer) -> Option<Answer>
     ensures value { result ≡ tellable answer }
     ensures told { IfSome result IsTold }

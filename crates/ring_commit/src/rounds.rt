@@ -98,7 +98,8 @@ pub fn propose(me: Proc, greatest: u64, members: ProcSet, own: CommitEntry) -> C
     })
 }
 
-/// The first round, in Gather: the node adds its own entry, and the token goes on.
+/// The first round, in Gather: the node adds its own entry, and the token goes on. The ring core asks [`is_at`] and
+/// [`is_first_round`] as it decides, and adds the entry in place: `Machine::fill` of `ring_srp_acts`.
 pub fn fill(
     me: Proc,
     floor: u64,
@@ -120,7 +121,8 @@ pub fn fill(
     CommitOutcome::Pass(token)
 }
 
-/// The second round, in Commit: the token goes on as it is. Its entries are what recovery goes by.
+/// The second round, in Commit: the token goes on as it is. Its entries are what recovery goes by. The ring core asks
+/// [`is_at`] and [`is_second_round`] as it decides, and passes the token on in place: `Machine::learn` of `ring_srp_acts`.
 pub fn learn(
     me: Proc,
     running: &Configuration,
@@ -140,7 +142,8 @@ pub fn learn(
 }
 
 /// The end of the second round, in Recovery: the representative visits the token that the caller gives as the first
-/// of the ring.
+/// of the ring. The ring core asks [`is_at`] and [`is_start`] as it decides, and whether it accepts that token:
+/// `Machine::decide` of `ring_srp_acts`.
 pub fn start(me: Proc, running: &Configuration, first: Token, token: &CommitToken) -> CommitOutcome
     ensures { result ≡ started me running.now first token.now }
 {

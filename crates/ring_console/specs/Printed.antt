@@ -46,7 +46,7 @@ order_text length = codes "order " ++ decimal length
 abbrev pub trimmed_text : ℕ → List ℕ
 trimmed_text n = if n == 0 then [] else codes " trimmed " ++ decimal n
 
--- a node's state, its last installed ring, how much of its log is committed, and how much it has dropped
+-- a node's state, its last installed ring, how many places are committed, how many its log has, and how many it has dropped
 abbrev pub node_text : ℕ → State → RingId → ℕ → ℕ → ℕ → List ℕ
 node_text number state ring committed log trimmed =
     codes "node " ++ decimal number ++ codes " " ++ state_text state ++ codes " " ++ ring_text ring

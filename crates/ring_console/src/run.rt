@@ -113,7 +113,8 @@ impl<O: Object> Run<O> {
         print_told(out, &told[before..])
     }
 
-    /// Does what a line asks for.
+    /// Does what a line asks for; nothing where it asks for the state. Otherwise `Memory`, where that is refused to the world itself: then
+    /// nothing was done, or, of turns that are taken, those before it, and the copy whose turn it was is closed and comes to nobody.
     pub fn perform(&mut self, line: Line<O::Alloc>) -> Result<(), Fault>
         requires { IsFit line }
         ensures ends { Ends O.sequential result line self.old self.new }

@@ -196,6 +196,7 @@ fn verdict_status<O: Write + Drop, A: Allocator, E: Write>(
     match done {
         Ok(true) => exit_status(out, err, Ok(())),
         Ok(false) => {
+            // Whether the output failed makes no difference: the status is 1 all the same.
             let _ = exit_status(out, err, Ok(()));
             NOT_LEGAL
         }

@@ -34,6 +34,7 @@ gives_old Commit c x = []
 gives_old Operational c x = []
 gives_old Stopped c x = []
 
+-- a message is taken: the core holds it, and in Recovery what it wraps of the old ring too, where that is new there
 abbrev pub took : {A : Type 0} → Core A → Message A → Core A
 took c x = record c { held = gives_old c.state c x ++ x ∷ c.held }
 
@@ -83,5 +84,6 @@ proposed_after true did = record { core = (proposed did.core).core; sends = did.
 abbrev pub done_by : {A : Type 0} → Bool → Did A → Did A
 done_by follows did = proposed_after (follows && proposes did.core) did
 
+-- what was decided is done; whether a proposal may follow is said by the act
 abbrev pub done : {A : Type 0} → Core A → Act A → Did A
 done c a = done_by (may_follow a) (act c a)

@@ -90,19 +90,23 @@ decide_token Stopped c t = Ignore
 
 -- Joins are heard in Gather, and may lead there from elsewhere
 
+-- a join that comes in Gather, by what it is there
 abbrev pub heard_in_gather : {A : Type 0} → Hearing → Join → Act A
 heard_in_gather Ignored j = Ignore
 heard_in_gather Agrees j = Agree j
 heard_in_gather Widens j = Widen j
 
+-- a join that leads to Gather: what it is there, with the sets that Gather begins with. Gather is entered in each case
 abbrev pub heard_elsewhere : {A : Type 0} → Hearing → Join → Act A
 heard_elsewhere Ignored j = Regather
 heard_elsewhere Agrees j = RegatherAndAgree j
 heard_elsewhere Widens j = RegatherAndWiden j
 
+-- a join that comes in Commit, Recovery or Operational: it leads to Gather, or is ignored
 abbrev pub overhear : {A : Type 0} → Core A → Join → Act A
 overhear c j = if disturbs c j then heard_elsewhere (hears (regathered c) j) j else Ignore
 
+-- what a join comes to, by state
 abbrev pub decide_join : {A : Type 0} → State → Core A → Join → Act A
 decide_join Gather c j = heard_in_gather (hears c j) j
 decide_join Commit c j = overhear c j
@@ -119,6 +123,7 @@ decide_round Recovery c k = if takes_start c k then Visit (first_token k.ring) e
 decide_round Operational c k = Ignore
 decide_round Stopped c k = Ignore
 
+-- what a commit token comes to: all but the member that its hop goes to ignore it
 abbrev pub decide_commit : {A : Type 0} → Core A → CommitToken → Act A
 decide_commit c k = if is_at c.me k then decide_round c.state c k else Ignore
 
@@ -130,12 +135,14 @@ decide_frame c (TokenFrame t) = decide_token c.state c t
 decide_frame c (JoinFrame j) = decide_join c.state c j
 decide_frame c (CommitFrame k) = decide_commit c k
 
+-- what a frame comes to, by whether it names processors 1 to N alone
 abbrev pub decide_if_named : {A : Type 0} → Bool → Core A → Frame A → Act A
 decide_if_named true c frame = decide_frame c frame
 decide_if_named false c frame = Ignore
 
 -- Timeouts
 
+-- what a timeout comes to, by state
 abbrev pub decide_time : {A : Type 0} → State → Kind → Act A
 decide_time Gather Retransmit = Repeat
 decide_time Gather JoinTime = Announce
@@ -160,6 +167,7 @@ decide_time Stopped kind = Ignore
 abbrev pub decide_user : {A : Type 0} → Payload A → Act A
 decide_user payload = if is_queued payload then Enqueue payload else Ignore
 
+-- what a send of a payload comes to, by state
 abbrev pub decide_payload : {A : Type 0} → State → Payload A → Act A
 decide_payload Operational payload = decide_user payload
 decide_payload Gather payload = Ignore

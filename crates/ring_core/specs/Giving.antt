@@ -23,6 +23,7 @@ abbrev pub ready_then_complete : {A : Type 0} → Bool → Core A → Bool
 ready_then_complete false c = false
 ready_then_complete true c = is_complete (plan c) c.held
 
+-- a core in this state installs its running ring: in Recovery, once both hold; in every other state never
 abbrev pub installs_in : {A : Type 0} → State → Core A → Bool
 installs_in Recovery c = ready_then_complete (is_ready c.held c.running.ring c.running.members (mark c c.running.ring)) c
 installs_in Gather c = false
@@ -30,6 +31,7 @@ installs_in Commit c = false
 installs_in Operational c = false
 installs_in Stopped c = false
 
+-- so by the core's own state: in the very step that leaves it so its running ring is installed
 abbrev pub may_install : {A : Type 0} → Core A → Bool
 may_install c = installs_in c.state c
 
@@ -43,6 +45,7 @@ install c = record c { state = Operational; installed = c.running; installs = c.
 abbrev pub addressed : {A : Type 0} → List (Sent A) → List (Sent A)
 addressed sends = filter (λ s. not (s.to == nobody)) sends
 
+-- the sends that are frames, as outputs
 abbrev pub sent : {A : Type 0} → List (Sent A) → List (Out A)
 sent sends = map (λ s. Send s.to s.frame) (addressed sends)
 
@@ -83,9 +86,12 @@ configured c =
     Trans c.installed.ring c.running.ring (plan c).mates ∷
     (map (λ x. Rest x.ring x.number x) (rests (plan c) c.held) ++ Regular c.running.ring c.running.members ∷ delivered_from c c.running.ring 0 0)
 
+-- a step's end: the core as it is, or with its running ring installed, and what that gives behind the other outputs
 abbrev pub settle : {A : Type 0} → Bool → Core A → List (Out A) → Stepped A
 settle false c outs = record { core = c; outs = outs }
 settle true c outs = record { core = install c; outs = outs ++ configured c }
 
+-- all that a step gives, by the core as the step began and what was done: the sends, what is agreed and safe of the
+-- ring that was installed then, and perhaps an installation
 abbrev pub delivered : {A : Type 0} → Core A → Did A → Stepped A
 delivered old did = settle (may_install did.core) did.core (sent did.sends ++ given old did.core)

@@ -34,17 +34,20 @@ joined c k =
 abbrev pub proposed : {A : Type 0} → Core A → Did A
 proposed c = joined c (proposal c.me (new_number (floor c) c.gathering) (candidates c.gathering) (own_entry c))
 
--- the first round: the own report is added
+-- the first round's tests: a hop below m, the members are those that the core gathers and has not given up, the ring is above its floor
 abbrev pub takes_first_round : {A : Type 0} → Core A → CommitToken → Bool
 takes_first_round c k = is_first_round (floor c) (candidates c.gathering) k
 
+-- the first round: the core takes part in the ring, and adds its report
 abbrev pub filled : {A : Type 0} → Core A → CommitToken → Did A
 filled c k = joined c (hopped k (own_entry c ∷ []))
 
--- the second round: recovery begins, and the safe mark of the old ring becomes the greatest reported
+-- the second round's tests: a hop from m to 2m - 1 of the ring taken part in, whose entry of the core is what it would write now; and
+-- no front reported of its old ring is below a safe mark reported of it
 abbrev pub takes_second_round : {A : Type 0} → Core A → CommitToken → Bool
 takes_second_round c k = is_second_round c.running (own_entry c) k
 
+-- the second round: recovery begins, and the safe mark of the old ring is raised to the greatest reported
 abbrev pub learned : {A : Type 0} → Core A → CommitToken → Did A
 learned c k =
     record {

@@ -37,6 +37,7 @@ invited c =
 abbrev pub hears : {A : Type 0} → Core A → Join → Hearing
 hears c j = hearing c.me c.gathering j
 
+-- the state is Operational
 abbrev pub is_operational : State → Bool
 is_operational Operational = true
 is_operational Gather = false
@@ -56,5 +57,6 @@ proposes_in Recovery c = false
 proposes_in Operational c = false
 proposes_in Stopped c = false
 
+-- the core proposes a ring, as it is now
 abbrev pub proposes : {A : Type 0} → Core A → Bool
 proposes c = proposes_in c.state c

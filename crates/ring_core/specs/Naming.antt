@@ -9,15 +9,17 @@ use Rattle.ring_token.specs.PayloadVariants.{Call, Wrapped, End, Head, Part, Pac
 use Rattle.ring_token.specs.Frames.{CommitEntry, Frame}
 use Rattle.ring_token.specs.FrameVariants.{Message, Token, Join, Commit}
 
--- a last primary names its representative
+-- a last primary, if there is one, names its representative: at most n
 abbrev pub last_named : ℕ → Option RingId → Bool
 last_named n None = true
 last_named n (Some ring) = nat_le ring.rep n
 
+-- who holds back a token's `aru`, if anybody does, is at most n
 abbrev pub holder_named : ℕ → Option ℕ → Bool
 holder_named n None = true
 holder_named n (Some i) = nat_le i n
 
+-- whom the payload of a Wrapped names is at most n: only a Head names one, its last primary's representative
 abbrev pub content_named : {A : Type 0} → ℕ → Content A → Bool
 content_named n (CallContent call) = true
 content_named n (HeadContent head) = last_named n head.last
@@ -25,6 +27,7 @@ content_named n (PartContent part) = true
 content_named n (PackContent pack) = true
 content_named n (SnapContent snap) = true
 
+-- so whom any payload names: a Head that one, a Wrapped its old ring's representative, its old sender and whom its own payload names
 abbrev pub payload_named : {A : Type 0} → ℕ → Payload A → Bool
 payload_named n (Call call) = true
 payload_named n (Wrapped w) = nat_le w.ring.rep n && nat_le w.sender n && content_named n w.payload

@@ -39,6 +39,7 @@ pub record Report : Type 0 where
   pub ring : RingId
   pub entry : CommitEntry
 
+-- a processor's ring core: what it is now, and behind that its facts: all that ever happened to it, over all rings, newest first
 pub record Core (A : Type 0) : Type 0 where
   pub me : ℕ
   -- how many processors there are
@@ -119,6 +120,7 @@ formed n me = record (opening n me) { state = Operational; running = all_of n; i
 abbrev pub halted : {A : Type 0} → Core A → Core A
 halted c = record c { state = Stopped }
 
+-- the state is Stopped, which nothing leaves
 abbrev pub is_stopped : State → Bool
 is_stopped Stopped = true
 is_stopped Gather = false

@@ -33,10 +33,11 @@ offers Gather c count = []
 offers Commit c count = []
 offers Stopped c count = []
 
--- what it sends
+-- what it sends new at a visit
 abbrev pub new_payloads : {A : Type 0} → Core A → Token → List (Payload A)
 new_payloads c t = offers c.state c (room_at c t)
 
+-- the same as messages of the token's ring, with the numbers after its `seq`
 abbrev pub new_messages : {A : Type 0} → Core A → Token → List (Message A)
 new_messages c t = numbered t.ring c.me t.seq (new_payloads c t)
 
@@ -44,13 +45,15 @@ new_messages c t = numbered t.ring c.me t.seq (new_payloads c t)
 abbrev pub held_after : {A : Type 0} → Core A → Token → List (Message A)
 held_after c t = reverse (new_messages c t) ++ c.held
 
--- (c) to (e) the token as it goes, by what is held now
+-- (d) the requests as they go: the smallest 32 of what (a) left and of what the core lacks up to the new `seq`, by what is held now
 abbrev pub requests_of : {A : Type 0} → Core A → Token → List (Message A) → ℕ → List ℕ
 requests_of c t held seq = requests_after (left (mark c t.ring) (holds c.held t.ring) t.requests) (missing held t.ring (mark c t.ring) seq)
 
+-- (c) to (e) the token as it goes, by what is held now and how many new messages were sent
 abbrev pub forwarded_by : {A : Type 0} → Core A → Token → List (Message A) → ℕ → Token
 forwarded_by c t held sent = token_after c.me (front_of held t.ring) sent (requests_of c t held (t.seq + sent)) t
 
+-- the token as this visit sends it on
 abbrev pub forwarded : {A : Type 0} → Core A → Token → Token
 forwarded c t = forwarded_by c t (held_after c t) (length (new_payloads c t))
 

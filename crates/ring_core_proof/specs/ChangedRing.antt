@@ -37,25 +37,31 @@ changing =
     Deliver 2 18 ∷ Deliver 2 18 ∷ Deliver 1 19 ∷ Deliver 1 19 ∷ Deliver 2 20 ∷ Deliver 2 20 ∷ Deliver 1 21 ∷ Deliver 1 21 ∷
     Deliver 2 22 ∷ Deliver 2 23 ∷ Deliver 1 24 ∷ Deliver 1 25 ∷ Deliver 1 26 ∷ Deliver 2 27 ∷ Deliver 1 28 ∷ []
 
+-- all of these events
 abbrev pub change_events : List (RingEvent Global)
 change_events = forming ++ losing ++ changing
 
+-- the world of both after them
 abbrev pub changed : World Global
 changed = run (unformed 2) change_events
 
+-- a hop of a commit token of both, with its sender and the set of its receivers
 abbrev pub hop_of_two : ℕ → ℕ → RingId → ℕ → List CommitEntry → Carried Global
 hop_of_two from to ring hop entries = frame_of from to (commit_frame ring 3 hop entries)
 
--- the reports on the way into the first ring, and into the second: both hold the two Ends, and processor 2 the call too
+-- the reports on the way into the first ring: neither was in one before
 abbrev pub first_reports : List CommitEntry
 first_reports = empty_report 1 ∷ empty_report 2 ∷ []
 
+-- the reports on the way into the second: both hold the two Ends, and processor 2 the call too
 abbrev pub second_reports : List CommitEntry
 second_reports = report_of first_ring 2 2 0 ∷ report_of first_ring 3 2 0 ∷ []
 
+-- a token of the second ring that nobody holds back
 abbrev pub second_token : ℕ → ℕ → ℕ → Frame Global
 second_token number seq aru = TokenFrame (record { ring = second_ring; number = number; seq = seq; aru = aru; aru_id = None; requests = [] })
 
+-- all frames sent, 1 to 29
 abbrev pub changed_frames : List (Carried Global)
 changed_frames =
     frame_of 1 2 (join_frame 1 0 3 0) ∷
@@ -113,6 +119,7 @@ hops_of_two = (1, 1, 2) ∷ (1, 2, 1) ∷ (1, 3, 2) ∷ (1, 4, 1) ∷ (2, 1, 2) 
 
 -- Forged hops
 
+-- a frame more in a world, which nobody sent there
 abbrev pub with_frame : Carried Global → World Global → World Global
 with_frame f w = record w { frames = w.frames ++ f ∷ [] }
 

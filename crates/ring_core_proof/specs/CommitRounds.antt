@@ -28,6 +28,7 @@ all_pairs test (x ∷ xs) = list_all (test x) xs && all_pairs test xs
 
 -- Rings
 
+-- the ring's number is greater than the other's
 abbrev pub is_above : Configuration → Configuration → Bool
 is_above a b = nat_lt b.ring.seq a.ring.seq
 
@@ -65,16 +66,18 @@ is_hop_if_commit cores f (MessageFrame x) = true
 is_hop_if_commit cores f (TokenFrame t) = true
 is_hop_if_commit cores f (JoinFrame j) = true
 
+-- so each frame ever sent in a world
 abbrev pub are_hops : {A : Type 0} → World A → Bool
 are_hops w = list_all (λ (f : Carried _). is_hop_if_commit w.cores f f.frame) w.frames
 
--- the commit tokens among frames
+-- the commit token that a frame is, if it is one
 abbrev pub commit_in : {A : Type 0} → Frame A → Option CommitToken
 commit_in (CommitFrame k) = Some k
 commit_in (MessageFrame x) = None
 commit_in (TokenFrame t) = None
 commit_in (JoinFrame j) = None
 
+-- all commit tokens ever sent, in order, each as often as it was sent
 abbrev pub commits_of : {A : Type 0} → World A → List CommitToken
 commits_of w = filter_map (λ (f : Carried _). commit_in f.frame) w.frames
 
@@ -90,24 +93,29 @@ pub record Taking : Type 0 where
   pub commit : CommitToken
   pub report : CommitEntry
 
+-- the act is to ignore the input
 abbrev pub is_ignored : {A : Type 0} → Act A → Bool
 is_ignored Ignore = true
 is_ignored _ = false
 
+-- a commit token at a core: taken, unless this says that it is ignored
 abbrev pub taken_unless : {A : Type 0} → Bool → Core A → CommitToken → List Taking
 taken_unless true c k = []
 taken_unless false c k = record { who = c.me; commit = k; report = own_entry c } ∷ []
 
+-- what a core takes of a frame that comes to it: a commit token, if it is one and is not ignored
 abbrev pub taken_at : {A : Type 0} → Core A → Frame A → List Taking
 taken_at c (CommitFrame k) = taken_unless (is_ignored (decide c (FrameInput (CommitFrame k)))) c k
 taken_at c (MessageFrame x) = []
 taken_at c (TokenFrame t) = []
 taken_at c (JoinFrame j) = []
 
+-- so, where the frame comes to the core at all
 abbrev pub taken_if : {A : Type 0} → Bool → Core A → Frame A → List Taking
 taken_if false c frame = []
 taken_if true c frame = taken_at c frame
 
+-- what a processor takes of a frame that is handed to it: nothing where it was not sent, or not to it, or there is no such processor
 abbrev pub taken_of : {A : Type 0} → World A → ℕ → Option (Carried A) → List Taking
 taken_of w i None = []
 taken_of w i (Some f) = taken_if (has f.to i && is_node w i) (w.cores i) f.frame
@@ -128,6 +136,7 @@ takings w (e ∷ es) = taken_in w e ++ takings (happens w e) es
 abbrev pub are_other_hops : Taking → Taking → Bool
 are_other_hops t u = not (same_ring t.commit.ring u.commit.ring && (t.commit.hop == u.commit.hop))
 
+-- a hop of the second round: from m to 2m - 1
 abbrev pub is_second : CommitToken → Bool
 is_second k = nat_le (size k.members) k.hop && nat_lt k.hop (2 * size k.members)
 
@@ -141,6 +150,7 @@ is_taken t = (receiver t.commit == t.who) && (not (is_second t.commit) || still_
 
 -- What holds of a run
 
+-- the rounds of all commit tokens of a run: the five facts of The commit token, rule 10
 pub record CommitRounds {A : Type 0} (w : World A) (events : List (RingEvent A)) : Type 0 where
   -- each processor takes part in rings of rising numbers
   pub rings : list_all (λ i. has_rising_rings ((run w events).cores i)) (numbers_from 1 w.total) ≡ true

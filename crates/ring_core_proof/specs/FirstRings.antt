@@ -16,11 +16,13 @@ use Rattle.ring_core_proof.specs.Worlds.{Carried, World, run, unformed}
 use Rattle.ring_core_proof.specs.Pumping.{pump}
 use Rattle.ring_core_proof.specs.Samples.{ring_of, first_ring, add_five, empty_head, message_of, token_frame, join_frame, empty_report, commit_frame}
 
+-- a frame sent, with its sender and the set of its receivers
 abbrev pub frame_of : ℕ → ℕ → Frame Global → Carried Global
 frame_of from to frame = record { from = from; to = to; frame = frame }
 
 -- Three
 
+-- each sends its first join
 abbrev pub three_joins : List (RingEvent Global)
 three_joins = Timeout 1 JoinTime ∷ Timeout 2 JoinTime ∷ Timeout 3 JoinTime ∷ []
 
@@ -28,12 +30,15 @@ three_joins = Timeout 1 JoinTime ∷ Timeout 2 JoinTime ∷ Timeout 3 JoinTime �
 abbrev pub three_after : ℕ → World Global
 three_after turns = (pump turns (run (unformed 3) three_joins)).world
 
+-- the first join of one of the three, to the two others
 abbrev pub join_to_others : ℕ → Carried Global
 join_to_others i = frame_of i (less 7 (only i)) (join_frame i 0 7 0)
 
+-- a hop of the three's commit token, from one member to another
 abbrev pub hop_of_three : ℕ → ℕ → ℕ → List CommitEntry → Carried Global
 hop_of_three from to hop entries = frame_of from (only to) (commit_frame first_ring 7 hop entries)
 
+-- what the three report: they were in no ring before
 abbrev pub three_reports : List CommitEntry
 three_reports = empty_report 1 ∷ empty_report 2 ∷ empty_report 3 ∷ []
 
@@ -54,7 +59,7 @@ three_frames =
 abbrev pub states_of_three : World Global → List State
 states_of_three w = map (λ i. (w.cores i).state) (1 ∷ 2 ∷ 3 ∷ [])
 
--- what a processor was told of configurations
+-- the output tells of a configuration
 abbrev pub is_configuration : Out Global → Bool
 is_configuration (Trans old new set) = true
 is_configuration (Regular ring set) = true
@@ -63,18 +68,22 @@ is_configuration (Agreed ring n x) = false
 is_configuration (Safe ring upto) = false
 is_configuration (Rest ring n x) = false
 
+-- what a processor was told of configurations
 abbrev pub configurations_of : ℕ → World Global → List (ℕ × Out Global)
 configurations_of i w = filter (λ (p : ℕ × Out Global). (p.0 == i) && is_configuration p.1) w.outs
 
+-- the two with which a processor of the three installs its first ring
 abbrev pub first_configurations : ℕ → List (ℕ × Out Global)
 first_configurations i = (i, Trans (ring_of 0 i) first_ring (only i)) ∷ (i, Regular first_ring 7) ∷ []
 
 -- Two of three: the third is silent, and is given up
 
+-- each of the two hears the other, processor 1 gives up the third, and each hears the other's new join
 abbrev pub silent_events : List (RingEvent Global)
 silent_events =
     Timeout 1 JoinTime ∷ Timeout 2 JoinTime ∷ Deliver 1 2 ∷ Deliver 2 1 ∷ Timeout 1 Consensus ∷ Deliver 2 3 ∷ Deliver 1 4 ∷ []
 
+-- their joins, in which the third is first gathered and then given up, and hop 1 of a ring of the two
 abbrev pub silent_frames : List (Carried Global)
 silent_frames =
     frame_of 1 6 (join_frame 1 0 7 0) ∷
@@ -91,9 +100,11 @@ lone_events =
     Timeout 1 JoinTime ∷ Deliver 1 1 ∷ Deliver 1 2 ∷ Deliver 1 3 ∷ Send 1 empty_head ∷
     Deliver 1 4 ∷ Send 1 (CallPayload add_five) ∷ Deliver 1 5 ∷ Deliver 1 6 ∷ []
 
+-- a hop of its commit token, which goes to itself
 abbrev pub lone_hop : ℕ → Out Global
 lone_hop hop = SendOut 1 (commit_frame first_ring 1 hop (empty_report 1 ∷ []))
 
+-- all that it gives
 abbrev pub lone_outs : List (ℕ × Out Global)
 lone_outs =
     (1, lone_hop 1) ∷
@@ -111,10 +122,12 @@ lone_outs =
     (1, SendOut 1 (token_frame 5 3 3 None [])) ∷
     (1, Safe first_ring 3) ∷ []
 
--- Stops, and events that change nothing: a frame not sent to the processor, one that was not sent, and an unknown processor
+-- Stops, and events that change nothing
 
+-- the third stops, and then a timeout comes to it
 abbrev pub stop_events : List (RingEvent Global)
 stop_events = Stop 3 ∷ Timeout 3 JoinTime ∷ []
 
+-- one join, and behind it what changes nothing: a frame not sent to the processor, one that was not sent, and an unknown processor
 abbrev pub idle_events : List (RingEvent Global)
 idle_events = Timeout 1 JoinTime ∷ Deliver 1 1 ∷ Deliver 2 2 ∷ Stop 4 ∷ Timeout 4 JoinTime ∷ []

@@ -17,6 +17,7 @@ loss_events =
     Deliver 2 1 ∷ Deliver 1 3 ∷ Deliver 2 4 ∷ Deliver 1 5 ∷ Deliver 1 5 ∷
     Deliver 1 6 ∷ Deliver 2 7 ∷ Deliver 1 8 ∷ Deliver 2 9 ∷ []
 
+-- all that both give: the message is asked for, sent again, agreed at processor 1 too, and safe at both
 abbrev pub loss_outs : List (ℕ × Out Global)
 loss_outs =
     (2, SendOut 1 (MessageFrame (call_at 2 1))) ∷
@@ -33,12 +34,14 @@ loss_outs =
     (2, SendOut 1 (token_frame 8 1 1 None [])) ∷
     (2, Safe first_ring 1) ∷ []
 
--- timeouts that do nothing on a ring formed from the start, and one that repeats its first token
+-- timeouts that do nothing on a ring formed from the start
 abbrev pub idle_timeouts : List (RingEvent Global)
 idle_timeouts = Timeout 1 Loss ∷ Timeout 2 JoinTime ∷ Timeout 1 Consensus ∷ []
 
+-- the one that acts there
 abbrev pub repeat_timeout : List (RingEvent Global)
 repeat_timeout = Timeout 1 Retransmit ∷ []
 
+-- the ring's first frame goes out again: the token that the representative sent on
 abbrev pub first_token_again : List (ℕ × Out Global)
 first_token_again = (1, SendOut 2 (token_frame 1 0 0 None [])) ∷ []

@@ -44,12 +44,13 @@ pub record LeadsToGather {A : Type 0} (c : Core A) (j : Join) (hearing : Hearing
   pub passes : disturbs c j ≡ true
   pub heard : hears (regathered c) j ≡ hearing
 
--- a commit token is at the member that its hop goes to, in the state of its round, and passes the round's tests
+-- a commit token of the first round is at the member that its hop goes to, which is in Gather, and passes the round's tests
 pub record PassesFirst {A : Type 0} (c : Core A) (k : CommitToken) : Type 0 where
   pub state : c.state ≡ Gather
   pub here : is_at c.me k ≡ true
   pub passes : takes_first_round c k ≡ true
 
+-- so one of the second round, in Commit
 pub record PassesSecond {A : Type 0} (c : Core A) (k : CommitToken) : Type 0 where
   pub state : c.state ≡ Commit
   pub here : is_at c.me k ≡ true
@@ -122,6 +123,7 @@ pub record IsTurnOf {A : Type 0} (me : ℕ) (held : List (Message A)) (v : Turn 
   pub within : v.front ≤ v.went.seq
   pub grown : v.front ≤ front_of held v.came.ring
 
+-- so do all of these visits
 abbrev pub AreTurnsOf : {A : Type 0} → ℕ → List (Message A) → List (Turn A) → Type 0
 AreTurnsOf me held turns = AllByRecursion (IsTurnOf me held) turns
 
@@ -147,6 +149,7 @@ pub record IsFreshOf {A : Type 0} (me : ℕ) (held : List (Message A)) (v : Turn
   pub numbered : length v.fresh ≤ max_number - v.came.seq
   pub made : AreOfQueue v.fresh ⊎ AreOfRecovery me v.came.ring held v.fresh
 
+-- so are the new messages of all of these visits
 abbrev pub AreFreshOf : {A : Type 0} → ℕ → List (Message A) → List (Turn A) → Type 0
 AreFreshOf me held turns = AllByRecursion (IsFreshOf me held) turns
 

@@ -19,6 +19,7 @@ pub record Known (A : Type 0) : Type 0 where
   pub reports : List Report
   pub plans : List CommitToken
 
+-- all that a core knows of a ring
 abbrev pub known_of : {A : Type 0} → RingId → Core A → Known A
 known_of ring c =
     record {

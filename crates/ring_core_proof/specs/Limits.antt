@@ -22,18 +22,20 @@ use Rattle.ring_core_proof.specs.Worlds.{Carried, World}
 
 -- What comes and what is given
 
+-- an input keeps the limits: a frame that comes has a spelling, a payload to be sent keeps those of payloads
 abbrev pub InputFits : {A : Type 0} → Input A → Type 0
 InputFits (FrameInput frame) = FrameFits frame
 InputFits (TimeInput kind) = Unit {0}
 InputFits (SendInput payload) = PayloadFits payload
 
+-- so an event of a world: a payload to be sent; a frame that is delivered was sent, so of it nothing is asked
 abbrev pub EventFits : {A : Type 0} → RingEvent A → Type 0
 EventFits (Send i payload) = PayloadFits payload
 EventFits (Deliver i k) = Unit {0}
 EventFits (Timeout i kind) = Unit {0}
 EventFits (Stop i) = Unit {0}
 
--- the frame that an output sends
+-- so what is given: the frame that an output sends has a spelling
 abbrev pub OutFits : {A : Type 0} → Out A → Type 0
 OutFits (SendOut to frame) = FrameFits frame
 OutFits (Agreed ring n x) = Unit {0}
@@ -58,10 +60,13 @@ pub record GatheringFits (me : ℕ) (g : Gathering) : Type 0 where
   pub alive : IsMember g.fail_set me → ⊥
   pub failed_in : IsSubset g.fail_set g.proc_set
 
+-- the payloads that wait to be sent keep the limits, and are users'
 pub record QueueFits {A : Type 0} (queue : List (Payload A)) : Type 0 where
   pub each : AllByRecursion PayloadFits queue
   pub users : AllAreUsers queue
 
+-- a core that keeps the limits of frames: its processors, rings and sets are in range, and what it queues, holds and keeps for
+-- retransmission within limits; no safe mark passes its front, all that is held is within the window, and its rings stand as its state says
 pub record CoreFits {A : Type 0} (c : Core A) : Type 0 where
   pub me : IsProc c.me
   pub among : c.me ≤ c.total

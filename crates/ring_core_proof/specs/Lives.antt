@@ -23,11 +23,12 @@ abbrev pub is_regular_of : {A : Type 0} → RingId → Stage A → Bool
 is_regular_of ring (InRegular at agreed safe) = same_ring at.ring ring
 is_regular_of ring (InTransitional old new members rest) = false
 
--- it is a transitional configuration from this ring, or to it
+-- it is a transitional configuration from this ring
 abbrev pub leaves : {A : Type 0} → RingId → Stage A → Bool
 leaves ring (InRegular at agreed safe) = false
 leaves ring (InTransitional old new members rest) = same_ring old ring
 
+-- it is a transitional configuration to this ring
 abbrev pub leads_to : {A : Type 0} → RingId → Stage A → Bool
 leads_to ring (InRegular at agreed safe) = false
 leads_to ring (InTransitional old new members rest) = same_ring new ring
@@ -50,23 +51,27 @@ belongs (Regular ring set) stage = leads_to ring stage
 
 -- What outputs add
 
+-- a message that was agreed stands behind those agreed before
 abbrev pub agreed_in : {A : Type 0} → Message A → Stage A → Stage A
 agreed_in x (InRegular at agreed safe) = InRegular at (agreed ++ x ∷ []) safe
 agreed_in x (InTransitional old new members rest) = InTransitional old new members rest
 
+-- this is the number up to which it is safe now
 abbrev pub safe_in : {A : Type 0} → ℕ → Stage A → Stage A
 safe_in upto (InRegular at agreed safe) = InRegular at agreed upto
 safe_in upto (InTransitional old new members rest) = InTransitional old new members rest
 
+-- a message of the rest stands behind those before it
 abbrev pub left_in : {A : Type 0} → Message A → Stage A → Stage A
 left_in x (InRegular at agreed safe) = InRegular at agreed safe
 left_in x (InTransitional old new members rest) = InTransitional old new members (rest ++ x ∷ [])
 
--- a life after an output: the newest stage, and those before it
+-- a life: the stage that a processor is in, and those before it, newest first
 pub record Life (A : Type 0) : Type 0 where
   pub newest : Stage A
   pub earlier : List (Stage A)
 
+-- a life after an output: what is agreed, safe and left over is added to the newest stage, and a configuration begins a new one
 abbrev pub lived : {A : Type 0} → Life A → Out A → Life A
 lived l (SendOut to frame) = l
 lived l (Agreed ring n x) = record l { newest = agreed_in x l.newest }
@@ -75,6 +80,7 @@ lived l (Trans old new set) = record { newest = InTransitional old new set []; e
 lived l (Rest ring n x) = record l { newest = left_in x l.newest }
 lived l (Regular ring set) = record { newest = InRegular (record { ring = ring; members = set }) [] 0; earlier = l.newest ∷ l.earlier }
 
+-- a life after outputs, in their order
 abbrev pub life_after : {A : Type 0} → Life A → List (Out A) → Life A
 life_after l [] = l
 life_after l (o ∷ outs) = life_after (lived l o) outs
@@ -84,10 +90,11 @@ abbrev pub all_belong : {A : Type 0} → Life A → List (Out A) → Bool
 all_belong l [] = true
 all_belong l (o ∷ outs) = belongs o l.newest && all_belong (lived l o) outs
 
--- what a processor gave, in order
+-- what was given, if this processor gave it
 abbrev pub given_if : {A : Type 0} → ℕ → ℕ × Out A → Option (Out A)
 given_if i p = if p.0 == i then Some p.1 else None
 
+-- all that a processor gave in a world, in order
 abbrev pub outs_of : {A : Type 0} → World A → ℕ → List (Out A)
 outs_of w i = filter_map (given_if i) w.outs
 
@@ -95,6 +102,7 @@ outs_of w i = filter_map (given_if i) w.outs
 abbrev pub begun : {A : Type 0} → ℕ → Life A
 begun i = record { newest = InRegular (alone i) [] 0; earlier = [] }
 
+-- the life of a processor in a world, as its outputs tell it
 abbrev pub life_of : {A : Type 0} → World A → ℕ → Life A
 life_of w i = life_after (begun i) (outs_of w i)
 
@@ -102,6 +110,7 @@ life_of w i = life_after (begun i) (outs_of w i)
 abbrev pub stages_of : {A : Type 0} → Life A → List (Stage A)
 stages_of l = l.newest ∷ l.earlier
 
+-- all that a processor gave stands where it belongs
 abbrev pub is_well_told : {A : Type 0} → World A → ℕ → Bool
 is_well_told w i = all_belong (begun i) (outs_of w i)
 

@@ -105,6 +105,7 @@ pub record ReportsFit {A : Type 0} (c : Core A) : Type 0 where
 
 -- All of it
 
+-- what every core knows of itself: by its rings and its state, its facts, its messages, its visits and its reports
 pub record LocalFacts {A : Type 0} (c : Core A) : Type 0 where
   pub rings : RingsFit c
   pub facts : FactsFit c

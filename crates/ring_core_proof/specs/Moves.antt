@@ -35,6 +35,7 @@ use Rattle.ring_core.specs.declared.input.Input.TheVariants.{Frame as FrameInput
 use Rattle.ring_core_proof.specs.FactWords.{IsIn, SomeIs}
 use Rattle.ring_core_proof.specs.Worlds.{Carried}
 
+-- one of the six things that can happen to a core, with what it is about
 pub data Move (A : Type 0) : Type 0 where
   -- no fact is added: another state, other sets, another queue; joins go out, or the last token again
   Idles : (state : State) → (gathering : Gathering) → (shown : Option (Sent A)) → (queue : List (Payload A)) → (sends : List (Sent A)) → Move A
@@ -63,6 +64,7 @@ went_with c t fresh requests = token_after c.me (front_of (held_in c t fresh) t.
 abbrev pub turn_with : {A : Type 0} → Core A → Token → List (Payload A) → List ℕ → Turn A
 turn_with c t fresh requests = record { came = t; front = front_of (held_in c t fresh) t.ring; fresh = fresh; went = went_with c t fresh requests }
 
+-- the core after a move
 abbrev pub moved : {A : Type 0} → Core A → Move A → Core A
 moved c (Idles state gathering shown queue sends) = record c { state = state; gathering = gathering; shown = shown; queue = queue }
 moved c (Enters k) = (joined c (hopped k (own_entry c ∷ []))).core
@@ -86,11 +88,13 @@ sends_of c (Visits t fresh requests again queue) = to_others c (again ++ numbere
 sends_of c (Takes x) = []
 sends_of c Installs = []
 
+-- the core after a move, with what the move sends
 abbrev pub did : {A : Type 0} → Core A → Move A → Did A
 did c m = record { core = moved c m; sends = sends_of c m }
 
 -- What each has passed. `came` are the frames that came to the core
 
+-- all of these payloads are users'
 abbrev pub AllAreUsers : {A : Type 0} → List (Payload A) → Type 0
 AllAreUsers ps = AllByRecursion (λ (p : Payload _). is_user p ≡ true) ps
 
@@ -146,6 +150,7 @@ pub record IsHandedOn {A : Type 0} (c : Core A) (w : WrappedMessage A) : Type 0 
   pub held : found c.held w.ring w.number ≡ Some (record { ring = w.ring; number = w.number; sender = w.sender; payload = payload_of w.payload })
   pub unseen : is_seen c w.number ≡ false
 
+-- the payload is a Wrapped that hands on such a message
 abbrev pub IsWrapping : {A : Type 0} → Core A → Payload A → Type 0
 IsWrapping {A} c p = (w : WrappedMessage A) × (p ≡ Wrapped w) × IsHandedOn c w
 
@@ -196,19 +201,20 @@ pub record MayVisit {A : Type 0} (came : Frame A → Type 0) (c : Core A) (t : T
   pub queued : AllAreUsers c.queue → AllAreUsers queue
   pub from : IsStart c t ⊎ came (TokenFrame t)
 
--- a ring whose messages are taken, and its members: the one that runs, or, in Gather, the installed one while none newer was taken part in
+-- while a ring runs: a message of that ring, sent by a member of it
 pub record TakesFrom {A : Type 0} (c : Core A) (x : Message A) : Type 0 where
   pub state : (c.state ≡ Recovery) ⊎ (c.state ≡ Operational)
   pub ring : x.ring ≡ c.running.ring
   pub sender : has c.running.members x.sender ≡ true
 
+-- in Gather, while no newer ring was taken part in: a message of the installed ring, sent by a member of it
 pub record TakesLate {A : Type 0} (c : Core A) (x : Message A) : Type 0 where
   pub state : c.state ≡ Gather
   pub ring : x.ring ≡ c.installed.ring
   pub newest : floor c ≡ x.ring.seq
   pub sender : has c.installed.members x.sender ≡ true
 
--- its number is new and in the window
+-- a message that came, of a ring whose messages are taken, as these two say; its number is new and in the window
 pub record MayTake {A : Type 0} (came : Frame A → Type 0) (c : Core A) (x : Message A) : Type 0 where
   pub ring : TakesFrom c x ⊎ TakesLate c x
   pub new : takes_number c x.ring x.number ≡ true
@@ -220,6 +226,7 @@ pub record MayInstall {A : Type 0} (c : Core A) : Type 0 where
   pub ready : is_ready c.held c.running.ring c.running.members (mark c c.running.ring) ≡ true
   pub complete : is_complete (plan c) c.held ≡ true
 
+-- a core may make a move: the move has passed what it asks for, and the frame that made it, if one did, came to the core
 abbrev pub MayMove : {A : Type 0} → (Frame A → Type 0) → Core A → Move A → Type 0
 MayMove came c (Idles state gathering shown queue sends) = MayIdle c state gathering shown queue sends
 MayMove came c (Enters k) = MayEnter came c k

@@ -36,10 +36,11 @@ calls_of_size size count = map (λ n. call_of_size size) (numbers_from 1 count)
 abbrev pub seven_and : ℕ → List (Call Global)
 seven_and size = calls_of_size 1000 7 ++ call_of_size size ∷ []
 
--- calls as they wait, and as one message
+-- calls as they wait in a queue
 abbrev pub waiting : List (Call Global) → List (Payload Global)
 waiting calls = map (λ c. CallPayload c) calls
 
+-- calls as one message
 abbrev pub pack_of : List (Call Global) → Payload Global
 pack_of calls = PackPayload (record { calls = calls })
 
@@ -51,10 +52,11 @@ queueing queue = record (formed 2 1) { queue = queue }
 abbrev pub around_head : List (Payload Global)
 around_head = waiting (calls_from 1 2) ++ empty_head ∷ waiting (calls_from 3 3)
 
--- five times two calls and a head
+-- two calls, from the call 7.first on, and a head
 abbrev pub two_and_head : ℕ → List (Payload Global)
 two_and_head first = waiting (calls_from first 2) ++ empty_head ∷ []
 
+-- five times two calls and a head
 abbrev pub five_times : List (Payload Global)
 five_times = two_and_head 1 ++ two_and_head 3 ++ two_and_head 5 ++ two_and_head 7 ++ two_and_head 9
 
@@ -80,12 +82,15 @@ nine_outs =
 
 -- Recovery hands on a Pack whole: processor 1 holds it as message 4 of the first ring, and processor 2 lacks it
 
+-- the message: two calls in one Pack
 abbrev pub packed_message : Message Global
 packed_message = message_of first_ring 4 1 (pack_of (calls_from 1 2))
 
+-- processor 1, which holds 1, 2 and 4
 abbrev pub with_pack : Core Global
 with_pack = recovering 2 1 3 (map (call_at 1) (1 ∷ 2 ∷ []) ++ packed_message ∷ []) two_reports
 
+-- the Pack, as it is wrapped
 abbrev pub wrapped_pack : Payload Global
 wrapped_pack = Wrapped (record { ring = first_ring; number = 4; sender = 1; payload = PackContent (record { calls = calls_from 1 2 }) })
 

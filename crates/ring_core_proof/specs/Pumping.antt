@@ -18,6 +18,7 @@ pairs_of k (f ∷ rest) = map (λ i. (k, i)) (elements f.to) ++ pairs_of (suc k)
 abbrev pub pairs_after : {A : Type 0} → ℕ → World A → List (ℕ × ℕ)
 pairs_after count w = pairs_of (suc count) (drop count w.frames)
 
+-- a world after an event: the pairs that were left, and behind them those of the frames sent since
 abbrev pub pumped_on : {A : Type 0} → World A → World A → List (ℕ × ℕ) → Pumped A
 pumped_on old new pairs = record { world = new; pairs = pairs ++ pairs_after (length old.frames) new }
 
@@ -26,6 +27,7 @@ abbrev pub turn : {A : Type 0} → World A → List (ℕ × ℕ) → Pumped A
 turn w [] = record { world = w; pairs = [] }
 turn w (p ∷ pairs) = pumped_on w (happens w (Deliver p.1 p.0)) pairs
 
+-- so many pairs are handed over, one after another
 abbrev pub turns : {A : Type 0} → ℕ → Pumped A → Pumped A
 turns zero p = p
 turns (suc k) p = turns k (turn p.world p.pairs)

@@ -20,12 +20,15 @@ recovering n me members held reports =
 
 -- Two from one ring: processor 1 holds 1, 2, 4 and processor 2 holds 1, 2, 3
 
+-- the reports of both
 abbrev pub two_reports : List CommitEntry
 two_reports = report_of first_ring 2 0 2 ∷ report_of first_ring 3 0 0 ∷ []
 
+-- processor 1
 abbrev pub with_four : Core Global
 with_four = recovering 2 1 3 (map (call_at 1) (1 ∷ 2 ∷ 4 ∷ [])) two_reports
 
+-- processor 2
 abbrev pub with_three : Core Global
 with_three = recovering 2 2 3 (map (call_at 1) (1 ∷ 2 ∷ 3 ∷ [])) two_reports
 
@@ -43,9 +46,11 @@ with_ends c =
 
 -- A gap: processor 1 holds 1, 2, 4 of its own and 5 of processor 3, which does not come along; processor 2 holds 1, 2
 
+-- the reports of both
 abbrev pub gap_reports : List CommitEntry
 gap_reports = report_of first_ring 2 0 6 ∷ report_of first_ring 2 0 0 ∷ []
 
+-- processor 1
 abbrev pub past_gap : Core Global
 past_gap = recovering 3 1 3 (map (call_at 1) (1 ∷ 2 ∷ 4 ∷ []) ++ call_at 3 5 ∷ []) gap_reports
 

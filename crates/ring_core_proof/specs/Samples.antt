@@ -17,6 +17,7 @@ use Rattle.ring_wire.specs.declared.token.Token.{Token}
 use Rattle.ring_core.specs.Windows.{bytes_of}
 use Rattle.ring_core.specs.State.{Core, formed}
 
+-- the ring of a number and a representative
 abbrev pub ring_of : ℕ → ℕ → RingId
 ring_of seq rep = record { seq = seq; rep = rep }
 
@@ -36,6 +37,7 @@ add_five = record { client = 7; number = 1; op = 1 ∷ 1 ∷ 0 ∷ 0 ∷ 0 ∷ 0
 abbrev pub empty_head : Payload Global
 empty_head = Head (record { last = None; length = 0; committed = 0; trimmed = 0 })
 
+-- a message of a ring: its number, its sender and its payload
 abbrev pub message_of : RingId → ℕ → ℕ → Payload Global → Message Global
 message_of ring number sender payload = record { ring = ring; number = number; sender = sender; payload = payload }
 
@@ -51,6 +53,7 @@ wrapped_call sender number = Wrapped (record { ring = first_ring; number = numbe
 abbrev pub token_of : ℕ → ℕ → ℕ → Option ℕ → List ℕ → Token
 token_of number seq aru aru_id requests = record { ring = first_ring; number = number; seq = seq; aru = aru; aru_id = aru_id; requests = requests }
 
+-- the same as a frame
 abbrev pub token_frame : ℕ → ℕ → ℕ → Option ℕ → List ℕ → Frame Global
 token_frame number seq aru aru_id requests = TokenFrame (token_of number seq aru aru_id requests)
 
@@ -58,9 +61,11 @@ token_frame number seq aru aru_id requests = TokenFrame (token_of number seq aru
 abbrev pub token_at : ℕ → ℕ → Token
 token_at number seq = token_of number seq seq None []
 
+-- a join: its sender, that one's floor, and the two sets
 abbrev pub join_of : ℕ → ℕ → ℕ → ℕ → Join
 join_of sender number proc_set fail_set = record { sender = sender; number = number; proc_set = proc_set; fail_set = fail_set }
 
+-- the same as a frame
 abbrev pub join_frame : ℕ → ℕ → ℕ → ℕ → Frame Global
 join_frame sender number proc_set fail_set = JoinFrame (join_of sender number proc_set fail_set)
 
@@ -72,9 +77,11 @@ report_of old front mark bits = record { old = old; front = front; mark = mark; 
 abbrev pub empty_report : ℕ → CommitEntry
 empty_report i = report_of (ring_of 0 i) 0 0 0
 
+-- a commit token of a ring: its members, its hop and its entries
 abbrev pub commit_of : RingId → ℕ → ℕ → List CommitEntry → CommitToken
 commit_of ring members hop entries = record { ring = ring; members = members; hop = hop; entries = entries }
 
+-- the same as a frame
 abbrev pub commit_frame : RingId → ℕ → ℕ → List CommitEntry → Frame Global
 commit_frame ring members hop entries = CommitFrame (commit_of ring members hop entries)
 

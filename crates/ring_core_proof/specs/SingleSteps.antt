@@ -24,21 +24,27 @@ comes c frame = ring_step c (FrameInput frame)
 
 -- The token at two of three: processor 2 holds 1 to 8, processor 3 holds 1 to 10
 
+-- processor 2
 abbrev pub lacking : Core Global
 lacking = holding 3 2 (numbers_from 1 8)
 
+-- processor 3
 abbrev pub having : Core Global
 having = holding 3 3 (numbers_from 1 10)
 
+-- a token whose numbers go up to 10, and which nobody holds back
 abbrev pub token_of_ten : Frame Global
 token_of_ten = token_frame 5 10 10 None []
 
+-- the same as processor 2 sends it on: it asks for 9 and 10, and holds the aru back at 8
 abbrev pub asking_token : Frame Global
 asking_token = token_frame 6 10 8 (Some 2) (9 ∷ 10 ∷ [])
 
+-- what processor 2 gives: that token, to processor 3
 abbrev pub asks : List (Out Global)
 asks = SendOut 4 asking_token ∷ []
 
+-- what processor 3 gives then: messages 9 and 10 once more, to the two others, and the token, to processor 1
 abbrev pub sends_again : List (Out Global)
 sends_again = SendOut 3 (MessageFrame (call_at 1 9)) ∷ SendOut 3 (MessageFrame (call_at 1 10)) ∷ SendOut 1 (token_frame 7 10 8 (Some 2) []) ∷ []
 
@@ -47,6 +53,7 @@ sends_again = SendOut 3 (MessageFrame (call_at 1 9)) ∷ SendOut 3 (MessageFrame
 abbrev pub holed : List ℕ → Core Global
 holed numbers = holding 1 1 numbers
 
+-- a core with this safe mark in the first ring
 abbrev pub marked : ℕ → Core Global → Core Global
 marked mark c = record c { raises = record { ring = first_ring; mark = mark } ∷ [] }
 
@@ -68,10 +75,11 @@ floored number = record (opening 1 1) { running = record { ring = ring_of number
 abbrev pub stranger : Frame Global
 stranger = join_frame 4 0 15 0
 
--- holding 1 to 10 with the safe mark at 5, and a token that asks for 3 and 7
+-- one of two that holds 1 to 10, with the safe mark at 5
 abbrev pub marked_at_five : Core Global
 marked_at_five = marked 5 (sending 10)
 
+-- a token that asks for 3 and 7
 abbrev pub asks_three_and_seven : Token
 asks_three_and_seven = token_of 5 10 10 None (3 ∷ 7 ∷ [])
 
@@ -98,15 +106,17 @@ in_ring_of_two state =
       installed = record { ring = first_ring; members = 3 };
     }
 
+-- what it gives at the join timeout in Operational: a join of the ring's members to processor 3
 abbrev pub invitation : List (Out Global)
 invitation = SendOut 4 (join_frame 1 1 3 0) ∷ []
 
 -- Joins
 
--- processor 1 of three, alone in its sets, or with processor 2 given up
+-- processor 1 alone in its sets
 abbrev pub gathering_alone : Gathering
 gathering_alone = entered 1
 
+-- processor 1 of three, which has given up processor 2
 abbrev pub gave_up_two : Core Global
 gave_up_two = record (opening 3 1) { gathering = record { proc_set = 7; fail_set = 2; heard = [] } }
 
@@ -116,7 +126,7 @@ gives_up_and_proposes = SendOut 2 (join_frame 1 0 3 2) ∷ SendOut 1 (commit_fra
 
 -- Commit tokens
 
--- a commit token of three that gather, and one of two of them alone
+-- a commit token of three that gather
 abbrev pub hop_at_three : ℕ → List CommitEntry → Frame Global
 hop_at_three hop entries = commit_frame first_ring 7 hop entries
 

@@ -36,5 +36,6 @@ pub record IsFit {A : Type 0} (held : List (Message A)) (turns : List (Turn A)) 
   pub visits : AllByRecursion (λ (v : Turn A). v.went.aru ≤ front_of held v.came.ring) turns
   pub raised : AllByRecursion (λ (x : Raise). x.mark ≤ front_of held x.ring) raises
 
+-- so of a core: no safe mark passes its front, and no message that is held lies more than 256 past its ring's mark
 abbrev pub Fit : {A : Type 0} → Core A → Type 0
 Fit c = IsFit c.held c.turns c.raises

@@ -19,6 +19,7 @@ use Rattle.ring_core.specs.Stepping.{ring_step}
 use Rattle.ring_core_proof.specs.declared.event.RingEvent.{RingEvent}
 use Rattle.ring_core_proof.specs.declared.event.RingEvent.TheVariants.{Send, Deliver, Timeout, Stop}
 
+-- a world of ring cores: the cores of its processors, all frames ever sent, and all that the cores gave
 pub record World (A : Type 0) : Type 0 where
   -- processors 1 to this
   pub total : ℕ
@@ -52,9 +53,11 @@ after_step w i s =
       outs = w.outs ++ map (λ o. (i, o)) s.outs;
     }
 
+-- the processor is one of the world's
 abbrev pub is_node : {A : Type 0} → World A → ℕ → Bool
 is_node w i = nat_le 1 i && nat_le i w.total
 
+-- the core of a processor steps by an input, where the processor is known
 abbrev pub stepped_if : {A : Type 0} → Bool → World A → ℕ → Input A → World A
 stepped_if false w i input = w
 stepped_if true w i input = after_step w i (ring_step (w.cores i) input)
@@ -63,10 +66,12 @@ stepped_if true w i input = after_step w i (ring_step (w.cores i) input)
 abbrev pub stepped : {A : Type 0} → World A → ℕ → Input A → World A
 stepped w i input = stepped_if (is_node w i) w i input
 
+-- the core of a processor stops, where the processor is known: nothing is given
 abbrev pub stopped_if : {A : Type 0} → Bool → World A → ℕ → World A
 stopped_if false w i = w
 stopped_if true w i = record w { cores = put w.cores i (halted (w.cores i)) }
 
+-- a frame comes to a processor, where it was sent to it
 abbrev pub handed_if : {A : Type 0} → Bool → World A → ℕ → Frame A → World A
 handed_if false w i frame = w
 handed_if true w i frame = stepped w i (FrameInput frame)
@@ -113,11 +118,13 @@ is_repeat JoinTime = false
 is_repeat Consensus = false
 is_repeat Loss = false
 
+-- the events that act there: all but the other three timeouts
 abbrev pub acts_on_formed : {A : Type 0} → RingEvent A → Bool
 acts_on_formed (Timeout i kind) = is_repeat kind
 acts_on_formed (Send i payload) = true
 acts_on_formed (Deliver i k) = true
 acts_on_formed (Stop i) = true
 
+-- the world after events on a ring of all n that is formed from the start; those that don't act there are left out
 abbrev pub run_formed : {A : Type 0} → ℕ → List (RingEvent A) → World A
 run_formed n events = run (ring_formed n) (filter acts_on_formed events)

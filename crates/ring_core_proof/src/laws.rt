@@ -126,7 +126,8 @@ pub fn rounds_law<A: Allocator + Copy>()
     ensures taken { (w : World A) (events : List (RingEvent A)) → list_all is_taken (takings w events) ≡ true }
 {}
 
-/// The laws at the allocator that programs use; of one of them it says what it gives.
+/// The laws at the allocator that programs use; of one of them it says what it gives. Nothing calls it: a law is proved of all
+/// allocators that meet its bounds, and this shows one that does.
 pub fn laws_at_global()
     ensures { (n me : ℕ) (inputs : List (Input Heap)) (ring : RingId) → mark (after_inputs (opening n me) inputs)
         ring ≤ front (after_inputs (opening n me) inputs) ring }

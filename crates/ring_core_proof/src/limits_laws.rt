@@ -29,7 +29,8 @@ pub fn frames_law<A: Allocator + Copy>()
     ensures formed { (n : ℕ) (events : List (RingEvent A)) → 1 ≤ n → n ≤ 16 → AllByRecursion EventFits events → WorldFits (run_formed n events) }
 {}
 
-/// The laws at the allocator that programs use; of one of them it says what it gives.
+/// The laws at the allocator that programs use; of one of them it says what it gives. Nothing calls it: a law is proved of all
+/// allocators that meet its bounds, and this shows one that does.
 pub fn laws_at_global()
     ensures { (n : ℕ) (events : List (RingEvent Heap)) → n ≤ 16 → AllByRecursion EventFits events → WorldFits (run (unformed n) events) }
 {

@@ -35,7 +35,8 @@ pub fn between_law<A: Allocator + Copy>()
     ensures { (c : Core A) (later : List (Input A)) → IsBetween c → StaysBetween c (after_inputs c later) }
 {}
 
-/// The laws at the allocator that programs use; of one of them it says what it gives.
+/// The laws at the allocator that programs use; of one of them it says what it gives. Nothing calls it: a law is proved of all
+/// allocators that meet its bounds, and this shows one that does.
 pub fn laws_at_global()
     ensures { (n me : ℕ) (inputs : List (Input Heap)) → LocalFacts (after_inputs (opening n me) inputs) }
 {

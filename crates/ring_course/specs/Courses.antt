@@ -30,10 +30,12 @@ use Rattle.ring_course.specs.declared.stage.Stage.TheVariants.{Apart, Exchanging
 
 -- Where the exchange of the newest ring stands, by what was heard there
 
+-- the ring is adopted once its exchange was heard whole
 abbrev pub staged : {A : Type 0} → Option (Whole A) → Exchange A → Stage A
 staged None e = Exchanging e
 staged (Some w) e = Adopted
 
+-- by the messages heard in a ring of these members, which has no exchange where they aren't primary
 abbrev pub stage_in : {A : Type 0} → Group → ℕ → List (Message A) → Stage A
 stage_in group members text = if is_primary group members then staged (whole_from (opened members) text) (after_all (opened members) text) else Apart
 
@@ -43,6 +45,7 @@ abbrev pub reached : {A : Type 0} → RingId → Kept A → Option (Whole A) →
 reached ring k None = 0
 reached ring k (Some w) = reach_by (adopts k ring w) (Some w)
 
+-- so by the messages heard in a ring of these members: 0, too, where they aren't primary
 abbrev pub reach_of : {A : Type 0} → Group → ℕ → RingId → Kept A → List (Message A) → ℕ
 reach_of group members ring k text = reached ring k (exchanged group members text)
 
@@ -57,11 +60,12 @@ abbrev pub behind : {A : Type 0} → ℕ → List (Message A) → List (Message 
 behind mark [] = []
 behind mark (x ∷ xs) = if nat_le x.number mark then behind mark xs else x ∷ xs
 
--- those that a mark leaves, and how far the last of those reaches that it covers
+-- of reaches in the order of their numbers those that a mark doesn't cover
 abbrev pub left : ℕ → List Reach → List Reach
 left mark [] = []
 left mark (r ∷ rest) = if nat_le r.number mark then left mark rest else r ∷ rest
 
+-- how far the last of those reaches that a mark covers, `places` where it covers none
 abbrev pub covered : ℕ → ℕ → List Reach → ℕ
 covered mark places [] = places
 covered mark places (r ∷ rest) = if nat_le r.number mark then covered mark r.places rest else places
@@ -74,6 +78,7 @@ pub record Holding (A : Type 0) : Type 0 where
   pub before : Option (Log A)
   pub snapshot : List ℕ
 
+-- at the opening: the log is empty, and no bytes stand for dropped places
 abbrev pub nothing_held : {A : Type 0} → Holding A
 nothing_held = record { log = empty; before = None; snapshot = [] }
 
@@ -104,9 +109,11 @@ pub record Course (A : Type 0) : Type 0 where
   pub held : Holding A
   pub fine : Bool
 
+-- of processor me of the group, at the opening
 abbrev pub course_opening : {A : Type 0} → Group → ℕ → Course A
 course_opening group me = record { group = group; me = me; life = born me; held = nothing_held; fine = true }
 
+-- the committed places are dropped, in the life too, if bytes are given that stand for them
 abbrev pub course_trimmed : {A : Type 0} → Course A → Option (List ℕ) → Course A
 course_trimmed c None = c
 course_trimmed c (Some bytes) = record c { life = trims c.held.log.committed c.life; held = held_trimmed c.held (Some bytes) }
@@ -137,9 +144,11 @@ pub record RestoresMore {A : Type 0} (new : Holding A) (k now : Kept A) : Type 0
   pub from : now.trimmed ≡ now.from
   pub past : k.committed < now.from
 
+-- the one or the other
 abbrev pub MayRestore : {A : Type 0} → Holding A → Holding A → Kept A → Kept A → Type 0
 MayRestore old new k now = KeepsDropped old new k now ⊎ RestoresMore new k now
 
+-- so what is held goes on, and its log has dropped as many places as the node then knows to be dropped
 pub record GoesOn {A : Type 0} (old new : Holding A) (k now : Kept A) : Type 0 where
   pub log : new.log.trimmed ≡ now.trimmed
   pub held : MayRestore old new k now
@@ -172,6 +181,7 @@ pub record IsSteady {A : Type 0} (group : Group) (life : List (Stay A)) : Type 0
   pub frozen : is_closed group life ≡ false → stay.trimmed ≡ 0
   pub sound : is_kept_sound group life ≡ true
 
+-- so it is while the course is fine; of one that isn't any more nothing is said
 abbrev pub IsCourse : {A : Type 0} → Group → List (Stay A) → Bool → Holding A → RingId → Stage A → ℕ → List Reach → Type 0
 IsCourse group life fine held ring stage mark reaches = fine ≡ true → IsCourseKept group life held ring stage mark reaches
 
@@ -186,6 +196,7 @@ abbrev pub owner_asked : {A : Type 0} → ℕ → Holding A → Option Wanted �
 owner_asked me h None new = owner_due me h.snapshot h.log new
 owner_asked me h (Some w) new = []
 
+-- what is due is handed over only where the ring runs
 abbrev pub if_runs : {A : Type 0} → Bool → List (Payload A) → List (Payload A)
 if_runs runs due = if runs then due else []
 
@@ -196,33 +207,39 @@ pub record Took (A : Type 0) : Type 0 where
   pub held : Holding A
   pub due : List (Payload A)
 
--- a base, if there is one: whether it may be adopted, what is held then, and the calls that then go out
+-- the base that the exchange hands out, if it does, may be adopted
 abbrev pub fits_if : {A : Type 0} → Log A → Option (Base A) → Bool
 fits_if log None = true
 fits_if log (Some base) = is_adoptable log base
 
+-- what is held once it is adopted; without one nothing changes
 abbrev pub held_if : {A : Type 0} → Setting → Holding A → Option (Base A) → Holding A
 held_if setting h None = h
 held_if setting h (Some base) = adopted_held h setting.ring base
 
+-- the calls that go out as it is adopted, where its ring runs
 abbrev pub calls_if : {A : Type 0} → Setting → List (Pending A) → Holding A → Option (Base A) → List (Payload A)
 calls_if setting pending h None = []
 calls_if setting pending h (Some base) =
     if_runs setting.runs (calls_left pending (places_past setting.committed (adopted_held h setting.ring base).log))
 
+-- where the exchange stands then: without a base it is still open
 abbrev pub stage_if : {A : Type 0} → Exchange A → Option (Base A) → Stage A
 stage_if e None = Exchanging e
 stage_if e (Some base) = Adopted
 
+-- all of these, of a message after which the exchange is this; `places`, what the owner sends by it, goes before the calls
 abbrev pub took_base : {A : Type 0} → Setting → List (Pending A) → Holding A → Exchange A → List (Payload A) → Option (Base A) → Took A
 took_base setting pending h e places base =
     record { stage = stage_if e base; fits = fits_if h.log base; held = held_if setting h base; due = places ++ calls_if setting pending h base }
 
+-- a message of a ring whose exchange isn't whole is heard; what is due by it is handed over where the ring runs
 abbrev pub took_exchanging : {A : Type 0} → Setting → List (Pending A) → Holding A → Exchange A → Message A → Took A
 took_exchanging setting pending h e x =
     took_base setting pending h (relieved (heard e x.sender x.payload))
     (if_runs setting.runs (owner_asked setting.me h (wanted e) (wanted (relieved (heard e x.sender x.payload))))) (base_at e x.sender x.payload)
 
+-- a message of the newest ring, by where its exchange stands: once the ring is adopted, the message's calls follow in the log
 abbrev pub took : {A : Type 0} → Setting → List (Pending A) → Holding A → Stage A → Message A → Took A
 took setting pending h Apart x = record { stage = Apart; fits = true; held = h; due = [] }
 took setting pending h (Exchanging e) x = took_exchanging setting pending h e x
@@ -270,16 +287,20 @@ pub record Moment (A : Type 0) : Type 0 where
 abbrev pub bytes_at : {A : Type 0} → Moment A → Kept A → List ℕ
 bytes_at m k = if nat_lt m.trimmed k.trimmed then k.snapshot else m.snapshot
 
+-- as the exchange becomes whole: the calls without an answer that stand nowhere in the base past the committed places
 abbrev pub dues_when_whole : {A : Type 0} → Moment A → List (Stay A) → Exchange A → Exchange A → List (Payload A)
 dues_when_whole m life old new =
     if is_whole new && not (is_whole old) then calls_left m.pending (places_past m.committed (log_kept (kept_of m.group life))) else []
 
+-- as the last Head is heard: what the owner sends
 abbrev pub owner_dues : {A : Type 0} → Moment A → Kept A → Exchange A → Exchange A → List (Payload A)
 owner_dues m k old new = due_when_stated m.me (bytes_at m k) (log_kept k) old new
 
+-- both, by a message that makes the one exchange the other; `before` and `life` are the lives before and after it
 abbrev pub dues_between : {A : Type 0} → Moment A → List (Stay A) → List (Stay A) → Exchange A → Exchange A → List (Payload A)
 dues_between m before life old new = owner_dues m (kept_of m.group before) old new ++ dues_when_whole m life old new
 
+-- by a message heard in this stay; nothing where its members aren't primary
 abbrev pub dues_in_stay : {A : Type 0} → Moment A → Stay A → List (Stay A) → Message A → List (Stay A) → List (Payload A)
 dues_in_stay m s before x life =
     if is_primary m.group s.members
@@ -291,6 +312,7 @@ abbrev pub dues_heard : {A : Type 0} → Moment A → Bool → List (Stay A) →
 dues_heard m runs [] x life = []
 dues_heard m runs (s ∷ older) x life = if runs then dues_in_stay m s (s ∷ older) x life else []
 
+-- by an output, of a life up to it
 abbrev pub dues_at : {A : Type 0} → Moment A → List (Stay A) → Out A → List (Payload A)
 dues_at m life (Agreed ring k x) = dues_heard m (is_running m.running ring) life x (lived life (Agreed ring k x))
 dues_at m life (Regular ring set) = due_at_regular m.group set life
@@ -299,6 +321,7 @@ dues_at m life (Safe ring upto) = []
 dues_at m life (Trans old new set) = []
 dues_at m life (Rest ring k x) = []
 
+-- by outputs, in their order
 abbrev pub dues_by : {A : Type 0} → Moment A → List (Stay A) → List (Out A) → List (Payload A)
 dues_by m life [] = []
 dues_by m life (o ∷ outs) = dues_at m life o ++ dues_by m (lived life o) outs
@@ -308,6 +331,7 @@ abbrev pub is_risen : {A : Type 0} → List (Stay A) → ℕ → Bool
 is_risen [] mark = true
 is_risen (s ∷ older) mark = nat_le s.mark mark
 
+-- none falls by an output
 abbrev pub rises_at : {A : Type 0} → List (Stay A) → Out A → Bool
 rises_at life (Safe ring upto) = is_risen life upto
 rises_at life (Send to frame) = true
@@ -316,6 +340,7 @@ rises_at life (Trans old new set) = true
 rises_at life (Rest ring k x) = true
 rises_at life (Regular ring set) = true
 
+-- none falls by outputs, one after the other
 abbrev pub rises : {A : Type 0} → List (Stay A) → List (Out A) → Bool
 rises life [] = true
 rises life (o ∷ outs) = rises_at life o && rises (lived life o) outs

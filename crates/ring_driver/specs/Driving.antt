@@ -14,6 +14,7 @@ use Rattle.ring_rules.specs.Stepping.{node_step, submitted, submit_fault}
 use Rattle.ring_rules.specs.declared.input.Input.{Input}
 use Rattle.ring_node.specs.Restores.{node_restored}
 
+-- a node, and what its last step gave that nobody took yet
 pub record Driven (A : Type 0) : Type 0 where
   pub node : Node A
   -- what the last step sent, newly committed and dropped, as far as nobody took it
@@ -23,6 +24,7 @@ pub record Driven (A : Type 0) : Type 0 where
   -- how many places the last step restored, if it restored any
   pub restored : Option ℕ
 
+-- a node as it opens
 abbrev pub opened : {A : Type 0} → Group → ℕ → Driven A
 opened group me = record { node = node_opening group me; sends = []; committed = []; dropped = []; restored = None }
 

@@ -79,8 +79,8 @@ impl<O: Object> Driver<O> {
     }
 
     /// Submits a client's call of this number, counted from 1, and gives its ticket. Refused, in this order: `OpTooLong` over
-    /// 1,024 bytes; `NumberGap` for number 0; `Stopped` in a stopped node; `PendingFull` where 64 tickets have no answer;
-    /// `Memory`, which may come before the last two. A refusal leaves the node as it was.
+    /// 1,024 bytes; `NumberGap` for number 0; `Stopped` in a stopped node; `PendingFull` where 64 tickets have no answer, or 2^62
+    /// were given; `Memory`, which may come before the last two. A refusal leaves the node as it was.
     #[tactic(auto, using(crate::proofs::DriverLimits::not_made, crate::proofs::DriverLimits::not_taken))]
     pub fn submit(&mut self, client: u32, number: u64, operation: &[u8]) -> Result<Ticket, Fault>
         ensures ticket { IfOk result (λ ticket. ticket ≡ length self.old.node.tickets) }
@@ -94,7 +94,8 @@ impl<O: Object> Driver<O> {
         self.node.submit(call)
     }
 
-    /// A letter comes. Refused with `Stopped` in a stopped node, else with `Memory`: then the node has stopped for good.
+    /// A letter comes. Refused with `Stopped` in a stopped node, else with `Memory`: then the node has stopped for good. A refused
+    /// step gives nothing, and what the step before gave stays to be taken.
     pub fn hear(&mut self, letter: Letter<O::Alloc>) -> Result<(), Fault>
         ensures ok { OnOk result (self.new ≡ stepped O.sequential self.old (FrameInput letter)) }
         ensures err { OnErr result (self.new ≡ ended self.old) }
@@ -112,7 +113,7 @@ impl<O: Object> Driver<O> {
         self.step(Input::Timeout(kind))
     }
 
-    /// The node stops, for good. Refused with `Stopped` where it had.
+    /// The node stops, for good, which gives nothing and takes no memory. Refused with `Stopped` where it had.
     pub fn stop(&mut self) -> Result<(), Fault>
         ensures ok { OnOk result (self.new ≡ stepped O.sequential self.old StopInput) }
         ensures err { OnErr result (self.new ≡ ended self.old) }
@@ -138,7 +139,8 @@ impl<O: Object> Driver<O> {
         Ok(())
     }
 
-    /// The next letter of those that the last step sent, with its receivers, in the order in which they were sent.
+    /// The next letter of those that the last step sent, with its receivers, in the order in which they were sent. `None` once all
+    /// are taken. The node itself may be a receiver.
     pub fn next_send(&mut self) -> Option<(ProcSet, Letter<O::Alloc>)>
         ensures { IsTaken self.old self.new (option_map (λ taken. (taken.0, taken.1)) result) }
     {
@@ -146,7 +148,7 @@ impl<O: Object> Driver<O> {
         Some((sent.to, Letter::of(sent.frame)))
     }
 
-    /// The next call of those that the last step newly committed, in order.
+    /// The next call of those that the last step newly committed, in order. `None` once all are taken.
     pub fn next_committed(&mut self) -> Option<Call<O::Alloc>>
         ensures first { IsFirst self.old.committed self.new.committed result }
         ensures others { self.new ≡ record self.old { committed = self.new.committed } }
@@ -155,7 +157,7 @@ impl<O: Object> Driver<O> {
     }
 
     /// The next call of those of the committed places that the node dropped at the last step's end, in order. The places that a
-    /// restored snapshot stands for are none of them.
+    /// restored snapshot stands for are none of them. `None` once all are taken.
     pub fn next_dropped(&mut self) -> Option<Call<O::Alloc>>
         ensures first { IsFirst self.old.dropped self.new.dropped result }
         ensures others { self.new ≡ record self.old { dropped = self.new.dropped } }

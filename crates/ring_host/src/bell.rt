@@ -10,9 +10,9 @@ const HALF: u64 = 1 << 32;
 /// Threads rest by it, and it wakes them.
 #[derive(Drop)]
 pub(crate) struct Bell {
-    // How often it has rung.
+    /// How often it has rung.
     rung: AtomicU64,
-    // How many threads rest, or are about to.
+    /// How many threads rest, or are about to.
     resting: AtomicU64,
 }
 

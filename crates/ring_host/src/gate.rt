@@ -16,9 +16,9 @@ pub enum GatePlace {
 pub enum Stir {
     /// Nothing came.
     Nothing,
-    /// No more than a timeout, where the ring is installed and all of the node's log is committed.
+    /// No more than a timeout: the node sent at most one frame, its ring is installed, and all of its log is committed.
     Timeout,
-    /// No more than the token, where the ring is installed and all of the node's log is committed.
+    /// No more than a token or a commit token: the node sent at most one frame, its ring is installed, and all of its log is committed.
     Quiet,
     /// Something else.
     Busy,

@@ -34,7 +34,9 @@ use std::sync::{Mutex, Wait};
 /// What is polled for the answer to a call that was submitted at a node.
 #[derive(Clone, Copy, Debug, PartialEq, Eq)]
 pub struct HostTicket {
+    /// Where the call was submitted.
     pub node: Proc,
+    /// The ticket that the node gave for it.
     pub ticket: Ticket,
 }
 
@@ -48,7 +50,7 @@ pub struct HostOf<C, B, A: Allocator + Copy + Drop = Global> {
     pub(crate) cells: Vec<Mutex<C>, A>,
     pub(crate) inboxes: Vec<Inbox<A>, A>,
     pub(crate) gauge: Gauge<A>,
-    // It rings at each submit, and at the close.
+    /// It rings at each submit, and at the close.
     pub(crate) bell: Bell,
     pub(crate) closed: AtomicBool,
     pub(crate) book: Mutex<B>,
@@ -109,7 +111,8 @@ impl<C, B, A: Allocator + Copy + Drop> HostOf<C, B, A> {
         &self.gauge
     }
 
-    /// Closes the host, for good: the threads of `run` end.
+    /// Closes the host, for good: the threads of `run` end. They alone look at it, so that turns and submits of others go on. It takes
+    /// no lock and no memory.
     pub fn close(&self) {
         self.closed.store(true, Ordering::SeqCst);
         self.bell.ring();
@@ -141,9 +144,11 @@ impl<C, B, A: Allocator + Copy + Drop> HostOf<C, B, A> {
 impl<O: Object, K: BookName<O::Alloc>> HostOf<Cell<O, K>, Book<O, K>, O::Alloc> {
     /// One turn of the seat's node: a timeout that is due, or else the first item of its inbox. Tells how many places
     /// the node has committed, dropped ones included, which is published on the seat; a turn that finds nothing yields, and publishes none.
+    /// The seat is one of this host's, and a node's own.
     ///
     /// Refused: `Memory` or `Stranger` where the item can't be read or doesn't stand in the book; `BookFull`, `Memory` of the place;
-    /// then as the node's step, `Stopped` or `Memory`, which leaves the node stopped. Nothing is published then.
+    /// then as the node's step, `Stopped` or `Memory`, which leaves the node stopped. Nothing is published then, and the timeout or item
+    /// that the turn took is spent.
     pub fn turn<W: Wait>(&self, rt: &W, seat: &mut Seat<O::Alloc>) -> Result<Turn, Fault>
         requires own { IsOwn self.now seat.old }
         ensures seat { IsOwn self.now seat.new × (seat.new.node ≡ seat.old.node) }
@@ -154,8 +159,9 @@ impl<O: Object, K: BookName<O::Alloc>> HostOf<Cell<O, K>, Book<O, K>, O::Alloc> 
         self.gated_turn(rt, seat, &Open)
     }
 
-    /// Submits a call at the node, which enters its line. Refused, in this order: `BookFull`, `Memory` of the place, `Stranger`,
-    /// `Stopped`, `PendingFull`, `Memory` of the call; node and book's list are as before then.
+    /// Submits a call at the node, which enters its line. Seat and node are this host's, and the call keeps the limits of frames, as
+    /// each does that `Call::new` makes. Refused, in this order: `BookFull`, `Memory` of the place, `Stranger`, `Stopped`, `PendingFull`,
+    /// `Memory` of the call; node and book's list are as before then.
     pub fn submit<W: Wait>(
         &self,
         rt: &W,
@@ -170,6 +176,7 @@ impl<O: Object, K: BookName<O::Alloc>> HostOf<Cell<O, K>, Book<O, K>, O::Alloc> 
         ensures node { IfOk result (λ t. t.node ≡ node) }
         ensures refused { IfErr result IsSubmitFault }
     {
+        // The contract alone speaks of it: who submits has a seat of this host.
         let _seat = seat;
         let submitted = self.submit_locked(rt, node, call);
         if submitted.is_ok() {
@@ -178,8 +185,8 @@ impl<O: Object, K: BookName<O::Alloc>> HostOf<Cell<O, K>, Book<O, K>, O::Alloc> 
         submitted
     }
 
-    /// Stops a node, for good. Refused, in this order: `BookFull`, `Memory`, `Stranger`, `Stopped`; node and book's list are as
-    /// before then.
+    /// Stops a node of this host, for good. Refused, in this order: `BookFull`, `Memory`, `Stranger`, `Stopped`; node and book's list
+    /// are as before then.
     pub fn stop<W: Wait>(&self, rt: &W, node: Proc) -> Result<(), Fault>
         requires { node ≤ self.now.words }
         ensures refused { IfErr result IsTurnFault }
@@ -193,7 +200,7 @@ impl<O: Object, K: BookName<O::Alloc>> HostOf<Cell<O, K>, Book<O, K>, O::Alloc> 
     }
 
     /// The answer to the ticket's call, if this host's book has it. So some run of the group has the ticket's issue, and this
-    /// answer to it. None may stay the answer for ever, as where the node stops, or the book is full: a caller bounds its polls.
+    /// answer to it. It may be `None` for ever, as where the node stops, or the book is full: a caller bounds its polls.
     pub fn poll<W: Wait>(&self, rt: &W, ticket: &HostTicket) -> Option<Answer>
         ensures { IfSome result (IsAnswered O.Alloc O.sequential K.name.group ticket.now.node ticket.now.ticket) }
     {
@@ -221,8 +228,8 @@ impl<O: Object, K: BookName<O::Alloc>> HostOf<Cell<O, K>, Book<O, K>, O::Alloc> 
         answers.look(&book, ticket);
     }
 
-    // Submits a call at the node, under its locks. The book's is held from the place to the line: to take it twice would take longer
-    // than the submit in between.
+    /// Submits a call at the node, under its locks. The book's is held from the place to the line: to take it twice would take longer
+    /// than the submit in between.
     fn submit_locked<W: Wait>(
         &self,
         rt: &W,

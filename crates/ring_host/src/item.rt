@@ -66,7 +66,7 @@ impl<A: Allocator + Copy + Drop> Task<A> {
     }
 }
 
-// Reads the frame that the bytes are, all of them, into the place.
+/// Reads the frame that the bytes are, all of them, into the place.
 fn read_frame<A: Allocator + Copy>(
     alloc: A,
     bytes: &[u8],
@@ -82,7 +82,7 @@ fn read_frame<A: Allocator + Copy>(
     Ok(())
 }
 
-// What the frame is.
+/// What the frame is.
 fn found_in<A: Allocator + Copy>(frame: &Option<Frame<A>>) -> Found {
     match frame {
         Some(Frame::Token(_) | Frame::Commit(_)) => Found::Token,

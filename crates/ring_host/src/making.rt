@@ -69,7 +69,7 @@ impl<O: Object, K: BookName<O::Alloc>> HostOf<Cell<O, K>, Book<O, K>, O::Alloc> 
     }
 }
 
-// Each of the parts under a lock of its own.
+/// Each of the parts under a lock of its own.
 fn locks<C: Drop, A: Allocator + Copy + Drop>(
     alloc: A,
     parts: Vec<C, A>,
@@ -84,7 +84,7 @@ fn locks<C: Drop, A: Allocator + Copy + Drop>(
     Ok(cells)
 }
 
-// So many inboxes of this size.
+/// So many inboxes of this size.
 fn inboxes<A: Allocator + Copy + Drop>(
     alloc: A,
     count: usize,

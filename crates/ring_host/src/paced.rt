@@ -13,7 +13,7 @@ use std::sync::Wait;
 use std::sync::atomic::{AtomicU64, Ordering};
 use std::time::Duration;
 
-/// How many quiet tokens a node takes in a row before it rests.
+/// A node rests once it has had more quiet tokens than this since it last had something to do.
 const PATIENCE: u64 = 100;
 
 /// After how many turns in a row that find nothing a node naps: twice between two join timeouts.
@@ -24,9 +24,9 @@ const NAP: u64 = 10;
 
 /// A gate under which a host that has nothing to do rests. A ring that idles at full speed would fill the book within seconds.
 ///
-/// Once a node has had 100 quiet tokens in a row, it rests after each turn, for as many milliseconds as there are nodes, so
-/// that the token is handed on once a millisecond. A submit at any node of the host, and its close, end all rests, and the
-/// nodes go at full speed until they have been quiet for so long again.
+/// Once a node has had more than 100 quiet tokens since it last had something to do, it rests after each turn that finds nothing to
+/// speak of, for at most as many milliseconds as there are nodes, so that the token is handed on once a millisecond. A submit that a
+/// node of the host took, and its close, end all rests, and the nodes go at full speed until they have been quiet for so long again.
 ///
 /// Timeouts count turns, and one that finds nothing takes less than a microsecond where no other thread waits for the processor. So
 /// that a node does not give up others whose threads do, it naps after each 200 turns in a row that find nothing, for 10 milliseconds
@@ -44,11 +44,11 @@ pub struct Paced<'a, W: Wait, A: Allocator + Copy + Drop = Global> {
 /// How quiet a node is.
 #[derive(Drop)]
 struct Quiet {
-    // How often the bell had rung when the node last had something to do.
+    /// How often the bell had rung when the node last had something to do.
     rung: AtomicU64,
-    // How many quiet tokens it took since.
+    /// How many quiet tokens it took since.
     turns: AtomicU64,
-    // How many turns in a row have found nothing, since its last nap.
+    /// How many turns in a row have found nothing, since its last nap.
     vain: AtomicU64,
 }
 

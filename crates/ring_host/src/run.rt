@@ -16,7 +16,7 @@ use std::thread;
 use std::thread::Threads;
 
 impl<O: Object, K: BookName<O::Alloc>> HostOf<Cell<O, K>, Book<O, K>, O::Alloc> {
-    // The turns of the seat's node, if it is a node's own.
+    /// The turns of the seat's node, if it is a node's own.
     fn run_seat<W: Wait, G: Gate>(&self, rt: &W, seat: &mut Seat<O::Alloc>, gate: &G)
         requires { IsAt self.now seat.old }
     {
@@ -26,7 +26,7 @@ impl<O: Object, K: BookName<O::Alloc>> HostOf<Cell<O, K>, Book<O, K>, O::Alloc> 
         self.run_node(rt, seat, gate);
     }
 
-    // A node's turns, until the host is closed, the node has stopped or the book is full.
+    /// A node's turns, until the host is closed, the node has stopped or the book is full.
     fn run_node<W: Wait, G: Gate>(&self, rt: &W, seat: &mut Seat<O::Alloc>, gate: &G)
         requires { IsOwn self.now seat.old }
     {
@@ -46,7 +46,8 @@ impl<O: Object + Send, K: BookName<O::Alloc> + Send + Sync> HostOf<Cell<O, K>, B
 where
     O::Alloc: Send + Sync,
 {
-    /// Runs the nodes whose own seats these are, each in a thread of its own, which takes one turn after the other. The threads
+    /// Runs the nodes whose own seats these are, each in a thread of its own, which takes one turn after the other. The seats are this
+    /// host's; one that is no node's own takes no turn. The threads
     /// tell the gate of their turns. A thread ends once the host is closed, its node has stopped or the book is full, and
     /// nobody is told of that; `run` answers when all have ended. `Memory` where a thread can't be started: the host is then
     /// closed, and the threads that were started end.

@@ -31,7 +31,7 @@ struct Done {
     stir: Stir,
 }
 
-// What a step made that found this and sent so many frames, of the node after it. A token that the node ignores sends nothing.
+/// What a step made that found this and sent so many frames, of the node after it. A token that the node ignores sends nothing.
 fn done_of<O: Object>(node: &Node<O>, found: Found, sent: usize) -> Done {
     let length = node.committed_len();
     let is_quiet = sent <= 1 && node.state() == State::Operational && node.log_len() == length;
@@ -47,7 +47,7 @@ fn done_of<O: Object>(node: &Node<O>, found: Found, sent: usize) -> Done {
 }
 
 impl<C, B, A: Allocator + Copy + Drop> HostOf<C, B, A> {
-    // Pushes a copy of each frame to the inbox of each of its receivers. Tells how many copies were dropped.
+    /// Pushes a copy of each frame to the inbox of each of its receivers. Tells how many copies were dropped.
     fn send<W: Wait>(&self, rt: &W, outbox: &Outbox<A>) -> u32 {
         let mut dropped = outbox.dropped;
         let text = outbox.text.as_slice();
@@ -68,8 +68,8 @@ impl<C, B, A: Allocator + Copy + Drop> HostOf<C, B, A> {
         dropped
     }
 
-    // Pushes a copy to the receiver's inbox. Tells whether it did: it did not where the receiver is none of this host's, the inbox
-    // is full, or memory refuses the copy.
+    /// Pushes a copy to the receiver's inbox. Tells whether it did: it did not where the receiver is none of this host's, the inbox
+    /// is full, or memory refuses the copy.
     fn push<W: Wait>(&self, rt: &W, receiver: Proc, at: FrameRef, bytes: &[u8]) -> bool {
         let Some(inbox) = self.inboxes.get(receiver.number() as usize - 1) else {
             return false;
@@ -81,7 +81,7 @@ impl<C, B, A: Allocator + Copy + Drop> HostOf<C, B, A> {
     }
 }
 
-// Copies the line's frames into the outbox, for which the line alone need be lent.
+/// Copies the line's frames into the outbox, for which the line alone need be lent.
 fn pack<A: Allocator + Copy + Drop>(line: &Line<A>, outbox: &mut Outbox<A>) {
     outbox.begin(line.number());
     let frames = line.frames();
@@ -95,7 +95,7 @@ fn pack<A: Allocator + Copy + Drop>(line: &Line<A>, outbox: &mut Outbox<A>) {
     }
 }
 
-// The step of a timeout. It stands apart, since a call clears its room for an input.
+/// The step of a timeout. It stands apart, since a call clears its room for an input.
 #[inline(never)]
 fn time_out<O: Object, K: BookName<O::Alloc>>(
     cell: &mut Cell<O, K>,
@@ -153,8 +153,8 @@ impl<O: Object, K: BookName<O::Alloc>> HostOf<Cell<O, K>, Book<O, K>, O::Alloc> 
         })
     }
 
-    // The task under the node's lock: its place, the step, and the line, whose frames come into the outbox. The book's lock is
-    // held for the first and the last alone.
+    /// The task under the node's lock: its place, the step, and the line, whose frames come into the outbox. The book's lock is
+    /// held for the first and the last alone.
     fn step<W: Wait, G: Gate>(
         &self,
         rt: &W,
@@ -183,7 +183,7 @@ impl<O: Object, K: BookName<O::Alloc>> HostOf<Cell<O, K>, Book<O, K>, O::Alloc> 
         Ok(done_of(cell.node(), found, sent))
     }
 
-    // A place for the task's line, if what it delivers stands in the book.
+    /// A place for the task's line, if what it delivers stands in the book.
     fn place_for<W: Wait>(
         &self,
         rt: &W,

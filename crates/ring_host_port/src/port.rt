@@ -31,8 +31,8 @@ const NAP: u64 = 50;
 
 /// A port to a node of a host, from a seat of its own. Its calls wait for the host's locks, so it holds the handle for that.
 ///
-/// A submit is refused as the port's node refuses it, and before that with `OpTooLong` over 1,024 bytes, `NumberGap` for
-/// number 0, and `Memory` for the call's copy. A poll that finds no answer yields, so that the nodes' threads get on; and from the
+/// A submit is refused as the host's `submit` at the port's node is, and before that with `OpTooLong` over 1,024 bytes, `NumberGap`
+/// for number 0, and `Memory` for the call's copy. A poll that finds no answer yields, so that the nodes' threads get on; and from the
 /// thousandth of a call on each tenth of them naps for 50 microseconds too, so that a call outlasts the naps of its nodes. One look at
 /// the book serves for 64 tickets of its node.
 #[derive(Drop)]

@@ -10,6 +10,7 @@ pub record Gatherer : Type 0 where
   pub floor : ℕ
   pub gathering : Gathering
 
+-- the gathering of these sets, with these joins heard
 abbrev pub gathering_of : ℕ → ℕ → List Join → Gathering
 gathering_of proc_set fail_set heard = record { proc_set = proc_set; fail_set = fail_set; heard = heard }
 

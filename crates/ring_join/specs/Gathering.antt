@@ -54,6 +54,7 @@ widened_sets me g j = record { proc_set = union g.proc_set j.proc_set; fail_set 
 abbrev pub agreed_if_same : Gathering → Join → Gathering
 agreed_if_same g j = if has_same_sets g j then agreed g j else g
 
+-- rule 5 whole: what a join makes of the sets that it widens, and of agreement
 abbrev pub widened : ℕ → Gathering → Join → Gathering
 widened me g j = agreed_if_same (widened_sets me g j) j
 

@@ -92,7 +92,8 @@ impl Gather {
         }
     }
 
-    /// Hears a join, and answers whether a set changed.
+    /// Hears a join, and answers whether a set changed. The ring core asks for [`hearing`](Gather::hearing) as it decides, and
+    /// does [`agree`](Gather::agree) or [`widen`](Gather::widen) as it acts.
     pub fn hear(&mut self, join: Join) -> bool
         ensures heard { self.new ≡ record self.old { gathering = heard_as (hearing self.old.me self.old.gathering join) self.old.me self.old.gathering join } }
         ensures widened { IsTrue result ↔ (hearing self.old.me self.old.gathering join ≡ Widens) }

@@ -15,6 +15,7 @@ pub record Case (A : Type 0) : Type 1 where
   pub body : Format Body
   pub make : Body → A
 
+-- the case of this tag, with this format behind it, and this value made of that
 abbrev pub case : {A B : Type 0} → ℕ → Format B → (B → A) → Case A
 case {A} {B} tag body make = record { tag = tag; Body = B; body = body; make = make }
 
@@ -36,6 +37,7 @@ IsMade (c ∷ cs) b a = cond (b == c.tag) ((x : c.Body) × c.body.Fits x × (c.m
 abbrev pub IsCase : {A : Type 0} → (A → ℕ) → (A → List ℕ) → (A → Type 0) → Case A → Type 0
 IsCase tag body Fits c = (x : c.Body) → c.body.Fits x → (tag (c.make x) ≡ c.tag) × ((body (c.make x) ≡ c.body.spelling x) × Fits (c.make x))
 
+-- each of these is such a case
 abbrev pub AreCases : {A : Type 0} → (A → ℕ) → (A → List ℕ) → (A → Type 0) → List (Case A) → Type 0
 AreCases tag body Fits [] = Unit {0}
 AreCases tag body Fits (c ∷ cs) = IsCase tag body Fits c × AreCases tag body Fits cs
@@ -60,6 +62,7 @@ pub record IsToldByTag {A : Type 0} (cases : List (Case A)) (tag : A → ℕ) (b
   pub each : AreCases tag body Fits cases
   pub made : (a : A) → Fits a → IsMade cases (tag a) a
 
+-- values told by a tag are read exactly: the tag, and what stands behind it
 pub cases_format : {A : Type 0} (cases : List (Case A)) (tag : A → ℕ) (body : A → List ℕ) (Fits : A → Type 0) → IsToldByTag cases tag body Fits
     → IsFormat (λ a. tag a ∷ body a) Fits (told_at cases)
 cases_format {A} cases tag body Fits told =

@@ -90,6 +90,7 @@ pub record IsToldBy {A B : Type 0} (fields : Format A) (make : A → B) (spellin
   pub fits : (a : A) → fields.Fits a → Fits (make a)
   pub back : (b : B) → Fits b → (a : A) × fields.Fits a × (make a ≡ b)
 
+-- a value told by its fields is read exactly
 pub told_format : {A B : Type 0} (fields : Format A) (make : A → B) (spelling : B → List ℕ) (Fits : B → Type 0)
     → IsToldBy fields make spelling Fits → IsFormat spelling Fits (made_at make fields.at)
 told_format fields make spelling Fits told = made_format fields.spelling fields.Fits fields.at spelling Fits make
@@ -106,6 +107,7 @@ pub record IsTestedBy {A B : Type 0} (fields : Format A) (make : A → B) (test 
 abbrev pub Made : {A B : Type 0} → Format A → (A → B) → B → Type 0
 Made {A} fields make b = (a : A) × fields.Fits a × (make a ≡ b)
 
+-- and so is one whose fields must pass a test together
 pub tested_format : {A B : Type 0} (fields : Format A) (make : A → B) (test : B → Bool) (spelling : B → List ℕ)
     (Fits : B → Type 0) → IsTestedBy fields make test spelling Fits
     → IsFormat spelling Fits (such_at test (made_at make fields.at))

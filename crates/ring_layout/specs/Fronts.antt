@@ -20,6 +20,7 @@ pub record IsGot {A : Type 0} (spelling : A → List ℕ) (Fits : A → Type 0) 
 abbrev pub IsNoFront : {A : Type 0} → (A → List ℕ) → (A → Type 0) → List ℕ → Type 0
 IsNoFront {A} spelling Fits bytes = (v : A) (rest : List ℕ) → Fits v → bytes ≡ spelling v ++ rest → ⊥
 
+-- a refusal to read: the bytes are bad, or memory is refused
 abbrev pub IsReadFault : Fault → Type 0
 IsReadFault e = (e ≡ BadFrame) ⊎ (e ≡ Memory)
 
@@ -33,6 +34,7 @@ abbrev pub Puts : {U A : Type 0} → Result U Fault → Option A → Option A �
 Puts (Ok u) old new rest read = (read ≡ with_rest new rest) × IsSome new
 Puts (Err e) old new rest read = (new ≡ old) × Refuses e read
 
+-- where two spellings stand at one front, they are of one value, and the same is left
 pub same_front : {A : Type 0} {spelling : A → List ℕ} {Fits : A → Type 0} {at : List ℕ → Option (A × List ℕ)} → IsFormat spelling Fits at
     → (v w : A) (x y : List ℕ) → Fits v → Fits w → spelling v ++ x ≡ spelling w ++ y → (v ≡ w) × (x ≡ y)
 same_front {A} {spelling} {Fits} {at} p v w x y f g e =
@@ -81,6 +83,7 @@ pub put_got : {A : Type 0} {spelling : A → List ℕ} {Fits : A → Type 0} {at
 put_got p bytes None rest fits e some = absurd (let no : false ≡ true = some in cc)
 put_got p bytes (Some v) rest fits e some = is_got p bytes v rest fits e
 
+-- where something can be read, reading is refused for want of memory alone
 pub only_memory : {A : Type 0} (e : Fault) (r : Option A) (x : A) → r ≡ Some x → Refuses e r → e ≡ Memory
 only_memory Memory r x s h = refl
 only_memory BadFrame r x s h = absurd (none_some x (sym h ∙ s))
@@ -98,6 +101,7 @@ only_memory BadScript r x s h = absurd h
 only_memory NoAnswer r x s h = absurd h
 only_memory BadSnapshot r x s h = absurd h
 
+-- where a spelling stands at the front, just its value was read, and just its bytes
 pub only_it : {A : Type 0} {spelling : A → List ℕ} {Fits : A → Type 0} {at : List ℕ → Option (A × List ℕ)} → IsFormat spelling Fits at
     → (bytes : List ℕ) (w : A) (left : List ℕ) (v : A) (rest : List ℕ) → at bytes ≡ Some (w, left) → Fits v
     → bytes ≡ spelling v ++ rest → (w ≡ v) × (length bytes - length left ≡ length (spelling v))

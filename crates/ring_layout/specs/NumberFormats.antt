@@ -55,6 +55,7 @@ number_format n wide = record {
       rw (long, drop_at (big_bytes n v) rest n len, big_number-reads_back n v rest lt) refl;
 }
 
+-- numbers of 8, 4 and 2 bytes are read exactly
 pub number_format8 : IsFormat (λ v. big_bytes 8 v) (IsWord 8) (number_at 8)
 number_format8 = number_format 8 wide8
 
@@ -72,5 +73,6 @@ take_byte (b ∷ bytes) x fits e =
     let P : ℕ × List ℕ → Type 0 = λ y. Takes (b ∷ bytes) (y.0 ∷ []) y.1 × (y.0 < 256) in
     subst P is (record { parts = refl; rest_fits = λ i. fits (suc i) }, fits 0)
 
+-- and so is one byte
 pub byte_format : IsFormat (λ n. n ∷ []) (λ n. n < 256) byte_at
 byte_format = record { takes = take_byte; again = λ v rest f. refl }

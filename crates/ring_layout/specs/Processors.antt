@@ -10,11 +10,12 @@ use Rattle.ring_layout.specs.NumberFormats.{byte_format}
 use Rattle.ring_layout.specs.ReadingLaws.{such_format}
 use Rattle.ring_layout.specs.Formats.{Format, byte, such, told_format}
 
--- ---- a processor: its number
+-- ---- a processor: its number, 1 to 16, in one byte
 
 abbrev pub proc_spelling : ℕ → List ℕ
 proc_spelling n = n ∷ []
 
+-- the test of `IsProc`
 abbrev pub is_proc : ℕ → Bool
 is_proc n = nat_le 1 n && nat_le n most_processors
 
@@ -35,7 +36,7 @@ proc_format = such_format proc_spelling (λ n. n < 256) IsProc byte_at is_proc (
 abbrev pub proc : Format ℕ
 proc = record { spelling = proc_spelling; Fits = IsProc; at = proc_at; exact = proc_format }
 
--- ---- a processor or none: 0 is none
+-- ---- a processor or none: one byte, 0 where there is none
 
 abbrev pub some_proc_spelling : Option ℕ → List ℕ
 some_proc_spelling None = 0 ∷ []

@@ -53,6 +53,7 @@ xs ⊕ ys = xs ++ ys
 
 -- ---- readings, and how they are put together
 
+-- one step, and then another, that may hang on it; nothing where either gives nothing
 infixl 10 ◌>>=◌
 abbrev pub ◌>>=◌ : {A B : Type 0} → Option A → (A → Option B) → Option B
 None >>= f = None

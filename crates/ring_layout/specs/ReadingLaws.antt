@@ -30,6 +30,7 @@ passed_some false x y e = absurd cc
 pub Takes-then : (a x b y c : List ℕ) → Takes a x b → Takes b y c → Takes a (x ++ y) c
 Takes-then a x b y c p q = record { parts = p.parts ∙ ap (λ (t : List ℕ). x ++ t) q.parts ∙ sym (append_assoc x y c); rest_fits = q.rest_fits }
 
+-- n bytes as they are
 pub text_format : (n : ℕ) → IsFormat (λ t. t) (λ t. length t ≡ n) (text_at n)
 text_format n = record {
   takes = λ bytes x fits e.
@@ -48,12 +49,14 @@ text_bytes n bytes x fits e =
     let P : List ℕ × List ℕ → Type 0 = λ y. IsBytes y.0 in
     subst P g.1 (IsBytes-take n bytes fits)
 
+-- where no value fits, nothing is to be read
 pub nothing_format : {A : Type 0} (s : A → List ℕ) (F : A → Type 0) → ((a : A) → F a → ⊥) → IsFormat s F nothing_at
 nothing_format s F none = record {
   takes = λ bytes x fits e. absurd cc;
   again = λ v rest f. absurd (none v f);
 }
 
+-- one value, then another that may hang on it
 pub then_format : {A B : Type 0} (sa : A → List ℕ) (FA : A → Type 0) (ra : List ℕ → Option (A × List ℕ))
     (sb : A → B → List ℕ) (FB : A → B → Type 0) (rb : A → List ℕ → Option (B × List ℕ))
     → IsFormat sa FA ra → ((a : A) → FA a → IsFormat (sb a) (FB a) (rb a)) → IsFormat (λ p. sa p.0 ++ sb p.0 p.1) (λ p. FA p.0 × FB p.0 p.1) (then_at ra rb)
@@ -71,6 +74,7 @@ then_format {A} {B} sa FA ra sb FB rb p q = record {
       rw (e, p.again v.0 (sb v.0 v.1 ++ rest) f.0, (q v.0 f.0).again v.1 rest f.1) refl;
 }
 
+-- of values that are read exactly those that pass a test, where just these fit
 pub such_format : {A : Type 0} (s : A → List ℕ) (F G : A → Type 0) (at : List ℕ → Option (A × List ℕ)) (test : A → Bool)
     → ((a : A) → F a → test a ≡ true → G a) → ((a : A) → G a → F a × (test a ≡ true)) → IsFormat s F at → IsFormat s G (such_at test at)
 such_format {A} s F G at test to from p = record {
@@ -85,6 +89,7 @@ such_format {A} s F G at test to from p = record {
       rw (p.again v rest f.0, f.1) refl;
 }
 
+-- what is made of such values, where it is spelled as they are, and all that fits is made so
 pub made_format : {A B : Type 0} (sa : A → List ℕ) (FA : A → Type 0) (at : List ℕ → Option (A × List ℕ)) (sb : B → List ℕ) (FB : B → Type 0) (make : A → B)
     → ((a : A) → FA a → (sb (make a) ≡ sa a) × FB (make a)) → ((b : B) → FB b → (a : A) × FA a × (make a ≡ b))
     → IsFormat sa FA at → IsFormat sb FB (made_at make at)
@@ -112,6 +117,7 @@ take_tagged tag s F at p (b ∷ bytes) x fits e =
     let t = (p b).takes bytes x (λ i. fits (suc i)) e in
     (record { parts = rw t.1.1 (ap (λ (w : List ℕ). b ∷ w) t.0.parts); rest_fits = t.0.rest_fits }, t.1.0)
 
+-- a tag, and what stands behind it, where that is read exactly under each tag
 pub tagged_format : {A : Type 0} (tag : A → ℕ) (s : A → List ℕ) (F : A → Type 0) (at : ℕ → List ℕ → Option (A × List ℕ))
     → ((b : ℕ) → IsFormat s (λ a. F a × (tag a ≡ b)) (at b)) → IsFormat (λ a. tag a ∷ s a) F (tagged_at at)
 tagged_format {A} tag s F at p = record { takes = take_tagged tag s F at p; again = λ v rest f. (p (tag v)).again v rest (f, refl) }
@@ -143,6 +149,7 @@ again_times s F at p (x ∷ xs) rest fits =
     (flat_map-cons s x xs) ∙ append_assoc (s x) (flat_map s xs) rest in
     ap (times_at (suc (length xs)) at) regrouped ∙ rw (p.again x (flat_map s xs ++ rest) fits.0, again_times s F at p xs rest fits.1) refl
 
+-- n values, one after the other
 pub times_format : {A : Type 0} (s : A → List ℕ) (F : A → Type 0) (at : List ℕ → Option (A × List ℕ)) → IsFormat s F at
     → (n : ℕ) → IsFormat (flat_map s) (λ xs. (length xs ≡ n) × AllByRecursion F xs) (times_at n at)
 times_format {A} s F at p n = record {
@@ -176,6 +183,7 @@ sized_by {A} sn FN rn s F at q short p = record {
       rw (e, q.again (length (s v)) (s v ++ rest) (short v f), (text_format (length (s v))).again (s v) rest refl, whole) refl;
 }
 
+-- a value behind its length in 4 bytes, where all that fit are so short
 pub sized_format : {A : Type 0} (s : A → List ℕ) (F : A → Type 0) (at : List ℕ → Option (A × List ℕ))
     → ((a : A) → F a → length (s a) < 256 ^ 4) → IsFormat s F at
     → IsFormat (λ a. big_bytes 4 (length (s a)) ++ s a) F (sized_at at)

@@ -11,7 +11,7 @@ use Rattle.ring_layout.specs.Reading.{IsFormat, made_at, ◌⊕◌}
 use Rattle.ring_layout.specs.Formats.{Format, byte, word8, ◌&◌, such, told_format}
 use Rattle.ring_layout.specs.Processors.{proc}
 
--- ---- a number up to the greatest
+-- ---- a number up to the greatest, `max_number`, in 8 bytes
 
 abbrev pub is_number : ℕ → Bool
 is_number n = nat_le n max_number
@@ -19,7 +19,7 @@ is_number n = nat_le n max_number
 abbrev pub number : Format ℕ
 number = such is_number word8
 
--- ---- a ring: its number, and its representative
+-- ---- a ring: its number in 8 bytes, and its representative in one
 
 abbrev pub ring_spelling : RingId → List ℕ
 ring_spelling r = big_bytes 8 r.seq ⊕ r.rep ∷ []

@@ -10,5 +10,6 @@ abbrev pub restored_with : {A : Type 0} → Log A → Option (List ℕ) → Adop
 restored_with log None = Joined
 restored_with log (Some bytes) = Restored bytes log
 
+-- what adopting a base makes of a log: the base is refused where it may not be adopted, else the log is restored by it or joins it
 abbrev pub adoption : {A : Type 0} → Log A → Base A → Adoption A
 adoption log base = if is_adoptable log base then (if restores log base then restored_with log base.snapshot else Joined) else Refused

@@ -19,6 +19,7 @@ use Rattle.ring_log.specs.Stays.{Stay, stay_in, born, hears, marks}
 abbrev pub head_at : ℕ → ℕ → ℕ → OneHead
 head_at last length committed = record { last = Some (record { seq = last; rep = 1 }); length = length; committed = committed; trimmed = 0 }
 
+-- an exchange of the processors 1, 2 and 3 of which nothing was heard
 abbrev pub three : Exchange Global
 three = opened 7
 
@@ -34,6 +35,7 @@ longer_but_older = heads_of_three (head_at 4 3 0) (head_at 8 2 0) (head_at 8 2 0
 abbrev pub unequal : Exchange Global
 unequal = heads_of_three (head_at 8 20 16) (head_at 8 18 16) (head_at 4 9 9)
 
+-- the places `from` to `to` - 1 of this owner are wanted, and no snapshot
 abbrev pub wanted_places : ℕ → ℕ → ℕ → Option Wanted
 wanted_places owner from to = Some (record { owner = owner; snapshot = None; from = from; to = to })
 
@@ -45,13 +47,15 @@ call_of_seven number = record { client = 7; number = number; op = 1 ∷ 1 ∷ []
 abbrev pub calls_from : ℕ → ℕ → List (OneCall Global)
 calls_from number count = map call_of_seven (numbers_from number count)
 
+-- a Part of so many places from `first` on: at each place client 7's call of that number
 abbrev pub part_at : ℕ → ℕ → OnePart Global
 part_at first count = record { first = first; calls = calls_from first count }
 
--- the two Parts with which the exchange becomes whole
+-- `unequal` after the first of the two Parts with which it becomes whole
 abbrev pub after_one_part : Exchange Global
 after_one_part = heard unequal 1 (Part (part_at 9 7))
 
+-- the base that it hands out with the second: the places 9 to 19
 abbrev pub unequal_base : Option (Base Global)
 unequal_base = Some (record { from = 9; snapshot = None; calls = calls_from 9 11 })
 
@@ -65,6 +69,7 @@ trimmed_head length committed = record { last = Some (record { seq = 4; rep = 1 
 abbrev pub no_head : OneHead
 no_head = record { last = None; length = 0; committed = 0; trimmed = 0 }
 
+-- their exchange after the three Heads: of 300 and 298 places, and of none
 abbrev pub trimmed : Exchange Global
 trimmed = heads_of_three (trimmed_head 300 290) (trimmed_head 298 290) no_head
 
@@ -72,9 +77,11 @@ trimmed = heads_of_three (trimmed_head 300 290) (trimmed_head 298 290) no_head
 abbrev pub piece_at : ℕ → ℕ → ℕ → List ℕ → OneSnap Global
 piece_at at total offset bytes = record { at = at; total = total; offset = offset; bytes = bytes }
 
+-- the bytes of that snapshot
 abbrev pub five_bytes : List ℕ
 five_bytes = 0 ∷ 0 ∷ 7 ∷ 7 ∷ 7 ∷ []
 
+-- `trimmed` after the snapshot, which is one piece
 abbrev pub after_snapshot : Exchange Global
 after_snapshot = heard trimmed 1 (Snap (piece_at 256 5 0 five_bytes))
 
@@ -83,6 +90,7 @@ abbrev pub after_parts : Exchange Global → ℕ → ℕ → Exchange Global
 after_parts e first zero = e
 after_parts e first (suc count) = after_parts (heard e 1 (Part (part_at first 7))) (first + 7) count
 
+-- the base that `trimmed` hands out in the end: the snapshot of the first 256 places, and the places 256 to 299
 abbrev pub trimmed_base : Option (Base Global)
 trimmed_base = Some (record { from = 256; snapshot = Some five_bytes; calls = calls_from 256 44 })
 
@@ -117,16 +125,19 @@ known_restored seq =
 -- A life of processor 2 in a group of three: in its first ring a call is heard after the three Heads; then it is alone;
 -- then its next primary ring brings the log of processor 1, which has a call more
 
+-- three processors with one vote each
 abbrev pub group_of_three : Group
 group_of_three = record { count = 3; votes = 1 ∷ 1 ∷ 1 ∷ [] }
 
+-- ring SEQ.REP
 abbrev pub ring_of : ℕ → ℕ → RingId
 ring_of seq rep = record { seq = seq; rep = rep }
 
+-- a message of a ring, with its number, its sender and its payload
 abbrev pub message_of : RingId → ℕ → ℕ → Payload Global → Message Global
 message_of ring number sender payload = record { ring = ring; number = number; sender = sender; payload = payload }
 
--- numbers 1 to 3 were the members' Ends
+-- what is heard in ring 1.1: numbers 1 to 3 were the members' Ends
 abbrev pub first_heard : List (Message Global)
 first_heard =
     message_of (ring_of 1 1) 4 1 (Head no_head)
@@ -135,6 +146,7 @@ first_heard =
     ∷ message_of (ring_of 1 1) 7 2 (CallPayload (call_of_seven 1))
     ∷ []
 
+-- these messages are heard in the newest stay
 abbrev pub heard_all : List (Message Global) → List (Stay Global) → List (Stay Global)
 heard_all [] life = life
 heard_all (x ∷ xs) life = heard_all xs (hears x life)
@@ -143,10 +155,11 @@ heard_all (x ∷ xs) life = heard_all xs (hears x life)
 abbrev pub first_life : ℕ → List (Stay Global)
 first_life mark = marks mark (heard_all first_heard (stay_in (ring_of 1 1) 7 ∷ born 2))
 
+-- then processor 2 is alone, in ring 2.2, and hears nothing
 abbrev pub alone : List (Stay Global)
 alone = stay_in (ring_of 2 2) 2 ∷ first_life 7
 
--- a Pack comes after the exchange, which the Part of processor 1 ended
+-- what is heard in ring 3.1: a Pack comes after the exchange, which the Part of processor 1 ended
 abbrev pub second_heard : List (Message Global)
 second_heard =
     message_of (ring_of 3 1) 4 1 (Head (head_at 1 2 1))
@@ -156,5 +169,6 @@ second_heard =
     ∷ message_of (ring_of 3 1) 8 3 (Pack (record { calls = calls_from 3 2 }))
     ∷ []
 
+-- all of this was heard, too, and what is safe ends with this number
 abbrev pub second_life : ℕ → List (Stay Global)
 second_life mark = marks mark (heard_all second_heard (stay_in (ring_of 3 1) 7 ∷ alone))

@@ -29,18 +29,21 @@ opened members = record { unheard = members; heads = []; got = 0; total = 0; pla
 -- What is wanted, once every member's Head was heard: of the owner the places from the least committed length on, up to its
 -- length; where it has dropped some of these, a snapshot after the places that it has dropped, and the places from there on
 
+-- by the Head of this owner, over the least committed length
 abbrev pub wanted_of : ℕ → OneHead → ℕ → Wanted
 wanted_of owner head least =
     if nat_lt least head.trimmed
     then record { owner = owner; snapshot = Some head.trimmed; from = head.trimmed; to = head.length }
     else record { owner = owner; snapshot = None; from = least; to = head.length }
 
+-- by all Heads; nothing where there is none
 abbrev pub wanted_by : List Stated → Option Wanted
 wanted_by [] = None
 wanted_by (s ∷ rest) =
     let chosen = chosen_head s rest in
     Some (wanted_of chosen.sender chosen.head (least_committed s.head.committed rest))
 
+-- of an exchange; nothing while some member's Head wasn't heard
 abbrev pub wanted : {A : Type 0} → Exchange A → Option Wanted
 wanted e = if e.unheard == nobody then wanted_by e.heads else None
 
@@ -68,6 +71,7 @@ is_piece_of None got total snap = false
 is_piece_of (Some at) got total snap =
     (snap.at == at) && (snap.offset == got) && ((total == 0) || (snap.total == total)) && nat_lt got snap.total
 
+-- so of what is wanted, if anything is; and the piece is the owner's
 abbrev pub is_next_piece : {A : Type 0} → Option Wanted → ℕ → ℕ → ℕ → OneSnap A → Bool
 is_next_piece None got total sender snap = false
 is_next_piece (Some w) got total sender snap = (sender == w.owner) && is_piece_of w.snapshot got total snap
@@ -117,6 +121,7 @@ abbrev pub is_brought : Option Wanted → ℕ → ℕ → ℕ → Bool
 is_brought None got total places = false
 is_brought (Some w) got total places = is_snapped w.snapshot got total && nat_le w.to (w.from + places)
 
+-- each member's Head was heard, and all that is wanted was brought
 abbrev pub is_whole : {A : Type 0} → Exchange A → Bool
 is_whole e = is_brought (wanted e) e.got e.total e.places
 
@@ -130,6 +135,7 @@ abbrev pub base_from : {A : Type 0} → Option Wanted → List ℕ → List (One
 base_from None bytes calls = None
 base_from (Some w) bytes calls = Some (record { from = w.from; snapshot = snapshot_by w.snapshot bytes; calls = calls })
 
+-- so by an exchange; nothing before it is whole
 abbrev pub handed_out : {A : Type 0} → Exchange A → Option (Base A)
 handed_out e = if is_whole e then base_from (wanted e) e.bytes e.brought else None
 

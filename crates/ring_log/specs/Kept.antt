@@ -22,6 +22,7 @@ pub record Kept (A : Type 0) : Type 0 where
   pub last : Option RingId
   pub snapshot : List ℕ
 
+-- at the opening: the log is empty
 abbrev pub nothing_kept : {A : Type 0} → Kept A
 nothing_kept = record { from = 0; calls = []; committed = 0; trimmed = 0; last = None; snapshot = [] }
 
@@ -29,10 +30,11 @@ nothing_kept = record { from = 0; calls = []; committed = 0; trimmed = 0; last =
 abbrev pub kept_length : {A : Type 0} → Kept A → ℕ
 kept_length k = k.from + length k.calls
 
--- the committed places that are known, and those of them that aren't dropped
+-- the committed places that are known
 abbrev pub kept_committed : {A : Type 0} → Kept A → List (OneCall A)
 kept_committed k = take (k.committed - k.from) k.calls
 
+-- those of them that aren't dropped
 abbrev pub kept_undropped : {A : Type 0} → Kept A → List (OneCall A)
 kept_undropped k = drop (k.trimmed - k.from) (kept_committed k)
 
@@ -50,6 +52,7 @@ restores k w = is_some w.snapshot && nat_lt k.committed w.from
 
 -- what a whole exchange makes of it, with the bytes and the calls brought
 
+-- the snapshot is restored: the places that it stands for are committed and dropped, and the calls brought follow
 abbrev pub restored_kept : {A : Type 0} → RingId → Wanted → List ℕ → List (OneCall A) → Kept A
 restored_kept ring w bytes calls = record { from = w.from; calls = calls; committed = w.from; trimmed = w.from; last = Some ring; snapshot = bytes }
 
@@ -57,17 +60,21 @@ restored_kept ring w bytes calls = record { from = w.from; calls = calls; commit
 abbrev pub first_joined : {A : Type 0} → Kept A → Wanted → ℕ
 first_joined k w = max w.from k.trimmed
 
+-- its own places below the first that is taken stay, and those that are taken follow
 abbrev pub joined_kept : {A : Type 0} → Kept A → RingId → Wanted → List (OneCall A) → Kept A
 joined_kept k ring w calls =
     record k { calls = take (first_joined k w - k.from) k.calls ++ drop (first_joined k w - w.from) calls; last = Some ring }
 
+-- the one or the other
 abbrev pub adopted_kept : {A : Type 0} → Kept A → RingId → Wanted → List ℕ → List (OneCall A) → Kept A
 adopted_kept k ring w bytes calls = if restores k w then restored_kept ring w bytes calls else joined_kept k ring w calls
 
+-- by what was wanted; of a whole exchange something was
 abbrev pub adopts_wanted : {A : Type 0} → Kept A → RingId → Option Wanted → Whole A → Kept A
 adopts_wanted k ring None whole = k
 adopts_wanted k ring (Some w) whole = adopted_kept k ring w whole.exchange.bytes whole.exchange.brought
 
+-- what a whole exchange makes of what is known: its ring is adopted
 abbrev pub adopts : {A : Type 0} → Kept A → RingId → Whole A → Kept A
 adopts k ring whole = adopts_wanted k ring (wanted whole.exchange) whole
 
@@ -80,6 +87,7 @@ abbrev pub reach_by : {A : Type 0} → Kept A → Option (Whole A) → ℕ
 reach_by k None = 0
 reach_by k (Some whole) = kept_length k + length (calls_in whole.rest)
 
+-- calls follow
 abbrev pub followed_by : {A : Type 0} → Kept A → List (OneCall A) → Kept A
 followed_by k calls = record k { calls = k.calls ++ calls }
 
@@ -87,6 +95,7 @@ followed_by k calls = record k { calls = k.calls ++ calls }
 abbrev pub based_on : {A : Type 0} → Kept A → Whole A → Option (Whole A) → Kept A
 based_on base whole safe = raised (reach_by base safe) (followed_by base (calls_in whole.rest))
 
+-- what a stay in a ring makes of it, by the exchange in what was heard and in what of that is safe; nothing before the first is whole
 abbrev pub kept_by : {A : Type 0} → RingId → Kept A → Option (Whole A) → Option (Whole A) → Kept A
 kept_by ring k None safe = k
 kept_by ring k (Some whole) safe = based_on (adopts k ring whole) whole safe
@@ -95,15 +104,17 @@ kept_by ring k (Some whole) safe = based_on (adopts k ring whole) whole safe
 abbrev pub dropped_by : {A : Type 0} → ℕ → Kept A → Kept A
 dropped_by places k = record k { trimmed = max places k.trimmed }
 
+-- what a node knows of its log, by its life
 abbrev pub kept_of : {A : Type 0} → Group → List (Stay A) → Kept A
 kept_of group [] = nothing_kept
 kept_of group (s ∷ older) =
     dropped_by s.trimmed (kept_by s.ring (kept_of group older) (exchanged group s.members s.heard) (exchanged group s.members (upto s.mark s.heard)))
 
--- as it is kept, and what a node states of it
+-- the log as it is kept, without the dropped places
 abbrev pub log_kept : {A : Type 0} → Kept A → Log A
 log_kept k = record { trimmed = k.trimmed; calls = drop (k.trimmed - k.from) k.calls; committed = k.committed; last = k.last }
 
+-- what a node states of it, as its Head
 abbrev pub head_kept : {A : Type 0} → Kept A → OneHead
 head_kept k = record { last = k.last; length = kept_length k; committed = k.committed; trimmed = k.trimmed }
 
@@ -118,6 +129,7 @@ abbrev pub keeps_wanted : {A : Type 0} → Kept A → RingId → Option Wanted �
 keeps_wanted k ring None whole = true
 keeps_wanted k ring (Some w) whole = restores k w || (nat_le w.from k.committed && begins_kept k (adopts k ring whole))
 
+-- so by a ring's exchange, once it is whole
 abbrev pub keeps_kept : {A : Type 0} → Kept A → RingId → Option (Whole A) → Bool
 keeps_kept k ring None = true
 keeps_kept k ring (Some whole) = keeps_wanted k ring (wanted whole.exchange) whole

@@ -51,6 +51,7 @@ abbrev pub end_by : {A : Type 0} → Option (Whole A) → Option ℕ
 end_by None = None
 end_by (Some w) = Some w.end
 
+-- so of a ring of these members, by what was heard there; none before its exchange is whole
 abbrev pub exchange_end : {A : Type 0} → Group → ℕ → List (Message A) → Option ℕ
 exchange_end group members text = end_by (exchanged group members text)
 
@@ -72,6 +73,7 @@ abbrev pub places_below : {A : Type 0} → List (OneCall A) → List (OneCall A)
 places_below own front from None = take from own
 places_below own front from (Some at) = front
 
+-- these, and the calls brought behind them; the node's own log where nothing is wanted
 abbrev pub base_on : {A : Type 0} → List (OneCall A) → List (OneCall A) → Option Wanted → List (OneCall A) → List (OneCall A)
 base_on own front None calls = own
 base_on own front (Some w) calls = places_below own front w.from w.snapshot ++ calls
@@ -80,19 +82,22 @@ base_on own front (Some w) calls = places_below own front w.from w.snapshot ++ c
 abbrev pub own_base : {A : Type 0} → List (OneCall A) → List (OneCall A) → Exchange A → List (OneCall A)
 own_base own front e = base_on own front (wanted e) e.brought
 
+-- a log after a ring: its base and the calls after the exchange; before that is whole the log stays as it was
 abbrev pub log_by : {A : Type 0} → List (OneCall A) → List (OneCall A) → Option (Whole A) → List (OneCall A)
 log_by old front None = old
 log_by old front (Some w) = own_base old front w.exchange ++ calls_in w.rest
 
+-- the log of a life, from the log's beginning
 abbrev pub log_of : {A : Type 0} → Group → List (Stay A) → List (OneCall A)
 log_of group [] = []
 log_of group (s ∷ older) = log_by (log_of group older) s.front (exchanged group s.members s.heard)
 
+-- the last primary after a ring: that ring, once its exchange is whole
 abbrev pub last_by : {A : Type 0} → RingId → Option RingId → Option (Whole A) → Option RingId
 last_by ring old None = old
 last_by ring old (Some w) = Some ring
 
--- none before any was adopted
+-- the last primary of a life; none before any was adopted
 abbrev pub last_of : {A : Type 0} → Group → List (Stay A) → Option RingId
 last_of group [] = None
 last_of group (s ∷ older) = last_by s.ring (last_of group older) (exchanged group s.members s.heard)
@@ -113,6 +118,7 @@ upto mark (x ∷ xs) = if nat_le x.number mark then x ∷ upto mark xs else []
 abbrev pub longer : {A : Type 0} → List (OneCall A) → List (OneCall A) → List (OneCall A)
 longer old new = if nat_lt (length old) (length new) then new else old
 
+-- what was committed before, or the ring's log by what is safe there, if its exchange is within that and this log is longer
 abbrev pub committed_by : {A : Type 0} → List (OneCall A) → List (OneCall A) → List (OneCall A) → Option (Whole A) → List (OneCall A)
 committed_by own front old None = old
 committed_by own front old (Some w) = longer old (own_base own front w.exchange ++ calls_in w.rest)
@@ -122,10 +128,12 @@ abbrev pub front_on : {A : Type 0} → List (OneCall A) → Option Wanted → Li
 front_on front None = []
 front_on front (Some w) = places_below [] front 0 w.snapshot
 
+-- what was committed before, or what the snapshot stands for, if that is longer
 abbrev pub restored_by : {A : Type 0} → List (OneCall A) → List (OneCall A) → Option (Whole A) → List (OneCall A)
 restored_by front old None = old
 restored_by front old (Some w) = longer old (front_on front (wanted w.exchange))
 
+-- the committed places of a life, from the log's beginning
 abbrev pub committed_of : {A : Type 0} → Group → List (Stay A) → List (OneCall A)
 committed_of group [] = []
 committed_of group (s ∷ older) =
@@ -134,14 +142,17 @@ committed_of group (s ∷ older) =
 
 -- How many places are dropped: as many as a step did, or as the snapshot stands for that was restored
 
+-- by what was wanted in a ring: a node restores that has committed fewer places than the snapshot stands for
 abbrev pub trimmed_on : ℕ → ℕ → Option Wanted → ℕ
 trimmed_on trimmed committed None = trimmed
 trimmed_on trimmed committed (Some w) = if is_some w.snapshot && nat_lt committed w.from then w.from else trimmed
 
+-- by a ring's exchange, once it is whole
 abbrev pub trimmed_by : {A : Type 0} → ℕ → ℕ → Option (Whole A) → ℕ
 trimmed_by trimmed committed None = trimmed
 trimmed_by trimmed committed (Some w) = trimmed_on trimmed committed (wanted w.exchange)
 
+-- of a life
 abbrev pub trimmed_of : {A : Type 0} → Group → List (Stay A) → ℕ
 trimmed_of group [] = 0
 trimmed_of group (s ∷ older) = max s.trimmed (trimmed_by (trimmed_of group older) (length (committed_of group older)) (exchanged group s.members s.heard))
@@ -158,10 +169,12 @@ abbrev pub older_at : {A : Type 0} → ℕ → List (Stay A) → List (Stay A)
 older_at number [] = []
 older_at number (s ∷ older) = if s.ring.seq == number then older else older_at number older
 
+-- the log that the owner of what is wanted had before the ring; empty where nothing is wanted
 abbrev pub owner_log : {A : Type 0} → Group → (ℕ → List (Stay A)) → RingId → Option Wanted → List (OneCall A)
 owner_log group lives ring None = []
 owner_log group lives ring (Some w) = log_of group (older_at ring.seq (lives w.owner))
 
+-- the base of a ring, by its exchange
 abbrev pub base_of : {A : Type 0} → Group → (ℕ → List (Stay A)) → RingId → Exchange A → List (OneCall A)
 base_of group lives ring e = owner_log group lives ring (wanted e)
 
@@ -170,6 +183,7 @@ abbrev pub ring_log_by : {A : Type 0} → Group → (ℕ → List (Stay A)) → 
 ring_log_by group lives ring None = None
 ring_log_by group lives ring (Some w) = Some (base_of group lives ring w.exchange ++ calls_in w.rest)
 
+-- so of a ring of these members, by this much of its text; none where they aren't primary
 abbrev pub ring_log : {A : Type 0} → Group → (ℕ → List (Stay A)) → RingId → ℕ → List (Message A) → Option (List (OneCall A))
 ring_log group lives ring members text = ring_log_by group lives ring (exchanged group members text)
 
@@ -180,6 +194,7 @@ abbrev pub is_known_below : {A : Type 0} → List (OneCall A) → List (OneCall 
 is_known_below front committed from None = nat_le from (length committed)
 is_known_below front committed from (Some at) = length front == from
 
+-- so of what is wanted, where anything is
 abbrev pub is_known_on : {A : Type 0} → List (OneCall A) → List (OneCall A) → Option Wanted → Bool
 is_known_on front committed None = true
 is_known_on front committed (Some w) = is_known_below front committed w.from w.snapshot
@@ -203,14 +218,17 @@ is_sound group (s ∷ older) =
 abbrev pub filled : {A : Type 0} → (ℕ → ℕ → List (OneCall A)) → ℕ → List (Stay A) → List (Stay A)
 filled fronts p life = map (λ (s : Stay _). record s { front = fronts p s.ring.seq }) life
 
+-- in the ring of this number, of a snapshot of so many places: as many first places of the log that the owner had before that ring
 abbrev pub front_wanted : {A : Type 0} → Group → (ℕ → List (Stay A)) → (ℕ → ℕ → List (OneCall A)) → ℕ → Wanted → Option ℕ → List (OneCall A)
 front_wanted group lives fronts number w None = []
 front_wanted group lives fronts number w (Some at) = take at (log_of group (filled fronts w.owner (older_at number (lives w.owner))))
 
+-- by what is wanted in that ring, if anything is
 abbrev pub front_by : {A : Type 0} → Group → (ℕ → List (Stay A)) → (ℕ → ℕ → List (OneCall A)) → ℕ → Option Wanted → List (OneCall A)
 front_by group lives fronts number None = []
 front_by group lives fronts number (Some w) = front_wanted group lives fronts number w w.snapshot
 
+-- by that ring's exchange, once it is whole
 abbrev pub front_after : {A : Type 0} → Group → (ℕ → List (Stay A)) → (ℕ → ℕ → List (OneCall A)) → ℕ → Option (Whole A) → List (OneCall A)
 front_after group lives fronts number None = []
 front_after group lives fronts number (Some w) = front_by group lives fronts number (wanted w.exchange)
@@ -227,5 +245,6 @@ fronts_below group lives zero p number = []
 fronts_below group lives (suc bound) p number =
     if number == bound then front_in group lives (fronts_below group lives bound) number (lives p) else fronts_below group lives bound p number
 
+-- a processor's life, with what the snapshots stand for that were sent in its rings below a number
 abbrev pub whole_life : {A : Type 0} → Group → (ℕ → List (Stay A)) → ℕ → ℕ → List (Stay A)
 whole_life group lives bound p = filled (fronts_below group lives bound) p (lives p)

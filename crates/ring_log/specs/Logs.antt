@@ -58,6 +58,7 @@ trimmed_log log = record log { trimmed = log.committed; calls = drop (log.commit
 abbrev pub trim_after : ℕ
 trim_after = 256
 
+-- so many committed places are kept, and are to be dropped
 abbrev pub is_ripe : {A : Type 0} → Log A → Bool
 is_ripe log = nat_le trim_after (log.committed - log.trimmed)
 
@@ -91,8 +92,8 @@ begins front calls = pointwise same_call front (take (length front) calls)
 abbrev pub is_log_length : ℕ → Bool
 is_log_length n = nat_le n max_number
 
--- a base may be adopted: where no snapshot is restored, it begins with the committed places that are kept; and it isn't too long.
--- That the bytes are a snapshot is asked of the sessions
+-- a base may be adopted: where no snapshot is restored, it leaves no hole and begins with the committed places that are kept; and it
+-- isn't too long. That the bytes are a snapshot is asked of the sessions
 abbrev pub is_adoptable : {A : Type 0} → Log A → Base A → Bool
 is_adoptable log base =
     (restores log base || (nat_le base.from log.committed && begins (committed_calls log) (based log base)))
@@ -112,7 +113,7 @@ followed log calls = if is_log_length (log_length log + length calls) then appen
 abbrev pub IsKeptLog : ℕ → ℕ → ℕ → Type 0
 IsKeptLog trimmed committed kept = (trimmed ≤ committed) × (committed ≤ trimmed + kept) × (trimmed + kept ≤ max_number)
 
--- no more places are committed than there are
+-- no place is dropped that isn't committed, and no more are committed than there are
 abbrev pub IsLog : {A : Type 0} → Log A → Type 0
 IsLog log = (log.trimmed ≤ log.committed) × (log.committed ≤ log_length log)
 

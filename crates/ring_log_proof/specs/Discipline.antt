@@ -36,10 +36,11 @@ pub record OpensWithHead {A : Type 0} (group : Group) (s : Stay A) (older : List
 abbrev pub KeepsDiscipline : {A : Type 0} → Group → (ℕ → List (Stay A)) → Type 0
 KeepsDiscipline {A} group lives = (p : ℕ) (s : Stay A) (older : List (Stay A)) → IsStay (lives p) s older → (s.sent ≡ []) ⊎ OpensWithHead group s older
 
--- A life in which committed places alone were dropped; so of all lives.
+-- A life in which committed places alone were dropped.
 abbrev pub IsDropping : {A : Type 0} → Group → List (Stay A) → Type 0
 IsDropping {A} group life = (s : Stay A) (older : List (Stay A)) → IsStay life s older → s.trimmed ≤ (kept_of group (s ∷ older)).committed
 
+-- So each of these lives.
 abbrev pub DropsCommitted : {A : Type 0} → Group → (ℕ → List (Stay A)) → Type 0
 DropsCommitted group lives = (p : ℕ) → IsDropping group (lives p)
 

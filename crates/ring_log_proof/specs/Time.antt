@@ -43,6 +43,7 @@ pub data LifeEvent (A : Type 0) : Type 0 where
   Handed : (payloads : List (Payload A)) → LifeEvent A
   Dropped : (places : ℕ) → LifeEvent A
 
+-- a life after an event
 abbrev pub lived : {A : Type 0} → List (Stay A) → LifeEvent A → List (Stay A)
 lived life (Agreed message) = hears message life
 lived life (Safe mark) = marks mark life
@@ -50,6 +51,7 @@ lived life (Regular ring members) = stay_in ring members ∷ life
 lived life (Handed payloads) = hands payloads life
 lived life (Dropped places) = trims places life
 
+-- a life after events, in their order
 abbrev pub all_lived : {A : Type 0} → List (Stay A) → List (LifeEvent A) → List (Stay A)
 all_lived life [] = life
 all_lived life (e ∷ events) = all_lived (lived life e) events
@@ -70,6 +72,7 @@ MayHandFirst group s older [] = Unit {0}
 MayHandFirst group s older (payload ∷ rest) = IsPrimary group s.members × (payload ≡ Head (head_kept (kept_of group older)))
     × Each (FollowsHead (kept_of group older)) rest
 
+-- The same by what it has handed over there already: behind the first thing only what follows a Head.
 abbrev pub MayHandAfter : {A : Type 0} → Group → Stay A → List (Stay A) → List (Payload A) → List (Payload A) → Type 0
 MayHandAfter group s older [] payloads = MayHandFirst group s older payloads
 MayHandAfter group s older (x ∷ sent) payloads = Each (FollowsHead (kept_of group older)) payloads
@@ -79,6 +82,8 @@ abbrev pub MayHand : {A : Type 0} → Group → List (Stay A) → List (Payload 
 MayHand group [] payloads = ⊥
 MayHand group (s ∷ older) payloads = MayHandAfter group s older s.sent payloads
 
+-- an event may happen to a life: hand-overs and drops keep these rules, and a mark never falls; of a message that is agreed and of a ring
+-- that is installed nothing is asked here
 abbrev pub MayHappen : {A : Type 0} → Group → List (Stay A) → LifeEvent A → Type 0
 MayHappen group life (Agreed message) = Unit {0}
 MayHappen group life (Safe mark) = IsRaised life mark
@@ -86,6 +91,7 @@ MayHappen group life (Regular ring members) = Unit {0}
 MayHappen group life (Handed payloads) = MayHand group life payloads
 MayHappen group life (Dropped places) = MayDrop group life places
 
+-- so each of these events, after those before it
 abbrev pub AllMayHappen : {A : Type 0} → Group → List (Stay A) → List (LifeEvent A) → Type 0
 AllMayHappen group life [] = Unit {0}
 AllMayHappen group life (e ∷ events) = MayHappen group life e × AllMayHappen group (lived life e) events
@@ -102,6 +108,7 @@ IsKnownCall Known (Snap snap) = Unit {0}
 IsKnownCall Known (Wrapped old) = Unit {0}
 IsKnownCall Known End = Unit {0}
 
+-- so each call that an event hands over
 abbrev pub HandsKnown : {A : Type 0} → (OneCall A → Type 0) → LifeEvent A → Type 0
 HandsKnown Known (Handed payloads) = Each (IsKnownCall Known) payloads
 HandsKnown Known (Agreed message) = Unit {0}
@@ -126,10 +133,12 @@ pub record Follows {A : Type 0} {group : Group} (before after : OrderlyMoment A 
   pub lives : (p : ℕ) → LivesOn (before.now.lives p) (after.now.lives p)
   pub issued : IsFront before.issued after.issued
 
+-- a run from a moment on: each of these moments follows the one before it
 abbrev pub IsOrderlyRun : {A : Type 0} {group : Group} → OrderlyMoment A group → List (OrderlyMoment A group) → Type 0
 IsOrderlyRun moment [] = Unit {0}
 IsOrderlyRun moment (after ∷ rest) = Follows moment after × IsOrderlyRun after rest
 
+-- its last moment
 abbrev pub last_of_run : {A : Type 0} {group : Group} → OrderlyMoment A group → List (OrderlyMoment A group) → OrderlyMoment A group
 last_of_run moment [] = moment
 last_of_run moment (after ∷ rest) = last_of_run after rest

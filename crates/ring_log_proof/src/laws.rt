@@ -158,7 +158,8 @@ pub fn run_law<A: Allocator + Copy>()
     ensures issued { (group : Group) (moment : OrderlyMoment A group) (p : ℕ) → Each (Contains moment.issued) (committed_at moment p) }
 {}
 
-/// The laws at the allocator that programs use; of one of them it says what it gives.
+/// The laws at the allocator that programs use; of one of them it says what it gives. Nothing calls it: a law is proved of all
+/// allocators that meet its bounds, and this shows one that does.
 pub fn laws_at_global()
     ensures { (group : Group) (m : OrderlyLives Heap group) (p : ℕ) → IsFront (committed_of group (m.lives p)) (log_of group (m.lives p)) }
 {

@@ -1,4 +1,5 @@
--- What the code of a node keeps, and how that tells the node: Nodes, and The replicated log, rules 1 and 18, of docs/PROTOCOL.md.
+-- What the code of a node keeps, and how that tells the node: Rings and states, rules 3 and 12, and The replicated log, rules 1 and 18, of
+-- docs/PROTOCOL.md.
 use Rattle.std.specs.Prelude.{◌≡◌, Bool, true, false, List}
 use Rattle.ring_core.specs.Commits.{Configuration}
 use Rattle.ring_object.specs.Operations.{Sequential}
@@ -15,6 +16,7 @@ abbrev pub core_told : {A : Type 0} → Bool → Core A → Core A → Core A
 core_told false core ended = core
 core_told true core ended = halted ended
 
+-- the node that contracts see, by its core, its replica, and what the core was as the node stopped
 abbrev pub told_node : {A : Type 0} → Core A → Replica A → Core A → Node A
 told_node core replica ended =
     record {

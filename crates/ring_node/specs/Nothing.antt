@@ -1,4 +1,4 @@
--- What a step of a node gives that is refused, and what it gives before its replica follows: Nodes of docs/PROTOCOL.md.
+-- What a step of a node gives that is refused, and what it gives before its replica follows: Refusals, rule 6 of docs/PROTOCOL.md.
 use Rattle.std.specs.Prelude.{◌≡◌, [], None}
 use Rattle.ring_node.specs.declared.outs.Outs.{Outs}
 

@@ -24,8 +24,8 @@ use ring_replica::{Answer, Input, Replica, Ticket, copy_of};
 use ring_srp::Srp;
 use std::marker::Model;
 
-/// A node. Contracts see a `Node`: its group, its core, its life, its tickets, the calls that it did and the answers that it
-/// gave.
+/// A node: the running state of a processor of the group, its ring core with its log, its tickets and its sessions. Contracts see a
+/// `Node`: its group, its core, its life, its tickets, the calls that it did and the answers that it gave.
 #[derive(Drop)]
 pub struct Node<O: Object> {
     alloc: O::Alloc,
@@ -49,7 +49,7 @@ impl<O: Object> Model for Node<O> {
 }
 
 impl<O: Object> Node<O> {
-    /// Processor `me` of the run at its opening, or `Memory`.
+    /// Processor `me` of the group at its opening, or `Memory`.
     pub fn new(alloc: O::Alloc, fixed: Fixed, me: Proc) -> Result<Node<O>, Fault>
         requires { me ≤ fixed.count }
         ensures ok { IfOk result (λ node. node ≡ node_opening fixed me) }
@@ -113,9 +113,10 @@ impl<O: Object> Node<O> {
         self.take(copy_of(call)?)
     }
 
-    /// Does a step on an input: gives the frames sent, the answers that come, the calls newly committed, those of places dropped, and how
-    /// many places were restored. Refused with `Stopped` in a stopped node, which stays as it was, else with `Memory`, also where that was
-    /// wanted to drop places: then the node has stopped for good, its log as before the step, and nothing is given. A stop takes no memory.
+    /// Does a step on an input, whose frame keeps the limits of frames, as a decoded one does: gives the frames sent, the answers that
+    /// come, the calls newly committed, those of places dropped, and how many places were restored. Refused with `Stopped` in a stopped
+    /// node, which stays as it was, else with `Memory`, also where that was wanted to drop places: then the node has stopped for good,
+    /// its log as before the step, and nothing is given. A stop takes no memory.
     pub fn step(&mut self, input: Input<O::Alloc>) -> Result<Outs<O::Alloc>, Fault>
         requires fits { InputFits input }
         ensures runs { OnOk result (is_stopped self.old.core.state ≡ false) }

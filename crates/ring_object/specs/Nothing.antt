@@ -9,21 +9,27 @@ use Rattle.ring_object.specs.Snapshots.{Restores}
 abbrev pub Content : Type 0
 Content = Unit {0}
 
+-- it is a content
 abbrev pub is_content : Content → Type 0
 is_content content = Unit {0}
 
+-- no bytes are an operation
 abbrev pub is_readable : List ℕ → Bool
 is_readable op = false
 
+-- the reply to any bytes is `FF`
 abbrev pub reply : Content → List ℕ → List ℕ
 reply content op = unreadable
 
+-- nothing changes it
 abbrev pub next : Content → List ℕ → Content
 next content op = content
 
+-- its snapshot is the empty text
 abbrev pub snapshot_of : Content → List ℕ
 snapshot_of content = []
 
+-- the empty text restores it, and nothing else does
 abbrev pub restored : List ℕ → Option Content
 restored [] = Some tt
 restored (byte ∷ bytes) = None

@@ -21,6 +21,7 @@ MayCome w i (SendInput payload) = ⊥
 abbrev pub stepped_node : {A : Type 0} → Node A → Input A → Node A
 stepped_node n input = record n { core = (ring_step n.core input).core; life = lived_through n.life (ring_step n.core input).outs }
 
+-- the world as node i's core has stepped by an input and its frames are sent, and nothing was handed over yet
 abbrev pub between : {A : Type 0} → World A → ℕ → Input A → World A
 between w i input =
     record w { nodes = put w.nodes i (stepped_node (w.nodes i) input); frames = w.frames ++ filter_map (carried_by i) (ring_step (w.nodes i).core input).outs }

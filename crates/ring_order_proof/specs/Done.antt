@@ -13,11 +13,12 @@ pub record Span (A : Type 0) : Type 0 where
   pub restored : List (Call A)
   pub did : List (Call A)
 
--- all places, and the calls done
+-- all places of these parts, in order
 abbrev pub places_in : {A : Type 0} → List (Span A) → List (Call A)
 places_in [] = []
 places_in (s ∷ rest) = (s.restored ++ s.did) ++ places_in rest
 
+-- the calls that the node did of them, in order
 abbrev pub done_in : {A : Type 0} → List (Span A) → List (Call A)
 done_in [] = []
 done_in (s ∷ rest) = s.did ++ done_in rest

@@ -62,10 +62,11 @@ abbrev pub KeepsOwn : {A : Type 0} → Group → List (Stay A) → Type 0
 KeepsOwn {A} group life =
     (s : Stay A) (older : List (Stay A)) → IsStay life s older → keeps_kept (kept_of group older) s.ring (exchanged group s.members s.heard) ≡ true
 
--- each ticket's call was issued, and so was each call that a node handed over
+-- the history has the issue of this call
 abbrev pub IsIssued : {A : Type 0} → World A → Call A → Type 0
 IsIssued w c = (k : ℕ) × IsIssuedAt w.history c k
 
+-- each ticket's call was issued, and so was each call that a node handed over
 pub record OnlyIssued {A : Type 0} (w : World A) : Type 0 where
   pub tickets : (i : ℕ) → Each (λ (t : Asked A). IsIssued w t.call) (w.nodes i).tickets
   pub handed : (i : ℕ) (s : Stay A) (older : List (Stay A)) → IsStay (w.nodes i).life s older → Each (IsKnownCall (IsIssued w)) s.sent

@@ -42,7 +42,7 @@ IsSafeUpTo n (s ∷ older) = s.mark ≤ n
 abbrev pub TicketsFit : {A : Type 0} → List (Asked A) → Type 0
 TicketsFit {A} tickets = Each (λ (t : Asked A). CallFits t.call) tickets
 
--- A node of a group
+-- a node that keeps the limits of frames: its core, what it heard and handed over in each ring, and the calls of its tickets do
 pub record NodeFits {A : Type 0} (n : Node A) : Type 0 where
   pub core : CoreFits n.core
   -- its core has no ring that it may install

@@ -31,10 +31,11 @@ use Rattle.ring_log.specs.Kept.{kept_of, is_kept_sound}
 abbrev pub ring_part : {A : Type 0} → World A → List (ℕ × Out A) → RingWorld A
 ring_part w outs = record { total = w.group.count; cores = λ i. (w.nodes i).core; frames = w.frames; outs = outs }
 
--- a life without what its node handed to its core and what it dropped
+-- a stay without what its node handed to its core there and how much it dropped
 abbrev pub unsent : {A : Type 0} → Stay A → Stay A
 unsent s = record s { sent = []; trimmed = 0 }
 
+-- a life without these: what its node heard, and how far that was safe
 abbrev pub heard_life : {A : Type 0} → List (Stay A) → List (Stay A)
 heard_life {A} life = map (λ (s : Stay A). unsent s) life
 
@@ -52,6 +53,7 @@ pub record Share (A : Type 0) : Type 0 where
   pub events : List (RingEvent A)
   pub outs : List (ℕ × Out A)
 
+-- no event of theirs, and nothing given
 abbrev pub no_share : {A : Type 0} → Share A
 no_share = record { events = []; outs = [] }
 
@@ -69,19 +71,23 @@ share_settled false i event due outs = record { events = RingStop i ∷ []; outs
 share_settled true i event due outs = record { events = event ∷ sends_to i due; outs = by i outs }
 
 module _ {O : Type 0} (object : Sequential O) where
+  -- a step of a node: its core's, and behind it what is due is handed over; where the log stops the node its core stops
   abbrev pub share_of_step : {A : Type 0} → Node A → ℕ → RingEvent A → Stepped A → Share A
   share_of_step n i event s =
       let k = kept_of n.group (lived_through n.life s.outs) in
       share_settled (is_kept_sound n.group (lived_through n.life s.outs) && is_restored object k) i event (due_by object n s.core n.life s.outs) s.outs
 
+  -- so of a node that is known; nothing of another
   abbrev pub share_if : {A : Type 0} → Bool → World A → ℕ → RingEvent A → Input A → Share A
   share_if false w i event input = no_share
   share_if true w i event input = share_of_step (w.nodes i) i event (ring_step (w.nodes i).core input)
 
+  -- a delivery, where the frame was sent to the node
   abbrev pub share_handed_if : {A : Type 0} → Bool → World A → ℕ → ℕ → Frame A → Share A
   share_handed_if false w i k frame = no_share
   share_handed_if true w i k frame = share_if (is_node w i) w i (RingDeliver i k) (FrameInput frame)
 
+  -- a delivery, where the frame was sent at all
   abbrev pub share_handed : {A : Type 0} → World A → ℕ → ℕ → Option (Carried A) → Share A
   share_handed w i k None = no_share
   share_handed w i k (Some f) = share_handed_if (has f.to i) w i k f.frame
@@ -91,10 +97,12 @@ abbrev pub share_issued_or : {A : Type 0} → Option Fault → World A → ℕ �
 share_issued_or (Some fault) w i c = no_share
 share_issued_or None w i c = record { events = sends_to i (due_by_submit (w.nodes i) c); outs = [] }
 
+-- so of a node that is known; nothing of another
 abbrev pub share_issued_if : {A : Type 0} → Bool → World A → ℕ → Call A → Share A
 share_issued_if false w i c = no_share
 share_issued_if true w i c = share_issued_or (submit_fault (w.nodes i)) w i c
 
+-- a node that is known stops, and so does its core
 abbrev pub share_stopped_if : {A : Type 0} → Bool → ℕ → Share A
 share_stopped_if false i = no_share
 share_stopped_if true i = record { events = RingStop i ∷ []; outs = [] }
@@ -104,6 +112,7 @@ abbrev pub both_shares : {A : Type 0} → Share A → Share A → Share A
 both_shares a b = record { events = a.events ++ b.events; outs = a.outs ++ b.outs }
 
 module _ {O : Type 0} (object : Sequential O) where
+  -- what an event of nodes is to their cores
   abbrev pub share : {A : Type 0} → World A → Event A → Share A
   share w (Issue i c) = share_issued_if (is_node w i) w i c
   share w (Deliver i k) = share_handed object w i k (frame_at w.frames k)

@@ -34,6 +34,7 @@ pub record IsText {A : Type 0} (cores : ℕ → Core A) (ring : RingId) (text : 
   pub numbered : (x : Message A) → IsIn x text → IsNumberedIn cores ring x
   pub whole : (x : Message A) → IsNumberedIn cores ring x → is_user x.payload ≡ true → IsIn x text
 
+-- each ring of a world has a text: what a processor was told as agreed there is a front of it; what it sent there stands in it, in order
 pub record HasTexts {A : Type 0} (w : World A) : Type 0 where
   -- the users' messages of each ring, in the order of their numbers
   pub text : RingId → List (Message A)

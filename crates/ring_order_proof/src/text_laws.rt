@@ -26,7 +26,8 @@ pub fn speech_law<O: Object>()
     ensures { (group : Group) (events : List (Event O.Alloc)) (i : ℕ) → SpeaksInOrder ((run_nodes O.sequential (world_opening group) events).nodes i) }
 {}
 
-/// The first of them at the allocator that programs use.
+/// The first of them at the allocator that programs use. Nothing calls it: a law is proved of all allocators that meet its
+/// bounds, and this shows one that does.
 pub fn texts_at_global()
     ensures { (n : ℕ) (events : List (RingEvent Heap)) → HasTexts (run (unformed n) events) }
 {

@@ -27,9 +27,11 @@ IsNewCall client number bytes (Err _) = ⊥
 abbrev pub call_bytes : {A : Type 0} → Call A → ℕ
 call_bytes c = 14 + length c.op
 
+-- a call: its client in 4 bytes, its number in 8, and its operation behind its length
 abbrev pub call_spelling : {A : Type 0} → Call A → List ℕ
 call_spelling c = big_bytes 4 c.client ⊕ big_bytes 8 c.number ⊕ op_spelling c.op
 
+-- the limits of a call: its number is at least 1, its operation has at most 1,024 bytes
 pub record CallFits {A : Type 0} (c : Call A) : Type 0 where
   pub client : c.client < 2 ^ 32
   pub number : 1 ≤ c.number

@@ -19,7 +19,7 @@ use Rattle.ring_payload.specs.Packs.{pack, pack_spelling, PackFits}
 use Rattle.ring_payload.specs.Parts.{part, part_spelling, PartFits}
 use Rattle.ring_payload.specs.Snaps.{snap, snap_spelling, SnapFits}
 
--- ---- what may be sent once more: calls, alone or packed, heads, parts and pieces of snapshots
+-- ---- what may be sent once more: calls, alone or packed, heads, parts and pieces of snapshots; a tag, and what it stands for
 
 abbrev pub content_tag : {A : Type 0} → Content A → ℕ
 content_tag (contents.Call x) = call_tag
@@ -28,6 +28,7 @@ content_tag (contents.Part x) = part_tag
 content_tag (contents.Pack x) = pack_tag
 content_tag (contents.Snap x) = snap_tag
 
+-- what stands behind the tag
 abbrev pub content_body : {A : Type 0} → Content A → List ℕ
 content_body (contents.Call x) = call_spelling x
 content_body (contents.Head x) = head_body x
@@ -38,6 +39,7 @@ content_body (contents.Snap x) = snap_spelling x
 abbrev pub content_spelling : {A : Type 0} → Content A → List ℕ
 content_spelling c = content_tag c ∷ content_body c
 
+-- the limits of each
 abbrev pub ContentFits : {A : Type 0} → Content A → Type 0
 ContentFits (contents.Call x) = CallFits x
 ContentFits (contents.Head x) = HeadFits x
@@ -83,11 +85,12 @@ content_format {A} = cases_format (content_cases {A = A}) content_tag content_bo
 abbrev pub content : {A : Type 0} → Format (Content A)
 content = record { spelling = content_spelling; Fits = ContentFits; at = content_at; exact = content_format }
 
--- ---- a message of an old ring
+-- ---- a message of an old ring: that ring in 9 bytes, its number there in 8, its sender in one, and what it carried
 
 abbrev pub wrapped_spelling : {A : Type 0} → Wrapped A → List ℕ
 wrapped_spelling w = ring_spelling w.ring ⊕ big_bytes 8 w.number ⊕ proc_spelling w.sender ⊕ content_spelling w.payload
 
+-- its limits, but that the old ring's number is below that of the ring it is sent on: that is a limit of the message
 pub record WrappedFits {A : Type 0} (w : Wrapped A) : Type 0 where
   pub ring : RingFits w.ring
   pub ring_counted : 1 ≤ w.ring.seq

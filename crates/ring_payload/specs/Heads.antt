@@ -16,15 +16,19 @@ use Rattle.ring_payload.specs.Limits.{head_tag, trimmed_tag}
 abbrev pub tag_of_head : Head → ℕ
 tag_of_head h = if h.trimmed == 0 then head_tag else trimmed_tag
 
+-- the trimmed length in 8 bytes, none where it is 0
 abbrev pub trimmed_spelling : ℕ → List ℕ
 trimmed_spelling n = if n == 0 then [] else big_bytes 8 n
 
+-- what stands behind the tag: the last primary or none in 9 bytes, then in 8 each the length, the committed length and the trimmed one
 abbrev pub head_body : Head → List ℕ
 head_body h = some_ring_spelling h.last ⊕ big_bytes 8 h.length ⊕ big_bytes 8 h.committed ⊕ trimmed_spelling h.trimmed
 
+-- a head: its tag, and what stands behind it
 abbrev pub head_spelling : Head → List ℕ
 head_spelling h = tag_of_head h ∷ head_body h
 
+-- the limits of a head; without a last primary the log has no places
 pub record HeadFits (h : Head) : Type 0 where
   pub last : SomeRingFits h.last
   pub length : h.length ≤ max_number
@@ -54,7 +58,7 @@ tested h last passed =
 passes : (h : Head) → HeadFits h → head_test h ≡ true
 passes h f = rw (le-leb _ _ f.trimmed, le-leb _ _ f.committed, le-leb _ _ f.length, or_either h.last h.length f.empty) refl
 
--- ---- a head of a log that is whole
+-- ---- a head of a log that is whole: nothing of it is trimmed, and the trimmed length is left out
 
 abbrev whole_fields : Format (Option RingId × (ℕ × ℕ))
 whole_fields = some_ring & word8 & word8
@@ -83,7 +87,7 @@ whole_format = tested_format whole_fields whole head_test whole_spelling WholeFi
 abbrev pub whole_head : Format Head
 whole_head = record { spelling = whole_spelling; Fits = WholeFits; at = whole_at; exact = whole_format }
 
--- ---- a head of a log that is trimmed
+-- ---- a head of a log that is trimmed: the trimmed length is at least 1, and stands last
 
 abbrev trimmed_fields : Format (Option RingId × (ℕ × (ℕ × ℕ)))
 trimmed_fields = some_ring & word8 & word8 & word8
@@ -97,6 +101,7 @@ all_spelling h = some_ring_spelling h.last ⊕ big_bytes 8 h.length ⊕ big_byte
 abbrev TrimmedFits : Head → Type 0
 TrimmedFits h = HeadFits h × (1 ≤ h.trimmed)
 
+-- the limits that join the fields, where something is trimmed
 abbrev pub trimmed_test : Head → Bool
 trimmed_test h = nat_le 1 h.trimmed && head_test h
 
@@ -119,15 +124,17 @@ trimmed_format = tested_format trimmed_fields told trimmed_test all_spelling Tri
 abbrev pub trimmed_head : Format Head
 trimmed_head = record { spelling = all_spelling; Fits = TrimmedFits; at = trimmed_at; exact = trimmed_format }
 
--- ---- both
+-- ---- a head of either sort, told by its tag
 
--- what a head comes to where nothing is trimmed, and where something is
+-- where nothing is trimmed, a head is spelled under the tag of whole logs, without a trimmed length
 pub is_whole : (h : Head) → h.trimmed ≡ 0 → (tag_of_head h ≡ head_tag) × (head_body h ≡ whole_spelling h)
 is_whole h e = rw e (refl, refl)
 
+-- a number that isn't 0 is at least 1
 pub positive : (n : ℕ) → (n == 0) ≡ false → 1 ≤ n
 positive n e = let not_none = eqb-false n 0 e in omega (arith, not_none)
 
+-- where something is trimmed, a head is spelled under the tag of trimmed logs, with the trimmed length last
 pub is_trimmed : (h : Head) → 1 ≤ h.trimmed → (tag_of_head h ≡ trimmed_tag) × (head_body h ≡ all_spelling h)
 is_trimmed h some =
     let e : (h.trimmed == 0) ≡ false = elim (cases_Bool (h.trimmed == 0)) [ inl e ↦ absurd (omega (arith, eqb-true _ _ e, some)) | inr e ↦ e ] in

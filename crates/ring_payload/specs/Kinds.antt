@@ -10,7 +10,7 @@ use Rattle.ring_payload.specs.declared.content.Content.TheVariants.{Snap as Snap
 use Rattle.ring_payload.specs.declared.content.Payload.{Payload}
 use Rattle.ring_payload.specs.declared.content.Payload.TheVariants.{Call, Wrapped, End, Head, Part, Pack, Snap}
 
--- what clients and the log hand over; Wrapped and End serve recovery alone
+-- what clients and the log hand over, and what a visit packs of it; Wrapped and End serve recovery alone
 abbrev pub is_user : {A : Type 0} → Payload A → Bool
 is_user (Call call) = true
 is_user (Wrapped old) = false
@@ -20,6 +20,7 @@ is_user (Part part) = true
 is_user (Pack pack) = true
 is_user (Snap snap) = true
 
+-- whether it is an End, by which a member says that it has wrapped all
 abbrev pub is_end : {A : Type 0} → Payload A → Bool
 is_end End = true
 is_end (Call call) = false

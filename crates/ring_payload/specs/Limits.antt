@@ -3,12 +3,15 @@ use Rattle.std.specs.Prelude.{ℕ}
 
 -- ---- the tags of payloads
 
+-- a call
 abbrev pub call_tag : ℕ
 call_tag = 1
 
+-- a message of an old ring
 abbrev pub wrapped_tag : ℕ
 wrapped_tag = 2
 
+-- its sender has wrapped all
 abbrev pub end_tag : ℕ
 end_tag = 3
 
@@ -16,9 +19,11 @@ end_tag = 3
 abbrev pub head_tag : ℕ
 head_tag = 4
 
+-- calls from a place of a log on
 abbrev pub part_tag : ℕ
 part_tag = 5
 
+-- packed calls
 abbrev pub pack_tag : ℕ
 pack_tag = 6
 
@@ -26,20 +31,25 @@ pack_tag = 6
 abbrev pub trimmed_tag : ℕ
 trimmed_tag = 7
 
+-- a piece of a snapshot
 abbrev pub snap_tag : ℕ
 snap_tag = 8
 
 -- ---- the kinds of frames
 
+-- a message: a numbered payload of a ring
 abbrev pub message_kind : ℕ
 message_kind = 1
 
+-- the token of a running ring
 abbrev pub token_kind : ℕ
 token_kind = 2
 
+-- a join, by which processors agree on who is to form a ring
 abbrev pub join_kind : ℕ
 join_kind = 3
 
+-- the commit token of a proposed ring
 abbrev pub commit_kind : ℕ
 commit_kind = 4
 
@@ -67,10 +77,11 @@ most_operation = 1024
 abbrev pub most_part : ℕ
 most_part = 7
 
--- a pack has at least and at most so many calls
+-- a pack has at least so many calls
 abbrev pub least_pack : ℕ
 least_pack = 2
 
+-- and at most so many
 abbrev pub most_pack : ℕ
 most_pack = 16
 

@@ -7,6 +7,7 @@ use Rattle.ring_layout.specs.Reading.{IsFormat, made_at, ◌⊕◌}
 use Rattle.ring_layout.specs.Formats.{Format, word2, text, followed, such, told_format}
 use Rattle.ring_payload.specs.Limits.{most_operation}
 
+-- an operation: its length in 2 bytes, at most 1,024, and that many bytes
 abbrev pub op_spelling : List ℕ → List ℕ
 op_spelling o = big_bytes 2 (length o) ⊕ o
 

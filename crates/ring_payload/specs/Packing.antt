@@ -19,6 +19,7 @@ is_queued (Part part) = true
 is_queued (Pack pack) = false
 is_queued (Snap snap) = true
 
+-- each payload of the queue may stand there
 abbrev pub AreQueued : {A : Type 0} → List (Payload A) → Type 0
 AreQueued queue = AllByRecursion (λ (p : Payload _). is_queued p ≡ true) queue
 

@@ -13,6 +13,7 @@ use Rattle.ring_payload.specs.declared.calls.Pack.{Pack}
 use Rattle.ring_payload.specs.Calls.{call, call_bytes, call_spelling, CallFits}
 use Rattle.ring_payload.specs.Limits.{least_pack, most_pack, most_pack_bytes}
 
+-- how many bytes calls take, one behind another
 abbrev pub calls_bytes : {A : Type 0} → List (Call A) → ℕ
 calls_bytes [] = 0
 calls_bytes (c ∷ cs) = call_bytes c + calls_bytes cs
@@ -21,9 +22,11 @@ calls_bytes (c ∷ cs) = call_bytes c + calls_bytes cs
 abbrev pub pack_bytes : {A : Type 0} → List (Call A) → ℕ
 pack_bytes cs = 2 + calls_bytes cs
 
+-- packed calls: how many in one byte, and the calls
 abbrev pub pack_spelling : {A : Type 0} → Pack A → List ℕ
 pack_spelling p = length p.calls ∷ flat_map call_spelling p.calls
 
+-- the limits of a pack: 2 to 16 calls, each within its own limits, and at most 7,276 bytes as a whole payload
 pub record PackFits {A : Type 0} (p : Pack A) : Type 0 where
   pub some : least_pack ≤ length p.calls
   pub few : length p.calls ≤ most_pack
@@ -37,6 +40,7 @@ length-calls (c ∷ cs) =
     let l = length-append (call_spelling c) (flat_map call_spelling cs) in
     omega (arith, e, l, length-calls cs)
 
+-- how many calls may be in a pack, the test and what it says
 abbrev is_count : ℕ → Bool
 is_count n = nat_le least_pack n && nat_le n most_pack
 

@@ -16,15 +16,18 @@ use Rattle.ring_payload.specs.declared.calls.Part.{Part}
 use Rattle.ring_payload.specs.Limits.{most_part}
 use Rattle.ring_payload.specs.Calls.{call, call_spelling, CallFits}
 
+-- a part: its first place in 8 bytes, how many calls in one, and the calls
 abbrev pub part_spelling : {A : Type 0} → Part A → List ℕ
 part_spelling p = big_bytes 8 p.first ⊕ length p.calls ∷ flat_map call_spelling p.calls
 
+-- the limits of a part: 1 to 7 calls, each within its own limits
 pub record PartFits {A : Type 0} (p : Part A) : Type 0 where
   pub first : p.first ≤ max_number
   pub some : 1 ≤ length p.calls
   pub few : length p.calls ≤ most_part
   pub each : AllByRecursion CallFits p.calls
 
+-- how many calls may be in a part, the test and what it says
 abbrev is_count : ℕ → Bool
 is_count n = nat_le 1 n && nat_le n most_part
 

@@ -15,6 +15,7 @@ use Rattle.ring_payload.specs.Parts.{part, part_spelling, PartFits}
 use Rattle.ring_payload.specs.Snaps.{snap, snap_spelling, SnapFits}
 use Rattle.ring_payload.specs.Contents.{wrapped, wrapped_spelling, WrappedFits}
 
+-- a payload's tag: a head has one of two
 abbrev pub payload_tag : {A : Type 0} → Payload A → ℕ
 payload_tag (payloads.Call x) = call_tag
 payload_tag (payloads.Wrapped x) = wrapped_tag
@@ -24,6 +25,7 @@ payload_tag (payloads.Part x) = part_tag
 payload_tag (payloads.Pack x) = pack_tag
 payload_tag (payloads.Snap x) = snap_tag
 
+-- what stands behind the tag: nothing where it is an End
 abbrev pub payload_body : {A : Type 0} → Payload A → List ℕ
 payload_body (payloads.Call x) = call_spelling x
 payload_body (payloads.Wrapped x) = wrapped_spelling x
@@ -33,9 +35,11 @@ payload_body (payloads.Part x) = part_spelling x
 payload_body (payloads.Pack x) = pack_spelling x
 payload_body (payloads.Snap x) = snap_spelling x
 
+-- a payload: its tag, and what stands behind it
 abbrev pub payload_spelling : {A : Type 0} → Payload A → List ℕ
 payload_spelling p = payload_tag p ∷ payload_body p
 
+-- the limits that a payload alone decides; that a Wrapped is of an older ring than its message is a limit of the message
 abbrev pub PayloadFits : {A : Type 0} → Payload A → Type 0
 PayloadFits (payloads.Call x) = CallFits x
 PayloadFits (payloads.Wrapped x) = WrappedFits x

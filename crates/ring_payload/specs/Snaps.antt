@@ -14,9 +14,11 @@ use Rattle.ring_payload.specs.Limits.{most_snapshot, whole_piece}
 abbrev pub piece_length : ℕ → ℕ → ℕ
 piece_length total offset = min whole_piece (total - offset)
 
+-- a piece: the length that it is of in 8 bytes, the snapshot's bytes in all in 4, its offset in 4, how many bytes it has in 2, and these
 abbrev pub snap_spelling : {A : Type 0} → Snap A → List ℕ
 snap_spelling s = big_bytes 8 s.at ⊕ big_bytes 4 s.total ⊕ big_bytes 4 s.offset ⊕ big_bytes 2 (length s.bytes) ⊕ s.bytes
 
+-- the limits of a piece: it begins at a multiple of 7,000 within the snapshot, and has the bytes of a piece that begins there
 pub record SnapFits {A : Type 0} (s : Snap A) : Type 0 where
   pub at_counted : 1 ≤ s.at
   pub at : s.at ≤ max_number
@@ -32,6 +34,7 @@ is_piece at total offset count =
     nat_le 1 at && (nat_le at max_number && (nat_le 1 total && (nat_le total most_snapshot &&
     (nat_lt offset total && ((offset % whole_piece == 0) && (count == piece_length total offset))))))
 
+-- the four numbers before the bytes: the length that the snapshot is of, its bytes in all, the offset, how many bytes follow
 abbrev Numbers : Type 0
 Numbers = ℕ × (ℕ × (ℕ × ℕ))
 
@@ -70,6 +73,7 @@ is_piece_fits s f =
     let count = eq-eqb (length s.bytes) (piece_length s.total s.offset) f.bytes in
     rw (le-leb _ _ f.at_counted, le-leb _ _ f.at, le-leb _ _ f.total_counted, le-leb _ _ f.total, lt-ltb _ _ f.offset, eq-eqb _ _ f.whole, count) refl
 
+-- no piece has more than 7,000 bytes
 pub snap_short : {A : Type 0} (s : Snap A) → SnapFits s → length s.bytes ≤ 7000
 snap_short s f = omega (arith, f.bytes)
 

@@ -7,9 +7,11 @@ use Rattle.ring_payload.specs.declared.content.Payload.TheVariants as payloads
 use Rattle.ring_payload.specs.declared.head.Head.{Head}
 use Rattle.ring_payload.specs.Limits.{first_version, pack_version, trim_version}
 
+-- a head's version: that of a trimmed log where its trimmed length is above 0, else the first
 abbrev pub head_version : Head → ℕ
 head_version h = if h.trimmed == 0 then first_version else trim_version
 
+-- the version of what a message of an old ring carried
 abbrev pub content_version : {A : Type 0} → Content A → ℕ
 content_version (contents.Call x) = first_version
 content_version (contents.Head x) = head_version x

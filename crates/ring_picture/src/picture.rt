@@ -80,7 +80,8 @@ impl<A: Allocator + Copy> Picture<A> {
         Ok(())
     }
 
-    /// Writes the picture. Where not all events have room, it says from which to which there is more: this is the last.
+    /// Writes the picture. Where not all events have room, it says from which to which there is more: this is the last. An error is
+    /// the writer's: what it has then isn't told.
     pub fn write<W: Write>(&self, out: &mut W, last: u64) -> io::Result<()> {
         let frame = self.frame();
         write_head(out, frame)?;

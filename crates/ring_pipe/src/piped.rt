@@ -143,6 +143,7 @@ impl<O: Object> Piped<O> {
         match spell_sends(self.alloc, outs.sends.as_slice(), &mut records) {
             Ok(()) => Ok(Spelled { outs, records }),
             Err(fault) => {
+                // The step is refused with what its records were, and not with what this gives.
                 let _ = self.halt();
                 Err(fault)
             }
@@ -176,6 +177,7 @@ impl<O: Object> Piped<O> {
         // A law: no effect at run time. The proof takes from it that a node that stops keeps the limits.
         node_fits_law::<O>();
         let fault = self.refusal();
+        // A stop takes no memory and gives nothing. A stopped node refuses it, and stays as it is.
         let _ = self.node.step(Input::Stop);
         fault
     }

@@ -35,17 +35,18 @@ abbrev pub restored_text : Option ℕ → List ℕ
 restored_text None = []
 restored_text (Some places) = record_of 71 (big_bytes 8 places)
 
--- lists of these, one after the other
+-- the answers of a step, and the calls that are newly committed: a record for each, one after the other
 abbrev pub answers_text : {A : Type 0} → List (Answered A) → List ℕ
 answers_text {A} answers = flat_map (λ (a : Answered A). answer_record a.ticket a.answer) answers
 
 abbrev pub all_committed_text : {A : Type 0} → List (Call A) → List ℕ
 all_committed_text {A} calls = flat_map (λ (c : Call A). committed_record c) calls
 
--- a ticket, and a refusal
+-- the ticket of a call that was submitted
 abbrev pub ticket_record : ℕ → List ℕ
 ticket_record ticket = record_of 84 (big_bytes 8 ticket)
 
+-- the input was refused, for this reason
 abbrev pub refusal_record : Fault → List ℕ
 refusal_record fault = record_of 88 (fault_number fault ∷ [])
 
@@ -68,6 +69,7 @@ fate_of false taken = NoToken
 fate_of true true = Taken
 fate_of true false = Ignored
 
+-- the byte that tells what came of a token
 abbrev pub fate_number : TokenFate → ℕ
 fate_number NoToken = 0
 fate_number Taken = 1

@@ -15,7 +15,7 @@ use ring_session::{Answer, Answered, Ticket};
 use std::alloc::Allocator;
 use std::io::{self, Write};
 
-/// Writes the answers, each with its ticket.
+/// Writes the answers, each with its ticket. An error is the writer's: what it has then isn't told.
 pub fn write_answers<A: Allocator + Copy + Drop, W: Write>(
     answers: &[Answered<A>],
     out: &mut W,
@@ -41,7 +41,7 @@ fn write_answer<W: Write>(ticket: Ticket, answer: &Answer, out: &mut W) -> io::R
     }
 }
 
-/// Writes the calls that are newly committed.
+/// Writes the calls that are newly committed. An error is the writer's: what it has then isn't told.
 pub fn write_all_committed<A: Allocator + Copy + Drop, W: Write>(
     calls: &[Call<A>],
     out: &mut W,
@@ -67,7 +67,8 @@ fn write_committed<A: Allocator + Copy + Drop, W: Write>(
     write_record(out, kinds::CALL, &words, call.op.as_slice())
 }
 
-/// Writes how many of the log's first places the snapshot stands for that the node restored, if it restored one.
+/// Writes how many of the log's first places the snapshot stands for that the node restored, if it restored one. An error is the
+/// writer's: what it has then isn't told.
 pub fn write_restored<W: Write>(restored: Option<u64>, out: &mut W) -> io::Result<()>
     ensures { OnOk result (Appends (W.contents out.old) (W.contents out.new) (restored_text restored)) }
 {
@@ -79,7 +80,7 @@ pub fn write_restored<W: Write>(restored: Option<u64>, out: &mut W) -> io::Resul
     write_record(out, kinds::RESTORED, &word, &[])
 }
 
-/// Writes the ticket of a call.
+/// Writes the ticket of a call. An error is the writer's: what it has then isn't told.
 pub fn write_ticket<W: Write>(ticket: Ticket, out: &mut W) -> io::Result<()>
     ensures { OnOk result (Appends (W.contents out.old) (W.contents out.new) (ticket_record ticket)) }
 {
@@ -88,7 +89,7 @@ pub fn write_ticket<W: Write>(ticket: Ticket, out: &mut W) -> io::Result<()>
     write_record(out, kinds::TICKET, &word, &[])
 }
 
-/// Writes why an input was refused.
+/// Writes why an input was refused. An error is the writer's: what it has then isn't told.
 pub fn write_refusal<W: Write>(fault: Fault, out: &mut W) -> io::Result<()>
     ensures { OnOk result (Appends (W.contents out.old) (W.contents out.new) (refusal_record fault)) }
 {
@@ -96,7 +97,7 @@ pub fn write_refusal<W: Write>(fault: Fault, out: &mut W) -> io::Result<()>
 }
 
 /// Writes where a node stands: its state, its last installed ring, how many places are committed, how many its log has, and how
-/// many of these it has dropped.
+/// many of these it has dropped. An error is the writer's: what it has then isn't told.
 pub fn write_standing<W: Write>(
     state: State,
     ring: RingId,
@@ -117,7 +118,7 @@ pub fn write_standing<W: Write>(
     write_record(out, kinds::STANDING, &bytes, &[])
 }
 
-/// Writes that all of an input is told: the node's state, and what came of a token.
+/// Writes that all of an input is told: the node's state, and what came of a token. An error is the writer's: what it has then isn't told.
 pub fn write_end<W: Write>(state: State, token: TokenFate, out: &mut W) -> io::Result<()>
     ensures { OnOk result (Appends (W.contents out.old) (W.contents out.new) (end_record state token)) }
 {

@@ -19,6 +19,7 @@ abbrev pub sent_by_mate : {A : Type 0} → Plan → Option (Message A) → Bool
 sent_by_mate p None = false
 sent_by_mate p (Some x) = has p.mates x.sender
 
+-- the old ring's message of this number is held, and its sender comes from there, too
 abbrev pub is_from_mate : {A : Type 0} → Plan → List (Message A) → ℕ → Bool
 is_from_mate p held n = sent_by_mate p (found held p.old n)
 

@@ -33,6 +33,7 @@ is_covered xs mark = nat_le (greatest (map (λ (x : Message _). x.number) (ends 
 abbrev pub has_user : {A : Type 0} → List (Message A) → Bool
 has_user xs = list_any (λ (x : Message _). is_user x.payload) xs
 
+-- by the messages in the front: every member's End is there, and the mark covers the last, or a users' message is there, too
 abbrev pub is_ready_by : {A : Type 0} → List (Message A) → ℕ → ℕ → Bool
 is_ready_by xs members mark = all_ended xs members && (is_covered xs mark || has_user xs)
 

@@ -28,11 +28,12 @@ mates_among old (i ∷ is) (e ∷ entries) = (if same_ring e.old old then only i
 abbrev pub plan_of : RingId → ℕ → List CommitEntry → Plan
 plan_of old members entries = record { old = old; mates = mates_among old (elements members) entries; reports = reports_of old entries }
 
--- each member's entry is there, the processor is a member, and none of those from its old ring is behind what one of them reported safe
+-- the plan of a member with this entry, if none of those from its old ring is behind what one of them reported safe
 abbrev pub plan_if_sound : CommitToken → Option CommitEntry → Option Plan
 plan_if_sound k None = None
 plan_if_sound k (Some own) = if is_sound own.old k.entries then Some (plan_of own.old k.members k.entries) else None
 
+-- the plan of a processor by a commit token, if it is a member, each member's entry is there, and that is so
 abbrev pub plan_from : ℕ → CommitToken → Option Plan
 plan_from me k = if has k.members me && nat_le (size k.members) (length k.entries) then plan_if_sound k
     (slice_get k.entries (position_of k.members me)) else None

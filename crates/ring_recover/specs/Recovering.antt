@@ -13,6 +13,7 @@ use Rattle.ring_recover.specs.Plans.{Plan, safe, least_mark, low, is_known}
 use Rattle.ring_recover.specs.Wrapping.{is_wrapped, left_to_wrap, has_own_end}
 use Rattle.ring_base.specs.Numbers.{window_size}
 
+-- the node, its plan, and the messages of the new ring that it held, newest first
 pub record Recovering (A : Type 0) : Type 0 where
   pub me : ℕ
   pub plan : Plan

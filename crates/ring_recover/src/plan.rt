@@ -163,7 +163,8 @@ impl<A: Allocator + Copy> Plan<A> {
     }
 
     /// The number of the message that is to be wrapped next: the first users' message above the least front that
-    /// the old ring's window holds, and that was not seen wrapped on the new ring.
+    /// the old ring's window holds, and that was not seen wrapped on the new ring. The ring core wraps as many at once as a
+    /// visit may send: `first_left` of `ring_srp_state`.
     pub fn to_wrap(&self, window: &Window<A>) -> Option<u64>
         requires ring { window.now.ring ≡ self.now.plan.old }
         requires mark { window.now.mark ≤ safe self.now.plan }

@@ -27,6 +27,7 @@ use Rattle.ring_course.specs.Courses.{Holding, Course, Moment, is_running, hande
 use Rattle.ring_course.specs.NodeRules.{lived_through, Node, node_stopped, is_closed, table_or, table_at, effects_at, snapshot_kept, is_restored}
 use Rattle.ring_course.specs.NodeRules.{send_of, handed_over, NodeStepped, quiet, drops, newly, table_since}
 
+-- all of a node but its core, as contracts see it
 pub record Replica (A : Type 0) : Type 0 where
   pub group : Group
   pub me : ℕ
@@ -50,6 +51,7 @@ pub record Tale (A : Type 0) : Type 0 where
   pub done : List (OneCall A)
   pub answers : List (Answered A)
 
+-- of processor me, at the opening
 abbrev pub tale_opening : {A : Type 0} → ℕ → Tale A
 tale_opening me = record { life = born me; tickets = []; done = []; answers = [] }
 
@@ -62,6 +64,7 @@ abbrev pub tale_given : {A : Type 0} → Tale A → OneCall A → Bool → Tale 
 tale_given tale c runs =
     record tale { life = hands (handed_if runs c) tale.life; tickets = tale.tickets ++ record { call = c; since = length tale.done } ∷ [] }
 
+-- processor me of the group, at the opening
 abbrev pub replica_opening : {A : Type 0} → Group → ℕ → Replica A
 replica_opening group me =
     record { group = group; me = me; life = born me; ahead = born me; tickets = []; done = []; answers = []; doing = []; leaving = []; stopped = false }
@@ -72,16 +75,19 @@ pub record IsDone {A : Type 0} (r : Replica A) : Type 0 where
   pub doing : r.doing ≡ []
   pub leaving : r.leaving ≡ []
 
--- what it knows of its log; how many places that has, and how many of them are dropped; and the committed places that aren't
+-- what it knows of its log
 abbrev pub replica_kept : {A : Type 0} → Replica A → Kept A
 replica_kept r = kept_of r.group r.life
 
+-- how many places its log has, dropped ones included
 abbrev pub replica_length : {A : Type 0} → Replica A → ℕ
 replica_length r = kept_length (replica_kept r)
 
+-- how many of these it has dropped
 abbrev pub replica_trimmed : {A : Type 0} → Replica A → ℕ
 replica_trimmed r = (replica_kept r).trimmed
 
+-- the committed places that it hasn't dropped
 abbrev pub replica_committed : {A : Type 0} → Replica A → List (OneCall A)
 replica_committed r = committed_calls (log_kept (replica_kept r))
 
@@ -95,6 +101,7 @@ replica_reply r ticket = answer_to ticket (kept_answers r.answers)
 
 -- A submit
 
+-- why a submit is refused, memory apart: it has stopped, 64 tickets are without an answer, or 2^62 were given
 abbrev pub submit_refusal : {A : Type 0} → Replica A → Option Fault
 submit_refusal r =
     if r.stopped then Some Stopped
@@ -102,6 +109,7 @@ submit_refusal r =
     else if nat_le max_number (length r.tickets) then Some PendingFull
     else None
 
+-- there is such a ring, and it is the one that runs
 abbrev pub is_running_some : Option RingId → Option RingId → Bool
 is_running_some running None = false
 is_running_some running (Some ring) = is_running running ring
@@ -110,6 +118,7 @@ is_running_some running (Some ring) = is_running running ring
 abbrev pub has_adopted_running : {A : Type 0} → Option RingId → Replica A → Bool
 has_adopted_running running r = is_running_some running (replica_kept r).last
 
+-- where that is so, a submitted call is handed to the core at once; else it waits
 abbrev pub due_by_call : {A : Type 0} → Option RingId → Replica A → OneCall A → List (Payload A)
 due_by_call running r c = handed_if (has_adopted_running running r) c
 
@@ -138,6 +147,7 @@ abbrev pub replica_still : {A : Type 0} → Replica A → ReplicaStepped A
 replica_still r = record { replica = r; sends = []; due = []; answers = []; restored = None }
 
 module _ {O : Type 0} (object : Sequential O) where
+  -- what is due in a step is made of this: what it is before the step, and the ring that runs once the core has stepped
   abbrev pub moment_of : {A : Type 0} → Option RingId → Replica A → Moment A
   moment_of running r =
       record {
@@ -150,19 +160,21 @@ module _ {O : Type 0} (object : Sequential O) where
         snapshot = snapshot_kept object (replica_kept r);
       }
 
-  -- a life at the end of a step, and the calls of the places that it drops
+  -- a life at the end of a step: the committed places are dropped, where they are to be
   abbrev pub life_ended : {A : Type 0} → Bool → Kept A → List (Stay A) → List (Stay A)
   life_ended closed k life = if drops object closed k then trims k.committed life else life
 
+  -- the calls of the places that are dropped then
   abbrev pub leaving_at : {A : Type 0} → Bool → Kept A → List (OneCall A)
   leaving_at closed k = if drops object closed k then committed_calls (log_kept k) else []
 
-  -- with these calls done
+  -- a step is being done in which its life goes on so, with what is due handed over, and these calls are done
   abbrev pub replica_doing : {A : Type 0} → Replica A → List (Stay A) → Kept A → List (Payload A) → List (OneCall A) → Replica A
   replica_doing r life k due more =
       let closed = is_closed r.group (hands due life) in
       record r { ahead = life_ended closed k (hands due life); doing = more; leaving = leaving_at closed k }
 
+  -- the same, with all that the step gives
   abbrev pub replica_moved : {A : Type 0} → Replica A → List (Out A) → List (Stay A) → List (Payload A) → Kept A → ReplicaStepped A
   replica_moved r outs life due k =
       record {
@@ -173,6 +185,7 @@ module _ {O : Type 0} (object : Sequential O) where
         restored = restored_since (replica_kept r) k;
       }
 
+  -- the same where the step may be; else it has stopped, and nothing is given
   abbrev pub replica_settled : {A : Type 0} → Bool → Replica A → List (Out A) → List (Stay A) → List (Payload A) → Kept A → ReplicaStepped A
   replica_settled false r outs life due k = record { replica = replica_stopped r; sends = []; due = []; answers = []; restored = None }
   replica_settled true r outs life due k = replica_moved r outs life due k
@@ -198,6 +211,7 @@ replica_ended s = replica_done s.replica s.answers
 
 -- Of a node
 
+-- the ring in which a core is Operational, if it is
 abbrev pub running_of : {A : Type 0} → Core A → Option RingId
 running_of c = if is_operational c.state then Some c.installed.ring else None
 
@@ -217,7 +231,7 @@ replica_of n =
       stopped = false;
     }
 
--- a node by what a step made of its replica, with what is due handed to its core
+-- a node by what a step made of its replica: what is due is handed to its core; where the replica stopped, it stops, and gives nothing
 abbrev pub node_unless : {A : Type 0} → Bool → Node A → Core A → ReplicaStepped A → NodeStepped A
 node_unless true n core r = quiet (node_stopped n)
 node_unless false n core r =
@@ -229,6 +243,7 @@ node_unless false n core r =
       dropped = r.replica.leaving;
     }
 
+-- the same, of the replica that tells whether it stopped
 abbrev pub node_by : {A : Type 0} → Node A → Core A → ReplicaStepped A → NodeStepped A
 node_by n core r = node_unless r.replica.stopped n core r
 
@@ -238,15 +253,16 @@ node_given n c r = record n { core = handed_over n.core (due_by_call (running_of
 
 -- What the code keeps
 
--- what it is by its course, the log of the places that leave, how many places were committed at the end of its last step, whether it stopped, and its story
+-- the life up to the step that is being done; once it stopped, that up to the last step that is done
 abbrev pub ahead_of : {A : Type 0} → Course A → Bool → Tale A → List (Stay A)
 ahead_of course true tale = tale.life
 ahead_of course false tale = course.life
 
--- the log in which the places stand that are committed now, dropped ones of this step included; and the one in which those of the last step do
+-- the log in which the places stand that are committed now, those that this step drops included
 abbrev pub ahead_log : {A : Type 0} → Holding A → Option (Log A) → Log A
 ahead_log held leaving = unwrap_or leaving held.log
 
+-- the log in which the places stand that were committed at the end of the last step
 abbrev pub behind_log : {A : Type 0} → Holding A → Option (Log A) → Log A
 behind_log held leaving = unwrap_or held.before (ahead_log held leaving)
 
@@ -254,10 +270,11 @@ behind_log held leaving = unwrap_or held.before (ahead_log held leaving)
 abbrev pub more_in : {A : Type 0} → ℕ → Log A → List (OneCall A)
 more_in first log = drop (max first log.trimmed - log.trimmed) (committed_calls log)
 
--- where a snapshot was restored, its bytes are one; and the sessions then
+-- where a snapshot was restored in this step, its bytes are one
 abbrev pub is_table_held : {O A : Type 0} → Sequential O → Holding A → Bool
 is_table_held object held = is_none held.before || is_some (restored_table object.restored held.snapshot)
 
+-- the sessions then: those restored, or, where none were, these
 abbrev pub table_held : {O A : Type 0} → Sequential O → Holding A → Table O → Table O
 table_held object held table = if is_some held.before then table_or object (restored_table object.restored held.snapshot) else table
 
@@ -267,18 +284,23 @@ snapshot_if_ripe object closed log table =
     let bytes = table_snapshot object.snapshot_of table in
     if closed && is_ripe log && nat_le (length bytes) most_snapshot then Some bytes else None
 
+-- the calls that the step that is being done commits; none once it stopped
 abbrev pub doing_of : {A : Type 0} → Course A → Option (Log A) → ℕ → Bool → List (OneCall A)
 doing_of course leaving first true = []
 doing_of course leaving first false = more_in first (ahead_log course.held leaving)
 
+-- the calls of the log of the places that leave, if there is one
 abbrev pub calls_leaving : {A : Type 0} → Option (Log A) → List (OneCall A)
 calls_leaving None = []
 calls_leaving (Some log) = log.calls
 
+-- the calls of the places that the step that is being done drops; none once it stopped
 abbrev pub leaving_of : {A : Type 0} → Option (Log A) → Bool → List (OneCall A)
 leaving_of leaving true = []
 leaving_of leaving false = calls_leaving leaving
 
+-- the replica by what is kept of it: its course, the log of the places that leave, how many places were committed at the end of its last
+-- step, whether it stopped, and its story
 abbrev pub told_replica : {A : Type 0} → Course A → Option (Log A) → ℕ → Bool → Tale A → Replica A
 told_replica course leaving first stopped tale =
     record {
@@ -302,6 +324,7 @@ pub record Runs {O A : Type 0} (object : Sequential O) (course : Course A) (tabl
   pub snapshot : 1 ≤ (kept_of course.group course.life).trimmed → course.held.snapshot ≡ snapshot_kept object (kept_of course.group course.life)
   pub restored : is_restored object (kept_of course.group course.life) ≡ true
 
+-- nothing was restored since the last step and nothing leaves, or more places are dropped now than at that step's end
 abbrev pub IsIdle : {A : Type 0} → Kept A → Kept A → Holding A → Option (Log A) → Type 0
 IsIdle k now held leaving = ((held.before ≡ None) × (leaving ≡ None)) ⊎ (k.trimmed < now.trimmed)
 

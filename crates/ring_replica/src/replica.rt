@@ -201,6 +201,7 @@ impl<O: Object> Replica<O> {
         ensures err { OnErr result (self.new ≡ replica_stopped self.old) }
         ensures refused { IfErr result (λ fault. fault ≡ Memory) }
     {
+        // No effect at run time. The proof takes from it that all is well with the course as the step begins, which `walk` asks for.
         let is_fine = self.course.is_fine();
         prove!(is_fine);
         self.stopped = true;

@@ -31,18 +31,23 @@ due_at_regular group members older = if is_primary group members then Head (head
 -- as the last Head is heard: the owner's snapshot, where that is wanted, and the Parts of its log. It is sent only if it is the one that is kept, and only
 -- places that aren't dropped; in every run they are what is wanted
 
+-- each member's Head was heard
 abbrev pub is_stated : {A : Type 0} → Exchange A → Bool
 is_stated e = e.unheard == nobody
 
+-- the wanted places of a log, as Parts
 abbrev pub parts_due : {A : Type 0} → Log A → Wanted → List (Payload A)
 parts_due log w = map (λ part. Part part) (parts_between log.trimmed log.calls w.from w.to)
 
+-- the snapshot of the first `at` places, of these bytes, as Snaps
 abbrev pub snaps_due : {A : Type 0} → ℕ → List ℕ → List (Payload A)
 snaps_due at bytes = map (λ snap. Snap snap) (pieces_of at bytes)
 
+-- so many places are dropped of the log, and the bytes that stand for them are no more than may be sent
 abbrev pub is_snapshot_kept : {A : Type 0} → List ℕ → Log A → ℕ → Bool
 is_snapshot_kept bytes log at = (log.trimmed == at) && nat_le (length bytes) most_snapshot
 
+-- what the owner of the log sends: the snapshot, if one is wanted, and behind it the Parts
 abbrev pub places_due : {A : Type 0} → List ℕ → Log A → Wanted → Option ℕ → List (Payload A)
 places_due bytes log w None = if nat_le log.trimmed w.from then parts_due log w else []
 places_due bytes log w (Some at) = if is_snapshot_kept bytes log at then snaps_due at bytes ++ parts_due log w else []
@@ -52,15 +57,18 @@ abbrev pub owner_due : {A : Type 0} → ℕ → List ℕ → Log A → Option Wa
 owner_due me bytes log None = []
 owner_due me bytes log (Some w) = if w.owner == me then places_due bytes log w w.snapshot else []
 
+-- so at the message that makes the one exchange the other, if it is the last Head
 abbrev pub due_when_stated : {A : Type 0} → ℕ → List ℕ → Log A → Exchange A → Exchange A → List (Payload A)
 due_when_stated me bytes log old new = if is_stated new && not (is_stated old) then owner_due me bytes log (wanted new) else []
 
 -- as the exchange becomes whole: the calls without an answer that stand nowhere in the base past the committed places, in the order of tickets. What a
 -- snapshot stands for that is restored counts as committed
 
+-- the ticket's call stands among these
 abbrev pub stands_in : {A : Type 0} → List (OneCall A) → Asked A → Bool
 stands_in calls t = list_any (is_same t.call) calls
 
+-- the calls of those tickets for which it doesn't
 abbrev pub calls_due : {A : Type 0} → List (Asked A) → List (OneCall A) → List (Payload A)
 calls_due pending base = map (λ (t : Asked _). Call t.call) (filter (λ (t : Asked _). not (stands_in base t)) pending)
 
@@ -68,6 +76,7 @@ calls_due pending base = map (λ (t : Asked _). Call t.call) (filter (λ (t : As
 abbrev pub places_past : {A : Type 0} → ℕ → Log A → List (OneCall A)
 places_past committed log = drop (max committed log.trimmed - log.trimmed) log.calls
 
+-- so at the message that makes the one exchange the other, if it is whole by that; `life` is the life after it
 abbrev pub due_when_whole : {A : Type 0} → Node A → List (Stay A) → Exchange A → Exchange A → List (Payload A)
 due_when_whole n life old new =
     if is_whole new && not (is_whole old)
@@ -85,12 +94,14 @@ module _ {O : Type 0} (object : Sequential O) where
   abbrev pub due_between : {A : Type 0} → Node A → List (Stay A) → List (Stay A) → Exchange A → Exchange A → List (Payload A)
   due_between n before life old new = owner_told n (kept_of n.group before) old new ++ due_when_whole n life old new
 
+  -- in this stay; nothing where its members aren't primary
   abbrev pub due_in_stay : {A : Type 0} → Node A → Stay A → List (Stay A) → Message A → List (Stay A) → List (Payload A)
   due_in_stay n s before x life =
       if is_primary n.group s.members
       then due_between n before life (after_all (opened s.members) s.heard) (after_all (opened s.members) (s.heard ++ x ∷ []))
       else []
 
+  -- in the newest stay of a life; nothing unless the core is Operational in this ring
   abbrev pub due_at_agreed : {A : Type 0} → Node A → Core A → RingId → List (Stay A) → Message A → List (Stay A) → List (Payload A)
   due_at_agreed n core ring [] x life = []
   due_at_agreed n core ring (s ∷ older) x life = if runs core ring then due_in_stay n s (s ∷ older) x life else []

@@ -21,6 +21,7 @@ use Rattle.ring_session.specs.TicketEffects.{done_after, table_effects}
 use Rattle.ring_session.specs.declared.answered.Answered.{Answered}
 use Rattle.ring_session.specs.Tickets.{Asked, unanswered, kept_answers, answer_to}
 
+-- a node, with its life and all that it was ever submitted, did and answered
 pub record Node (A : Type 0) : Type 0 where
   pub group : Group
   pub core : Core A
@@ -40,10 +41,11 @@ node_opening group me = record { group = group; core = opening group.count me; l
 abbrev pub node_kept : {A : Type 0} → Node A → Kept A
 node_kept n = kept_of n.group n.life
 
--- how many places its log has, and how many of them it has dropped
+-- how many places its log has, dropped ones included
 abbrev pub node_length : {A : Type 0} → Node A → ℕ
 node_length n = kept_length (node_kept n)
 
+-- how many of these it has dropped
 abbrev pub node_trimmed : {A : Type 0} → Node A → ℕ
 node_trimmed n = (node_kept n).trimmed
 
@@ -83,6 +85,7 @@ module _ {O : Type 0} (object : Sequential O) where
   abbrev pub snapshot_kept : {A : Type 0} → Kept A → List ℕ
   snapshot_kept k = if nat_lt 0 k.from && (k.trimmed == k.from) then k.snapshot else snapshot_at k k.trimmed
 
+  -- the same of a node
   abbrev pub node_snapshot : {A : Type 0} → Node A → List ℕ
   node_snapshot n = snapshot_kept (node_kept n)
 
@@ -110,6 +113,7 @@ is_closed group (s ∷ older) = not (is_primary group s.members) || is_some (exc
 abbrev pub runs : {A : Type 0} → Core A → RingId → Bool
 runs c ring = is_operational c.state && same_ring c.installed.ring ring
 
+-- there is such a ring, and the core is Operational in it
 abbrev pub runs_some : {A : Type 0} → Core A → Option RingId → Bool
 runs_some c None = false
 runs_some c (Some ring) = runs c ring

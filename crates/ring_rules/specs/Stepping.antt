@@ -45,6 +45,7 @@ pub record NodeStepped (A : Type 0) : Type 0 where
   pub committed : List (OneCall A)
   pub dropped : List (OneCall A)
 
+-- a step that gives nothing
 abbrev pub quiet : {A : Type 0} → Node A → NodeStepped A
 quiet n = record { node = n; sends = []; answers = []; committed = []; dropped = [] }
 
@@ -62,6 +63,7 @@ module _ {O : Type 0} (object : Sequential O) where
   abbrev pub drops : {A : Type 0} → Bool → Kept A → Bool
   drops closed k = closed && is_ripe (log_kept k) && nat_le (length (snapshot_at object k k.committed)) most_snapshot
 
+  -- the end of a step: the committed places are dropped, where they are to be
   abbrev pub ended : {A : Type 0} → Bool → Kept A → NodeStepped A → NodeStepped A
   ended closed k s =
       if drops closed k
@@ -72,6 +74,7 @@ module _ {O : Type 0} (object : Sequential O) where
   abbrev pub table_since : {A : Type 0} → Kept A → Kept A → Table O
   table_since old new = if nat_lt old.trimmed new.trimmed then table_before object new else table_at object old old.committed
 
+  -- a step by which the node did these calls and gave these answers
   abbrev pub answered_by : {A : Type 0} → Node A → Node A → List (Out A) → List (Answered A) → List (OneCall A) → NodeStepped A
   answered_by old new outs answers more =
       record {
@@ -97,9 +100,11 @@ module _ {O : Type 0} (object : Sequential O) where
       settled (is_kept_sound n.group life && is_restored object (kept_of n.group life)) n
       (walked n core life (due_by object n core n.life outs)) outs (kept_of n.group life)
 
+  -- one step of a node, by what its core gave
   abbrev pub after_core : {A : Type 0} → Node A → Stepped A → NodeStepped A
   after_core n s = moved n s.core s.outs (lived_through n.life s.outs)
 
+  -- the same by the input: a frame and a timeout are steps of the core, noise changes nothing, and a stop is for good
   abbrev pub node_step : {A : Type 0} → Node A → Input A → NodeStepped A
   node_step n (Frame frame) = after_core n (ring_step n.core (FrameInput frame))
   node_step n (Timeout kind) = after_core n (ring_step n.core (TimeInput kind))

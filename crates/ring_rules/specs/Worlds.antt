@@ -1,5 +1,5 @@
 -- Worlds of nodes: the nodes, all frames ever sent, the history and what was told; how an event changes a world; and
--- the order that it shows. Rings and states, rules 14 and 15, of docs/PROTOCOL.md.
+-- the order that it shows. The book and the threads, rules 1 to 6, and Sessions, rules 9 and 10, of docs/PROTOCOL.md.
 use Rattle.std.specs.Prelude.{ℕ, suc, ◌-◌, Bool, true, false, ◌&&◌, ◌==◌, nat_le, if◌then◌else◌, List, [], ◌∷◌, ◌++◌, length, map, drop, Option, Some, None}
 use Rattle.ring_base.specs.Fault.{fault_number}
 use Rattle.ring_base.specs.Group.{Group}
@@ -26,6 +26,7 @@ use Rattle.ring_rules.specs.declared.told.Told.{Told}
 use Rattle.ring_rules.specs.declared.told.Told.TheVariants.{Answer as ToldAnswer, Refused as ToldRefused}
 use Rattle.ring_rules.specs.Orders.{Moment, order_of}
 
+-- a world: a group's nodes, by processor, all frames ever sent, and all that was issued, replied and told
 pub record World (A : Type 0) : Type 0 where
   pub group : Group
   pub nodes : ℕ → Node A
@@ -36,6 +37,7 @@ pub record World (A : Type 0) : Type 0 where
   -- the longest of what nodes committed, from the log's beginning, as their steps gave it
   pub longest : List (Call A)
 
+-- each node is at its opening, and nothing was sent, issued or told
 abbrev pub world_opening : {A : Type 0} → Group → World A
 world_opening group = record { group = group; nodes = node_opening group; frames = []; history = []; told = []; longest = [] }
 
@@ -43,6 +45,7 @@ world_opening group = record { group = group; nodes = node_opening group; frames
 abbrev pub put : {A : Type 0} → (ℕ → Node A) → ℕ → Node A → ℕ → Node A
 put nodes i n j = if j == i then n else nodes j
 
+-- the processor is one of the group
 abbrev pub is_node : {A : Type 0} → World A → ℕ → Bool
 is_node w i = nat_le 1 i && nat_le i w.group.count
 
@@ -57,10 +60,12 @@ abbrev pub replied : {A : Type 0} → Call A → Option (List ℕ) → List (Ite
 replied c None = []
 replied c (Some r) = ReplyItem c r ∷ []
 
+-- the replies that answers add to the history, in their order
 abbrev pub items_of : {A : Type 0} → List (Answered A) → List (Item A)
 items_of [] = []
 items_of (a ∷ rest) = replied a.call (reply_in a.answer) ++ items_of rest
 
+-- what is told of the answers that node i gave
 abbrev pub told_by : {A : Type 0} → ℕ → List (Answered A) → List (Told A)
 told_by i answers = map (λ (a : Answered _). ToldAnswer i a.call a.answer) answers
 
@@ -89,18 +94,22 @@ abbrev pub issued_if : {A : Type 0} → Bool → World A → ℕ → Call A → 
 issued_if false w i c = w
 issued_if true w i c = issued_or (submit_fault (w.nodes i)) w i c
 
+-- a node stops; an unknown one changes nothing
 abbrev pub stopped_if : {A : Type 0} → Bool → World A → ℕ → World A
 stopped_if false w i = w
 stopped_if true w i = record w { nodes = put w.nodes i (node_stopped (w.nodes i)) }
 
 module _ {O : Type 0} (object : Sequential O) where
+  -- a node takes an input; an unknown one changes nothing
   abbrev pub stepped_if : {A : Type 0} → Bool → World A → ℕ → Input A → World A
   stepped_if false w i input = w
   stepped_if true w i input = after_step w i (node_step object (w.nodes i) input)
 
+  -- processor i takes an input, if it is one of the group
   abbrev pub stepped : {A : Type 0} → World A → ℕ → Input A → World A
   stepped w i input = stepped_if (is_node w i) w i input
 
+  -- processor i takes a frame, if it was sent to it
   abbrev pub handed_if : {A : Type 0} → Bool → World A → ℕ → Frame A → World A
   handed_if false w i frame = w
   handed_if true w i frame = stepped w i (FrameInput frame)
@@ -142,6 +151,7 @@ lives_of w i = whole_life w.group (lives_in w) (above (lives_in w i)) i
 abbrev pub committed_in : {A : Type 0} → World A → List (List (Call A))
 committed_in w = map (λ i. committed_of w.group (lives_of w i)) (numbers_from 1 w.group.count)
 
+-- what the one order is told by: these committed places, and the history
 abbrev pub moment_of : {A : Type 0} → World A → Moment A
 moment_of w = record { committed = committed_in w; history = w.history }
 

@@ -12,16 +12,19 @@ use Rattle.ring_core_proof.specs.Limits.{WorldFits}
 
 -- What happened
 
+-- what happened to a world of ring cores: how many processors it has, how they opened, and the events since
 pub record Ran (A : Type 0) : Type 0 where
   pub count : ℕ
   -- all in one ring from the start, or all in Gather
   pub formed : Bool
   pub events : List (RingEvent A)
 
+-- the world of so many processors after events, from this opening
 abbrev pub ran_from : {A : Type 0} → Bool → ℕ → List (RingEvent A) → World A
 ran_from false count events = run (unformed count) events
 ran_from true count events = run (ring_formed count) events
 
+-- the world that this makes
 abbrev pub world_of : {A : Type 0} → Ran A → World A
 world_of r = ran_from r.formed r.count r.events
 
@@ -33,9 +36,11 @@ none_ran n = record { count = n; formed = false; events = [] }
 abbrev pub none_ran_formed : {A : Type 0} → ℕ → Ran A
 none_ran_formed n = record { count = n; formed = true; events = [] }
 
+-- one event more
 abbrev pub more : {A : Type 0} → Ran A → RingEvent A → Ran A
 more r event = record r { events = r.events ++ event ∷ [] }
 
+-- these events more
 abbrev pub all_ran : {A : Type 0} → Ran A → List (RingEvent A) → Ran A
 all_ran r events = record r { events = r.events ++ events }
 
@@ -54,14 +59,16 @@ opening_frames (Some s) = record { from = 1; to = s.to; frame = s.frame } ∷ []
 abbrev pub carried_of : {A : Type 0} → ℕ × Out A → Option (Carried A)
 carried_of given = carried_by given.0 given.1
 
+-- all frames among what was given, in order
 abbrev pub frames_of : {A : Type 0} → List (ℕ × Out A) → List (Carried A)
 frames_of outs = filter_map carried_of outs
 
--- where the frames stand among what was given
+-- a place more, where a frame stands there
 abbrev pub places_with : {A : Type 0} → ℕ → Option (Carried A) → List ℕ → List ℕ
 places_with at None places = places
 places_with at (Some f) places = at ∷ places
 
+-- where the frames stand among what was given, of which the first has this place
 abbrev pub places_from : {A : Type 0} → ℕ → List (ℕ × Out A) → List ℕ
 places_from at [] = []
 places_from at (given ∷ outs) = places_with at (carried_of given) (places_from (suc at) outs)
@@ -89,6 +96,8 @@ abbrev pub standing_in : {A : Type 0} → ℕ → Option (ℕ × Out A) → Opti
 standing_in i None = None
 standing_in i (Some given) = frame_in i given.1
 
+-- what the code keeps is this world, which keeps the limits of frames: its cores in order, the frame of its opening, if it had one, all
+-- that was given, and where the frames stand among that
 pub record IsWorld {A : Type 0} (w : World A) (cores : List (Core A)) (first : Option (Sent A)) (outs : List (ℕ × Out A)) (places : List ℕ) : Type 0 where
   pub cores_are : (i : ℕ) → i < w.total → slice_get cores i ≡ Some (w.cores (suc i))
   pub many : length cores ≡ w.total
@@ -99,6 +108,7 @@ pub record IsWorld {A : Type 0} (w : World A) (cores : List (Core A)) (first : O
 
 -- A world that is run once, before and after
 
+-- what contracts see of one: how many processors it has, whether it was run yet, and how far
 pub record Prepared : Type 0 where
   pub count : ℕ
   -- nothing was run yet
@@ -106,6 +116,7 @@ pub record Prepared : Type 0 where
   -- how many events of the run were done
   pub done : ℕ
 
+-- something is there
 abbrev pub is_there : {A : Type 0} → Option (Ran A) → Bool
 is_there None = false
 is_there (Some r) = true

@@ -86,7 +86,8 @@ impl<A: Allocator + Copy> Cores<A> {
     }
 
     /// An event happens. One that names an unknown processor, or a frame not sent or not sent to it, changes
-    /// nothing. `Memory` where a growth was refused: then the world is gone.
+    /// nothing. A payload that it hands in keeps the limits of frames, as a decoded one does. `Memory` where a growth was refused: then
+    /// the world is gone.
     pub fn happens(self, event: &RingEvent<A>) -> Result<Cores<A>, Fault>
         requires { EventFits event.now }
         ensures ok { IfOk result (λ world. world ≡ more self event.now) }

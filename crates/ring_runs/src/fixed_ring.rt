@@ -55,9 +55,9 @@ impl<A: Allocator + Copy> FixedRing<A> {
         })
     }
 
-    /// Runs the events, once; of the timeouts retransmit alone acts. Answers all that was given, in order, each with the
-    /// processor that gave it: of the opening nothing. `Memory` where a growth was refused. Either way `done` tells how many
-    /// events were done: all of them, or fewer.
+    /// Runs the events, once; of the timeouts retransmit alone acts. A payload that they hand in keeps the limits of frames, as a
+    /// decoded one does. Answers all that was given, in order, each with the processor that gave it: of the opening nothing. `Memory`
+    /// where a growth was refused: then the cores are gone. Either way `done` tells how many events were done: all of them, or fewer.
     pub fn run(&mut self, events: &[RingEvent<A>]) -> Result<Vec<(Proc, Out<A>), A>, Fault>
         requires fresh { self.old.is_fresh ≡ true }
         requires fit { AllByRecursion EventFits events.now }
@@ -73,12 +73,13 @@ impl<A: Allocator + Copy> FixedRing<A> {
         ensures some { OnErr result (self.new.done < length events.now) }
         ensures refused { IfErr result (λ fault. fault ≡ Memory) }
     {
+        // No effect at run time. The proof takes from it that the group has a processor, which the laws of a ring of all ask for.
         prove!(self.fixed.count() >= 1);
         let cores = self.cores.take().ok_or(Fault::Memory)?;
         run_acting(cores, true, events, &mut self.done)
     }
 
-    /// How many events of the run were done.
+    /// How many events of the run were done: 0 before it.
     pub fn done(&self) -> u64
         ensures { result ≡ self.now.done }
     {

@@ -50,8 +50,9 @@ impl<A: Allocator + Copy> Rings<A> {
         })
     }
 
-    /// Runs the events, once. Answers all that was given, in order, each with the processor that gave it. `Memory` where a
-    /// growth was refused. Either way `done` tells how many events were done: all of them, or fewer.
+    /// Runs the events, once. A payload that they hand in keeps the limits of frames, as a decoded one does. Answers all that was
+    /// given, in order, each with the processor that gave it. `Memory` where a growth was refused: then the cores are gone. Either way
+    /// `done` tells how many events were done: all of them, or fewer.
     pub fn run(&mut self, events: &[RingEvent<A>]) -> Result<Vec<(Proc, Out<A>), A>, Fault>
         requires fresh { self.old.is_fresh ≡ true }
         requires fit { AllByRecursion EventFits events.now }
@@ -71,7 +72,7 @@ impl<A: Allocator + Copy> Rings<A> {
         run_acting(cores, false, events, &mut self.done)
     }
 
-    /// How many events of the run were done.
+    /// How many events of the run were done: 0 before it.
     pub fn done(&self) -> u64
         ensures { result ≡ self.now.done }
     {

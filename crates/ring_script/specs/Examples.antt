@@ -69,6 +69,7 @@ faulty =
     (2, codes "nodes 2" ∷ codes "pump 0" ∷ codes "nodes 99" ∷ [] ∷ []) ∷
     []
 
+-- each of these texts is refused at the line beside it
 abbrev pub FaultsTold : Type 0
 FaultsTold = map (λ row. script_of (text row.1)) faulty ≡ map (λ row. Err row.0) faulty
 
@@ -108,6 +109,7 @@ good = (
     ) ∷
     []
 
+-- each of these texts is the schedule beside it
 abbrev pub SchedulesTold : Type 0
 SchedulesTold = map (λ row. script_of (text row.0)) good ≡ map (λ row. Ok row.1) good
 
@@ -128,5 +130,6 @@ operations =
     (codes "raw 00ff7a", 0 ∷ 255 ∷ 122 ∷ []) ∷
     []
 
+-- the words of each operation say the bytes beside them, and no word is left
 abbrev pub OperationsTold : Type 0
 OperationsTold = map (λ row. operation_at shelf_forms (words_of row.0)) operations ≡ map (λ row. Some (row.1, [])) operations

@@ -85,8 +85,9 @@ frame_at words = do
   frame ← frame_of word.0
   Some (frame, word.1)
 
--- ---- the forms of lines, and the words after each
+-- ---- the forms of lines, by the words behind the first, and the words after each
 
+-- `call NODE CLIENT NUMBER OP..`
 unfoldable pub call_at : List Form → Group → List (List ℕ) → Option (Asked × List (List ℕ))
 call_at forms nodes words = do
   node ← node_at nodes words
@@ -95,6 +96,7 @@ call_at forms nodes words = do
   operation ← operation_at forms number.1
   Some (Call node.0 client.0 number.0 operation.0, operation.1)
 
+-- `deliver NODE FRAME`
 unfoldable pub deliver_at : Group → List (List ℕ) → Option (Asked × List (List ℕ))
 deliver_at nodes words = do
   node ← node_at nodes words
@@ -102,6 +104,7 @@ deliver_at nodes words = do
   frame ← frame_of word.0
   Some (Deliver node.0 frame, word.1)
 
+-- `timeout NODE KIND`
 unfoldable pub timeout_at : Group → List (List ℕ) → Option (Asked × List (List ℕ))
 timeout_at nodes words = do
   node ← node_at nodes words
@@ -109,6 +112,7 @@ timeout_at nodes words = do
   kind ← kind_of word.0
   Some (Timeout node.0 kind, word.1)
 
+-- `noise NODE HEX`
 unfoldable pub noise_at : Group → List (List ℕ) → Option (Asked × List (List ℕ))
 noise_at nodes words = do
   node ← node_at nodes words
@@ -116,16 +120,19 @@ noise_at nodes words = do
   bytes ← bytes_of most_frame word.0
   Some (Noise node.0 bytes, word.1)
 
+-- `stop NODE`
 unfoldable pub stop_at : Group → List (List ℕ) → Option (Asked × List (List ℕ))
 stop_at nodes words = do
   node ← node_at nodes words
   Some (Stop node.0, node.1)
 
+-- `cut GROUP GROUP..`
 unfoldable pub cut_line_at : Group → List (List ℕ) → Option (Asked × List (List ℕ))
 cut_line_at nodes words = do
   groups ← cut_at nodes words
   Some (Cut groups.0, groups.1)
 
+-- `pump K`
 unfoldable pub pump_at : List (List ℕ) → Option (Asked × List (List ℕ))
 pump_at words = do
   turns ← number_at 1 100000 words

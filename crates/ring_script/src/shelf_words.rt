@@ -17,6 +17,7 @@ impl Vocabulary for ShelfWords {
     #[tactic(auto, unfolding(crate::specs::ShelfWords::shelf_forms))]
     fn forms() -> &'static [Form] {
         use Argument::{Key, Name, Value};
+        // `add` stands twice, so that a script that is made has it twice as often.
         &[
             Form {
                 word: "get",

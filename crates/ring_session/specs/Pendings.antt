@@ -20,6 +20,7 @@ pub record Tickets (A : Type 0) : Type 0 where
   pub pending : List (Pending A)
   pub kept : List Kept
 
+-- before any ticket is given
 abbrev pub none_given : {A : Type 0} → Tickets A
 none_given = record { given = 0; pending = []; kept = [] }
 
@@ -69,6 +70,7 @@ pending_from done ticket [] = []
 pending_from done ticket (t ∷ ts) =
     if is_none (place_of done t) then record { ticket = ticket; call = t.call } ∷ pending_from done (ticket + 1) ts else pending_from done (ticket + 1) ts
 
+-- what is kept is what all tickets, all calls done and all answers make it
 pub record AreTickets {A : Type 0} (asked : List (Asked A)) (done : List (Call A)) (answers : List (Answered A)) (t : Tickets A) : Type 0 where
   pub given : t.given ≡ length asked
   -- each was given when no more calls were done than now

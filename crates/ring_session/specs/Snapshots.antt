@@ -17,6 +17,7 @@ use Rattle.ring_session.specs.Table.{LastCall, Table, table_of}
 
 -- ---- a reply: its length in a byte, and its bytes
 
+-- a reply has at most so many bytes
 abbrev pub most_reply : ℕ
 most_reply = 64
 
@@ -147,9 +148,11 @@ pub record KeepsLimits {A : Type 0} (c : Call A) : Type 0 where
 
 -- ---- how the code takes a snapshot apart: how many clients there are, the bytes from the first client on, and the object's snapshot
 
+-- so many clients, ascending, at the front of bytes, if they stand there
 abbrev pub clients_in : ℕ → List ℕ → Option (List (ℕ × LastCall))
 clients_in count bytes = option_map (λ x. x.0) (clients_at count 0 bytes)
 
+-- bytes are taken apart so, with at most 1,024 clients; nothing comes of bytes that have no such parts
 abbrev pub AreParts : List ℕ → Option (ℕ × List ℕ × List ℕ) → Type 0
 AreParts bytes None = parts_at bytes ≡ None
 AreParts bytes (Some p) = (p.0 ≤ most_clients) × IsSome (clients_in p.0 p.1) × (parts_at bytes ≡ option_map (λ ss. (ss, p.2)) (clients_in p.0 p.1))

@@ -85,6 +85,7 @@ count_format : IsFormat (λ n. big_bytes 2 n) IsCount (such_at (λ n. nat_le n m
 count_format = such_format (λ n. big_bytes 2 n) (IsWord 2) IsCount (number_at 2) (λ n. nat_le n most_clients)
     (λ n f h. (f, leb-true n most_clients h)) (λ n f. (f.0, le-leb n most_clients f.1)) number_format2
 
+-- clients, ascending, behind how many they are
 abbrev SessionsFit : ℕ × List (ℕ × LastCall) → Type 0
 SessionsFit p = IsCount p.0 × ((length p.1 ≡ p.0) × AreFrom 0 p.1)
 
@@ -96,6 +97,7 @@ unfolding sessions_at
 sessions_format = then_format (λ n. big_bytes 2 n) IsCount (such_at (λ n. nat_le n most_clients) (number_at 2))
     (λ n. flat_map client_spelling) (λ n ss. (length ss ≡ n) × AreFrom 0 ss) (λ n. clients_at n 0) count_format (λ n f. clients_format n 0)
 
+-- a text behind its length
 abbrev ObjectFits : ℕ × List ℕ → Type 0
 ObjectFits p = IsWord 8 p.0 × (length p.1 ≡ p.0)
 
@@ -113,6 +115,7 @@ pub record AreTold (bytes : List ℕ) (parts : List (ℕ × LastCall) × List �
   pub text : AreBytes parts.1
   pub whole : sessions_spelling (length parts.0, parts.0) ++ object_spelling (length parts.1, parts.1) ≡ bytes
 
+-- bytes are made of the parts that are read off them
 pub parts_exact : (bytes : List ℕ) (parts : List (ℕ × LastCall) × List ℕ) → AreBytes bytes → parts_at bytes ≡ Some parts → AreTold bytes parts
 unfolding parts_at
 parts_exact bytes parts are is =

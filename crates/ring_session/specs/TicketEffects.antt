@@ -10,10 +10,11 @@ abbrev pub done_after : {O A : Type 0} → Sequential O → Table O → List (Ca
 done_after object table [] = 0
 done_after object table (c ∷ more) = (if is_done (table_answer object table c) then 1 else 0) + done_after object (table_next object table c) more
 
--- how many calls took effect, by a session table: the sum of its clients' last numbers, as far as numbers of 64 bits go
+-- the sum of these clients' last numbers
 abbrev pub numbers_in : List (ℕ × LastCall) → ℕ
 numbers_in [] = 0
 numbers_in (s ∷ rest) = s.1.number + numbers_in rest
 
+-- how many calls took effect, by a session table: that sum, as far as numbers of 64 bits go
 abbrev pub table_effects : {O : Type 0} → Table O → ℕ
 table_effects table = min (2 ^ 64 - 1) (numbers_in table.sessions)

@@ -76,6 +76,7 @@ impl<A: Allocator + Copy> Recent<A> {
     pub fn extend<B: Allocator + Copy>(&mut self, answers: &[Answered<B>])
         ensures { self.new ≡ last_kept (self.old ++ map kept_of answers.now) }
     {
+        // No effect at run time. The proof sees what `Recent` promises of itself only where the body reads a field.
         let _ = &self.answers;
         for answered in answers {
             self.push(Kept {

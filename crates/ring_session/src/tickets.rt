@@ -143,7 +143,7 @@ fn is_same_whole<A: Allocator + Copy>(call: &Call<A>, other: &Call<A>) -> bool
         && other.op.as_slice() == call.op.as_slice()
 }
 
-/// A copy of the call.
+/// A copy of the call. `AllocError` where memory was refused to it.
 pub fn copy_of<A: Allocator + Copy>(call: &Call<A>) -> Result<Call<A>, AllocError>
     ensures { IfOk result (λ copy. copy ≡ call.now) }
 {

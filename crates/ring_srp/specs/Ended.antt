@@ -4,6 +4,7 @@ use Rattle.ring_core.specs.Commits.{Configuration}
 use Rattle.ring_core.specs.State.{Core, halted}
 use Rattle.ring_core.specs.Giving.{may_install}
 
+-- the core that contracts see: of one that stopped what it was before, in Stopped
 abbrev pub running_or : {A : Type 0} → Option (Core A) → Core A → Core A
 running_or None before = halted before
 running_or (Some c) before = c

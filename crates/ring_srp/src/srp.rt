@@ -275,7 +275,7 @@ fn copied_machine<A: Allocator + Copy>(
     machine.clone()
 }
 
-/// Lets what stands there go, with all that it kept.
+/// Lets what stands there go, with all that it kept. It stands apart, since a call clears its room for what takes the place.
 #[inline(never)]
 fn let_go<M: Drop>(machine: &mut Option<M>)
     ensures { machine.new ≡ None }

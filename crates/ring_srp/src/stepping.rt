@@ -98,7 +98,7 @@ fn hear_other<A: Allocator + Copy>(
     }
 }
 
-/// One step, of a copy of a message that is taken.
+/// One step, of a copy of a message that is taken. It stands apart, since a call clears its room for the copy.
 #[inline(never)]
 fn take_copy<A: Allocator + Copy>(
     machine: &mut Machine<A>,
@@ -150,7 +150,7 @@ fn take_through<A: Allocator + Copy>(
     machine.propose_if_due(sends)
 }
 
-/// One step, of a copy of a frame.
+/// One step, of a copy of a frame. It stands apart, since a call clears its room for the copy and for what it comes to.
 #[inline(never)]
 fn step_copy<A: Allocator + Copy>(
     machine: &mut Machine<A>,

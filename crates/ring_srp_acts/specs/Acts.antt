@@ -4,6 +4,7 @@ use Rattle.ring_srp_acts.specs.declared.act.Act.TheVariants as told
 use Rattle.ring_core.specs.Deciding.{Act, Ignore, Enqueue, Repeat, Announce, Invite, GiveUp, Regather, Agree, Widen}
 use Rattle.ring_core.specs.Deciding.{RegatherAndAgree, RegatherAndWiden, Take, Visit, Fill, Learn}
 
+-- the rule book's act that an act of the code is
 abbrev pub act_of : {A : Type 0} → Told A → Act A
 act_of told.Ignore = Ignore
 act_of (told.Enqueue payload) = Enqueue payload

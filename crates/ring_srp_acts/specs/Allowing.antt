@@ -30,23 +30,27 @@ pub record TokenGoes (t : Token) : Type 0 where
   pub seq : t.seq ≤ max_number
   pub ascending : IsStrictlyIncreasing t.requests
 
+-- a visit: a ring runs, and the token is accepted and of a form that a visit may take
 pub record VisitAllowed {A : Type 0} (c : Core A) (t : Token) : Type 0 where
   pub runs : is_running c.state ≡ true
   pub passes : accepts c t ≡ true
   pub goes : TokenGoes t
 
+-- the first round of a commit token: the core is in Gather, at the position of the hop, and takes it
 pub record FillAllowed {A : Type 0} (c : Core A) (k : CommitToken) : Type 0 where
   pub state : c.state ≡ Gather
   pub here : is_at c.me k ≡ true
   pub passes : takes_first_round c k ≡ true
   pub fits : CommitFits k
 
+-- the second round: the core is in Commit, at the position of the hop, and takes it
 pub record LearnAllowed {A : Type 0} (c : Core A) (k : CommitToken) : Type 0 where
   pub state : c.state ≡ Commit
   pub here : is_at c.me k ≡ true
   pub passes : takes_second_round c k ≡ true
   pub fits : CommitFits k
 
+-- what each act may rest on, of the core to which it is done
 abbrev pub Allows : {A : Type 0} → Core A → Act A → Type 0
 Allows c Ignore = Unit {0}
 Allows c (Enqueue payload) = Unit {0}

@@ -5,9 +5,11 @@ use Rattle.ring_wire.specs.declared.commit.CommitToken.{CommitToken}
 use Rattle.ring_recover.specs.Plans.{Plan, plan_of, safe}
 use Rattle.ring_core.specs.State.{Core, Sent}
 
+-- the plan of those that come from the core's last installed ring
 abbrev pub plan_at : {A : Type 0} → Core A → CommitToken → Plan
 plan_at c k = plan_of c.installed.ring c.running.members k.entries
 
+-- the greatest safe mark that one of them reports of that ring
 abbrev pub safe_at : {A : Type 0} → Core A → CommitToken → ℕ
 safe_at c k = safe (plan_at c k)
 

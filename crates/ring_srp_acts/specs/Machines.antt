@@ -53,9 +53,11 @@ core_of me total state running installed gathering shown queue held h =
 abbrev pub raises_of : RingId → List Raise → List Raise
 raises_of ring raises = filter (λ (x : Raise). same_ring x.ring ring) raises
 
+-- a ring's window, by the core's lists
 abbrev pub window_of : {A : Type 0} → Core A → RingId → Windowed A
 window_of c ring = record { ring = ring; mark = mark c ring; held = of_ring ring c.held }
 
+-- the visits of a ring's token, with the marks that it was raised to, by the core's lists
 abbrev pub visits_of : {A : Type 0} → Core A → RingId → TokenHistory A
 visits_of c ring = record { me = c.me; ring = ring; turns = turns_of ring c.turns; raises = raises_of ring c.raises }
 
@@ -120,12 +122,14 @@ pub record Recovers {A : Type 0} (c : Core A) (r : Recovering A) : Type 0 where
   -- what was safe in the old ring is safe by the plan
   pub old_safe : mark c c.installed.ring ≤ safe (plan c)
 
+-- what is kept for recovery is there, and is that of the core
 abbrev pub IsRecovering : {A : Type 0} → Core A → Option (Recovering A) → Type 0
 IsRecovering c None = ⊥
 IsRecovering c (Some r) = Recovers c r
 
 -- In every state
 
+-- what the code keeps is that of this core, which hasn't stopped
 pub record IsMachine {A : Type 0} (c : Core A) (gather : Gatherer) (window : Windowed A) (visit : TokenHistory A)
     (recovery : Option (Recovering A)) : Type 0 where
   pub runs : is_stopped c.state ≡ false

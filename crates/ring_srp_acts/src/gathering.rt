@@ -71,7 +71,7 @@ impl<A: Allocator + Copy> Machine<A> {
         self.gather.widen(join);
     }
 
-    /// The own join goes to all other processors.
+    /// The own join goes to all other processors. `Memory` where a growth was refused: what `sends` has then isn't told.
     pub fn announce(&self, sends: &mut Vec<Sent<A>, A>) -> Result<(), Fault>
         requires { self.now.state ≡ InGather }
         ensures ok { OnOk result (sends.new.items ≡ sends.old.items ++ addressed (announced self.now ∷ [])) }
@@ -81,7 +81,7 @@ impl<A: Allocator + Copy> Machine<A> {
         send(sends, others, Frame::Join(self.gather.my_join()))
     }
 
-    /// In Operational a join goes to those outside the ring.
+    /// In Operational a join goes to those outside the ring. `Memory` where a growth was refused: what `sends` has then isn't told.
     pub fn invite(&self, sends: &mut Vec<Sent<A>, A>) -> Result<(), Fault>
         ensures ok { OnOk result (sends.new.items ≡ sends.old.items ++ addressed (invited self.now ∷ [])) }
         ensures refused { IfErr result (λ fault. fault ≡ Memory) }
@@ -100,7 +100,8 @@ impl<A: Allocator + Copy> Machine<A> {
         )
     }
 
-    /// The last token or commit token goes out again, to the same receiver.
+    /// The last token or commit token goes out again, to the same receiver; nothing does where none was sent since Gather was entered.
+    /// `Memory` where a growth was refused: what `sends` has then isn't told.
     pub fn repeat(&self, sends: &mut Vec<Sent<A>, A>) -> Result<(), Fault>
         ensures ok { OnOk result (sends.new.items ≡ sends.old.items ++ addressed (shown_again self.now.shown)) }
         ensures refused { IfErr result (λ fault. fault ≡ Memory) }

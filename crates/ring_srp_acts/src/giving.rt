@@ -42,7 +42,8 @@ impl<A: Allocator + Copy> Machine<A> {
     }
 
     /// What is agreed and safe of the installed ring by now, and was not before. What is safe by now was in the front
-    /// before, so the window still has what the front newly covers.
+    /// before, so the window still has what the front newly covers. `Memory` where a growth was refused: what `outs` has then isn't
+    /// told.
     pub fn give(&self, before: Reached, outs: &mut Vec<Out<A>, A>) -> Result<(), Fault>
         requires ring { before.ring ≡ self.now.installed.ring }
         requires mark { mark self.now self.now.installed.ring ≤ before.front }

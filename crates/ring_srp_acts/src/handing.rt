@@ -22,7 +22,8 @@ use ring_wire::{CommitBox, Frame};
 use std::alloc::Allocator;
 
 impl<A: Allocator + Copy> Machine<A> {
-    /// In Gather, with consensus, the smallest proposes a ring.
+    /// In Gather, with consensus, the smallest proposes a ring: its number is one more than the greatest known, and at most 2^62.
+    /// Else nothing changes. `Memory` where a growth was refused: what the core is then, and what `sends` has, isn't told.
     pub fn propose_if_due(&mut self, sends: &mut Vec<Sent<A>, A>) -> Result<(), Fault>
         ensures core { OnOk result (self.new ≡ (proposed_after (proposes self.old) (silently self.old)).core) }
         ensures sends { OnOk result (sends.new.items ≡ sends.old.items ++ addressed (proposed_after (proposes self.old) (silently self.old)).sends) }
@@ -35,7 +36,7 @@ impl<A: Allocator + Copy> Machine<A> {
         }
     }
 
-    /// Takes part in the ring that it proposes.
+    /// Takes part in the ring that it proposes. It stands apart, since a call clears its room for a commit token.
     #[inline(never)]
     fn propose(&mut self, sends: &mut Vec<Sent<A>, A>) -> Result<(), Fault>
         requires { proposes self.old ≡ true }
@@ -81,7 +82,8 @@ impl<A: Allocator + Copy> Machine<A> {
         }
     }
 
-    /// The first round: the own report is added.
+    /// The first round: the own report is added. `Memory` where a growth was refused: what the core is then, and what `sends` has,
+    /// isn't told.
     pub fn fill(&mut self, boxed: CommitBox<A>, sends: &mut Vec<Sent<A>, A>) -> Result<(), Fault>
         requires { FillAllowed self.old boxed }
         ensures core { OnOk result (self.new ≡ (filled self.old boxed).core) }

@@ -14,7 +14,8 @@ use ring_wire::Message;
 use std::alloc::Allocator;
 
 impl<A: Allocator + Copy> Machine<A> {
-    /// Takes a message. In Recovery what it wraps goes to the old ring's window.
+    /// Takes a message. In Recovery what it wraps goes to the old ring's window. `Memory` where a growth was refused: what the core
+    /// is then isn't told.
     pub fn take(&mut self, message: Message<A>) -> Result<(), Fault>
         requires { is_taken self.old message ≡ true }
         ensures ok { OnOk result (self.new ≡ took self.old message) }

@@ -24,7 +24,8 @@ struct Aside<A: Allocator + Copy = Global> {
 }
 
 impl<A: Allocator + Copy> Machine<A> {
-    /// Installs the running ring once recovery is over, and gives what that gives.
+    /// Installs the running ring once recovery is over, and gives what that gives. Else nothing changes. `Memory` where a growth
+    /// was refused: what the core is then, and what `outs` has, isn't told.
     pub fn install_if_due(&mut self, outs: &mut Vec<Out<A>, A>) -> Result<(), Fault>
         ensures core { OnOk result (self.new ≡ (settle (may_install self.old) self.old []).core) }
         ensures outs { OnOk result (outs.new.items ≡ outs.old.items ++ (settle (may_install self.old) self.old []).outs) }

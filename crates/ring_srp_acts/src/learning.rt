@@ -21,7 +21,8 @@ use ring_wire::{CommitBox, CommitToken, Frame};
 use std::alloc::Allocator;
 
 impl<A: Allocator + Copy> Machine<A> {
-    /// The second round: recovery begins, and the old ring is safe up to the greatest mark that was reported of it.
+    /// The second round: recovery begins, and the old ring is safe up to the greatest mark that was reported of it. `Memory` where
+    /// a growth was refused: what the core is then, and what `sends` has, isn't told.
     pub fn learn(&mut self, boxed: CommitBox<A>, sends: &mut Vec<Sent<A>, A>) -> Result<(), Fault>
         requires { LearnAllowed self.old boxed }
         ensures core { OnOk result (self.new ≡ (learned self.old boxed).core) }

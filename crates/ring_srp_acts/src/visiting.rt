@@ -23,7 +23,7 @@ use std::alloc::Allocator;
 
 impl<A: Allocator + Copy> Machine<A> {
     /// Visits an accepted token: what was asked for goes out again, new messages go out and are held at once, and the
-    /// token goes on.
+    /// token goes on. `Memory` where a growth was refused: what the core is then, and what `sends` has, isn't told.
     pub fn visit(&mut self, token: &Token, sends: &mut Vec<Sent<A>, A>) -> Result<(), Fault>
         requires { VisitAllowed self.old token.now }
         ensures core { OnOk result (self.new ≡ (visited self.old token.now).core) }
@@ -51,7 +51,7 @@ impl<A: Allocator + Copy> Machine<A> {
 
     /// An empty list with room for what a visit may tell at once: that its new messages are agreed, and that the safe mark rose.
     /// The room is made before the visit, by which the window gives many small pieces of memory back: behind these a large one is
-    /// dear. Where nothing is queued there is none, and no memory is asked for.
+    /// dear. Where nothing is queued there is none, and no memory is asked for. `Memory` where it was refused.
     pub fn told_by_visit(&self) -> Result<Vec<Out<A>, A>, Fault>
         ensures ok { IfOk result (λ told. told.items ≡ []) }
         ensures refused { IfErr result (λ fault. fault ≡ Memory) }

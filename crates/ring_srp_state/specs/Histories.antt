@@ -16,6 +16,7 @@ pub record History (A : Type 0) : Type 0 where
   pub reports : List Report
   pub plans : List CommitToken
 
+-- those of a core
 abbrev pub history_of : {A : Type 0} → Core A → History A
 history_of c = record { rings = c.rings; installs = c.installs; turns = c.turns; raises = c.raises; reports = c.reports; plans = c.plans }
 

@@ -5,6 +5,7 @@ use Rattle.ring_payload.specs.declared.content.Payload.{Payload}
 use Rattle.ring_payload.specs.declared.content.Payload.TheVariants.{Call, Wrapped, End, Head, Part, Pack, Snap}
 use Rattle.ring_payload.specs.Calls.{call_bytes}
 
+-- the call of a Call; of any other payload none
 abbrev pub call_of : {A : Type 0} → Payload A → Option (OneCall A)
 call_of (Call call) = Some call
 call_of (Wrapped old) = None
@@ -14,6 +15,7 @@ call_of (Part part) = None
 call_of (Pack pack) = None
 call_of (Snap snap) = None
 
+-- how many bytes a Call takes in a Pack; of any other payload nothing is told
 abbrev pub bytes_of : {A : Type 0} → Payload A → Option ℕ
 bytes_of (Call call) = Some (call_bytes call)
 bytes_of (Wrapped old) = None

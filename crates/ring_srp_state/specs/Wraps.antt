@@ -17,6 +17,7 @@ abbrev pub wrap_unless : {A : Type 0} → Bool → Option (Message A) → Option
 wrap_unless true found = None
 wrap_unless false found = wrap_found found
 
+-- so by what is held of the old ring, and what was seen of the new one
 abbrev pub wrap_left : {A : Type 0} → Recovering A → List (Message A) → ℕ → Option (Payload A)
 wrap_left r held n = wrap_unless (is_wrapped r.seen r.plan.old n) (found held r.plan.old n)
 

@@ -14,7 +14,8 @@ use ring_window::Window;
 use ring_wire::Message;
 use std::alloc::Allocator;
 
-/// Gives the users' messages after a number that the front covers, ascending. None of them is forgotten yet.
+/// Gives the users' messages after a number that the front covers, ascending. None of them is forgotten yet. `Memory` where a growth
+/// was refused: what `outs` has then isn't told.
 pub fn give_agreed<A: Allocator + Copy>(
     window: &Window<A>,
     below: u64,
@@ -50,7 +51,7 @@ fn give_message<A: Allocator + Copy>(
     Ok(())
 }
 
-/// Gives the safe mark of a ring, if it rose.
+/// Gives the safe mark of a ring, if it rose. `Memory` where a growth was refused: what `outs` has then isn't told.
 pub fn give_safe<A: Allocator + Copy>(
     ring: RingId,
     before: u64,
@@ -81,7 +82,8 @@ fn give_mark<A: Allocator + Copy>(
     Ok(())
 }
 
-/// In the transitional configuration the users' messages of these numbers, which the window still has.
+/// In the transitional configuration the users' messages of these numbers, which the window still has. `Memory` where a growth was
+/// refused: what `outs` has then isn't told.
 pub fn give_rest<A: Allocator + Copy>(
     window: &Window<A>,
     numbers: &Numbers,
@@ -125,7 +127,7 @@ fn give_if_users<A: Allocator + Copy>(
     Ok(())
 }
 
-/// Messages that stood aside are agreed.
+/// Messages that stood aside are agreed. `Memory` where a growth was refused: what `outs` has then isn't told.
 pub fn give_aside<A: Allocator + Copy>(
     ring: &RingId,
     messages: Vec<Message<A>, A>,

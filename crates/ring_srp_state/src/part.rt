@@ -162,7 +162,7 @@ impl<A: Allocator + Copy> Clone for Part<A> {
 }
 
 /// The 32 smallest of the requests that stay and of the numbers that are missing, in the place of these, of which no more
-/// than the 32 smallest need be given.
+/// than the 32 smallest need be given. It stands apart, since a call clears its room for 32 numbers.
 #[inline(never)]
 fn add_stays(stays: &Requests, missing: &mut Requests)
     requires { IsStrictlyIncreasing stays.now }

@@ -10,7 +10,7 @@ use ring_core::Sent;
 use ring_wire::{Frame, Message, Requests, Token};
 use std::alloc::Allocator;
 
-/// Sends a frame, unless it is to nobody.
+/// Sends a frame, unless it is to nobody. `Memory` where a growth was refused: what `sends` has then isn't told.
 pub fn send<A: Allocator + Copy>(
     sends: &mut Vec<Sent<A>, A>,
     to: ProcSet,
@@ -26,7 +26,8 @@ pub fn send<A: Allocator + Copy>(
     Ok(())
 }
 
-/// Sends a copy of a token or commit token, unless it is to nobody.
+/// Sends a copy of a token or commit token, unless it is to nobody. `Memory` where a growth was refused: what `sends` has then isn't
+/// told.
 pub fn send_copy<A: Allocator + Copy>(
     sends: &mut Vec<Sent<A>, A>,
     to: ProcSet,
@@ -41,7 +42,7 @@ pub fn send_copy<A: Allocator + Copy>(
     }
 }
 
-/// Sends a copy of a frame, whatever it is, unless it is to nobody.
+/// Sends a copy of a frame, whatever it is, unless it is to nobody. It stands apart, since a call clears its room for the copy.
 #[inline(never)]
 fn send_clone<A: Allocator + Copy>(
     sends: &mut Vec<Sent<A>, A>,
@@ -129,7 +130,7 @@ pub(crate) fn copied(token: &Token) -> Token
     }
 }
 
-/// Sends a copy of a message, unless it is to nobody.
+/// Sends a copy of a message, unless it is to nobody. `Memory` where a growth was refused: what `sends` has then isn't told.
 pub fn send_message<A: Allocator + Copy>(
     sends: &mut Vec<Sent<A>, A>,
     to: ProcSet,

@@ -13,7 +13,8 @@ use ring_recover::{Plan, wrap};
 use ring_window::Window;
 use std::alloc::Allocator;
 
-/// The first of what is left to wrap of the old ring's window, and the End behind it: at most so many.
+/// The first of what is left to wrap of the old ring's window, and the End behind it unless it went out: at most so many. `Memory`
+/// where a growth was refused.
 pub fn first_left<A: Allocator + Copy>(
     alloc: A,
     plan: &Plan<A>,
@@ -26,6 +27,7 @@ pub fn first_left<A: Allocator + Copy>(
     ensures items { IfOk result (λ payloads. payloads.items ≡ take most (left_and_end plan.now window.now.held)) }
     ensures refused { IfErr result (λ fault. fault ≡ Memory) }
 {
+    // No effect at run time. The proof takes from it that a number above the least front is above the greatest safe mark.
     let sound = plan.safe() <= plan.low();
     prove!(sound);
     let mut payloads = Vec::new(alloc);

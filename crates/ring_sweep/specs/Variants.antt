@@ -61,11 +61,12 @@ bit false = 0
 
 -- ---- what is put in
 
--- the line of a script that asks for it
+-- the line of a script that asks for this of a node
 abbrev pub line_of_blow : {A : Type 0} → Blow → ℕ → Line A
 line_of_blow blows.Stop node = Stop node
 line_of_blow blows.Cut node = Cut (apart node)
 
+-- the line of a script that asks for what is put in
 abbrev pub line_of_upset : {A : Type 0} → Upset → Line A
 line_of_upset u = line_of_blow u.blow u.node
 

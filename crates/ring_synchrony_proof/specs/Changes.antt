@@ -21,6 +21,7 @@ stages_in w i = stages_of (life_of w i)
 
 -- What a life was told
 
+-- what was agreed of a ring in one configuration
 abbrev pub agreed_at : {A : Type 0} → RingId → Stage A → List (Message A)
 agreed_at ring (InRegular at agreed safe) = if same_ring at.ring ring then agreed else []
 agreed_at ring (InTransitional old new members rest) = []
@@ -41,6 +42,7 @@ users_upto text ring upto = filter (λ (x : Message _). is_user x.payload) (filt
 
 -- Its configurations
 
+-- the configuration, if it is a regular one
 abbrev pub regular_at : {A : Type 0} → Stage A → List Configuration
 regular_at (InRegular at agreed safe) = at ∷ []
 regular_at (InTransitional old new members rest) = []
@@ -60,6 +62,7 @@ abbrev pub follows : {A : Type 0} → Stage A → Stage A → Bool
 follows (InRegular at agreed safe) before = leads_to at.ring before
 follows (InTransitional old new members rest) before = is_regular_of old before
 
+-- so each after the one before it, newest first: regular and transitional configurations alternate
 abbrev pub alternate : {A : Type 0} → List (Stage A) → Bool
 alternate [] = true
 alternate (s ∷ []) = true
@@ -97,6 +100,7 @@ abbrev pub changes_of : {A : Type 0} → List (Stage A) → List (Change A)
 changes_of [] = []
 changes_of (s ∷ older) = change_to s older ++ changes_of older
 
+-- the changes of a processor's life in a world
 abbrev pub changes_in : {A : Type 0} → World A → ℕ → List (Change A)
 changes_in w i = changes_of (stages_in w i)
 

@@ -10,6 +10,7 @@ use Rattle.ring_core_proof.specs.FactWords.{IsIn}
 use Rattle.ring_core_proof.specs.Worlds.{World}
 use Rattle.ring_core_proof.specs.Texts.{text_of}
 
+-- whose front in a ring covers the number of a users' message of the ring's text has installed that ring
 abbrev pub HeardIsInstalled : {A : Type 0} → World A → Type 0
 HeardIsInstalled {A} w =
     (q : ℕ) (ring : RingId) (x : Message A) → IsIn x (text_of w ring) → is_user x.payload ≡ true → x.number ≤ front (w.cores q) ring →

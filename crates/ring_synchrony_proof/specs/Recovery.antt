@@ -34,6 +34,8 @@ HoldsInner {A} c =
     (x : Message A) → IsIn x c.held → x.ring ≡ c.running.ring → (w : WrappedMessage A) → x.payload ≡ Wrapped w → w.ring ≡ c.installed.ring →
     holds c.held c.installed.ring w.number ≡ true
 
+-- what holds of a core in Recovery: it is one of the mates, the safe mark of the old ring is the greatest that they report, what it
+-- holds of that ring one of them reported, and what was wrapped of it is held
 pub record IsRecovering {A : Type 0} (c : Core A) : Type 0 where
   pub mate : has (plan c).mates c.me ≡ true
   pub marked : mark c c.installed.ring ≡ safe (plan c)

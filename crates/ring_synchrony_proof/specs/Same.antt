@@ -18,6 +18,7 @@ use Rattle.ring_payload.specs.declared.content.Wrapped.{Wrapped as WrappedMessag
 use Rattle.ring_wire.specs.declared.message.Message.{Message}
 use Rattle.ring_log.specs.Logs.{same_call}
 
+-- Each test says of two values that they are the same in all that they tell; of two lists, that they are as long, and the same one by one
 abbrev pub same_calls : {A : Type 0} → List (OneCall A) → List (OneCall A) → Bool
 same_calls cs ds = pointwise same_call cs ds
 

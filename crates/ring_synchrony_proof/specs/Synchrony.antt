@@ -22,10 +22,13 @@ use Rattle.ring_synchrony_proof.specs.Changes.{alternate, Change, changes_in, de
 abbrev pub IsBefore : {A : Type 0} → Message A → Message A → Type 0
 IsBefore x y = x.ring ≡ y.ring → x.number < y.number
 
+-- so of each two of a list, the earlier one first
 abbrev pub Ascend : {A : Type 0} → List (Message A) → Type 0
 Ascend [] = Unit {0}
 Ascend (x ∷ xs) = AllByRecursion (IsBefore x) xs × Ascend xs
 
+-- a ring has one text for all: a number has one sender and payload; what was agreed are its users' messages up to the front, none left
+-- out; the rest of the ring stands in it; deliveries ascend; and what is safe never passes the front
 pub record HasSameText {A : Type 0} (w : World A) : Type 0 where
   -- a number of a ring has one sender and one payload
   pub text : (ring : RingId) → HasOneText w ring
@@ -75,6 +78,8 @@ pub record GoesOn {A : Type 0} (w : World A) (c : Change A) (q : ℕ) : Type 0 w
   pub through : IsIn c.old (regulars_of (stages_in w q))
   pub straight : (b : Configuration) → IsIn b (regulars_of (stages_in w q)) → (b.ring.seq ≤ c.old.ring.seq) ⊎ (c.new.ring.seq ≤ b.ring.seq)
 
+-- a processor's configurations: it is a member of each, the two kinds alternate, the rings rise, all lives have the same members of a
+-- ring, and a transitional one has exactly those who go on
 pub record HasConfigurations {A : Type 0} (w : World A) (i : ℕ) : Type 0 where
   -- each output comes while the configuration that it belongs to is the newest, with the message's own number, and what
   -- is safe rises
@@ -99,6 +104,7 @@ DeliversOwn {A} w =
 
 -- The five together
 
+-- a world is virtually synchronous: its lives, those of stopped processors included, meet the five facts of Outputs, rule 11
 pub record IsVirtuallySynchronous {A : Type 0} (w : World A) : Type 0 where
   pub same_text : HasSameText w
   pub safe_delivery : DeliversSafely w

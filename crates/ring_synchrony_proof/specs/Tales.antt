@@ -30,6 +30,7 @@ before_of c next (old ∷ older) = between c next old ∷ regular_of c old ∷ b
 abbrev pub tale_in : {A : Type 0} → Core A → Configuration → List Configuration → Life A
 tale_in c at older = record { newest = regular_of c at; earlier = before_of c at older }
 
+-- the life in these rings, newest first; if there are none, in the ring that is installed now
 abbrev pub tale_by : {A : Type 0} → Core A → List Configuration → Life A
 tale_by c [] = tale_in c c.installed []
 tale_by c (at ∷ older) = tale_in c at older

@@ -22,12 +22,15 @@ use Rattle.ring_synchrony_proof.specs.Same.{same_message, same_messages}
 
 -- Of each processor, and of each two
 
+-- each processor of the world passes the test
 abbrev pub of_all : {A : Type 0} → World A → (ℕ → Bool) → Bool
 of_all w test = list_all test (numbers_from 1 w.total)
 
+-- the message stands among these
 abbrev pub has_message : {A : Type 0} → Message A → List (Message A) → Bool
 has_message x xs = list_any (same_message x) xs
 
+-- the same ring, with the same members
 abbrev pub same_configuration : Configuration → Configuration → Bool
 same_configuration a b = same_ring a.ring b.ring && (a.members == b.members)
 
@@ -38,6 +41,7 @@ abbrev pub all_held : {A : Type 0} → (ℕ → Core A) → List ℕ → List (M
 all_held cores [] = []
 all_held cores (i ∷ is) = (cores i).held ++ all_held cores is
 
+-- what was found is this message
 abbrev pub is_found : {A : Type 0} → Message A → Option (Message A) → Bool
 is_found x None = false
 is_found x (Some y) = same_message x y
@@ -46,6 +50,7 @@ is_found x (Some y) = same_message x y
 abbrev pub are_one_text : {A : Type 0} → List (Message A) → Bool
 are_one_text xs = list_all (λ (x : Message _). is_found x (found xs x.ring x.number)) xs
 
+-- each number of a ring has one sender and payload, by all that is held in the world
 abbrev pub has_one_text : {A : Type 0} → World A → Bool
 has_one_text w = are_one_text (all_held w.cores (numbers_from 1 w.total))
 
@@ -53,6 +58,7 @@ has_one_text w = are_one_text (all_held w.cores (numbers_from 1 w.total))
 abbrev pub with_ring : RingId → List RingId → List RingId
 with_ring ring rings = if list_any (same_ring ring) rings then rings else ring ∷ rings
 
+-- the rings of these messages, and those that stand there, each once
 abbrev pub rings_held : {A : Type 0} → List (Message A) → List RingId → List RingId
 rings_held [] rings = rings
 rings_held (x ∷ xs) rings = with_ring x.ring (rings_held xs rings)
@@ -61,23 +67,29 @@ rings_held (x ∷ xs) rings = with_ring x.ring (rings_held xs rings)
 abbrev pub rings_in : {A : Type 0} → World A → ℕ → List RingId
 rings_in w i = rings_held (w.cores i).held (map (λ (at : Configuration). at.ring) (regulars_of (stages_in w i)))
 
+-- what was agreed of a ring is the users' messages of its text from 1 to the processor's front, ascending, none left out
 abbrev pub agrees_with_text : {A : Type 0} → World A → ℕ → RingId → Bool
 agrees_with_text w i ring = same_messages (agreed_of ring (stages_in w i)) (users_upto (text_of w ring) ring (front (w.cores i) ring))
 
+-- so of each of these rings
 abbrev pub agrees_with_texts : {A : Type 0} → World A → ℕ → Bool
 agrees_with_texts w i = list_all (agrees_with_text w i) (rings_in w i)
 
+-- what a transitional configuration gives are users' messages of the old ring's text
 abbrev pub rests_in_text : {A : Type 0} → World A → Stage A → Bool
 rests_in_text w (InRegular at agreed safe) = true
 rests_in_text w (InTransitional old new members rest) = list_all (λ (x : Message _). has_message x (text_of w old) && is_user x.payload) rest
 
+-- of two deliveries of one ring the earlier has the smaller number
 abbrev pub is_before : {A : Type 0} → Message A → Message A → Bool
 is_before x y = if same_ring x.ring y.ring then nat_lt x.number y.number else true
 
+-- what is safe in a regular configuration never passes the front
 abbrev pub is_within_front : {A : Type 0} → Core A → Stage A → Bool
 is_within_front c (InRegular at agreed safe) = nat_le safe (front c at.ring)
 is_within_front c (InTransitional old new members rest) = true
 
+-- all of `HasSameText`: one text, what was agreed, the rest, deliveries that ascend, and what is safe
 abbrev pub has_same_text : {A : Type 0} → World A → Bool
 has_same_text w =
     has_one_text w
@@ -92,29 +104,35 @@ has_same_text w =
 abbrev pub delivers_of : {A : Type 0} → RingId → Message A → Change A → Bool
 delivers_of ring x c = if same_ring c.old.ring ring then has_message x (delivered_by c) else true
 
+-- at a member: its front reached the number; the configuration is in its life; and each change of its life from that ring has the message
 abbrev pub is_safely_delivered : {A : Type 0} → World A → Configuration → Message A → ℕ → Bool
 is_safely_delivered w at x q =
     nat_le x.number (front (w.cores q) at.ring)
     && (list_any (same_configuration at) (regulars_of (stages_in w q)) && list_all (delivers_of at.ring x) (changes_in w q))
 
+-- so at each member, of each message that is delivered in the configuration, if it is a regular one
 abbrev pub is_safe_stage : {A : Type 0} → World A → Stage A → Bool
 is_safe_stage w (InRegular at agreed safe) =
     list_all (λ (x : Message _). list_all (is_safely_delivered w at x) (elements at.members)) (delivered_in (InRegular at agreed safe))
 is_safe_stage w (InTransitional old new members rest) = true
 
+-- so of each configuration of each life
 abbrev pub delivers_safely : {A : Type 0} → World A → Bool
 delivers_safely w = of_all w (λ i. list_all (is_safe_stage w) (stages_in w i))
 
 -- same_deliveries
 
+-- two changes are one: the same configurations, mates and deliveries
 abbrev pub same_change : {A : Type 0} → Change A → Change A → Bool
 same_change a b =
     same_configuration a.old b.old
     && (same_messages a.regular b.regular && ((a.mates == b.mates) && (same_messages a.rest b.rest && same_configuration a.new b.new)))
 
+-- two changes from one ring to one ring are one
 abbrev pub are_alike : {A : Type 0} → Change A → Change A → Bool
 are_alike a b = if same_ring a.old.ring b.old.ring && same_ring a.new.ring b.new.ring then same_change a b else true
 
+-- so each two changes, of any two lives
 abbrev pub delivers_alike : {A : Type 0} → World A → Bool
 delivers_alike w = of_all w (λ i. of_all w (λ j. list_all (λ a. list_all (are_alike a) (changes_in w j)) (changes_in w i)))
 
@@ -124,6 +142,7 @@ delivers_alike w = of_all w (λ i. of_all w (λ j. list_all (λ a. list_all (are
 abbrev pub is_same_to : Configuration → Configuration → Bool
 is_same_to at b = if same_ring at.ring b.ring then same_configuration at b else true
 
+-- so in all lives, and its members are of the group
 abbrev pub is_shared : {A : Type 0} → World A → Configuration → Bool
 is_shared w at = of_all w (λ j. list_all (is_same_to at) (regulars_of (stages_in w j))) && list_all (is_node w) (elements at.members)
 
@@ -131,6 +150,7 @@ is_shared w at = of_all w (λ j. list_all (is_same_to at) (regulars_of (stages_i
 abbrev pub is_beside : {A : Type 0} → Change A → Configuration → Bool
 is_beside c b = nat_le b.ring.seq c.old.ring.seq || nat_le c.new.ring.seq b.ring.seq
 
+-- who goes on by a change: a member of both rings, which has the old one in its life, and none between the two
 abbrev pub goes_on : {A : Type 0} → World A → Change A → ℕ → Bool
 goes_on w c q =
     has c.old.members q
@@ -141,6 +161,7 @@ goes_on w c q =
 abbrev pub is_mate : {A : Type 0} → World A → Change A → ℕ → Bool
 is_mate w c q = if goes_on w c q then has c.mates q else true
 
+-- all of `HasConfigurations`, of one processor
 abbrev pub has_configurations : {A : Type 0} → World A → ℕ → Bool
 has_configurations w i =
     is_well_told w i
@@ -151,6 +172,7 @@ has_configurations w i =
     && (list_all (λ (c : Change _). list_all (goes_on w c) (elements c.mates)) (changes_in w i)
     && list_all (λ (c : Change _). list_all (is_mate w c) (elements c.new.members)) (changes_in w i))))))
 
+-- so of each processor
 abbrev pub have_configurations : {A : Type 0} → World A → Bool
 have_configurations w = of_all w (has_configurations w)
 
@@ -160,10 +182,12 @@ have_configurations w = of_all w (has_configurations w)
 abbrev pub is_own_among : {A : Type 0} → ℕ → List (Message A) → Message A → Bool
 is_own_among i xs x = if (x.sender == i) && is_user x.payload then has_message x xs else true
 
+-- a processor's own users' messages in the text of a ring that it left are among what that change delivered
 abbrev pub delivers_own : {A : Type 0} → World A → Bool
 delivers_own w = of_all w (λ i. list_all (λ (c : Change _). list_all (is_own_among i (delivered_by c)) (text_of w c.old.ring)) (changes_in w i))
 
 -- All five
 
+-- a world passes the tests of all five facts
 abbrev pub is_virtually_synchronous : {A : Type 0} → World A → Bool
 is_virtually_synchronous w = has_same_text w && (delivers_safely w && (delivers_alike w && (have_configurations w && delivers_own w)))

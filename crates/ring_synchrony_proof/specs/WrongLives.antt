@@ -13,12 +13,15 @@ use Rattle.ring_core_proof.specs.Samples.{ring_of, first_ring, second_ring, call
 
 -- What both hold of the first ring: two Ends, and calls 3, 4 and 5 of processor 2
 
+-- the Ends
 abbrev pub two_ends : List (Message Global)
 two_ends = message_of first_ring 2 2 End ∷ message_of first_ring 1 1 End ∷ []
 
+-- the calls
 abbrev pub three_calls : List (Message Global)
 three_calls = call_at 2 5 ∷ call_at 2 4 ∷ call_at 2 3 ∷ []
 
+-- one of the two that holds these
 abbrev pub holder : ℕ → List (Message Global) → Core Global
 holder i held = record (opening 2 i) { held = held }
 
@@ -46,9 +49,11 @@ life_with members numbers i = into 3 i first_ring ++ (gets_third ++ (gets_two ++
 
 -- Both
 
+-- what one gave, with its number
 abbrev pub given_by : ℕ → List (Out Global) → List (ℕ × Out Global)
 given_by i outs = map (λ o. (i, o)) outs
 
+-- a world of two, with these cores, and what each gave
 abbrev pub world_with : Core Global → Core Global → List (Out Global) → List (Out Global) → World Global
 world_with one two first second =
     record { total = 2; cores = put (put (opening 2) 1 one) 2 two; frames = []; outs = given_by 1 first ++ given_by 2 second }

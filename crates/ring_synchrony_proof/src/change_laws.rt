@@ -39,7 +39,8 @@ pub fn whole_law<A: Allocator + Copy>()
     ensures { (n : ℕ) (events : List (RingEvent A)) → HeardIsInstalled (run (unformed n) events) → IsVirtuallySynchronous (run (unformed n) events) }
 {}
 
-/// One of them at the allocator that programs use.
+/// The laws at the allocator that programs use; of one of them it says what it gives. Nothing calls it: a law is proved of all
+/// allocators that meet its bounds, and this shows one that does.
 pub fn changes_at_global()
     ensures { (n : ℕ) (events : List (RingEvent Heap)) → DeliversAlike (run (unformed n) events) }
 {

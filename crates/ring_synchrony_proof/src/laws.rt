@@ -20,7 +20,8 @@ pub fn tests_law<A: Allocator + Copy>()
     ensures all { (w : World A) → Decides (is_virtually_synchronous w) (IsVirtuallySynchronous w) }
 {}
 
-/// The same at the allocator that programs use.
+/// The same at the allocator that programs use. Nothing calls it: a law is proved of all allocators that meet its bounds, and
+/// this shows one that does.
 pub fn tests_at_global()
     ensures { (w : World Heap) → Decides (is_virtually_synchronous w) (IsVirtuallySynchronous w) }
 {

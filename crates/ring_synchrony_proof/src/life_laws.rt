@@ -18,7 +18,8 @@ pub fn life_law<A: Allocator + Copy>()
     ensures told { (n : ℕ) (events : List (RingEvent A)) (i : ℕ) → is_well_told (run (unformed n) events) i ≡ true }
 {}
 
-/// The same at the allocator that programs use.
+/// The same at the allocator that programs use. Nothing calls it: a law is proved of all allocators that meet its bounds, and
+/// this shows one that does.
 pub fn life_at_global()
     ensures { (n : ℕ) (events : List (RingEvent Heap)) (i : ℕ) → life_of (run (unformed n) events) i ≡ tale ((run (unformed n) events).cores i) }
 {

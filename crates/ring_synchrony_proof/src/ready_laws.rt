@@ -33,7 +33,8 @@ pub fn virtual_synchrony_law<A: Allocator + Copy>()
     ensures { (n : ℕ) (events : List (RingEvent A)) → IsVirtuallySynchronous (run (unformed n) events) }
 {}
 
-/// The laws at the allocator that programs use; of one of them it says what it gives.
+/// The laws at the allocator that programs use; of one of them it says what it gives. Nothing calls it: a law is proved of all
+/// allocators that meet its bounds, and this shows one that does.
 pub fn laws_at_global()
     ensures { (n : ℕ) (events : List (RingEvent Heap)) → IsVirtuallySynchronous (run (unformed n) events) }
 {

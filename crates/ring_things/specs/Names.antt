@@ -20,6 +20,7 @@ use Rattle.ring_things.specs.declared.names.Asked.TheVariants.{Insert, Remove, H
 abbrev pub most : ℕ
 most = 1024
 
+-- a name: 1 to 64 bytes, of any value
 pub record IsName (name : List ℕ) : Type 0 where
   pub some : 1 ≤ length name
   pub short : length name ≤ 64
@@ -37,14 +38,17 @@ by_bytes = slice_cmp nat_cmp
 abbrev pub AreAscending : List (List ℕ) → Type 0
 AreAscending names = IsStrictlySortedBy by_bytes names
 
+-- a set's content: at most 1,024 names, ascending
 pub record IsSet (names : List (List ℕ)) : Type 0 where
   pub few : length names ≤ most
   pub each : All IsName names
   pub ascending : AreAscending names
 
+-- whether the two are one name
 abbrev pub same : List ℕ → List ℕ → Bool
 same name other = is_eq (by_bytes other name)
 
+-- whether the name is in the set
 abbrev pub has : List ℕ → List (List ℕ) → Bool
 has name names = list_any (same name) names
 
@@ -53,9 +57,11 @@ unfoldable pub below : List ℕ → List (List ℕ) → ℕ
 below name [] = 0
 below name (other ∷ names) = if is_lt (by_bytes other name) then suc (below name names) else 0
 
+-- a set that lacks the name, with it at its place
 abbrev pub with_name : List ℕ → List (List ℕ) → List (List ℕ)
 with_name name names = insert names (below name names) name
 
+-- the set without the name, the whole set where it isn't there
 abbrev pub without : List ℕ → List (List ℕ) → List (List ℕ)
 without name names = filter (λ other. not (same name other)) names
 
@@ -91,24 +97,30 @@ spelling (Insert name) = 1 ∷ name
 spelling (Remove name) = 2 ∷ name
 spelling (Has name) = 3 ∷ name
 
+-- whether these bytes are an operation
 abbrev pub is_readable : List ℕ → Bool
 is_readable op = is_some (reading op)
 
+-- what is replied to the operation that was read: insert, `01` where the name is there, else `02` at 1,024 names, else `00`; remove and
+-- has, `00` where it is there, `01` where it isn't. Where none was read, `FF`
 abbrev pub reply_to : List (List ℕ) → Option Asked → List ℕ
 reply_to names (Some (Insert name)) = if has name names then 1 ∷ [] else if length names == most then 2 ∷ [] else 0 ∷ []
 reply_to names (Some (Remove name)) = if has name names then 0 ∷ [] else 1 ∷ []
 reply_to names (Some (Has name)) = if has name names then 0 ∷ [] else 1 ∷ []
 reply_to names None = unreadable
 
+-- the set after it: an insert puts its name in where there is room, a remove takes its name out; else it is unchanged
 abbrev pub after : List (List ℕ) → Option Asked → List (List ℕ)
 after names (Some (Insert name)) = if has name names then names else if length names == most then names else with_name name names
 after names (Some (Remove name)) = without name names
 after names (Some (Has name)) = names
 after names None = names
 
+-- the reply to these bytes
 abbrev pub reply : List (List ℕ) → List ℕ → List ℕ
 reply names op = reply_to names (reading op)
 
+-- the set after these bytes
 abbrev pub next : List (List ℕ) → List ℕ → List (List ℕ)
 next names op = after names (reading op)
 

@@ -45,6 +45,7 @@ big_number-take width bytes long =
 abbrev pub IsExact : ℕ → Type 0
 IsExact width = (bytes : List ℕ) → length bytes ≡ width → AreBytes bytes → big_bytes width (big_number width bytes) ≡ bytes
 
+-- this holds of 8 bytes, and of 2
 pub exact_8 : IsExact 8
 exact_8 bytes len are = be_bytes_8 bytes _ len (bytes_everywhere bytes are) (omega arith)
 

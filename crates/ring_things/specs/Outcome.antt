@@ -7,6 +7,7 @@ use Rattle.ring_things.specs.declared.replies.Outcome.{Outcome}
 use Rattle.ring_things.specs.declared.replies.Outcome.TheVariants.{Done, NotDone, Full, Unreadable}
 use Rattle.ring_things.specs.declared.replies.Replied.{Replied}
 
+-- the byte that says how it went: 0, it was done; 1, it couldn't be; 2, there is no room; 255, the bytes are no operation
 abbrev pub code_of : Outcome → ℕ
 code_of Done = 0
 code_of NotDone = 1

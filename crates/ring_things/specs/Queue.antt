@@ -11,6 +11,7 @@ use Rattle.ring_things.specs.declared.queue.Asked.TheVariants.{Push, Pop, Count}
 abbrev pub most : ℕ
 most = 1024
 
+-- a queue's content: at most 1,024 values of 8 bytes, the first first
 pub record IsQueue (items : List ℕ) : Type 0 where
   pub few : length items ≤ most
   pub numbers : AreNumbers 8 items
@@ -30,9 +31,12 @@ spelling (Push value) = 1 ∷ big_bytes 8 value
 spelling Pop = 2 ∷ []
 spelling Count = 3 ∷ []
 
+-- whether these bytes are an operation
 abbrev pub is_readable : List ℕ → Bool
 is_readable op = is_some (reading op)
 
+-- what is replied to the operation that was read: push, `00`, or `01` at 1,024 values; pop, `00` and the first value, or `01` where there
+-- is none; length, `00` and how many there are. Where none was read, `FF`
 abbrev pub reply_to : List ℕ → Option Asked → List ℕ
 reply_to items (Some (Push value)) = if length items == most then 1 ∷ [] else 0 ∷ []
 reply_to [] (Some Pop) = 1 ∷ []
@@ -40,15 +44,18 @@ reply_to (item ∷ items) (Some Pop) = 0 ∷ big_bytes 8 item
 reply_to items (Some Count) = 0 ∷ big_bytes 8 (length items)
 reply_to items None = unreadable
 
+-- the values after it: a push puts its value last where there is room, a pop takes the first out; else they are unchanged
 abbrev pub after : List ℕ → Option Asked → List ℕ
 after items (Some (Push value)) = if length items == most then items else items ++ value ∷ []
 after items (Some Pop) = drop 1 items
 after items (Some Count) = items
 after items None = items
 
+-- the reply to these bytes
 abbrev pub reply : List ℕ → List ℕ → List ℕ
 reply items op = reply_to items (reading op)
 
+-- the values after these bytes
 abbrev pub next : List ℕ → List ℕ → List ℕ
 next items op = after items (reading op)
 

@@ -21,9 +21,12 @@ spelling (Get key) = 1 ∷ key ∷ []
 spelling (Put key value) = 2 ∷ key ∷ big_bytes 8 value
 spelling (CompareAndSet key expected new) = 3 ∷ key ∷ big_bytes 8 expected ++ big_bytes 8 new
 
+-- whether these bytes are an operation
 abbrev pub is_readable : List ℕ → Bool
 is_readable op = is_some (reading op)
 
+-- what is replied to the operation that was read: get, `00` and the value; put, `00`; compare and set, `00`, or `01` and the value where
+-- that isn't the expected one. Where none was read, `FF`
 abbrev pub reply_to : List ℕ → Option Asked → List ℕ
 reply_to values (Some (Get key)) = 0 ∷ big_bytes 8 (slice_index values key)
 reply_to values (Some (Put key value)) = 0 ∷ []
@@ -31,6 +34,7 @@ reply_to values (Some (CompareAndSet key expected new)) =
     if slice_index values key == expected then 0 ∷ [] else 1 ∷ big_bytes 8 (slice_index values key)
 reply_to values None = unreadable
 
+-- the values after it: a put sets its key's, a compare and set does where it was the expected one; else they are unchanged
 abbrev pub after : List ℕ → Option Asked → List ℕ
 after values (Some (Get key)) = values
 after values (Some (Put key value)) = slice_set values key value
@@ -38,8 +42,10 @@ after values (Some (CompareAndSet key expected new)) =
     if slice_index values key == expected then slice_set values key new else values
 after values None = values
 
+-- the reply to these bytes
 abbrev pub reply : List ℕ → List ℕ → List ℕ
 reply values op = reply_to values (reading op)
 
+-- the values after these bytes
 abbrev pub next : List ℕ → List ℕ → List ℕ
 next values op = after values (reading op)

@@ -25,9 +25,11 @@ AreBytes-big_bytes zero number = All-nil (λ b. b < 256)
 AreBytes-big_bytes (suc width) number =
     All-cons (λ b. b < 256) (byte_at width number) (bytes_high_first width number) (byte_at-lt width number) (AreBytes-big_bytes width number)
 
+-- a byte alone is a reply
 pub code_fits : (code : ℕ) → code < 256 → IsReply (code ∷ [])
 code_fits code fits = (omega arith, All-cons (λ b. b < 256) code [] fits (All-nil (λ b. b < 256)))
 
+-- and so is a byte before a value of 8 bytes
 pub code_and_value_fits : (code value : ℕ) → code < 256 → IsReply (code ∷ big_bytes 8 value)
 code_and_value_fits code value fits = (
   omega (arith, length-bytes_high_first 8 value),

@@ -21,6 +21,7 @@ shelf_readable p q r s [] = false
 shelf_readable p q r s (which ∷ op) =
     if which == 0 then p op else if which == 1 then q op else if which == 2 then r op else if which == 3 then s op else false
 
+-- the reply of the object that the first byte names to the bytes behind it; `FF` where it names none
 abbrev pub shelf_reply : {P Q R S : Type 0} → (P → List ℕ → List ℕ) → (Q → List ℕ → List ℕ) → (R → List ℕ → List ℕ)
     → (S → List ℕ → List ℕ) → P × Q × R × S → List ℕ → List ℕ
 shelf_reply p q r s objects [] = unreadable
@@ -31,6 +32,7 @@ shelf_reply p q r s objects (which ∷ op) =
     else if which == 3 then s objects.3 op
     else unreadable
 
+-- the objects after these bytes: only the one that the first byte names may change
 abbrev pub shelf_next : {P Q R S : Type 0} → (P → List ℕ → P) → (Q → List ℕ → Q) → (R → List ℕ → R) → (S → List ℕ → S) → P × Q × R × S → List ℕ → P × Q × R × S
 shelf_next p q r s objects [] = objects
 shelf_next p q r s objects (which ∷ op) =
@@ -58,6 +60,7 @@ texts_of bytes =
     (first_text 8 p.1))
     (first_text 8 bytes)
 
+-- the snapshots of the four objects in turn, each behind its length in 8 bytes
 abbrev pub shelf_snapshot : {P Q R S : Type 0} → (P → List ℕ) → (Q → List ℕ) → (R → List ℕ) → (S → List ℕ) → P × Q × R × S → List ℕ
 shelf_snapshot p q r s objects = sized 8 (p objects.0) ++ (sized 8 (q objects.1) ++ (sized 8 (r objects.2) ++ sized 8 (s objects.3)))
 
@@ -72,6 +75,7 @@ abbrev pub four_of : {P Q R S : Type 0} → Option ((P × Q) × (R × S)) → Op
 four_of (Some pairs) = Some (pairs.0.0, pairs.0.1, pairs.1.0, pairs.1.1)
 four_of None = None
 
+-- the four objects whose snapshots these texts are, if each is one
 abbrev pub objects_of : {P Q R S : Type 0} → (List ℕ → Option P) → (List ℕ → Option Q) → (List ℕ → Option R)
     → (List ℕ → Option S) → List ℕ × List ℕ × List ℕ × List ℕ → Option (P × Q × R × S)
 objects_of p q r s texts = four_of (both_of (both_of (p texts.0) (q texts.1)) (both_of (r texts.2) (s texts.3)))

@@ -21,16 +21,20 @@ use Rattle.ring_things.specs.Shelf.{shelf_snapshot, both_of, four_of, objects_of
 abbrev pub AreContents : {P Q R S : Type 0} → (P → Type 0) → (Q → Type 0) → (R → Type 0) → (S → Type 0) → P × Q × R × S → Type 0
 AreContents p q r s objects = p objects.0 × q objects.1 × r objects.2 × s objects.3
 
+-- the contents of an object stay contents under every operation
 abbrev Keeps : {O : Type 0} → (O → Type 0) → (O → List ℕ → O) → Type 0
 Keeps {O} IsContent next = (o : O) (op : List ℕ) → AreBytes op → IsContent o → IsContent (next o op)
 
+-- each reply of an object has at most 64 bytes
 abbrev Replies : {O : Type 0} → (O → Type 0) → (O → List ℕ → List ℕ) → Type 0
 Replies {O} IsContent reply = (o : O) (op : List ℕ) → AreBytes op → IsContent o → IsReply (reply o op)
 
+-- an operation that can't be read is replied `FF`, and changes nothing
 abbrev Ignores : {O : Type 0} → (List ℕ → Bool) → (O → List ℕ → List ℕ) → (O → List ℕ → O) → Type 0
 Ignores {O} is_readable reply next = (o : O) (op : List ℕ) → is_readable op ≡ false → (reply o op ≡ unreadable) × (next o op ≡ o)
 
 module _ {P Q R S : Type 0} (IsP : P → Type 0) (IsQ : Q → Type 0) (IsR : R → Type 0) (IsS : S → Type 0) where
+  -- the contents of four objects stay such, where those of each do
   pub shelf_kept : (p : P → List ℕ → P) (q : Q → List ℕ → Q) (r : R → List ℕ → R) (s : S → List ℕ → S) → Keeps IsP p → Keeps IsQ q → Keeps IsR r → Keeps IsS s →
       (objects : P × Q × R × S) (op : List ℕ) → AreBytes op → AreContents IsP IsQ IsR IsS objects → AreContents IsP IsQ IsR IsS (shelf_next p q r s objects op)
   shelf_kept p q r s kp kq kr ks objects [] are is = is
@@ -42,6 +46,7 @@ module _ {P Q R S : Type 0} (IsP : P → Type 0) (IsQ : Q → Type 0) (IsR : R �
       (λ _. cond_both (which == 2) _ _ Holds (λ _. (is.0, is.1, kr objects.2 op bytes is.2, is.3))
       (λ _. cond_both (which == 3) _ _ Holds (λ _. (is.0, is.1, is.2, ks objects.3 op bytes is.3)) (λ _. is))))
 
+  -- each reply of four objects has at most 64 bytes, where those of each have
   pub shelf_replies : (p : P → List ℕ → List ℕ) (q : Q → List ℕ → List ℕ) (r : R → List ℕ → List ℕ)
       (s : S → List ℕ → List ℕ) → Replies IsP p → Replies IsQ q → Replies IsR r → Replies IsS s →
       (objects : P × Q × R × S) (op : List ℕ) → AreBytes op → AreContents IsP IsQ IsR IsS objects → IsReply (shelf_reply p q r s objects op)
@@ -69,6 +74,7 @@ ignored_by false false false false p q r s reply_p reply_q reply_r reply_s next_
 module _ {P Q R S : Type 0} (rp : P → List ℕ → List ℕ) (rq : Q → List ℕ → List ℕ) (rr : R → List ℕ → List ℕ)
     (rs : S → List ℕ → List ℕ) (np : P → List ℕ → P) (nq : Q → List ℕ → Q) (nr : R → List ℕ → R)
     (ns : S → List ℕ → S) where
+  -- four objects ignore what can't be read, where each does
   pub shelf_ignores : (p q r s : List ℕ → Bool) → Ignores p rp np → Ignores q rq nq → Ignores r rr nr → Ignores s rs ns →
       (objects : P × Q × R × S) (op : List ℕ) → shelf_readable p q r s op ≡ false
       → (shelf_reply rp rq rr rs objects op ≡ unreadable) × (shelf_next np nq nr ns objects op ≡ objects)
@@ -232,5 +238,6 @@ module _ {P Q R S : Type 0} (IsP : P → Type 0) (IsQ : Q → Type 0) (IsR : R �
       let s = ls.only texts.3 objects.3 read.fourth back.1 in
       ((p.0, q.0, r.0, s.0), rw (p.1, q.1, r.1, s.1) read.whole)
 
+  -- exactly the snapshots of four contents are restored, where each object restores exactly its own
   pub shelves_restore : Restores (AreContents IsP IsQ IsR IsS) (shelf_snapshot sp sq sr ss) (shelf_of rp rq rr rs)
   shelves_restore = record { same = same; only = only }

@@ -20,6 +20,7 @@ pub record IsValues (values : List ℕ) : Type 0 where
   pub all_keys : length values ≡ keys
   pub numbers : AreNumbers 8 values
 
+-- the values at the start: 0 for each key
 abbrev pub zeros : List ℕ
 zeros = replicate keys 0
 
@@ -43,6 +44,7 @@ only bytes values are is =
     let P : List ℕ → Type 0 = λ v. IsValues v × (spelled 8 v ≡ bytes) in
     subst P (same_Some _ _ g.1) (IsValues-numbers_of bytes are, spelled-numbers_of 8 exact_8 256 bytes (eqb-true _ _ g.0) are)
 
+-- exactly the snapshots of 256 values are restored: the values in the order of keys, 8 bytes each
 pub values_restore : Restores IsValues (λ values. spelled 8 values) values_of
 values_restore = record { same = λ values is short. restored values is; only = only }
 
@@ -52,5 +54,6 @@ IsValues-set values key value fits is = record {
   numbers = All-set (λ number. number < 256 ^ 8) values key value fits is.numbers;
 }
 
+-- the values at the start are such values
 pub zeros_IsValues : IsValues zeros
 zeros_IsValues = record { all_keys = length-replicate {A = ℕ} keys 0; numbers = All-replicate (λ number. number < 256 ^ 8) keys 0 (omega arith) }

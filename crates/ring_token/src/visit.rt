@@ -77,7 +77,8 @@ impl<A: Allocator + Copy> Visit<A> {
     }
 
     /// Visits an accepted token, with the front and the count of new messages once these are held, and the numbers
-    /// that are asked for now. Answers the token as it goes on.
+    /// that are asked for now. Answers the token as it goes on. The ring core keeps the token that it visits:
+    /// [`visit_into`](Visit::visit_into).
     pub fn visit(&mut self, token: Token, front: u64, sent: u64, requests: Requests) -> Token
         ghost fresh: { List (OnePayload A) }
         requires ring { token.ring ≡ self.old.ring }

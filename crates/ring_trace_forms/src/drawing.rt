@@ -29,7 +29,7 @@ impl<A: Allocator + Copy> Drawing<A> {
         }
     }
 
-    /// How a node stands where the picture begins, if that is not its opening.
+    /// How a node stands where the picture begins, if that is not its opening. Or `Memory`: then a part of it may be drawn.
     pub fn add_standing(&mut self, node: Proc, standing: &[Change]) -> Result<(), Fault>
         ensures { IfErr result (λ fault. fault ≡ Memory) }
     {
@@ -39,7 +39,7 @@ impl<A: Allocator + Copy> Drawing<A> {
         Ok(())
     }
 
-    /// A call that waits where the picture begins, or that is submitted.
+    /// A call that waits where the picture begins, or that is submitted. Or `Memory`: then it isn't drawn.
     pub fn add_call(&mut self, call: &Waiting) -> Result<(), Fault>
         ensures { IfErr result (λ fault. fault ≡ Memory) }
     {
@@ -50,7 +50,8 @@ impl<A: Allocator + Copy> Drawing<A> {
         })
     }
 
-    /// An event, what it changed at its node, and what its node told. A call that was submitted is one that waits.
+    /// An event, what it changed at its node, and what its node told. A call that was submitted is one that waits. Or `Memory`: then a
+    /// part of it may be drawn.
     pub fn add_event(
         &mut self,
         event: u64,
@@ -132,7 +133,7 @@ impl<A: Allocator + Copy> Drawing<A> {
         }
     }
 
-    /// Events in which nothing changed.
+    /// Events in which nothing changed. Or `Memory`: then a part of it may be drawn.
     pub fn add_fold(&mut self, fold: &Fold) -> Result<(), Fault>
         ensures ok { OnOk result (self.new.picture ≡
             marked (marked (begun self.old.picture fold.now.first) (Rounds fold.now.rounds)) (Lost fold.now.lost)) }
@@ -143,7 +144,7 @@ impl<A: Allocator + Copy> Drawing<A> {
         self.picture.add(Mark::Lost(fold.lost))
     }
 
-    /// A cut into these groups, behind so many events.
+    /// A cut into these groups, behind so many events. Or `Memory`: then a part of it may be drawn.
     pub fn add_cut(&mut self, events: u64, groups: &[ProcSet]) -> Result<(), Fault>
         ensures { IfErr result (λ fault. fault ≡ Memory) }
     {
@@ -160,7 +161,7 @@ impl<A: Allocator + Copy> Drawing<A> {
         Ok(())
     }
 
-    /// The cut heals, behind so many events.
+    /// The cut heals, behind so many events. Or `Memory`: then its column is begun, and it isn't drawn.
     pub fn add_heal(&mut self, events: u64) -> Result<(), Fault>
         ensures ok { OnOk result (self.new.picture ≡ marked (begun self.old.picture events) Heal) }
         ensures refused { IfErr result (λ fault. fault ≡ Memory) }
@@ -169,7 +170,8 @@ impl<A: Allocator + Copy> Drawing<A> {
         self.picture.add(Mark::Heal)
     }
 
-    /// Writes the picture of a run, or of a part of it, whose last event is this.
+    /// Writes the picture of a run, or of a part of it, whose last event is this. Otherwise `Output`, where the writer fails, or
+    /// `Refused` with `Memory`, where it fails for want of memory: what it has then isn't told.
     pub fn print<W: Write>(&self, out: &mut W, last: u64) -> Result<(), Failure>
         ensures { IfErr result IsOutputOrMemory }
     {

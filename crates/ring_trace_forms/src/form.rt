@@ -29,7 +29,8 @@ pub struct TraceForm {
 }
 
 impl TraceForm {
-    /// Prints an event, what it changed at its node, and what its node told, in the words of the object.
+    /// Prints an event, what it changed at its node, and what its node told, in the words of the object. Otherwise `Output`, where the
+    /// writer fails, or, of JSON alone, `Refused` with `Memory`: what the writer has then isn't told.
     pub fn print_event<A: Allocator + Copy, W: Write>(
         self,
         out: &mut W,
@@ -51,7 +52,7 @@ impl TraceForm {
         }
     }
 
-    /// Prints events in which nothing changed.
+    /// Prints events in which nothing changed. Otherwise as [`print_event`](TraceForm::print_event).
     pub fn print_fold<W: Write>(self, out: &mut W, fold: &Fold) -> Result<(), Failure>
         ensures picture { self.format ≡ Format.Svg → out.new ≡ out.old }
         ensures failed { IfErr result IsOutputOrMemory }
@@ -63,7 +64,7 @@ impl TraceForm {
         }
     }
 
-    /// Prints a cut into these groups.
+    /// Prints a cut into these groups. Otherwise as [`print_event`](TraceForm::print_event).
     pub fn print_cut<W: Write>(self, out: &mut W, groups: &[ProcSet]) -> Result<(), Failure>
         ensures picture { self.format ≡ Format.Svg → out.new ≡ out.old }
         ensures failed { IfErr result IsOutputOrMemory }
@@ -75,7 +76,7 @@ impl TraceForm {
         }
     }
 
-    /// Prints that there is no cut.
+    /// Prints that there is no cut. Otherwise as [`print_event`](TraceForm::print_event).
     pub fn print_heal<W: Write>(self, out: &mut W) -> Result<(), Failure>
         ensures picture { self.format ≡ Format.Svg → out.new ≡ out.old }
         ensures failed { IfErr result IsOutputOrMemory }
@@ -87,7 +88,7 @@ impl TraceForm {
         }
     }
 
-    /// Prints how much there was.
+    /// Prints how much there was. Otherwise as [`print_event`](TraceForm::print_event).
     pub fn print_counts<W: Write>(self, out: &mut W, counts: Counts) -> Result<(), Failure>
         ensures picture { self.format ≡ Format.Svg → out.new ≡ out.old }
         ensures failed { IfErr result IsOutputOrMemory }
@@ -99,7 +100,7 @@ impl TraceForm {
         }
     }
 
-    /// Prints a call that has no answer, and why.
+    /// Prints a call that has no answer, and why. Otherwise as [`print_event`](TraceForm::print_event).
     pub fn print_waiting<W: Write>(
         self,
         out: &mut W,

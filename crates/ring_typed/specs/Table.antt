@@ -20,6 +20,7 @@ pub record IsTable (n : ℕ) (table : List ℕ) : Type 0 where
   pub all_keys : length table ≡ n
   pub numbers : AreNumbers 8 table
 
+-- the table at the start: 0 for each of n keys
 abbrev pub zeros : ℕ → List ℕ
 zeros n = replicate n 0
 
@@ -31,6 +32,7 @@ snapshot_of numbers = spelled 8 numbers
 abbrev pub table_of : ℕ → List ℕ → Option (List ℕ)
 table_of n bytes = if length bytes == 8 * n then Some (numbers_of 8 n bytes) else None
 
+-- the table at the start is one
 pub zeros_IsTable : (n : ℕ) → IsTable n (zeros n)
 zeros_IsTable n = record { all_keys = length-replicate {A = ℕ} n 0; numbers = All-replicate (λ number. number < 256 ^ 8) n 0 (omega arith) }
 

@@ -7,6 +7,7 @@ use Rattle.ring_wire.specs.Payloads.{most_requests}
 use Rattle.ring_wire.specs.declared.message.Message.{Message}
 use Rattle.ring_window.specs.Held.{found, is_new, missing}
 
+-- a ring's window: its safe mark, and all messages of the ring that were ever held, newest first
 pub record Windowed (A : Type 0) : Type 0 where
   pub ring : RingId
   pub mark : ℕ

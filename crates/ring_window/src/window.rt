@@ -142,7 +142,8 @@ impl<A: Allocator + Copy> Window<A> {
         self.places[place_of(number)].as_ref()
     }
 
-    /// The first of the window's numbers, up to a limit, that were not held: at most 32.
+    /// The first of the window's numbers, up to a limit, that were not held: at most 32. The ring core has them written in
+    /// place: [`missing_into`](Window::missing_into).
     pub fn missing(&self, upto: u64) -> Requests
         ensures { result ≡ first_missing self.now upto }
     {

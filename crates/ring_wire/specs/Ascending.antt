@@ -55,11 +55,12 @@ IsStrictlyIncreasing-from_zero high (x ∷ xs) up all (suc k) lt =
     let below : k + 1 < length (x ∷ xs) = omega arith in
     rw add-one (rw add-one at (up k below))
 
--- none is above high
+-- each is below what is above high
 pub each_below : (low high limit : ℕ) (xs : List ℕ) → AllByRecursion (Between low high) xs → high < limit → AllByRecursion (λ x. x < limit) xs
 each_below low high limit [] all lt = tt
 each_below low high limit (x ∷ xs) all lt = (omega (arith, all.0.1), each_below low high limit xs all.1 lt)
 
+-- none is above high
 pub each_le : (low high : ℕ) (xs : List ℕ) → AllByRecursion (Between low high) xs → AllByRecursion (λ x. x ≤ high) xs
 each_le low high [] all = tt
 each_le low high (x ∷ xs) all = (all.0.1, each_le low high xs all.1)

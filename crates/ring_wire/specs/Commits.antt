@@ -27,9 +27,11 @@ AreReports r members [] = Unit {0}
 AreReports r [] (e ∷ es) = ⊥
 AreReports r (m ∷ members) (e ∷ es) = IsReport r m e × AreReports r members es
 
+-- the test of `IsReport`
 abbrev pub is_report : RingId → ℕ → CommitEntry → Bool
 is_report r member e = nat_lt e.old.seq r.seq && (not (e.old.seq == 0) || (e.old.rep == member))
 
+-- the test of `AreReports`
 abbrev pub are_reports : RingId → List ℕ → List CommitEntry → Bool
 are_reports r members [] = true
 are_reports r [] (e ∷ es) = false
@@ -69,9 +71,12 @@ true-are_reports r (m ∷ members) (e ∷ es) f = rw (true-is_report r m e f.0, 
 abbrev pub entries_at : ℕ → ℕ → ℕ
 entries_at hop members = min hop members
 
+-- a commit token: its ring in 9 bytes, its members in 2, the hop in one, and the entries, 57 bytes each
 abbrev pub commit_spelling : CommitToken → List ℕ
 commit_spelling t = ring_spelling t.ring ⊕ big_bytes 2 t.members ⊕ t.hop ∷ [] ⊕ flat_map entry_spelling t.entries
 
+-- the limits of a commit token: its representative is its smallest member, its hops are two rounds at most, and its entries are those of
+-- the members that it has come to
 pub record CommitFits (t : CommitToken) : Type 0 where
   pub ring : RingFits t.ring
   pub ring_counted : 1 ≤ t.ring.seq

@@ -147,7 +147,7 @@ true-are_zero : (bytes : List ℕ) → AreZero bytes → are_zero bytes ≡ true
 true-are_zero [] z = refl
 true-are_zero (b ∷ bytes) z = rw (eq-eqb b 0 z.0, true-are_zero bytes z.1) refl
 
--- ---- the entry
+-- ---- the entry: the old ring in 9 bytes, the front and the safe mark in 8 each, the held bits in 32
 
 abbrev pub entry_spelling : CommitEntry → List ℕ
 entry_spelling e = ring_spelling e.old ⊕ big_bytes 8 e.front ⊕ big_bytes 8 e.mark ⊕ e.held
@@ -158,6 +158,7 @@ pub record ReportsNothing (e : CommitEntry) : Type 0 where
   pub mark : e.mark ≡ 0
   pub held : AreZero e.held
 
+-- the limits that an entry alone decides: whose it is, and that its ring is older, are the commit token's
 pub record EntryFits (e : CommitEntry) : Type 0 where
   pub old : RingFits e.old
   pub bits : length e.held ≡ 32
@@ -167,6 +168,7 @@ pub record EntryFits (e : CommitEntry) : Type 0 where
   pub held : (j : ℕ) → j < window_size → bit_of e.held j ≡ true → MayHold e.front e.mark j
   pub nothing : e.old.seq ≡ 0 → ReportsNothing e
 
+-- the test of `ReportsNothing`
 abbrev pub nothing_test : CommitEntry → Bool
 nothing_test e = (e.front == 0) && ((e.mark == 0) && are_zero e.held)
 

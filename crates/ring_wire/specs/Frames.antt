@@ -24,7 +24,7 @@ use Rattle.ring_wire.specs.Joins.{join, join_spelling, JoinFits}
 use Rattle.ring_wire.specs.Commits.{commit, commit_spelling, CommitFits}
 use Rattle.ring_wire.specs.Lengths.{length-message, length-token, length-commit}
 
--- ---- kinds
+-- ---- the kinds of frames: the number, the body and the limits of each
 
 abbrev pub frame_kind : {A : Type 0} → Frame A → ℕ
 frame_kind (frames.Message x) = message_kind
@@ -32,12 +32,14 @@ frame_kind (frames.Token x) = token_kind
 frame_kind (frames.Join x) = join_kind
 frame_kind (frames.Commit x) = commit_kind
 
+-- the body, by the kind
 abbrev pub frame_body : {A : Type 0} → Frame A → List ℕ
 frame_body (frames.Message x) = message_spelling x
 frame_body (frames.Token x) = token_spelling x
 frame_body (frames.Join x) = join_spelling x
 frame_body (frames.Commit x) = commit_spelling x
 
+-- the limits of a frame, by its kind
 abbrev pub FrameFits : {A : Type 0} → Frame A → Type 0
 FrameFits (frames.Message x) = MessageFits x
 FrameFits (frames.Token x) = TokenFits x
@@ -54,6 +56,7 @@ length-body (frames.Commit x) fits = omega (arith, length-commit x fits)
 abbrev sized_body : {A : Type 0} → Frame A → List ℕ
 sized_body f = big_bytes 4 (length (frame_body f)) ⊕ frame_body f
 
+-- the length of a body of each kind can be told in 4 bytes
 pub message_short : {A : Type 0} (x : Message A) → MessageFits x → length (message_spelling x) < 256 ^ 4
 message_short x f = omega (arith, length-message x f)
 
@@ -66,6 +69,7 @@ join_short x f = omega arith
 pub commit_short : (x : CommitToken) → CommitFits x → length (commit_spelling x) < 256 ^ 4
 commit_short x f = omega (arith, length-commit x f)
 
+-- the bodies of each kind, behind their lengths
 abbrev sized_message : {A : Type 0} → Format (Message A)
 sized_message = sized message message_short
 
@@ -147,12 +151,15 @@ version_of-byte (frames.Commit x) = omega arith
 abbrev pub spelling_of : {A : Type 0} → Frame A → List ℕ
 spelling_of f = 84 ∷ 82 ∷ version_of f ∷ frame_kind f ∷ (big_bytes 4 (length (frame_body f)) ⊕ frame_body f)
 
+-- the two fixed bytes, `54 52`
 abbrev is_start : ℕ × ℕ → Bool
 is_start p = (p.0 == 84) && (p.1 == 82)
 
+-- the version that stands before a frame is its own
 abbrev is_of_version : {A : Type 0} → ℕ × Frame A → Bool
 is_of_version p = p.0 == version_of p.1
 
+-- the two fixed bytes, the version, and the kind with the body behind its length
 abbrev frame_fields : {A : Type 0} → Format ((ℕ × ℕ) × (ℕ × Frame A))
 frame_fields = such is_start (byte & byte) & such is_of_version (byte & kind)
 
@@ -163,6 +170,7 @@ told p = p.1.1
 unfoldable pub body_at : {A : Type 0} → ℕ → ℕ → List ℕ → Option (Frame A × List ℕ)
 body_at version kind bytes = such_at (λ f. version == version_of f) (cases_at kind_cases kind) bytes
 
+-- the frame at the front of the bytes, and what is left
 unfoldable pub frame_at : {A : Type 0} → List ℕ → Option (Frame A × List ℕ)
 frame_at {A} bytes = made_at told (frame_fields {A = A}).at bytes
 
@@ -194,6 +202,7 @@ read_behind : {A : Type 0} (start : ℕ × ℕ) (version : ℕ) (read : Option (
 read_behind start version None = refl
 read_behind start version (Some (f, rest)) = passed (version == version_of f) start ((version, f), rest)
 
+-- where the two fixed bytes, a version and a kind stand at the front, the frame there is what is read behind them
 pub frame_behind : {A : Type 0} (b0 b1 b2 b3 b4 : List ℕ) (first second version kind : ℕ) → first ≡ 84 → second ≡ 82
     → byte_at b0 ≡ Some (first, b1) → byte_at b1 ≡ Some (second, b2)
     → byte_at b2 ≡ Some (version, b3) → byte_at b3 ≡ Some (kind, b4) → frame_at {A = A} b0 ≡ body_at version kind b4

@@ -8,9 +8,11 @@ use Rattle.ring_payload.specs.Base.{max_number, IsProc, IsMember, IsSubset, has,
 use Rattle.ring_payload.specs.Layouts.{IsFormat, such_at, made_at, ◌⊕◌, Format, word2, word8, ◌&◌, tested_format, proc, proc_spelling}
 use Rattle.ring_wire.specs.declared.join.Join.{Join}
 
+-- a join: its sender in one byte, its number in 8, `proc_set` in 2, `fail_set` in 2
 abbrev pub join_spelling : Join → List ℕ
 join_spelling j = proc_spelling j.sender ⊕ big_bytes 8 j.number ⊕ big_bytes 2 j.proc_set ⊕ big_bytes 2 j.fail_set
 
+-- the limits of a join: its sender is in `proc_set` and not in `fail_set`, which is within the other
 pub record JoinFits (j : Join) : Type 0 where
   pub sender : IsProc j.sender
   pub number : j.number ≤ max_number

@@ -18,6 +18,7 @@ abbrev pub IsOlder : {A : Type 0} → Payload A → RingId → Type 0
 IsOlder (Wrapped w) r = w.ring.seq < r.seq
 IsOlder _ r = Unit {0}
 
+-- the test of `IsOlder`
 abbrev pub is_older : {A : Type 0} → Payload A → RingId → Bool
 is_older (Wrapped w) r = nat_lt w.ring.seq r.seq
 is_older _ r = true
@@ -40,11 +41,12 @@ true-is_older (Part x) r h = refl
 true-is_older (Pack x) r h = refl
 true-is_older (Snap x) r h = refl
 
--- ---- the message
+-- ---- the message: its ring in 9 bytes, its number in 8, its sender in one, and its payload
 
 abbrev pub message_spelling : {A : Type 0} → Message A → List ℕ
 message_spelling m = ring_spelling m.ring ⊕ big_bytes 8 m.number ⊕ proc_spelling m.sender ⊕ payload_spelling m.payload
 
+-- the limits of a message: its ring's number is at least 1, and what it wraps is of an older ring
 pub record MessageFits {A : Type 0} (m : Message A) : Type 0 where
   pub ring : RingFits m.ring
   pub ring_counted : 1 ≤ m.ring.seq

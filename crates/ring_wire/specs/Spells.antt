@@ -85,6 +85,7 @@ pub record SpellsWrapped {A : Type 0} (w : Wrapped A) (bytes : List ℕ) : Type 
   pub is_content : SpellsContent w.payload content
   pub text : bytes ≡ ring_spelling w.ring ⊕ big_bytes 8 w.number ⊕ w.sender ∷ content
 
+-- a payload: its tag, and what that stands for; behind the tag of an End nothing stands
 abbrev pub SpellsPayload : {A : Type 0} → Payload A → List ℕ → Type 0
 SpellsPayload (payloads.Call c) text = Tagged call_tag (SpellsCall c) text
 SpellsPayload (payloads.Wrapped w) text = Tagged wrapped_tag (SpellsWrapped w) text

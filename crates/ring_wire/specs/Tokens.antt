@@ -14,11 +14,12 @@ use Rattle.ring_payload.specs.Limits.{most_requests}
 use Rattle.ring_wire.specs.declared.token.Token.{Token}
 use Rattle.ring_wire.specs.Ascending.{ascends, ascends-each, ascends-increasing, increasing-ascends, IsStrictlyIncreasing-from_zero, each_below, each_le}
 
--- ---- requests: their count, and the numbers
+-- ---- requests: their count in one byte, and the numbers in 8 each
 
 abbrev pub requests_spelling : List ℕ → List ℕ
 requests_spelling ns = length ns ∷ flat_map (λ n. big_bytes 8 n) ns
 
+-- at most 32; that they ascend, from 1 to `seq`, is the token's limit
 pub record RequestsFit (ns : List ℕ) : Type 0 where
   pub few : length ns ≤ most_requests
   pub each : AllByRecursion (IsWord 8) ns
@@ -46,12 +47,13 @@ length-requests (n ∷ ns) =
     let e = ap length (flat_map-cons (λ (k : ℕ). big_bytes 8 k) n ns) in
     omega (arith, e, length-requests ns)
 
--- ---- the token
+-- ---- the token: its ring in 9 bytes, its number, `seq` and `aru` in 8 each, `aru_id` in one, and the requests
 
 abbrev pub token_spelling : Token → List ℕ
 token_spelling t = ring_spelling t.ring ⊕ big_bytes 8 t.number ⊕ big_bytes 8 t.seq ⊕ big_bytes 8 t.aru ⊕
     some_proc_spelling t.aru_id ⊕ requests_spelling t.requests
 
+-- the limits of a token: `aru_id` is none exactly where `aru` is `seq`, and the requests ascend, from 1 to `seq`, at most 32
 pub record TokenFits (t : Token) : Type 0 where
   pub ring : RingFits t.ring
   pub ring_counted : 1 ≤ t.ring.seq
@@ -117,6 +119,7 @@ fits p f passed =
       each = ascends-each 0 p.1.1.0 p.1.1.1.1.1 g.1;
     }
 
+-- a token's requests keep the limits of requests
 pub token_requests : (t : Token) → TokenFits t → RequestsFit t.requests
 token_requests t f = record { few = f.few; each = each_below 0 t.seq (256 ^ 8) t.requests f.each (omega (arith, f.seq)) }
 

@@ -106,7 +106,8 @@ impl<A: Allocator + Copy> Encode for Frame<A> {
     }
 }
 
-/// The message at the front, behind its length, into the place: the frame of this version that it is.
+/// The message at the front, behind its length, into the place: the frame of this version that it is. It stands apart, since a
+/// call clears its room for a message.
 #[inline(never)]
 #[tactic(auto, unfolding(crate::specs::Frames::body_at))]
 fn read_message<A: Allocator + Copy>(
@@ -144,7 +145,8 @@ fn put<T: Drop>(value: T, place: &mut T)
     *place = value;
 }
 
-/// The token at the front, behind its length, into the place.
+/// The token at the front, behind its length, into the place. It stands apart, since a call clears its room for what the bytes
+/// say of a token.
 #[inline(never)]
 #[tactic(auto, unfolding(crate::specs::Frames::body_at))]
 fn read_token<A: Allocator + Copy>(
@@ -166,7 +168,8 @@ fn read_token<A: Allocator + Copy>(
     Ok(())
 }
 
-/// Puts a token in the place of another kind of frame, or of none.
+/// Puts a token in the place of another kind of frame, or of none. It stands apart, since a call clears its room for a blank
+/// token.
 #[inline(never)]
 fn put_token<A: Allocator + Copy>(token: &LaidToken<'_>, place: &mut Option<Frame<A>>)
     ensures { place.new ≡ Some (TokenFrame token.now) }
@@ -177,7 +180,7 @@ fn put_token<A: Allocator + Copy>(token: &LaidToken<'_>, place: &mut Option<Fram
     }
 }
 
-/// The join at the front, behind its length, into the place.
+/// The join at the front, behind its length, into the place. It stands apart, since a call clears its room for a join.
 #[inline(never)]
 #[tactic(auto, unfolding(crate::specs::Frames::body_at))]
 fn read_join<A: Allocator + Copy>(
@@ -199,7 +202,8 @@ fn read_join<A: Allocator + Copy>(
     Ok(())
 }
 
-/// The commit token at the front, behind its length, into the place.
+/// The commit token at the front, behind its length, into the place. It stands apart, since a call clears its room for a blank
+/// commit token.
 #[inline(never)]
 #[tactic(auto, unfolding(crate::specs::Frames::body_at))]
 fn read_commit<A: Allocator + Copy>(

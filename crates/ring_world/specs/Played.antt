@@ -22,6 +22,7 @@ pub record Played (A : Type 0) : Type 0 where
   pub told : List (Told A)
   pub done : ℕ
 
+-- a world of this group at its opening: nothing was done, and nothing told
 abbrev pub played_opening : {A : Type 0} → Group → Played A
 played_opening group = record { group = group; events = []; told = []; done = 0 }
 
@@ -86,6 +87,7 @@ module _ {O : Type 0} (object : Sequential O) where
     pub events : q.events ≡ p.events
     pub told : q.told ≡ p.told ++ Refused node call 11 ∷ []
 
+  -- one event: it is done, stands as a stop, or is left out
   abbrev pub Goes : {A : Type 0} → Event A → Played A → Played A → Type 0
   Goes e p q = IsDone e p q ⊎ (IsStopped e p q ⊎ IsRefused e p q)
 

@@ -21,9 +21,11 @@ pub record Holds {A : Type 0} (calls : List (Option (Call A))) (tickets : List (
 
 -- Answers, one after the other
 
+-- the ticket's copy is taken
 abbrev pub without : {A : Type 0} → List (Option (Call A)) → ℕ → List (Option (Call A))
 without calls ticket = slice_set calls ticket None
 
+-- the copies left once these answers were given
 abbrev pub after_answers : {A : Type 0} → List (Option (Call A)) → List (Answered A) → List (Option (Call A))
 after_answers calls [] = calls
 after_answers calls (a ∷ rest) = after_answers (without calls a.ticket) rest

@@ -30,10 +30,12 @@ text_of (f ∷ fs) = spelling_of f.frame ++ text_of fs
 abbrev pub mark_of : {A : Type 0} → ℕ → Carried A → Mark
 mark_of at f = record { start = at; end = at + length (spelling_of f.frame); from = f.from; to = f.to }
 
+-- where each of these frames stands, of which the first begins there
 abbrev pub marks_from : {A : Type 0} → ℕ → List (Carried A) → List Mark
 marks_from at [] = []
 marks_from at (f ∷ fs) = mark_of at f ∷ marks_from (at + length (spelling_of f.frame)) fs
 
+-- the bytes and the marks that are kept are those of these frames, which keep the limits of frames
 pub record AreFrames {A : Type 0} (frames : List (Carried A)) (bytes : List ℕ) (marks : List Mark) : Type 0 where
   pub text : bytes ≡ text_of frames
   pub marks_are : marks ≡ marks_from 0 frames
@@ -46,6 +48,7 @@ abbrev pub mark_at : List Mark → ℕ → Option Mark
 mark_at marks zero = None
 mark_at marks (suc k) = slice_get marks k
 
+-- the mark, if its frame was sent to this processor
 abbrev pub mark_for : ℕ → Option Mark → Option Mark
 mark_for i None = None
 mark_for i (Some m) = if has m.to i then Some m else None

@@ -112,7 +112,7 @@ impl<A: Allocator + Copy> Longest<A> {
         }
     }
 
-    /// Adds these calls.
+    /// Adds these calls. It stands apart, since a call clears its room for what is kept of them.
     #[inline(never)]
     fn add_all(&mut self, committed: u64, calls: Vec<Call<A>, A>)
         requires { 0 < self.old.places }

@@ -8,7 +8,7 @@ use crate::World;
 use ring_base::{Proc, ProcSet};
 use ring_object::Object;
 
-/// A copy of a frame, on its way from one node to another.
+/// A copy of a frame, on its way from its sender to one of its receivers, which may be the sender itself.
 #[derive(Clone, Copy)]
 pub struct Pair {
     /// The frame's number, counted from 1 in the order sent.

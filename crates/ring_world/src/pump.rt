@@ -63,7 +63,8 @@ impl<O: Object> Pump<O> {
         &self.world
     }
 
-    /// The world runs an event. Otherwise `Memory`, where that is refused to the world itself: then nothing was done.
+    /// The world runs an event. A call that it issues keeps the limits of frames, as each does that `Call::new` makes. Otherwise
+    /// `Memory`, where that is refused to the world itself: then nothing was done.
     pub fn happen(&mut self, event: Event<O::Alloc>) -> Result<(), Fault>
         requires { EventFits event }
         ensures done { OnOk result (Happens O.sequential event self.old self.new) }

@@ -60,6 +60,7 @@ impl<A: Allocator + Copy> Spares<A> {
         ensures call { result ≡ call.now }
         ensures calls { self.new.calls ≡ without self.old.calls ticket }
     {
+        // The contract alone speaks of it.
         let _ = call;
         match self.calls[ticket.number() as usize].take() {
             Some(spare) => spare,

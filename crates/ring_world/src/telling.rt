@@ -37,7 +37,7 @@ pub(crate) fn tell<A: Allocator + Copy>(
     }
 }
 
-/// Tells these answers.
+/// Tells these answers. It stands apart, since a call clears its room for an answer with its call.
 #[inline(never)]
 fn tell_all<A: Allocator + Copy>(
     told: &mut Vec<Told<A>, A>,

@@ -139,7 +139,8 @@ impl<O: Object> World<O> {
         })
     }
 
-    /// Runs the events, in their order. The room for all that an event adds is made before its step, so an event is done
+    /// Runs the events, in their order. A call that they issue keeps the limits of frames, as each does that `Call::new` makes.
+    /// The room for all that an event adds is made before its step, so an event is done
     /// whole or not at all. `Memory` where a growth was refused to the world itself: then `done` tells how many of these
     /// events were done, and the world is the one after these.
     ///
@@ -173,7 +174,7 @@ impl<O: Object> World<O> {
     }
 
     /// Runs one event: as `run` of a list of this event alone does, but for `done`, which stays. The room for all that it adds is made
-    /// before its step, so it is done whole, or `Memory` was refused to the world itself, and the world is as it was.
+    /// before its step, so it is done whole; otherwise `Memory`, where that is refused to the world itself, and the world is as it was.
     pub fn run_one(&mut self, event: &Event<O::Alloc>) -> Result<(), Fault>
         requires fits { EventFits event.now }
         ensures ok { OnOk result (Goes O.sequential event.now self.old self.new) }
@@ -223,7 +224,7 @@ impl<O: Object> World<O> {
         self.done += 1;
     }
 
-    /// How many events of the last run were done.
+    /// How many events of the last `run` were done: 0 before any.
     pub fn done(&self) -> u64
         ensures { result ≡ self.now.done }
     {
@@ -272,8 +273,8 @@ impl<O: Object> World<O> {
         most_effects(&self.nodes)
     }
 
-    /// The committed places of a node from the log's beginning, also those that it has dropped, and those that a snapshot stands
-    /// for that it restored. Or `Memory`.
+    /// The committed places of a node of the group from the log's beginning, also those that it has dropped, and those that a
+    /// snapshot stands for that it restored. Or `Memory`.
     pub fn committed(&self, node: Proc) -> Result<Vec<Call<O::Alloc>, O::Alloc>, Fault>
         requires { node ≤ self.now.group.count }
         ensures ok { IfOk result (λ calls. calls.items ≡ committed_of self.now.group (lives_of (world_of O.sequential self.now) node)) }
@@ -286,7 +287,7 @@ impl<O: Object> World<O> {
         self.longest.first(self.alloc, many)
     }
 
-    /// A node.
+    /// A node of the group.
     pub fn node(&self, node: Proc) -> &Node<O>
         requires { node ≤ self.now.group.count }
         ensures { result.now ≡ (world_of O.sequential self.now).nodes node }
@@ -423,6 +424,7 @@ impl<O: Object> World<O> {
             return self.idle(event);
         }
         self.events.reserve(1)?;
+        // A stop takes no memory and gives nothing. A stopped node refuses it, and stays as it is.
         let _ = self.nodes[place].step(Input::Stop);
         self.events.push_reserved(Event::Stop(node));
         Ok(())

@@ -82,7 +82,8 @@ impl<O: Object> Network<O> {
         }
     }
 
-    /// From now on the processors of this group alone hear each other. Those that are none of the world's are left out.
+    /// From now on the processors of this group alone hear each other. Those that are none of the world's are left out. A copy that
+    /// is under way by now is lost too, if its sender or its receiver is none of the group as its turn comes.
     pub fn cut(&mut self, group: ProcSet)
         ensures { self.new ≡ record (self.old) { group = common group (everybody self.old.pump.played.group.count) } }
     {
@@ -131,8 +132,8 @@ impl<O: Object> Network<O> {
         }
     }
 
-    /// An event happens to the world that no turn brings, as a timeout or a stop. Otherwise `Memory`, where that is refused to
-    /// the world itself: then nothing was done.
+    /// An event happens to the world that no turn brings, as a timeout or a stop. A call that it issues keeps the limits of frames, as
+    /// each does that `Call::new` makes. Otherwise `Memory`, where that is refused to the world itself: then nothing was done.
     pub fn happen(&mut self, event: Event<O::Alloc>) -> Result<(), Fault>
         requires { EventFits event }
         ensures done { OnOk result (Happens O.sequential event self.old.pump self.new.pump) }

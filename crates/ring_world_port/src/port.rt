@@ -17,7 +17,8 @@ use std::rc::Rc;
 pub type Shared<O: Object> = Rc<RefCell<Network<O>>, O::Alloc>;
 
 /// A port to a node of a world, which it shares with the ports to the others: each poll that finds no answer lets the network
-/// take a turn. A submit is refused with `NoAnswer` while another holds the network, else as [`Network::submit`] is.
+/// take a turn. While another holds the network a submit is refused with `NoAnswer`, and a poll finds no answer and takes no
+/// turn; else a submit is refused as [`Network::submit`] is.
 #[derive(Drop)]
 pub struct WorldPort<O: Object> {
     network: Shared<O>,
@@ -26,7 +27,7 @@ pub struct WorldPort<O: Object> {
 }
 
 impl<O: Object> WorldPort<O> {
-    /// The port to this node. Before any submit.
+    /// The port to this node, before any submit. If the world has no such node, each submit is refused with `NotMember`.
     pub fn new(network: Shared<O>, node: Proc) -> WorldPort<O>
         ensures node { result.node ≡ node }
         ensures asked { result.asked ≡ unasked }

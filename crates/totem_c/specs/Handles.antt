@@ -12,6 +12,7 @@ use Rattle.totem_c.specs.contracts.desk.Desk as desk
 abbrev pub lies_boxed : Ptr → Desk → Global → Fml
 lies_boxed p x heap = box_owns (ghosts.dealloc_token heap) desk.the_row p x
 
+-- of a handle, by whether it is made, its address and what is in it: one that is made has a desk and owns it, an empty one owns nothing
 abbrev pub held_owns : Bool → Ptr → Option Desk → Fml
 held_owns true p (Some x) = fex Global (lies_boxed p x)
 held_owns true p None = ffalse

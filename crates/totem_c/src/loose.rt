@@ -31,6 +31,7 @@ impl<T: Drop, A: Allocator> Loose<T, A> {
         ensures { result.value ≡ self.value }
     {
         let Loose { at, alloc } = self;
+        // Sound: a `Loose` owns what the box owned that was taken apart, and is given up here, so the block has one owner again.
         unsafe { Box::from_raw(alloc, at) }
     }
 }

@@ -27,7 +27,8 @@
 //! In contracts, `Rattle.totem_ring.specs` has the definitions that a program's own clauses may cite. What is promised, call by
 //! call: `docs/PROMISES.md`; its laws, as functions that cost nothing and whose clauses a proof may use, are [`object_law`],
 //! [`linear_law`] (of every run whose calls keep the limits there is one order), [`call_keeps_law`] (each call of code that fits a
-//! frame does) and [`node_fits_law`] (a node keeps the limits of frames).
+//! frame does), [`node_fits_law`] (a node keeps the limits of frames) and [`stopped_for_memory_law`] (a world tells exactly which node
+//! stopped for want of memory, of an event that is run alone).
 #![tactic(auto)]
 
 pub use ring_base::{Fault, Fixed, Kind, MOST_PROCESSORS, Proc, ProcSet, RingId, State};
