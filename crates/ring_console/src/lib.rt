@@ -19,4 +19,4 @@ pub use ring_script::{
 };
 pub use ring_world::{Event, Pair, Told, World};
 pub use run::Run;
-pub use running::{Things, script, script_check, script_of};
+pub use running::{Things, is_legal, script, script_check, script_of};

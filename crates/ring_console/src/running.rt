@@ -173,7 +173,7 @@ impl<O: Object> Run<O> {
 }
 
 /// Whether the order of a run's world explains its history. Or `Memory`.
-fn is_legal<O: Object>(alloc: O::Alloc, run: &Run<O>) -> Result<bool, Fault>
+pub fn is_legal<O: Object>(alloc: O::Alloc, run: &Run<O>) -> Result<bool, Fault>
     ensures ok { IfOk result (λ is_legal. IsTrue is_legal ↔ IsLegal O.sequential run.now.played) }
     ensures refused { IfErr result (λ fault. fault ≡ Memory) }
 {

@@ -1,6 +1,6 @@
 //! A node that keeps the limits of frames.
 
-ghost use Rattle.std.specs.Prelude.{◌≡◌, length, if◌then◌else◌, IfOk, IfErr, OnOk, OnErr};
+ghost use Rattle.std.specs.Prelude.{◌≡◌, length, false, if◌then◌else◌, IfOk, IfErr, IsOk, OnOk, OnErr};
 ghost use Rattle.std.specs.Option.{option_map};
 ghost use Rattle.ring_base.specs.declared.fault.Fault.TheVariants.{Memory, Stopped as StoppedFault};
 ghost use Rattle.ring_driver.specs.Driving.{opened, stepped, ended, called, IsMember, IsNotOpened, IsRefused, IsTaken, IsFirst};
@@ -118,6 +118,7 @@ impl<O: Object> Driver<O> {
         ensures ok { OnOk result (self.new ≡ stepped O.sequential self.old StopInput) }
         ensures err { OnErr result (self.new ≡ ended self.old) }
         ensures refused { IfErr result (λ fault. fault ≡ (if is_stopped self.old.node.core.state then StoppedFault else Memory)) }
+        ensures stops { is_stopped self.old.node.core.state ≡ false → IsOk result }
     {
         self.step(Input::Stop)
     }
@@ -128,6 +129,7 @@ impl<O: Object> Driver<O> {
         ensures ok { OnOk result (self.new ≡ stepped O.sequential self.old input) }
         ensures err { OnErr result (self.new ≡ ended self.old) }
         ensures refused { IfErr result (λ fault. fault ≡ (if is_stopped self.old.node.core.state then StoppedFault else Memory)) }
+        ensures stops { input ≡ StopInput → is_stopped self.old.node.core.state ≡ false → IsOk result }
     {
         // A law: no effect at run time. The proof takes from it that a node keeps the limits along a step, and what it sends keeps them.
         node_fits_law::<O>();

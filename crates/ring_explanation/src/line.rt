@@ -3,6 +3,7 @@
 ghost use Rattle.std.specs.Prelude.{◌≡◌, ◌==◌, position};
 
 use ring_base::MOST_PROCESSORS;
+use ring_script::is_skipped;
 
 /// Where the byte first stands.
 fn place_of(text: &[u8], byte: u8) -> Option<usize>
@@ -19,14 +20,6 @@ pub(crate) fn first_line(text: &[u8]) -> Option<(&[u8], &[u8])> {
     match place_of(text, b'\n') {
         Some(end) => Some((&text[..end], &text[end + 1..])),
         None => Some((text, &[])),
-    }
-}
-
-/// Whether the line asks for nothing: it is empty, or a comment.
-pub(crate) fn is_skipped(line: &[u8]) -> bool {
-    match line.first() {
-        None => true,
-        Some(first) => *first == b'#',
     }
 }
 

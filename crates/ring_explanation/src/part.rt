@@ -1,7 +1,7 @@
 //! What a word of a line stands for.
 
-use ring_base::{FRAME_BYTES, MOST_PROCESSORS};
-use ring_script::{LONGEST_NAME, MOST_OPERATION, MOST_TURNS};
+use ring_base::{FRAME_BYTES, Kind, MOST_PROCESSORS};
+use ring_script::{LONGEST_NAME, MOST_OPERATION, MOST_TURNS, is_name, kind_word};
 use std::fmt;
 
 /// What a word stands for.
@@ -30,8 +30,15 @@ pub(crate) enum Part {
     Name,
 }
 
-/// The kinds of timeouts.
-pub(crate) const TIMEOUTS: [&str; 4] = ["retransmit", "join", "consensus", "loss"];
+/// The names of the timeouts.
+pub(crate) fn timeouts() -> [&'static str; 4] {
+    [
+        kind_word(Kind::Retransmit),
+        kind_word(Kind::Join),
+        kind_word(Kind::Consensus),
+        kind_word(Kind::Loss),
+    ]
+}
 
 impl Part {
     /// The least and the greatest number that such a word may be, among so many nodes. None where it isn't a number within bounds.
@@ -57,10 +64,10 @@ impl Part {
         }
         match self {
             Part::Frame => is_decimal(word) && word != "0",
-            Part::Timeout => TIMEOUTS.iter().any(|kind| *kind == word),
+            Part::Timeout => timeouts().iter().any(|kind| *kind == word),
             Part::Bytes => are_bytes(word, FRAME_BYTES),
             Part::Operation => are_bytes(word, MOST_OPERATION),
-            _ => is_name(word),
+            _ => is_name(word.as_bytes()),
         }
     }
 }
@@ -78,12 +85,6 @@ fn are_bytes(word: &str, most: usize) -> bool {
     let are_digits = word.as_bytes().iter().all(|byte| byte.is_ascii_hexdigit()
         && !byte.is_ascii_uppercase());
     !word.is_empty() && word.len() / 2 <= most && word.len() % 2 == 0 && are_digits
-}
-
-/// Whether the word may be a name.
-fn is_name(word: &str) -> bool {
-    let are_graphic = word.as_bytes().iter().all(|byte| byte.is_ascii_graphic());
-    !word.is_empty() && word.len() <= LONGEST_NAME && are_graphic
 }
 
 /// What must stand for a part, among so many nodes.

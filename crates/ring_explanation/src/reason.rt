@@ -5,7 +5,7 @@ use crate::groups::groups_reason;
 use crate::line::{Placed, Stand, line_at};
 use crate::nearest::{Meant, nearest};
 use crate::operation::operation_reason;
-use crate::part::{Part, TIMEOUTS, Wanted};
+use crate::part::{Part, Wanted, timeouts};
 use crate::shown::Shown;
 use ring_base::MOST_PROCESSORS;
 use ring_script::{LONGEST_TEXT, Script, ScriptFault, Vocabulary};
@@ -208,7 +208,7 @@ pub(crate) fn part_reason(
 fn is_not(alloc: Global, word: &str, part: Part, nodes: u8) -> Reason {
     let wanted = Wanted { part, nodes };
     let meant = match part {
-        Part::Timeout => nearest(alloc, word, &TIMEOUTS)?,
+        Part::Timeout => nearest(alloc, word, &timeouts())?,
         _ => Meant(None),
     };
     Ok(Some(format!(in alloc; "{} is not {wanted}{meant}", Shown(word))?))

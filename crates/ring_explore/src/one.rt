@@ -10,7 +10,7 @@ ghost use Rattle.ring_explore.specs.Tried.{IsTried};
 use crate::found::Found;
 use ring_base::{Fault, Fixed, Proc, RingId};
 use ring_console::{
-    Event, Line, Pair, Run, Script, ScriptFault, Told, Vocabulary, World, is_linearization,
+    Event, Line, Pair, Run, Script, ScriptFault, Told, Vocabulary, World, is_legal,
 };
 use ring_object::Object;
 use ring_script_maker::made_script_by;
@@ -169,14 +169,6 @@ impl<O: Object> Seen<O> {
             illegal: if is_legal { None } else { Some(seed) },
         })
     }
-}
-
-/// Whether the order of a run's world explains its history. Or `Memory`.
-fn is_legal<O: Object>(alloc: O::Alloc, run: &Run<O>) -> Result<bool, Fault>
-    ensures { IfOk result (λ is_legal. IsTrue is_legal ↔ IsLegal O.sequential run.now.played) }
-{
-    let order = run.world().order()?;
-    is_linearization::<O>(alloc, order.as_slice(), run.world().history())
 }
 
 /// The last installed ring of a node. `NotMember` where there is no such node.

@@ -59,8 +59,10 @@ faulty =
     (2, codes "nodes 2" ∷ codes "votes 1 1 1" ∷ []) ∷
     (2, codes "nodes 2" ∷ codes "votes" ∷ []) ∷
     (2, codes "nodes 2" ∷ codes "votes 0 1" ∷ []) ∷
+    (2, codes "nodes 2" ∷ codes "votes 1 0" ∷ []) ∷
     (2, codes "nodes 2" ∷ codes "votes 1 256" ∷ []) ∷
     (2, codes "nodes 2" ∷ codes "votes 1 01" ∷ []) ∷
+    (2, codes "nodes 2" ∷ codes "votes 01 1" ∷ []) ∷
     (2, codes "nodes 2" ∷ codes "votes 1 1 " ∷ []) ∷
     (1, codes "votes 1 1" ∷ codes "nodes 2" ∷ []) ∷
     (3, codes "nodes 2" ∷ codes "votes 1 1" ∷ codes "votes 1 1" ∷ []) ∷
@@ -96,6 +98,9 @@ good = (
     ) ∷ (
       codes "nodes 4" ∷ codes "votes 3 1 1 255" ∷ codes "show" ∷ [],
       record { nodes = record { count = 4; votes = 3 ∷ 1 ∷ 1 ∷ 255 ∷ [] }; asked = (3, Show) ∷ [] },
+    ) ∷ (
+      codes "nodes 2" ∷ [] ∷ codes "# two and one" ∷ codes "votes 2 1" ∷ [],
+      record { nodes = record { count = 2; votes = 2 ∷ 1 ∷ [] }; asked = [] },
     ) ∷ (
       codes "nodes 2" ∷ codes "# votes 9 9" ∷ [] ∷ codes "votes 2 7" ∷ codes "heal" ∷ [],
       record { nodes = record { count = 2; votes = 2 ∷ 7 ∷ [] }; asked = (5, Heal) ∷ [] },

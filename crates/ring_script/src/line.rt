@@ -1,6 +1,6 @@
 //! The lines of a script, after its first.
 
-ghost use Rattle.std.specs.Prelude.{◌≡◌};
+ghost use Rattle.std.specs.Prelude.{◌≡◌, Some};
 ghost use Rattle.ring_script.specs.Lines.{asked_by, asked_of, form_at, call_at, deliver_at, timeout_at, noise_at};
 ghost use Rattle.ring_script.specs.Lines.{stop_at, cut_line_at, pump_at, frame_at, kind_of};
 ghost use Rattle.ring_script.specs.Reading.{Gives, Tells};
@@ -207,6 +207,19 @@ fn frame_at(words: &mut Words<'_>) -> Result<Option<u64>, Fault>
     match words.decimal() {
         Ok(Some(0)) => Err(Fault::BadScript),
         frame => frame,
+    }
+}
+
+/// The word for a timeout: its name in a script.
+#[tactic(auto, unfolding(crate::specs::Lines::kind_of))]
+pub fn kind_word(kind: Kind) -> &'static str
+    ensures { kind_of result.now ≡ Some kind }
+{
+    match kind {
+        Kind::Retransmit => "retransmit",
+        Kind::Join => "join",
+        Kind::Consensus => "consensus",
+        Kind::Loss => "loss",
     }
 }
 

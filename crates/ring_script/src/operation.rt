@@ -143,8 +143,8 @@ fn append<A: Allocator + Copy>(bytes: &mut Vec<u8, A>, more: &[u8]) -> Result<()
     }
 }
 
-/// Whether the word may be a name.
-fn is_name(word: &[u8]) -> bool
+/// Whether the word may be a name: 1 to 64 bytes, each one from `!` to `~`.
+pub fn is_name(word: &[u8]) -> bool
     ensures { result ≡ is_name word.now }
 {
     !word.is_empty() && word.len() <= LONGEST_NAME && are_graphic(word)

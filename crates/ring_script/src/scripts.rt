@@ -215,7 +215,7 @@ fn line_of<V: Vocabulary, A: Allocator + Copy>(
 }
 
 /// Whether the line asks for nothing: it is empty, or a comment.
-pub(crate) fn is_skipped(line: &[u8]) -> bool
+pub fn is_skipped(line: &[u8]) -> bool
     ensures { result ≡ is_skipped line.now }
 {
     match line.first() {

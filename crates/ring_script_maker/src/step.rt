@@ -2,6 +2,7 @@
 
 use crate::sides::Sides;
 use ring_base::{Kind, Proc};
+use ring_script::kind_word;
 use std::fmt;
 
 /// What a line asks for.
@@ -21,22 +22,12 @@ impl fmt::Display for Step {
     fn fmt<W: fmt::Write>(&self, f: &mut fmt::Formatter<W>) -> fmt::Result {
         match *self {
             Step::Deliver { node, frame } => write!(f, "deliver {node} {frame}"),
-            Step::Timeout { node, kind } => write!(f, "timeout {node} {}", name_of(kind)),
+            Step::Timeout { node, kind } => write!(f, "timeout {node} {}", kind_word(kind)),
             Step::Noise { node, byte } => write!(f, "noise {node} {byte:02x}"),
             Step::Stop { node } => write!(f, "stop {node}"),
             Step::Cut(sides) => write!(f, "cut{sides}"),
             Step::Heal => f.write_str("heal"),
             Step::Pump { turns } => write!(f, "pump {turns}"),
         }
-    }
-}
-
-/// The timeout's name.
-fn name_of(kind: Kind) -> &'static str {
-    match kind {
-        Kind::Retransmit => "retransmit",
-        Kind::Join => "join",
-        Kind::Consensus => "consensus",
-        Kind::Loss => "loss",
     }
 }

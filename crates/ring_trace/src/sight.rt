@@ -1,7 +1,8 @@
 //! What is asked of a node, and what comes to it.
 
-use ring_base::{Kind, Proc};
+use ring_base::Proc;
 use ring_console::{Line, Pair};
+use ring_script::kind_word;
 use ring_trace_forms::{CallWords, Waiting, Wording};
 use std::alloc::{AllocError, Allocator};
 use std::fmt::Write;
@@ -66,14 +67,4 @@ pub(crate) fn write_turn<A: Allocator + Copy>(
 ) -> Result<(), AllocError> {
     let (node, frame, sender) = (pair.receiver, pair.frame, pair.sender);
     write!(what, "node {node} hears frame {frame} of node {sender}")
-}
-
-/// A timeout's name.
-fn kind_word(kind: Kind) -> &'static str {
-    match kind {
-        Kind::Retransmit => "retransmit",
-        Kind::Join => "join",
-        Kind::Consensus => "consensus",
-        Kind::Loss => "loss",
-    }
 }

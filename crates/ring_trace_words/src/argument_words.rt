@@ -1,6 +1,6 @@
 //! Arguments of operations and of replies, in words.
 
-use ring_script::Argument;
+use ring_script::{Argument, is_name};
 use std::fmt;
 
 /// Arguments, with a space between them. They stand in these bytes.
@@ -72,12 +72,6 @@ fn length_in(argument: Argument, bytes: &[u8]) -> usize {
         Argument::Value => 8,
         Argument::Name => bytes.len(),
     }
-}
-
-/// Whether bytes are a name that a script can say.
-fn is_name(bytes: &[u8]) -> bool {
-    let is_short = !bytes.is_empty() && bytes.len() <= 64;
-    is_short && bytes.iter().all(|byte| (b'!'..=b'~').contains(byte))
 }
 
 /// The number that eight bytes or fewer spell, the greatest place first.
