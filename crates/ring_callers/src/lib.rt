@@ -5,16 +5,14 @@
 #![tactic(auto)]
 
 mod caller;
-mod calls;
 mod checking;
 mod progress;
 mod running;
 
 pub use caller::Caller;
-pub use calls::CallsTold;
 pub use checking::MOST_PORTS;
 pub use ring_host_port::{
-    Book, BookName, Gate, GatePlace, Gauge, Host, HostPort, HostTicket, Open, Opening, Paced, Seat,
-    Stir, Turn,
+    Book, BookName, CallsTold, Gate, GatePlace, Gauge, Host, HostPort, HostTicket, Open, Opening,
+    Paced, Seat, Stir, Turn,
 };
 pub use running::run_callers;

@@ -7,11 +7,10 @@ ghost use Rattle.ring_callers.specs.Callers.{AreOfRun};
 ghost use Rattle.ring_callers.specs.Clients.{AreSeats, AreForAll};
 
 use crate::caller::{Caller, call_from};
-use crate::calls::{CallsTold, calls_of};
 use crate::checking::check_arguments;
 use crate::progress::Progress;
 use ring_base::{Fault, Fixed, Proc};
-use ring_host_port::{BookName, Gate, Host, Opening, Seat};
+use ring_host_port::{BookName, CallsTold, Gate, Host, Opening, Seat, calls_of};
 use ring_object::Object;
 use std::marker::Brand;
 use std::sync::Wait;

@@ -2,10 +2,10 @@
 
 ghost use Rattle.std.specs.Prelude.{◌≡◌, IfOk, IfErr};
 ghost use Rattle.ring_base.specs.declared.fault.Fault.TheVariants.{Memory};
-ghost use Rattle.ring_callers.specs.Callers.{AreOfLines, AreOfRun};
+ghost use Rattle.ring_host_port.specs.CallsTold.{AreOfLines, AreOfRun};
 
 use ring_base::Fault;
-use ring_host_port::{Book, BookName, Host, linear_law};
+use ring_host::{Book, BookName, Host, linear_law};
 use ring_object::Object;
 use ring_payload::Call;
 use ring_rules::Item;
@@ -22,7 +22,7 @@ pub struct CallsTold<A: Allocator + Copy + Drop = Global> {
 }
 
 /// The calls of the host's book. Or `Memory`.
-pub(crate) fn calls_of<O: Object, K: BookName<O::Alloc>, W: Wait>(
+pub fn calls_of<O: Object, K: BookName<O::Alloc>, W: Wait>(
     rt: &W,
     host: &Host<O, K>,
 ) -> Result<CallsTold<O::Alloc>, Fault>

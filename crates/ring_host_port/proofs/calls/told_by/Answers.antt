@@ -2,7 +2,7 @@ use Rattle.std.proofs.Common.{subst, sym}
 use Rattle.ring_rules.specs.Histories.{IsLinearization}
 use Rattle.ring_rules.specs.Worlds.{order, run, world_opening}
 use Rattle.ring_host_port.specs.Books.{events_of, history_of}
-use Rattle.ring_callers.proofs.calls.told_by.Goals as goal
+use Rattle.ring_host_port.proofs.calls.told_by.Goals as goal
 
 pub returns-clause-lines : goal.returns-clause-lines
 returns-clause-lines g c =
