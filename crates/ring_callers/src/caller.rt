@@ -6,12 +6,9 @@ ghost use Rattle.ring_callers.specs.Clients.{AreForAll, IsNew, node_after};
 
 use ring_base::Fault;
 use ring_client::{Client, Port};
-use ring_host_port::{BookName, Host, HostPort, Seat};
+use ring_host_port::{BookName, Host, HostPort, POLLS, Seat};
 use ring_object::Object;
 use std::sync::Wait;
-
-/// How often a client polls a node at most, for one call, before it passes on to the next.
-const POLLS: u64 = 1_000_000;
 
 /// What a client does on a thread of its own. What it keeps of it stands in an atomic, or behind a lock.
 pub trait Caller {

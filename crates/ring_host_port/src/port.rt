@@ -29,6 +29,9 @@ const STALE: u64 = 64;
 /// How many microseconds a nap is.
 const NAP: u64 = 50;
 
+/// How often a client that has a thread of its own polls a node at most, for one call, before it passes on to the next.
+pub const POLLS: u64 = 1_000_000;
+
 /// A port to a node of a host, from a seat of its own. Its calls wait for the host's locks, so it holds the handle for that.
 ///
 /// A submit is refused as the host's `submit` at the port's node is, and before that with `OpTooLong` over 1,024 bytes, `NumberGap`

@@ -6,7 +6,7 @@ ghost use Rattle.ring_live.specs.Callers.{HasSeatsAt};
 
 use ring_base::Fault;
 use ring_client::Client;
-use ring_host_port::{BookName, Host, HostPort, Seat};
+use ring_host_port::{BookName, Host, HostPort, POLLS, Seat};
 use ring_object::{Object, Reply};
 use ring_things::{Counters, Place, Replied};
 use std::alloc::{Allocator, Global};
@@ -16,9 +16,6 @@ use std::thread;
 
 /// Where the counters stand on the program's shelf.
 const COUNTERS: Place = Place::Second;
-
-/// How often a client polls a port at most, for one call.
-const POLLS: u64 = 1_000_000;
 
 /// A client that calls from a thread of its own: its number, the seats of the host's for its ports, and what came of its calls.
 #[derive(Drop)]
