@@ -211,7 +211,6 @@ fn frame_at(words: &mut Words<'_>) -> Result<Option<u64>, Fault>
 }
 
 /// The word for a timeout: its name in a script.
-#[tactic(auto, unfolding(crate::specs::Lines::kind_of))]
 pub fn kind_word(kind: Kind) -> &'static str
     ensures { kind_of result.now ≡ Some kind }
 {
