@@ -1,11 +1,11 @@
--- What stands at a list's places: with one more at its end, behind it or written over, and in a row of numbers.
+-- What stands at a list's places: with one more at its end, behind it or written over, and in a row of numbers or of zeros; the greatest of a list with one more.
 use Rattle.std.proofs.Common.{◌≡◌, ℕ, zero, suc, ◌+◌, List, [], ◌∷◌, ◌++◌, length, Some, slice_get, refl, arith, ◌⊎◌, inl, inr, ◌<◌, slice_set, ◌≤◌}
-use Rattle.std.proofs.Common.{None, ap, map, ◌∙◌, sym, Bor, option_copied, Option}
+use Rattle.std.proofs.Common.{None, ap, map, ◌∙◌, sym, Bor, option_copied, Option, max, replicate, slice_index}
 use Rattle.std.proofs.lemmas.List.{map-append}
 use Rattle.std.proofs.lemmas.Option.{slice_get_read, slice_get_past}
 use Rattle.std.specs.Slice.{IsItemAt}
 use Rattle.ring_base.specs.Fronts.{front_append, front_get}
-use Rattle.ring_base.specs.Numbers.{numbers_from}
+use Rattle.ring_base.specs.Numbers.{numbers_from, greatest}
 
 -- what stands in a list with one more at its end stood there before, or is the last
 pub get-push : {X : Type 0} (xs : List X) (y : X) (k : ℕ) (z : X) → slice_get (xs ++ y ∷ []) k ≡ Some z
@@ -14,6 +14,17 @@ get-push [] y zero z e = inr (refl, cc e)
 get-push [] y (suc k) z e = absurd (cc e)
 get-push (x ∷ xs) y zero z e = inl e
 get-push (x ∷ xs) y (suc k) z e = elim (get-push xs y k z e) [ inl h ↦ inl h | inr h ↦ inr (omega (arith, h.0), h.1) ]
+
+-- each place of a row of zeros, and each behind it, has 0
+pub zero_at : (n k : ℕ) → slice_index (replicate n 0) k ≡ 0
+zero_at zero k = refl
+zero_at (suc n) zero = refl
+zero_at (suc n) (suc k) = zero_at n k
+
+-- the greatest of a list with one number more
+pub greatest-push : (xs : List ℕ) (x : ℕ) → greatest (xs ++ x ∷ []) ≡ max (greatest xs) x
+greatest-push [] x = omega arith
+greatest-push (y ∷ xs) x = (let rest = greatest-push xs x in omega (arith, rest))
 
 -- the last element
 pub get-last : {X : Type 0} (xs : List X) (y : X) → slice_get (xs ++ y ∷ []) (length xs) ≡ Some y

@@ -12,6 +12,7 @@ use Rattle.ring_base.specs.Numbers.{numbers_from}
 use Rattle.ring_base.specs.Processors.{IsProc, most_processors, has, elements}
 use Rattle.ring_base.specs.Passing.{passing}
 use Rattle.ring_base.specs.Primaries.{weight_more, weight_same, votes_front}
+use Rattle.ring_base.proofs.ListPlaces.{zero_at}
 use Rattle.ring_base.specs.Group.{Group, AreVotes, votes_of, votes_in, IsFilled}
 
 suc_last : (n : ℕ) → suc n + 1 ≡ suc (n + 1)
@@ -72,11 +73,6 @@ new_votes (Ok group) n votes e h = ((AreVotes-ones n).0 (subst AreVotes e h.0), 
 new_votes (Err fault) n votes e h = λ proc. h (subst AreVotes (sym e) ((AreVotes-ones n).1 proc))
 
 -- zeros behind add nothing
-zero_at : (n k : ℕ) → slice_index (replicate n 0) k ≡ 0
-zero_at zero k = refl
-zero_at (suc n) zero = refl
-zero_at (suc n) (suc k) = zero_at n k
-
 zeros_behind : (votes : List ℕ) (n k : ℕ) → slice_index (votes ++ replicate n 0) k ≡ slice_index votes k
 zeros_behind [] n k = zero_at n k
 zeros_behind (v ∷ votes) n zero = refl

@@ -13,6 +13,10 @@ pub record AreVotes (votes : List ℕ) : Type 0 where
   pub processors : IsProc (length votes)
   pub each : All (λ vote. 1 ≤ vote) votes
 
+-- this is one of the group's processors
+abbrev pub IsInGroup : Group → ℕ → Type 0
+IsInGroup group number = (1 ≤ number) × (number ≤ group.count)
+
 -- the votes of processor i
 abbrev pub votes_of : Group → ℕ → ℕ
 votes_of group i = slice_index group.votes (i - 1)

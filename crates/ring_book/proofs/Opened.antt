@@ -1,5 +1,5 @@
 -- Openings that grow.
-use Rattle.std.proofs.Common.{◌≡◌, ℕ, zero, suc, ◌+◌, ◌-◌, ◌++◌, ◌≤◌, ◌<◌, length-append, List, [], ◌∷◌, refl, ap}
+use Rattle.std.proofs.Common.{◌≡◌, ℕ, zero, suc, ◌+◌, ◌-◌, ◌++◌, ◌≤◌, ◌<◌, List, [], ◌∷◌, refl, ap}
 use Rattle.std.proofs.Common.{subst, sym, ◌∙◌, length, arith, drop, Some, slice_get, false}
 use Rattle.rtrb.specs.Ring.{received, consumer_capacity, IsPair}
 use Rattle.std.specs.List.{AllByRecursion as Each}
@@ -108,17 +108,8 @@ start_book m name ns ps cs told room a b few n r many none text = record {
 pub below_16 : (i n m : ℕ) → i < n → n ≡ m → m ≤ 16 → i < 16
 below_16 i n m low same few = omega (arith, low, same, few)
 
-pub count_next : (i n m k : ℕ) → i + n ≡ k → n ≡ suc m → suc i + m ≡ k
-count_next i n m k all more = omega (arith, all, more)
-
-pub many_next : {X : Type 0} (xs : List X) (x : X) (i : ℕ) → length xs ≡ i → length (xs ++ x ∷ []) ≡ suc i
-many_next xs x i h = omega (arith, length-append xs (x ∷ []), h)
-
 pub all_counted : (i n k c : ℕ) → i + n ≡ k → c ≡ k → c ≤ i → i ≡ k
 all_counted i n k c all same past = omega (arith, all, same, past)
-
-pub some_left : (i c n k len : ℕ) → i < c → c ≡ k → i + n ≡ k → len ≡ n → 0 < len
-some_left i c n k len low same all is = omega (arith, low, same, all, is)
 
 pub some_more : (n m w len : ℕ) → n ≡ w → n ≡ suc m → len ≡ w → 0 < len
 some_more n m w len same more is = omega (arith, same, more, is)

@@ -110,14 +110,6 @@ operating n c f (inr e) = e
 operating n c f (inl e) =
     elim (f.state) [ inl o ↦ o | inr s ↦ absurd (let q : Recovery ≡ Stopped = sym e ∙ s in let x : ⊥ = cc in x) ]
 
-not_recovering : {A : Type 0} → (n : ℕ) (c : Core A) → IsFormed n c → c.state ≡ Recovery → ⊥
-not_recovering n c f e =
-    elim (f.state) [
-      | inl o ↦ (let q : Recovery ≡ Operational = sym e ∙ o in let x : ⊥ = cc in x)
-      | inr s ↦
-          (let q : Recovery ≡ Stopped = sym e ∙ s in let x : ⊥ = cc in x)
-    ]
-
 one_token : {A : Type 0} → (u s : Sent A) → IsQuiet u.frame → Some u ≡ Some s → IsQuiet s.frame
 one_token {A} u s h e = (let same : u ≡ s = cc in subst (λ (s : Sent A). IsQuiet s.frame) same h)
 

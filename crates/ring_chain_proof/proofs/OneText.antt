@@ -21,7 +21,7 @@ use Rattle.ring_wire.specs.declared.message.Message.{Message}
 use Rattle.ring_wire.specs.declared.token.Token.{Token}
 use Rattle.ring_core.specs.Windows.{is_new}
 use Rattle.ring_core.specs.Tokens.{numbered, VisitBy, arrived, AreVisits}
-use Rattle.ring_core.specs.Recoveries.{unwrapped}
+use Rattle.ring_core.specs.Recoveries.{unwrapped, inner_message}
 use Rattle.ring_core.specs.State.{Core}
 use Rattle.ring_core.specs.Views.{mark}
 use Rattle.ring_core.specs.Acting.{gives_old}
@@ -31,7 +31,7 @@ use Rattle.ring_core_proof.specs.Moves.{Move, Idles, Enters, Learns, Visits, Tak
 use Rattle.ring_core_proof.specs.Moves.{IsWrapping, MayEnd, MayVisit, MayMove, CameTo}
 use Rattle.ring_core_proof.proofs.InLists.{in-each, each-in, some-each}
 use Rattle.ring_core_proof.proofs.WrapsAndEnd.{found_in}
-use Rattle.ring_chain_proof.specs.ChainWords.{Chains, IsGenuine, inner_message, WrapsGenuine}
+use Rattle.ring_chain_proof.specs.ChainWords.{Chains, IsGenuine, WrapsGenuine}
 use Rattle.ring_chain_proof.proofs.GenuineFrames.{AreRight, with_visit, visits_after}
 use Rattle.ring_chain_proof.proofs.FactsGrow.{ChainsGrow, visits_grow, put-each}
 use Rattle.ring_chain_proof.proofs.Rings.{AreRings, came_right}

@@ -27,10 +27,6 @@ number-visits members ring (v ∷ vs) h =
     let b : v.turn.came.number ≡ length vs = ap (λ (t : Token). t.number) h.0.comes ∙ number-visits members ring vs h.1 in
     omega arith
 
-pub ring-visits : {A : Type 0} → (members : ℕ) (ring : RingId) (vs : List (VisitBy A)) → AreVisits members ring vs → (arrived ring vs).ring ≡ ring
-ring-visits members ring [] h = refl
-ring-visits members ring (v ∷ vs) h = ap (λ (t : Token). t.ring) h.0.goes ∙ ap (λ (t : Token). t.ring) h.0.comes ∙ ring-visits members ring vs h.1
-
 pub first-arrived : {A : Type 0} → (ring : RingId) (vs : List (VisitBy A)) → HasArrived ring (first_token ring) vs
 first-arrived ring [] = refl
 first-arrived ring (v ∷ vs) = inr (first-arrived ring vs)

@@ -4,13 +4,13 @@
 use Rattle.std.specs.Prelude.{◌≡◌, ℕ, ◌<◌, ◌==◌, ◌⊎◌, if◌then◌else◌, List, [], ◌∷◌, Some, slice_get}
 use Rattle.ring_base.specs.Processors.{at, size}
 use Rattle.ring_base.specs.declared.ring_id.RingId.{RingId}
-use Rattle.ring_payload.specs.Kinds.{payload_of}
 use Rattle.ring_payload.specs.declared.content.Payload.{Payload}
 use Rattle.ring_payload.specs.declared.content.Payload.TheVariants.{Wrapped}
 use Rattle.ring_payload.specs.declared.content.Wrapped.{Wrapped as WrappedMessage}
 use Rattle.ring_wire.specs.declared.commit.CommitToken.{CommitToken}
 use Rattle.ring_wire.specs.declared.entries.CommitEntry.{CommitEntry}
 use Rattle.ring_wire.specs.declared.message.Message.{Message}
+use Rattle.ring_core.specs.Recoveries.{inner_message}
 use Rattle.ring_core.specs.Tokens.{Turn, numbered, VisitBy, AreVisits, IsSafeIn}
 use Rattle.ring_core.specs.State.{Core}
 use Rattle.ring_core.specs.Views.{front}
@@ -48,10 +48,6 @@ pub record IsRound {A : Type 0} (cores : ℕ → Core A) (ring : RingId) (visits
 -- the message was numbered by its sender in one of the visits
 abbrev pub IsGenuine : {A : Type 0} → Chains A → Message A → Type 0
 IsGenuine visits x = SomeIs (λ (v : VisitBy _). IsIn x (numbered x.ring v.who v.turn.came.seq v.turn.fresh)) (visits x.ring)
-
--- what a payload wraps, as a message
-abbrev pub inner_message : {A : Type 0} → WrappedMessage A → Message A
-inner_message w = record { ring = w.ring; number = w.number; sender = w.sender; payload = payload_of w.payload }
 
 -- what a payload wraps is genuine
 abbrev pub WrapsGenuine : {A : Type 0} → Chains A → Payload A → Type 0

@@ -1,13 +1,11 @@
 -- An index has the places of an order's calls, and a count for each client tells whether they are numbered.
-use Rattle.std.proofs.Common.{◌≡◌, ℕ, zero, suc, ◌+◌, ◌-◌, ◌<◌, ◌≤◌, ◌↔◌, ◌⊎◌, IsTrue, true, false, is_some, List, [], ◌∷◌, ◌++◌, length, length-append, take}
+use Rattle.std.proofs.Common.{◌≡◌, ℕ, zero, suc, ◌+◌, ◌-◌, ◌<◌, ◌≤◌, ◌↔◌, ◌⊎◌, IsTrue, true, false, List, [], ◌∷◌, ◌++◌, length, length-append, take}
 use Rattle.std.proofs.Common.{Option, Some, None, slice_get, refl, ap, sym, subst, ◌∙◌, arith, add-one, inl, inr}
-use Rattle.std.specs.BTreeMap.{BTreeMap, get, is_at, Updates}
-use Rattle.std.specs.Prelude.{Vec, IsSome}
+use Rattle.std.specs.BTreeMap.{BTreeMap, get, is_at}
+use Rattle.std.specs.Prelude.{Vec}
 use Rattle.std.specs.Ordering.{nat_cmp}
-use Rattle.std.specs.Cmp.{Equal-is}
-use Rattle.std.proofs.lemmas.Bool.{cases_Bool, cases_eq, cases_lt}
+use Rattle.std.proofs.lemmas.Bool.{cases_eq, cases_lt}
 use Rattle.std.specs.Map.{lookup}
-use Rattle.std.proofs.lemmas.Map.Lookups.{exact_unsigned}
 use Rattle.std.proofs.lemmas.Option.{slice_get_within}
 use Rattle.ring_base.proofs.ListPlaces.{get-last}
 use Rattle.ring_base.proofs.Rows.{take-more}
@@ -39,15 +37,6 @@ each-more P xs n x each at holds q y within there =
 abbrev pub HasNext : {A : Type 0} → List (Call A) → ℕ → Call A → Type 0
 HasNext order p c = c.number ≡ count_of c.client (take p order) + 1
 
-at_number : (k q : ℕ) → is_at (nat_cmp k) q ≡ true → k ≡ q
-at_number k q is = exact_unsigned k q ((Equal-is (nat_cmp k q)).0 is)
-
-apart_keys : (k q : ℕ) → (k ≡ q → ⊥) → is_at (nat_cmp k) q ≡ false
-apart_keys k q apart = elim (cases_Bool (is_at (nat_cmp k) q)) as (λ _. is_at (nat_cmp k) q ≡ false) [
-  | inl own ↦ absurd (apart (at_number k q own))
-  | inr other ↦ other
-]
-
 -- ---- rows of places
 
 -- nothing but the last place is new in a row
@@ -72,28 +61,13 @@ by_number-none : (n : ℕ) → by_number [] n ≡ None
 by_number-none zero = refl
 by_number-none (suc k) = refl
 
-pub by_number-before : (row : List ℕ) (n : ℕ) → (n ≡ 0 → ⊥) → slice_get row (n - 1) ≡ by_number row n
-by_number-before row zero apart = absurd (apart refl)
-by_number-before row (suc k) apart = ap (slice_get row) (omega arith)
-
 -- the place that is looked up: nothing is known of the client, or there is no such number
 pub place_at-unknown : {A : Type 0} (index : BTreeMap ℕ (Vec ℕ A)) (client number : ℕ) → get nat_cmp index client ≡ None
     → None ≡ place_at index (client, number)
 place_at-unknown {A} index client number none =
     sym (ap (λ (o : Option (Vec ℕ A)). by_number (row_of o) number) none ∙ by_number-none number)
 
-pub place_at-known : {A : Type 0} (index : BTreeMap ℕ (Vec ℕ A)) (client number : ℕ) (row : Vec ℕ A) → get nat_cmp index client ≡ Some row
-    → by_number row.items number ≡ place_at index (client, number)
-place_at-known {A} index client number row known = ap (λ (o : Option (Vec ℕ A)). by_number (row_of o) number) (sym known)
-
 -- ---- one more place
-
-pub adds-written : {A : Type 0} (old new : BTreeMap ℕ (Vec ℕ A)) (client place : ℕ) (was : Option (Vec ℕ A)) (more : Vec ℕ A)
-    → get nat_cmp old client ≡ was → more.items ≡ row_of was ++ place ∷ [] → Updates nat_cmp old new client (Some more) → AddsPlace old new client place
-adds-written {A} old new client place was more is items updates = record {
-  own = ap row_of updates.1 ∙ items ∙ ap (λ (o : Option (Vec ℕ A)). row_of o ++ place ∷ []) (sym is);
-  others = λ q apart. ap row_of (updates.2 q (apart_keys client q apart));
-}
 
 -- how many places a client has
 pub count-row : {A : Type 0} (index : BTreeMap ℕ (Vec ℕ A)) (client : ℕ) (was : Option (Vec ℕ A)) → get nat_cmp index client ≡ was
@@ -219,13 +193,6 @@ pub all_numbered : {A : Type 0} (order : List (Call A)) (n : ℕ) (index : BTree
     → length order ≤ n → IsTrue true ↔ IsNumbered order
 all_numbered order n index are all =
     (λ _ p c at. are.numbered p c (omega (arith, all, slice_get_within order p c at)) at, λ _. refl)
-
--- that an index was found tells that the order is numbered
-pub found_numbered : {I : Type 0} (found : Option I) (index : I) (N : Type 0) → IsSome found ↔ N → found ≡ Some index → N
-found_numbered found index N tells is = tells.0 (ap is_some is)
-
-pub not_found : {I : Type 0} (found : Option I) (N : Type 0) → IsSome found ↔ N → found ≡ None → N → ⊥
-not_found found N tells none numbered = let some = tells.1 numbered in absurd (cc (ap is_some none, some))
 
 -- two places with one name are one
 pub index-once : {A : Type 0} (order : List (Call A)) (index : BTreeMap ℕ (Vec ℕ A)) (p q : ℕ) (c : Call A) → IsIndexOf order (length order) index

@@ -1,21 +1,10 @@
 -- What is sent of two lists; and a frame that is handed over, which is one that was carried and keeps the limits where each does.
-use Rattle.std.proofs.Common.{◌≡◌, List, ◌++◌, map, ap, ◌∙◌, ℕ, zero, suc, Some, Bool, true, false, if◌then◌else◌, None, Option, refl, subst}
-use Rattle.std.specs.Prelude.{not, ◌==◌}
+use Rattle.std.proofs.Common.{◌≡◌, List, ℕ, zero, suc, Some, Bool, true, false, if◌then◌else◌, None, Option, refl, subst}
 use Rattle.std.specs.List.{AllByRecursion as Each}
-use Rattle.std.proofs.lemmas.List.{map-append}
-use Rattle.std.proofs.lemmas.List.Elements.{filter-append}
-use Rattle.ring_base.specs.Processors.{nobody, has}
+use Rattle.ring_base.specs.Processors.{has}
 use Rattle.ring_base.proofs.Each.{each-get}
-use Rattle.ring_core.specs.declared.out.Out.TheVariants.{Send}
-use Rattle.ring_core.specs.State.{Sent, Carried, frame_at, frame_for}
-use Rattle.ring_core.specs.Giving.{addressed, sent}
+use Rattle.ring_core.specs.State.{Carried, frame_at, frame_for}
 use Rattle.ring_token.specs.Frames.{FrameFits, Frame}
-
--- what is sent of two lists is what is sent of each
-pub sent-append : {A : Type 0} (a b : List (Sent A)) → sent (a ++ b) ≡ sent a ++ sent b
-sent-append {A} a b =
-    ap (map (λ (s : Sent A). Send s.to s.frame)) (filter-append (λ (s : Sent A). not (s.to == nobody)) a b)
-    ∙ map-append (λ (s : Sent A). Send s.to s.frame) (addressed a) (addressed b)
 
 -- the frame of a number keeps the limits, where each does
 pub at_fits : {A : Type 0} (frames : List (Carried A)) (k : ℕ) (f : Carried A) → Each (λ (g : Carried A). FrameFits g.frame) frames → frame_at frames k ≡ Some f →

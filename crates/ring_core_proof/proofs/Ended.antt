@@ -8,7 +8,6 @@ use Rattle.ring_base.specs.declared.ring_id.RingId.{RingId}
 use Rattle.ring_base.specs.declared.state.State.{State}
 use Rattle.ring_base.specs.declared.state.State.TheVariants.{Gather, Commit, Recovery, Operational, Stopped}
 use Rattle.ring_base.proofs.Each.{each-weaker, each-reverse}
-use Rattle.ring_payload.specs.Kinds.{payload_of}
 use Rattle.ring_payload.specs.declared.content.Payload.{Payload}
 use Rattle.ring_payload.specs.declared.content.Payload.TheVariants.{Call, Wrapped, End, Head, Part, Pack, Snap}
 use Rattle.ring_payload.specs.declared.content.Wrapped.{Wrapped as WrappedMessage}
@@ -19,7 +18,7 @@ use Rattle.ring_core.specs.Windows.{is_numbered, found, is_new}
 use Rattle.ring_base.proofs.SameRing.{ring_same}
 use Rattle.ring_core.specs.Tokens.{Turn, numbered}
 use Rattle.ring_core.specs.Commits.{Configuration}
-use Rattle.ring_core.specs.Recoveries.{is_wrap_of, unwrapped}
+use Rattle.ring_core.specs.Recoveries.{is_wrap_of, unwrapped, inner_message}
 use Rattle.ring_core.specs.declared.input.Input.{Input}
 use Rattle.ring_core.specs.State.{Core, floor, opening}
 use Rattle.ring_core.specs.Views.{mark}
@@ -177,8 +176,7 @@ module _ {A : Type 0} (c : Core A) (below : c.installed.ring.seq < floor c) (t :
 inner_wrapped : {A : Type 0} → (old : RingId) (m : ℕ) (held : List (Message A)) (w : WrappedMessage A) →
     Each (λ (y : Message A). is_wrap_of old y.number (Wrapped w) ≡ true) (unwrapped old m held (Wrapped w))
 inner_wrapped {A} old m held w =
-    let inner : Message A = record { ring = w.ring; number = w.number; sender = w.sender; payload = payload_of w.payload } in
-    cond_both (same_ring w.ring old && is_new held m old w.number) (inner ∷ []) [] (Each (λ (y : Message A). is_wrap_of old y.number (Wrapped w) ≡ true))
+    cond_both (same_ring w.ring old && is_new held m old w.number) (inner_message w ∷ []) [] (Each (λ (y : Message A). is_wrap_of old y.number (Wrapped w) ≡ true))
     (λ t. (let p = and_parts (same_ring w.ring old) (is_new held m old w.number) t in
     (and_from (same_ring w.ring old) (w.number == w.number) p.0 (eq-eqb w.number w.number refl), tt)))
     (λ t. tt)

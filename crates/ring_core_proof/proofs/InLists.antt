@@ -86,11 +86,6 @@ some-left P [] ys h = absurd h
 some-left P (x ∷ xs) ys (inl p) = inl p
 some-left P (x ∷ xs) ys (inr h) = inr (some-left P xs ys h)
 
-pub some-weaker : {X : Type 0} (P Q : X → Type 0) → ((x : X) → P x → Q x) → (xs : List X) → SomeIs P xs → SomeIs Q xs
-some-weaker P Q f [] h = absurd h
-some-weaker P Q f (x ∷ xs) (inl p) = inl (f x p)
-some-weaker P Q f (x ∷ xs) (inr h) = inr (some-weaker P Q f xs h)
-
 pub some-get : {X : Type 0} (P : X → Type 0) (xs : List X) (k : ℕ) (x : X) → slice_get xs k ≡ Some x → P x → SomeIs P xs
 some-get P [] k x e p = absurd cc
 some-get P (y ∷ xs) zero x e p = inl (let same : y ≡ x = cc in subst P (sym same) p)

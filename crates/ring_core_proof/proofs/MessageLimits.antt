@@ -24,7 +24,7 @@ use Rattle.ring_wire.specs.declared.message.Message.{Message}
 use Rattle.ring_wire.specs.Messages.{IsOlder, MessageFits}
 use Rattle.ring_core.specs.Windows.{is_new}
 use Rattle.ring_core.specs.Tokens.{numbered}
-use Rattle.ring_core.specs.Recoveries.{unwrapped}
+use Rattle.ring_core.specs.Recoveries.{unwrapped, inner_message}
 use Rattle.ring_core.specs.State.{Core}
 use Rattle.ring_core.specs.Views.{mark}
 use Rattle.ring_core.specs.Acting.{gives_old}
@@ -88,7 +88,7 @@ users_carry ring (p ∷ ps) f u = (record { fits = f.0; older = user_older p rin
 wrap_carries : {A : Type 0} → (c : Core A) (ring : RingId) (p : Payload A) → Each MessageFits c.held → c.installed.ring.seq < ring.seq → IsWrapping c p →
     MayCarry ring p
 wrap_carries {A} c ring p held l (w, e, h) =
-    let x : Message A = record { ring = w.ring; number = w.number; sender = w.sender; payload = payload_of w.payload } in
+    let x : Message A = inner_message w in
     let f : MessageFits x = in-each MessageFits x c.held held (found_in c.held w.ring w.number x h.held).0 in
     let old : w.ring.seq ≡ c.installed.ring.seq = ap (λ (r : RingId). r.seq) h.ring in
     let content = content_fits w.payload f.payload in
@@ -109,10 +109,7 @@ wraps_carry c ring ps held l ws =
 
 -- What is unwrapped
 
-abbrev inner : {A : Type 0} → WrappedMessage A → Message A
-inner w = record { ring = w.ring; number = w.number; sender = w.sender; payload = payload_of w.payload }
-
-inner_fits : {A : Type 0} → (w : WrappedMessage A) → WrappedFits w → MessageFits (inner w)
+inner_fits : {A : Type 0} → (w : WrappedMessage A) → WrappedFits w → MessageFits (inner_message w)
 inner_fits w f =
     record {
       ring = f.ring;
@@ -126,7 +123,7 @@ inner_fits w f =
 
 unwrapped_fit : {A : Type 0} → (old : RingId) (m : ℕ) (held : List (Message A)) (p : Payload A) → PayloadFits p → Each MessageFits (unwrapped old m held p)
 unwrapped_fit old m held (Wrapped w) f =
-    cond_both (same_ring w.ring old && is_new held m old w.number) (inner w ∷ []) [] (Each MessageFits)
+    cond_both (same_ring w.ring old && is_new held m old w.number) (inner_message w ∷ []) [] (Each MessageFits)
     (λ t. (inner_fits w f, tt)) (λ t. tt)
 unwrapped_fit old m held (Call call) f = tt
 unwrapped_fit old m held End f = tt

@@ -11,7 +11,6 @@ use Rattle.ring_base.specs.declared.ring_id.RingId.{RingId}
 use Rattle.ring_base.specs.declared.state.State.{State}
 use Rattle.ring_base.specs.declared.state.State.TheVariants.{Gather, Commit, Recovery, Operational, Stopped}
 use Rattle.ring_base.proofs.Each.{each-weaker, each-append, each-reverse}
-use Rattle.ring_payload.specs.Kinds.{payload_of}
 use Rattle.ring_payload.specs.declared.content.Payload.{Payload}
 use Rattle.ring_payload.specs.declared.content.Payload.TheVariants.{Call, Wrapped, End, Head, Part, Pack, Snap}
 use Rattle.ring_payload.specs.declared.content.Wrapped.{Wrapped as WrappedMessage}
@@ -21,7 +20,7 @@ use Rattle.ring_core.specs.Windows.{is_numbered, holds, highest, in_window, is_n
 use Rattle.ring_core.proofs.Windows.{highest_covers}
 use Rattle.ring_base.proofs.SameRing.{ring_same}
 use Rattle.ring_core.specs.Tokens.{Turn, numbered}
-use Rattle.ring_core.specs.Recoveries.{inner_if_new, unwrapped}
+use Rattle.ring_core.specs.Recoveries.{inner_if_new, unwrapped, inner_message}
 use Rattle.ring_core.specs.State.{Core, floor}
 use Rattle.ring_core.specs.Views.{mark}
 use Rattle.ring_core.specs.Acting.{gives_old}
@@ -95,7 +94,7 @@ new_number held m ring x e h =
 inner_new : {A : Type 0} → (old : RingId) (m : ℕ) (held : List (Message A)) (x : Message A) (w : WrappedMessage A) → (x.ring ≡ old → ⊥) →
     AreFit (x ∷ held) → AreFit (inner_if_new old m held w ++ x ∷ held)
 inner_new {A} old m held x w other f =
-    let y : Message A = record { ring = w.ring; number = w.number; sender = w.sender; payload = payload_of w.payload } in
+    let y : Message A = inner_message w in
     cond_both (same_ring w.ring old && is_new held m old w.number) (y ∷ []) [] (λ (ys : List (Message A)). AreFit (ys ++ x ∷ held))
     (λ e. (let p = and_parts (same_ring w.ring old) (is_new held m old w.number) e in
     let ring : w.ring ≡ old = ring_same w.ring old p.0 in

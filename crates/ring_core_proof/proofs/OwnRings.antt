@@ -160,6 +160,3 @@ below_newest x rings (older, e) f y i =
 
 pub under_floor : {A : Type 0} → (c : Core A) → RingsFit c → (p : Configuration) → IsIn p c.rings → p.ring.seq ≤ floor c
 under_floor c f p i = below_newest c.running c.rings f.runs f.rise p i
-
-pub under_installed : {A : Type 0} → (c : Core A) → RingsFit c → (p : Configuration) → IsIn p c.installs → p.ring.seq ≤ c.installed.ring.seq
-under_installed c f p i = below_newest c.installed c.installs f.last f.installs_rise p i

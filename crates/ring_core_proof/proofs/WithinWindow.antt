@@ -21,8 +21,7 @@ use Rattle.ring_base.proofs.SameRing.{ring_same}
 use Rattle.ring_core.specs.Tokens.{Turn, Raise, safe_mark, numbered, may_set, is_mine, aru_after}
 use Rattle.ring_core.proofs.Tokens.{safe_mark-below, safe_mark-turn, safe_mark-raise}
 use Rattle.ring_core.specs.Commits.{reports_of, safe_of, is_sound, position_of_hop, is_own}
-use Rattle.ring_payload.specs.Kinds.{payload_of}
-use Rattle.ring_core.specs.Recoveries.{inner_if_new, unwrapped}
+use Rattle.ring_core.specs.Recoveries.{inner_if_new, unwrapped, inner_message}
 use Rattle.ring_core.specs.declared.input.Input.{Input}
 use Rattle.ring_base.specs.declared.state.State.{State}
 use Rattle.ring_base.specs.declared.state.State.TheVariants.{Gather, Commit, Recovery, Operational, Stopped}
@@ -85,7 +84,7 @@ inner_within : {A : Type 0} → (c : Core A) (w : WrappedMessage A)
     (inner_if_new c.installed.ring (mark c c.installed.ring) c.held w)
 inner_within {A} c w =
     cond_both (same_ring w.ring c.installed.ring && is_new c.held (mark c c.installed.ring) c.installed.ring w.number)
-    (record { ring = w.ring; number = w.number; sender = w.sender; payload = payload_of w.payload } ∷ []) []
+    (inner_message w ∷ []) []
     (λ (xs : List (Message A)). AllByRecursion (λ (x : Message A). Within c.turns c.raises x) xs)
     (λ e. (
       let p = and_parts (same_ring w.ring c.installed.ring) (is_new c.held (mark c c.installed.ring) c.installed.ring w.number) e in

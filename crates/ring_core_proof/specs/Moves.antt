@@ -22,7 +22,7 @@ use Rattle.ring_core.specs.Windows.{found, of_ring, highest, front_of}
 use Rattle.ring_core.specs.Tokens.{Turn, first_token, is_newer, numbered, token_after}
 use Rattle.ring_core.specs.Joins.{Gathering, AllSaySame}
 use Rattle.ring_core.specs.Commits.{is_sound, position_of_hop, receiver, hopped, is_own}
-use Rattle.ring_core.specs.Recoveries.{is_ready, is_complete, low, is_wrap_of, is_wrapped, has_ended}
+use Rattle.ring_core.specs.Recoveries.{is_ready, is_complete, low, is_wrap_of, is_wrapped, has_ended, inner_message}
 use Rattle.ring_core.specs.State.{Core, Sent, Did, floor}
 use Rattle.ring_core.specs.Views.{mark, takes_number, own_entry, plan}
 use Rattle.ring_core.specs.Visiting.{to_others, to_next}
@@ -147,7 +147,7 @@ pub record IsHandedOn {A : Type 0} (c : Core A) (w : WrappedMessage A) : Type 0 
   pub ring : w.ring ≡ c.installed.ring
   pub user : is_user (payload_of w.payload) ≡ true
   pub above : low (plan c) < w.number
-  pub held : found c.held w.ring w.number ≡ Some (record { ring = w.ring; number = w.number; sender = w.sender; payload = payload_of w.payload })
+  pub held : found c.held w.ring w.number ≡ Some (inner_message w)
   pub unseen : is_seen c w.number ≡ false
 
 -- the payload is a Wrapped that hands on such a message

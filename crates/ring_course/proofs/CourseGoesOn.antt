@@ -7,7 +7,6 @@ use Rattle.std.proofs.lemmas.Bool.{and_parts, leb-true, lt-ltb, cond-true, cond-
 use Rattle.std.proofs.lemmas.List.{append-nil}
 use Rattle.ring_base.proofs.ListFronts.{drop-more}
 use Rattle.ring_base.specs.Group.{Group, is_primary}
-use Rattle.ring_base.specs.Processors.{only}
 use Rattle.ring_base.specs.declared.ring_id.RingId.{RingId}
 use Rattle.ring_payload.specs.declared.call.Call.{Call as OneCall}
 use Rattle.ring_payload.specs.declared.content.Payload.{Payload}
@@ -16,7 +15,7 @@ use Rattle.ring_rules.specs.Outs.{Out}
 use Rattle.ring_rules.specs.OutVariants.{Send, Agreed, Safe, Trans, Rest, Regular}
 use Rattle.ring_log.specs.Exchanges.{Exchange, opened}
 use Rattle.ring_log.specs.Logs.{Log, log_length, committed_upto, trimmed_log, trim_after, is_ripe, is_log_length}
-use Rattle.ring_log.specs.Stays.{Stay, born, stay_in, hears, marks, hands, trims}
+use Rattle.ring_log.specs.Stays.{Stay, stay_in, hears, marks, hands, trims}
 use Rattle.ring_log.specs.Lives.{Whole, after_all, exchanged, upto}
 use Rattle.ring_log.specs.Kept.{Kept, IsKnown, kept_by, kept_of, kept_length, dropped_by, log_kept, keeps_kept, is_kept_sound}
 use Rattle.ring_log.proofs.CommittedOf.{hands-kept}
@@ -32,7 +31,7 @@ use Rattle.ring_course.specs.declared.reach.Reach.{Reach}
 use Rattle.ring_course.specs.declared.setting.Setting.{Setting}
 use Rattle.ring_course.specs.declared.stage.Stage.{Stage}
 use Rattle.ring_course.specs.Courses.{stage_in, reach_of, reach_at, reaches_from, behind, left, covered, took, Moment, bytes_at, dues_when_whole}
-use Rattle.ring_course.specs.Courses.{dues_heard, dues_at, dues_by, is_risen, rises_at, rises, is_running, Holding, nothing_held, held_trimmed, HoldsRestored}
+use Rattle.ring_course.specs.Courses.{dues_heard, dues_at, dues_by, is_risen, rises_at, rises, is_running, Holding, held_trimmed, HoldsRestored}
 use Rattle.ring_course.specs.Courses.{MayRestore, GoesOn, IsCourseKept}
 use Rattle.ring_course.proofs.Courses.{exchanged-nothing, covers-upto, upto-behind, reaches-push, kept_base, log_with}
 use Rattle.ring_course.proofs.Courses.{kept-log, length-with, settled, left-settled}
@@ -424,12 +423,6 @@ kept-enters {A} group older held ring members t known is restored =
       },
       record { log = ap (λ (l : Log A). l.trimmed) logged; held = onward },
     )
-
-pub kept-born : {A : Type 0} (group : Group) (me : ℕ)
-    → IsCourseKept {A = A} group (born me) nothing_held (record { seq = 0; rep = me }) (stage_in group (only me) []) 0 []
-kept-born group me =
-    (kept-enters group [] nothing_held (record { seq = 0; rep = me }) (only me) refl (record { low = omega arith; high = omega arith; within = omega arith })
-    refl (λ low same. refl)).0
 
 -- ---- what is handed over
 

@@ -1,7 +1,6 @@
 -- The committed places of a log that changes, and what is due by the calls that wait.
-use Rattle.std.proofs.Common.{◌&&◌, ◌≡◌, ℕ, ◌+◌, ◌-◌, min, max, Bool, true, false, not, List, [], ◌∷◌, ◌++◌, length}
-use Rattle.std.proofs.Common.{take, map, Option, Some, None, refl, ap, sym, ◌∙◌, subst, arith, append_assoc, if◌then◌else◌}
-use Rattle.std.specs.List.{filter}
+use Rattle.std.proofs.Common.{◌&&◌, ◌≡◌, ℕ, ◌+◌, ◌-◌, min, max, Bool, true, false, List, ◌++◌, length}
+use Rattle.std.proofs.Common.{take, Option, Some, None, refl, ap, sym, ◌∙◌, subst, arith, append_assoc, if◌then◌else◌}
 use Rattle.std.specs.Prelude.{Result, OnOk, OnErr, nat_le, nat_lt, is_some, unwrap_or, ◌||◌}
 use Rattle.std.proofs.lemmas.Bool.{and_parts, cond-true, cond-false}
 use Rattle.std.proofs.lemmas.List.{length-take}
@@ -11,7 +10,6 @@ use Rattle.ring_base.proofs.ListFronts.{take-longer, take-append-front}
 use Rattle.ring_base.proofs.Results.{on-ok, ok_or_err}
 use Rattle.ring_payload.specs.declared.call.Call.{Call as OneCall}
 use Rattle.ring_payload.specs.declared.content.Payload.{Payload}
-use Rattle.ring_payload.specs.declared.content.Payload.TheVariants.{Call}
 use Rattle.ring_log.specs.declared.base.Base.{Base}
 use Rattle.ring_log.specs.declared.wanted.Wanted.{Wanted}
 use Rattle.ring_log.specs.declared.adoption.Adoption.TheVariants.{Refused, Joined, Restored}
@@ -20,8 +18,7 @@ use Rattle.ring_log.specs.Logs.{Log, log_length, appended, followed, based, rest
 use Rattle.ring_log.specs.Logs.{is_adoptable, committed_upto, committed_calls}
 use Rattle.ring_log.proofs.Calls.{begins-Decides}
 use Rattle.ring_session.specs.declared.pending.Pending.{Pending}
-use Rattle.ring_session.specs.Pendings.{stands_in}
-use Rattle.ring_course.specs.Courses.{Holding, restored_from, adopted_held, calls_left, if_runs, owner_asked, fits_if, calls_if}
+use Rattle.ring_course.specs.Courses.{Holding, restored_from, adopted_held, if_runs, owner_asked, fits_if, calls_if}
 use Rattle.ring_course.specs.declared.setting.Setting.{Setting}
 
 -- ---- the committed places
@@ -170,23 +167,6 @@ front-refused log new ring base f is =
     (front_self (committed_calls log))
 
 -- ---- the calls that wait
-
-pub calls_left-push : {A : Type 0} (ps : List (Pending A)) (p : Pending A) (places : List (OneCall A))
-    → calls_left (ps ++ p ∷ []) places ≡ calls_left ps places ++ (if not (stands_in places p.call) then Call p.call ∷ [] else [])
-calls_left-push {A} [] p places = by (not (stands_in places p.call))
-  where
-    by : (b : Bool) → map (λ (q : Pending A). Call q.call) (if b then p ∷ [] else []) ≡ (if b then Call p.call ∷ [] else [])
-    by true = refl
-    by false = refl
-calls_left-push {A} (q ∷ ps) p places = by (not (stands_in places q.call)) (calls_left-push ps p places)
-  where
-    by : (b : Bool) → calls_left (ps ++ p ∷ []) places ≡ calls_left ps places ++ (if not (stands_in places p.call) then Call p.call ∷ [] else [])
-        → map (λ (r : Pending A). Call r.call) (if b then q ∷ filter (λ (r : Pending A). not (stands_in places r.call)) (ps ++ p ∷ []) else filter
-        (λ (r : Pending A). not (stands_in places r.call)) (ps ++ p ∷ []))
-        ≡ map (λ (r : Pending A). Call r.call) (if b then q ∷ filter (λ (r : Pending A). not (stands_in places r.call)) ps else filter
-        (λ (r : Pending A). not (stands_in places r.call)) ps) ++ (if not (stands_in places p.call) then Call p.call ∷ [] else [])
-    by true e = ap (λ w. Call q.call ∷ w) e
-    by false e = e
 
 -- the places come before the calls
 pub due-together : {A X E : Type 0} (setting : Setting) (pending : List (Pending A)) (h : Holding A) (r : Result X E) (b b' : Option (Base A))

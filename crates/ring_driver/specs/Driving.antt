@@ -1,6 +1,6 @@
 -- A node with what its last step gave, and what its calls make of it.
 use Rattle.std.specs.Prelude.{◌≡◌, ℕ, ◌<◌, ◌≤◌, ◌⊎◌, List, [], ◌∷◌, length, Option, Some, None}
-use Rattle.ring_base.specs.Group.{Group}
+use Rattle.ring_base.specs.Group.{Group, IsInGroup}
 use Rattle.ring_base.specs.declared.fault.Fault.{Fault}
 use Rattle.ring_base.specs.declared.fault.Fault.TheVariants.{Memory, NotMember, OpTooLong, NumberGap}
 use Rattle.ring_object.specs.Operations.{Sequential}
@@ -48,13 +48,9 @@ ended d = record d { node = node_stopped d.node }
 abbrev pub called : {A : Type 0} → Driven A → ℕ → ℕ → List ℕ → Driven A
 called d client number op = record d { node = submitted d.node (call_of client number op) }
 
--- the group has a processor of this number
-abbrev pub IsMember : Group → ℕ → Type 0
-IsMember group number = (1 ≤ number) × (number ≤ group.count)
-
 -- why a node is not opened
 abbrev pub IsNotOpened : Group → ℕ → Fault → Type 0
-IsNotOpened group number fault = (fault ≡ Memory) ⊎ ((fault ≡ NotMember) × (IsMember group number → ⊥))
+IsNotOpened group number fault = (fault ≡ Memory) ⊎ ((fault ≡ NotMember) × (IsInGroup group number → ⊥))
 
 -- why a call is not submitted
 abbrev pub IsRefused : {A : Type 0} → Driven A → ℕ → List ℕ → Fault → Type 0

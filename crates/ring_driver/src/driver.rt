@@ -2,8 +2,9 @@
 
 ghost use Rattle.std.specs.Prelude.{◌≡◌, length, false, if◌then◌else◌, IfOk, IfErr, IsOk, OnOk, OnErr};
 ghost use Rattle.std.specs.Option.{option_map};
+ghost use Rattle.ring_base.specs.Group.{IsInGroup};
 ghost use Rattle.ring_base.specs.declared.fault.Fault.TheVariants.{Memory, Stopped as StoppedFault};
-ghost use Rattle.ring_driver.specs.Driving.{opened, stepped, ended, called, IsMember, IsNotOpened, IsRefused, IsTaken, IsFirst};
+ghost use Rattle.ring_driver.specs.Driving.{opened, stepped, ended, called, IsNotOpened, IsRefused, IsTaken, IsFirst};
 ghost use Rattle.ring_rules.specs.NodeLimits.{InputFits};
 ghost use Rattle.ring_rules.specs.Nodes.{node_reply, is_stopped};
 ghost use Rattle.ring_rules.specs.declared.input.Input.TheVariants.{Frame as FrameInput, Timeout as TimeoutInput, Stop as StopInput};
@@ -60,7 +61,7 @@ impl<O: Object> Driver<O> {
     /// The node of this number in the group, at its opening. `NotMember` where the group has no such node, else `Memory`.
     pub fn new(alloc: O::Alloc, group: Fixed, number: u8) -> Result<Driver<O>, Fault>
         ensures ok { IfOk result (λ driver. driver ≡ opened group number) }
-        ensures member { OnOk result (IsMember group number) }
+        ensures member { OnOk result (IsInGroup group number) }
         ensures refused { IfErr result (IsNotOpened group number) }
     {
         // A law: no effect at run time. The proof takes from it that a node keeps the limits at its opening.

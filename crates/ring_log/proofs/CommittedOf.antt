@@ -1,25 +1,9 @@
 -- At a processor's birth nothing is committed; what is handed over commits nothing, and what is dropped leaves what was restored.
-use Rattle.std.proofs.Common.{◌≡◌, ℕ, [], Option, None, refl, ap, List, ◌∷◌, append-nil}
-use Rattle.std.proofs.lemmas.Bool.{cond_both}
-use Rattle.ring_base.specs.Group.{Group, is_primary}
-use Rattle.ring_base.specs.Processors.{only}
-use Rattle.ring_log.specs.Stays.{born, Stay, hands, trims}
+use Rattle.std.proofs.Common.{◌≡◌, ℕ, [], refl, ap, List, ◌∷◌, append-nil}
+use Rattle.ring_base.specs.Group.{Group}
+use Rattle.ring_log.specs.Stays.{Stay, hands, trims}
 use Rattle.ring_log.specs.Kept.{kept_of}
-use Rattle.ring_log.specs.Lives.{Whole, exchanged, committed_by, restored_by, committed_of}
 use Rattle.ring_wire.specs.Payloads.{Payload}
-
--- at the opening nothing is committed
-pub born-committed : {A : Type 0} (group : Group) (i : ℕ) → committed_of group (born {A = A} i) ≡ []
-born-committed {A} group i =
-    let none : exchanged group (only i) [] ≡ None = cond_both (is_primary group (only i)) None None (λ (o : Option (Whole A)). o ≡ None) (λ t. refl)
-    (λ f. refl) in
-    ap (λ (o : Option (Whole A)). committed_by [] [] (restored_by [] [] o) o) none
-
--- what is handed over commits nothing
-pub hands-committed : {A : Type 0} (group : Group) (due : List (Payload A)) (life : List (Stay A))
-    → committed_of group (hands due life) ≡ committed_of group life
-hands-committed group due [] = refl
-hands-committed group due (s ∷ older) = refl
 
 -- nor does it change what the node knows of its log
 pub hands-kept : {A : Type 0} (group : Group) (due : List (Payload A)) (life : List (Stay A)) → kept_of group (hands due life) ≡ kept_of group life

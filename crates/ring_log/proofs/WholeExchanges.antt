@@ -301,21 +301,6 @@ pub handed-based : {A : Type 0} (e : Exchange A) (base : Base A) (own front : Li
     → take base.from own ++ base.calls ≡ own_base own front e
 handed-based e base own front some none = based-by (is_whole e) (wanted e) e.bytes e.brought base own front some none
 
-wanted-base : {A : Type 0} (b : Bool) (o : Option Wanted) (bytes : List ℕ) (calls : List (OneCall A)) (base : Base A)
-    → (if b then base_from o bytes calls else None) ≡ Some base
-    → (w : Wanted) × (o ≡ Some w) × (base ≡ record { from = w.from; snapshot = snapshot_by w.snapshot bytes; calls = calls })
-wanted-base true None bytes calls base some = absurd (cc some)
-wanted-base {A} true (Some w) bytes calls base some =
-    let first : Base A = record { from = w.from; snapshot = snapshot_by w.snapshot bytes; calls = calls } in
-    let same : first ≡ base = cc some in
-    (w, refl, sym same)
-wanted-base false o bytes calls base some = absurd (cc some)
-
--- a base is what was wanted, with the bytes and the calls that came
-pub handed-wanted : {A : Type 0} (e : Exchange A) (base : Base A) → handed_out e ≡ Some base
-    → (w : Wanted) × (wanted e ≡ Some w) × (base ≡ record { from = w.from; snapshot = snapshot_by w.snapshot e.bytes; calls = e.brought })
-handed-wanted e base some = wanted-base (is_whole e) (wanted e) e.bytes e.brought base some
-
 snapped-by : {A : Type 0} (b : Bool) (o : Option Wanted) (bytes told : List ℕ) (calls : List (OneCall A)) (base : Base A) (own front : List (OneCall A))
     → (if b then base_from o bytes calls else None) ≡ Some base → base.snapshot ≡ Some told
     → (told ≡ bytes) × (base_on own front o calls ≡ front ++ base.calls)

@@ -12,7 +12,7 @@ use Rattle.ring_log.specs.Stays.{Stay}
 use Rattle.ring_log.specs.Lives.{Whole, exchanged, places_below, base_on, own_base, log_by, log_of, upto, longer, committed_by, front_on, restored_by}
 use Rattle.ring_log.specs.Lives.{committed_of, is_known_on, keeps_committed, is_sound}
 use Rattle.ring_log.specs.declared.wanted.Wanted.{Wanted}
-use Rattle.ring_log_proof.specs.Time.{Grows, LivesOn}
+use Rattle.ring_log_proof.specs.Time.{Grows}
 use Rattle.ring_log_proof.proofs.Wholes.{upto-front, grown, exchanged-front, log_on, base-front, grown-front}
 use Rattle.ring_log_proof.proofs.Begins.{front_begins}
 use Rattle.ring_log_proof.proofs.Onward.{committed-longer, committed-refronted}
@@ -120,24 +120,6 @@ committed_front group (s ∷ older) h =
     stay_within group s.members (log_of group older) s.front (committed_of group older) s.heard p.keeps (committed_front group older p.older_sound)
     (upto s.mark s.heard) (upto-front s.mark s.heard) _ _ refl refl
 
-committed_older : {A : Type 0} → (group : Group) (s : Stay A) (older : List (Stay A)) → is_sound group (s ∷ older) ≡ true →
-    IsFront (committed_of group older) (committed_of group (s ∷ older))
-committed_older group s older h =
-    let p = sound_stay group s older h in
-    stay_keeps group s.members (log_of group older) s.front (committed_of group older) s.heard p.keeps (upto s.mark s.heard) (upto-front s.mark s.heard) _ refl
-
--- newer stays
-sound_behind : {A : Type 0} → (group : Group) (newer life : List (Stay A)) → is_sound group (newer ++ life) ≡ true → is_sound group life ≡ true
-sound_behind group [] life h = h
-sound_behind group (s ∷ newer) life h = sound_behind group newer life ((sound_stay group s (newer ++ life) h).older_sound)
-
-committed_newer : {A : Type 0} → (group : Group) (newer life : List (Stay A)) → is_sound group (newer ++ life) ≡ true →
-    IsFront (committed_of group life) (committed_of group (newer ++ life))
-committed_newer group [] life h = front_self (committed_of group life)
-committed_newer group (s ∷ newer) life h =
-    front_trans (committed_of group life) (committed_of group (newer ++ life)) (committed_of group (s ∷ (newer ++ life)))
-    (committed_newer group newer life ((sound_stay group s (newer ++ life) h).older_sound)) (committed_older group s (newer ++ life) h)
-
 -- the newest stay grew: what was committed there before lies in the log that it has now, and is no longer than what is committed now
 module _ {A : Type 0} (group : Group) (s t : Stay A) (older : List (Stay A)) (g : Grows s t) (h : is_sound group (t ∷ older) ≡ true) where
   -- what was restored then was restored still
@@ -190,13 +172,3 @@ module _ {A : Type 0} (group : Group) (s t : Stay A) (older : List (Stay A)) (g 
   committed_grown =
       front_shorter (committed_of group (s ∷ older)) (committed_of group (t ∷ older)) (log_of group (t ∷ older))
       before_within (committed_front group (t ∷ older) h) (committed-longer group (s ∷ older) (t ∷ older) ([], t, refl, g))
-
-pub committed_on : {A : Type 0} → (group : Group) (life after : List (Stay A)) → LivesOn life after → is_sound group after ≡ true →
-    IsFront (committed_of group life) (committed_of group after)
-committed_on group [] after on h = (committed_of group after, refl)
-committed_on {A} group (s ∷ older) after on h =
-    let now : is_sound group (on.0 ++ on.1 ∷ older) ≡ true = subst (λ (l : List (Stay A)). is_sound group l ≡ true) on.2 h in
-    subst (λ (l : List (Stay A)). IsFront (committed_of group (s ∷ older)) (committed_of group l)) (sym on.2)
-    (front_trans (committed_of group (s ∷ older)) (committed_of group (on.1 ∷ older)) (committed_of group (on.0 ++ on.1 ∷ older))
-    (committed_grown group s on.1 older on.3 (sound_behind group on.0 (on.1 ∷ older) now))
-    (committed_newer group on.0 (on.1 ∷ older) now))

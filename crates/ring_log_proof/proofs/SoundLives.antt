@@ -1,16 +1,14 @@
 -- A life that is sound was so before a message, a safe mark and an installation; and its log isn't too long.
-use Rattle.std.proofs.Common.{◌≡◌, ℕ, ◌&&◌, true, false, List, [], ◌∷◌, ◌++◌, length, Option, Some, None, refl, ap, sym, ◌∙◌, arith}
+use Rattle.std.proofs.Common.{◌≡◌, ◌&&◌, true, false, List, [], ◌∷◌, ◌++◌, length, Option, Some, None, refl, ap, sym, ◌∙◌, arith}
 use Rattle.std.proofs.lemmas.Bool.{and_parts, and_from, leb-true, le-leb}
 use Rattle.ring_base.specs.Fronts.{front_length}
 use Rattle.ring_base.specs.Group.{Group}
 use Rattle.ring_base.specs.Numbers.{max_number}
-use Rattle.ring_base.specs.declared.ring_id.RingId.{RingId}
 use Rattle.ring_log.specs.Messages.{Message}
 use Rattle.ring_log.specs.Logs.{is_log_length}
-use Rattle.ring_log.specs.Stays.{Stay, stay_in, hears, marks}
+use Rattle.ring_log.specs.Stays.{Stay, hears}
 use Rattle.ring_log.specs.Lives.{Whole, exchanged, own_base, log_by, log_of, committed_of, keeps_committed, is_sound}
 use Rattle.ring_log_proof.proofs.Wholes.{grown, exchanged-front, log_on, log-front}
-use Rattle.ring_log_proof.proofs.CommittedGrows.{sound_stay}
 
 -- a sound life's log isn't too long
 pub sound-short : {A : Type 0} (group : Group) (life : List (Stay A)) → is_sound group life ≡ true → is_log_length (length (log_of group life)) ≡ true
@@ -53,11 +51,3 @@ before-heard group x (s ∷ older) t =
     let both = unsound-step group s older x (exchanged group s.members s.heard) (exchanged group s'.members s'.heard) refl refl inner.0 inner.1 outer.1 in
     and_from (is_sound group older && keeps_committed own s.front kept (exchanged group s.members s.heard)) (is_log_length (length (log_of group (s ∷ older))))
     (and_from (is_sound group older) (keeps_committed own s.front kept (exchanged group s.members s.heard)) inner.0 both.0) both.1
-
-pub before-marked : {A : Type 0} (group : Group) (n : ℕ) (life : List (Stay A)) → is_sound group (marks n life) ≡ is_sound group life
-before-marked group n [] = refl
-before-marked group n (s ∷ older) = refl
-
-pub before-installed : {A : Type 0} (group : Group) (ring : RingId) (members : ℕ) (life : List (Stay A)) → is_sound group (stay_in ring members ∷ life) ≡ true
-    → is_sound group life ≡ true
-before-installed group ring members life t = (sound_stay group (stay_in ring members) life t).older_sound

@@ -21,7 +21,7 @@ use Rattle.ring_log.specs.Stays.{Stay, hands, trims}
 use Rattle.ring_log.specs.Kept.{Kept, kept_of, is_kept_sound}
 use Rattle.ring_log.proofs.CommittedOf.{hands-kept, trims-from}
 use Rattle.ring_replica.specs.Sessions.{Answered, unanswered}
-use Rattle.ring_replica.specs.NodeRules.{lived_through, Node, node_kept, node_pending, node_stopped, is_stopped, is_closed, is_restored}
+use Rattle.ring_replica.specs.NodeRules.{lived_through, Node, node_kept, node_pending, is_stopped, is_closed, is_restored}
 use Rattle.ring_replica.specs.NodeRules.{NodeStepped, handed_over, drops, after_core, submit_fault}
 use Rattle.ring_replica.specs.Courses.{handed_if, dues_by, rises, IsSteady}
 use Rattle.ring_replica.specs.Replicas.{Replica, ReplicaStepped, replica_stopped, replica_done, replica_ended, node_by, replica_settled}
@@ -343,17 +343,3 @@ given-node {A} core new r old given last last' ended ended' running c b k eo el 
     (subst (λ (x : Core A). IsNode (handed_over core due) (replica_given running r c) last x) (sym ee) made)))
 
 -- A stop
-
-pub stopped-node : {A : Type 0} → (core core' : Core A) (r r' : Replica A) (ended ended' : Core A) → r.stopped ≡ false
-    → ended' ≡ core → replica_stopped r' ≡ replica_stopped r →
-    told_node core' (replica_stopped r') ended' ≡ node_stopped (told_node core r ended)
-stopped-node {A} core core' r r' ended ended' s e t =
-    let of : Replica A → Core A → Node A = λ x c. record {
-      group = x.group;
-      core = halted c;
-      life = x.life;
-      tickets = x.tickets;
-      done = x.done;
-      answers = x.answers;
-    } in
-    ap (λ x. of x ended') t ∙ ap (of (replica_stopped r)) (e ∙ sym (told-core core r ended s))

@@ -60,7 +60,7 @@ kept_low group (s ∷ older) =
 
 -- before every member's Head was heard there no exchange is whole, and it knows just what it knew before the ring
 
-unstated_none : {A : Type 0} (group : Group) (members : ℕ) (heard : List (Message A)) → is_stated (after_all (opened members) heard) ≡ false
+pub unstated_none : {A : Type 0} (group : Group) (members : ℕ) (heard : List (Message A)) → is_stated (after_all (opened members) heard) ≡ false
     → exchanged group members heard ≡ None
 unstated_none {A} group members heard f = by (exchanged group members heard) refl
   where

@@ -4,10 +4,9 @@ use Rattle.std.proofs.Common.{◌≡◌, ℕ, ◌+◌, ◌*◌, ◌/◌, ◌-◌
 use Rattle.std.proofs.Common.{Option, Some, None, inr, refl, ap, sym, ◌∙◌, subst, arith, append_assoc}
 use Rattle.std.specs.Prelude.{nat_le, nat_lt, not, is_some, filter}
 use Rattle.std.specs.List.{AllByRecursion as Each}
-use Rattle.std.proofs.lemmas.Bool.{cond_both, cond-false, and_parts, leb-true, eqb-true, eq-eqb}
+use Rattle.std.proofs.lemmas.Bool.{cond_both, cond-false, and_parts, leb-true}
 use Rattle.ring_base.specs.Group.{Group, is_primary}
 use Rattle.ring_base.specs.Numbers.{numbers_from}
-use Rattle.ring_base.specs.Processors.{has, nobody, only, less}
 use Rattle.ring_base.specs.declared.ring_id.RingId.{RingId}
 use Rattle.ring_base.proofs.Each.{each-append, each-map}
 use Rattle.ring_base.proofs.ListFronts.{taken-front}
@@ -18,7 +17,7 @@ use Rattle.ring_payload.specs.declared.call.Call.{Call as OneCall}
 use Rattle.ring_payload.specs.declared.calls.Part.{Part as OnePart}
 use Rattle.ring_payload.specs.declared.snap.Snap.{Snap as OneSnap}
 use Rattle.ring_payload.specs.declared.content.Payload.{Payload}
-use Rattle.ring_payload.specs.declared.content.Payload.TheVariants.{Call, Wrapped, End, Head, Part, Pack, Snap}
+use Rattle.ring_payload.specs.declared.content.Payload.TheVariants.{Call, Head, Part, Snap}
 use Rattle.ring_wire.specs.declared.message.Message.{Message}
 use Rattle.ring_core.specs.Commits.{Configuration}
 use Rattle.ring_core.specs.declared.input.Input.{Input}
@@ -33,13 +32,12 @@ use Rattle.ring_core.specs.Stepping.{ring_step}
 use Rattle.ring_core.proofs.States.{installs_recovering}
 use Rattle.ring_core.specs.Recoveries.{rests}
 use Rattle.ring_log.specs.declared.wanted.Wanted.{Wanted}
-use Rattle.ring_log.specs.Exchanges.{Exchange, opened, wanted, is_next_piece, is_wanted, heard, is_whole}
+use Rattle.ring_log.specs.Exchanges.{Exchange, opened, wanted, heard, is_whole}
 use Rattle.ring_log.specs.Parts.{nth_piece, pieces_of, parts_between}
 use Rattle.ring_log.specs.Stays.{Stay, stay_in, hears, hands, trims}
-use Rattle.ring_log.specs.Lives.{Whole, heard_by, whole_from, after_all, exchanged, upto}
+use Rattle.ring_log.specs.Lives.{Whole, after_all, exchanged, upto}
 use Rattle.ring_log.specs.Logs.{Log}
 use Rattle.ring_log.specs.Kept.{Kept, kept_by, dropped_by, kept_of, log_kept, head_kept}
-use Rattle.ring_log.proofs.WholeExchanges.{stated, has-nobody}
 use Rattle.ring_log_proof.proofs.Wholes.{exchanged-front}
 use Rattle.ring_session.specs.Tickets.{Asked}
 use Rattle.ring_rules.specs.Dues.{is_stated, parts_due, snaps_due, is_snapshot_kept, places_due, owner_due, calls_due, places_past, due_when_whole}
@@ -48,6 +46,7 @@ use Rattle.ring_rules.specs.Lives.{lived, lived_through}
 use Rattle.ring_rules.specs.Nodes.{Node, node_kept, node_pending, snapshot_kept, is_closed, runs}
 use Rattle.ring_synchrony_proof.proofs.Ordered.{Ordered}
 use Rattle.ring_synchrony_proof.proofs.LivesTold.{keeps_done}
+use Rattle.ring_order_proof.proofs.DisciplinedDues.{unstated_none}
 use Rattle.ring_order_proof.proofs.HonestPieces.{IsPiece, IsPieceOf}
 
 each-mapped : {X Y : Type 0} (P : Y → Type 0) (f : X → Y) → ((x : X) → P (f x)) → (xs : List X) → Each P (map f xs)
@@ -55,49 +54,6 @@ each-mapped P f h [] = tt
 each-mapped P f h (x ∷ xs) = (h x, each-mapped P f h xs)
 
 -- ---- an exchange in which every member's Head was heard stays so, and one that is whole has
-
-still-stated : {A : Type 0} (e : Exchange A) (x : Message A) → is_stated e ≡ true → is_stated (heard_by e x) ≡ true
-still-stated {A} e x t = by x.payload
-  where
-    by : (payload : Payload A) → is_stated (heard e x.sender payload) ≡ true
-    by (Head h) =
-        let none : e.unheard ≡ nobody = eqb-true e.unheard nobody t in
-        subst (λ (d : Exchange A). is_stated d ≡ true)
-        (sym (cond-false (has e.unheard x.sender)
-        (record e { unheard = less e.unheard (only x.sender); heads = e.heads ++ record { sender = x.sender; head = h } ∷ [] }) e
-        (ap (λ set. has set x.sender) none ∙ has-nobody x.sender))) t
-    by (Part part) =
-        cond_both (is_wanted (wanted e) e.got e.total e.places x.sender part)
-        (record e { places = e.places + length part.calls; brought = e.brought ++ part.calls }) e (λ (d : Exchange A). is_stated d ≡ true) (λ u. t) (λ u. t)
-    by (Snap snap) =
-        cond_both (is_next_piece (wanted e) e.got e.total x.sender snap)
-        (record e { got = e.got + length snap.bytes; total = snap.total; bytes = e.bytes ++ snap.bytes }) e (λ (d : Exchange A). is_stated d ≡ true)
-        (λ u. t) (λ u. t)
-    by (Call call) = t
-    by (Pack pack) = t
-    by (Wrapped old) = t
-    by End = t
-
-all-stated : {A : Type 0} (e : Exchange A) (xs : List (Message A)) → is_stated e ≡ true → is_stated (after_all e xs) ≡ true
-all-stated e [] t = t
-all-stated e (x ∷ xs) t = all-stated (heard_by e x) xs (still-stated e x t)
-
-whole-stated : {A : Type 0} (e : Exchange A) (xs : List (Message A)) (w : Whole A) → whole_from e xs ≡ Some w → is_stated (after_all e xs) ≡ true
-whole-stated e [] w h = absurd (cc h)
-whole-stated {A} e (x ∷ xs) w h =
-    cond_both (is_whole (heard_by e x)) (Some (record { exchange = heard_by e x; end = x.number; rest = xs })) (whole_from (heard_by e x) xs)
-    (λ (o : Option (Whole A)). o ≡ Some w → is_stated (after_all (heard_by e x) xs) ≡ true)
-    (λ t k. all-stated (heard_by e x) xs (eq-eqb (heard_by e x).unheard nobody (stated (heard_by e x) t)))
-    (λ f k. whole-stated (heard_by e x) xs w k) h
-
--- while a Head is missing the exchange isn't whole
-open-unstated : {A : Type 0} (group : Group) (m : ℕ) (xs : List (Message A)) → is_stated (after_all (opened m) xs) ≡ false → exchanged group m xs ≡ None
-open-unstated {A} group m xs f =
-    cond_both (is_primary group m) (whole_from (opened m) xs) None (λ (o : Option (Whole A)). o ≡ None) (λ t. by (whole_from (opened m) xs) refl) (λ n. refl)
-  where
-    by : (o : Option (Whole A)) → whole_from (opened m) xs ≡ o → o ≡ None
-    by None e = refl
-    by (Some w) e = absurd (let t : true ≡ false = sym (whole-stated (opened m) xs w e) ∙ f in cc t)
 
 -- ---- nothing is dropped while the newest exchange is open
 
@@ -225,7 +181,7 @@ module _ {O A : Type 0} (object : Sequential O) (n : Node A) (core : Core A) whe
       let due = owner_due n.core.me (snapshot_kept object k) (log_kept k) (wanted new) in
       cond_both (is_stated new && not (is_stated old)) due [] (Each (P older))
       (λ t.
-      let none = open-unstated n.group s.members s.heard (unstated (is_stated old) (and_parts (is_stated new) (not (is_stated old)) t).1) in
+      let none = unstated_none n.group s.members s.heard (unstated (is_stated old) (and_parts (is_stated new) (not (is_stated old)) t).1) in
       let unclosed : is_closed n.group (s ∷ older) ≡ false =
       ap (λ b. not b || is_some (exchanged n.group s.members s.heard)) primary ∙ ap is_some none in
       subst (λ (j : Kept A). Each (IsPieceOf (snapshot_kept object j)) due) (kept-open n.group s older none (frozen unclosed))

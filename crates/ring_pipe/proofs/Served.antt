@@ -5,7 +5,7 @@ use Rattle.std.specs.Io.Iter.{u64_saturate}
 use Rattle.std.specs.Io.KnownBytes.{Appends}
 use Rattle.std.proofs.KnownBytes.{Consumes-nil, Consumes-trans, Consumes-kept, Appends-nil, Appends-trans}
 use Rattle.std.proofs.lemmas.List.{length-append}
-use Rattle.ring_base.specs.Group.{Group}
+use Rattle.ring_base.specs.Group.{Group, IsInGroup}
 use Rattle.ring_base.specs.declared.fault.Fault.{Fault}
 use Rattle.ring_base.specs.declared.fault.Fault.TheVariants.{Memory, NotMember}
 use Rattle.ring_object.specs.Operations.{Sequential}
@@ -14,7 +14,7 @@ use Rattle.ring_report.specs.declared.failure.Failure.{Failure}
 use Rattle.ring_report.specs.declared.failure.Failure.TheVariants.{Refused, BadFrame, BadScript, Output}
 use Rattle.ring_rules.specs.Nodes.{Node, node_opening}
 use Rattle.ring_pipe.specs.Piping.{Writes}
-use Rattle.ring_pipe.specs.Serving.{records_text, IsAmong, IsStop, ServesNext, Serves, IsServed, IsCutOff}
+use Rattle.ring_pipe.specs.Serving.{records_text, IsStop, ServesNext, Serves, IsServed, IsCutOff}
 
 -- what was told into an empty room, and then written
 pub written_out : (told : List ℕ) (old new : Option (List ℕ)) (P : List ℕ → Type 0) → Writes (Some []) (Some told) P → Appends old new told → Writes old new P
@@ -82,7 +82,7 @@ module _ {O A : Type 0} (object : Sequential O) where
   served_cut at group me new input left out told out' Output to same stop = tt
 
   -- no record is left: those before are the whole input
-  pub served_end : (at : ℕ) (group : Group) (me : ℕ) (new last : Node A) (input left rest out told out' : Option (List ℕ)) → IsAmong group me
+  pub served_end : (at : ℕ) (group : Group) (me : ℕ) (new last : Node A) (input left rest out told out' : Option (List ℕ)) → IsInGroup group me
       → ServesTo at (node_opening group me) new input left out told → ServesNext object at None new last left rest told out'
       → IsServed object A group me input rest out out'
   served_end at group me new last input left rest out told out' among to none =
@@ -101,7 +101,7 @@ module _ {O A : Type 0} (object : Sequential O) where
 
 module _ {O : Type 0} (object : Sequential O) (A : Type 0) where
   -- a node can't begin, for want of memory or since its group has none of this number
-  cut_first : (group : Group) (me : ℕ) (fault : Fault) (input out : Option (List ℕ)) → (fault ≡ Memory) ⊎ ((fault ≡ NotMember) × ¬ IsAmong group me)
+  cut_first : (group : Group) (me : ℕ) (fault : Fault) (input out : Option (List ℕ)) → (fault ≡ Memory) ⊎ ((fault ≡ NotMember) × ¬ IsInGroup group me)
       → IsCutOff object A group me input out out (Refused fault)
   cut_first group me fault input out (inl e) =
       served_cut object 0 group me (node_opening {A = A} group me) input input out out out (Refused fault) (served_none object (node_opening group me) input out) (λ other. refl) e
@@ -109,7 +109,7 @@ module _ {O : Type 0} (object : Sequential O) (A : Type 0) where
 
   -- nothing was read
   pub cut_at_once : {T : Type 0} (r : Result T Failure) (group : Group) (me : ℕ) (fault : Fault) (input out : Option (List ℕ))
-      → IsErrAnd r (λ (f : Failure). f ≡ Refused fault) → (fault ≡ Memory) ⊎ ((fault ≡ NotMember) × ¬ IsAmong group me)
+      → IsErrAnd r (λ (f : Failure). f ≡ Refused fault) → (fault ≡ Memory) ⊎ ((fault ≡ NotMember) × ¬ IsInGroup group me)
       → IfErr r (IsCutOff object A group me input out out)
   cut_at_once (Ok x) group me fault input out is why = tt
   cut_at_once (Err failure) group me fault input out is why =

@@ -2,7 +2,7 @@
 use Rattle.std.specs.Prelude.{◌≡◌, ℕ, ◌+◌, ◌^◌, ◌<◌, ◌≤◌, ◌⊎◌, List, [], ◌∷◌, ◌++◌, length, Option, Some, None}
 use Rattle.std.specs.Io.Iter.{u64_saturate}
 use Rattle.std.specs.Io.KnownBytes.{Keeps, Appends, Consumes, IsAtEnd}
-use Rattle.ring_base.specs.Group.{Group}
+use Rattle.ring_base.specs.Group.{Group, IsInGroup}
 use Rattle.ring_base.specs.declared.fault.Fault.TheVariants.{Memory, NotMember}
 use Rattle.ring_object.specs.Operations.{Sequential}
 use Rattle.ring_records.specs.Records.{record_of}
@@ -25,10 +25,6 @@ records_text (r ∷ before) = records_text before ++ record_of r.kind r.bytes
 -- the first byte of an input behind a record that begins at this byte, counted from 0
 abbrev pub behind : ℕ → Record → ℕ
 behind at r = u64_saturate (at + length (record_of r.kind r.bytes))
-
--- the group has a processor of this number
-abbrev pub IsAmong : Group → ℕ → Type 0
-IsAmong group me = (1 ≤ me) × (me ≤ group.count)
 
 -- why no more records are taken where the next one begins at this byte: for want of memory; since the record asks for nothing that a node
 -- does, or isn't there whole; or since the output failed
@@ -66,14 +62,14 @@ module _ {O : Type 0} (object : Sequential O) (A : Type 0) where
   -- at its opening, took each
   abbrev pub IsServed : Group → ℕ → Option (List ℕ) → Option (List ℕ) → Option (List ℕ) → Option (List ℕ) → Type 0
   IsServed group me input rest out out' =
-      IsAmong group me × (new : Node A) × Serves object (node_opening group me) new input rest out out' × IsAtEnd rest
+      IsInGroup group me × (new : Node A) × Serves object (node_opening group me) new input rest out out' × IsAtEnd rest
 
   -- where it is not the output that failed: there is no such processor, and nothing is told; or its node, at its opening, took each of the
   -- records before, the output has no more than it told of these, and the failure is why there are no more
   abbrev pub IsCutOff : Group → ℕ → Option (List ℕ) → Option (List ℕ) → Option (List ℕ) → Failure → Type 0
   IsCutOff group me input out out' Output = Unit {0}
   IsCutOff group me input out out' failure =
-      ((failure ≡ Refused NotMember) × (¬ IsAmong group me) × (out' ≡ out))
+      ((failure ≡ Refused NotMember) × (¬ IsInGroup group me) × (out' ≡ out))
       ⊎ ((new : Node A) × (rest : Option (List ℕ)) × (so : Serves object (node_opening group me) new input rest out out')
       × IsStop (u64_saturate (length (records_text so.records))) failure)
 

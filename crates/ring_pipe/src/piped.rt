@@ -2,6 +2,7 @@
 
 ghost use Rattle.std.specs.Prelude.{◌≡◌, ◌≤◌, ◌⊎◌, false, if◌then◌else◌, None, Some, ℕ, length, drop, ◌++◌, IsTrue, OnOk, OnErr, IfOk, IfErr};
 ghost use Rattle.std.specs.Io.KnownBytes.{Appends};
+ghost use Rattle.ring_base.specs.Group.{IsInGroup};
 ghost use Rattle.ring_base.specs.declared.fault.Fault.TheVariants.{Memory, NotMember, Stopped};
 ghost use Rattle.ring_report.specs.declared.failure.Failure.TheVariants.{Output};
 ghost use Rattle.ring_rules.specs.NodeLimits.{InputFits};
@@ -14,7 +15,6 @@ ghost use Rattle.ring_records.specs.declared.fate.TokenFate.TheVariants.{NoToken
 ghost use Rattle.ring_pipe.specs.Telling.{sends_text, end_text, standing_text};
 ghost use Rattle.ring_records.specs.Asking.{Asks};
 ghost use Rattle.ring_records.specs.declared.asked.Asked.{Asked};
-ghost use Rattle.ring_pipe.specs.Serving.{IsAmong};
 ghost use Rattle.ring_pipe.specs.Piping.{Acts, Gives, Steps, Halts, Hears, Submits, Does, Takes, AsksNothing, Writes};
 
 use crate::parts::{has_sent, input_of, is_token};
@@ -56,8 +56,8 @@ impl<O: Object> Piped<O> {
     /// The processor of this number at its opening. Refused, in this order: `NotMember` unless it is one of these; `Memory`.
     pub fn new(alloc: O::Alloc, fixed: Fixed, me: u8) -> Result<Piped<O>, Fault>
         ensures ok { IfOk result (λ piped. piped ≡ node_opening fixed me) }
-        ensures member { OnOk result (IsAmong fixed me) }
-        ensures refused { IfErr result (λ fault. (fault ≡ Memory) ⊎ ((fault ≡ NotMember) × ¬ IsAmong fixed me)) }
+        ensures member { OnOk result (IsInGroup fixed me) }
+        ensures refused { IfErr result (λ fault. (fault ≡ Memory) ⊎ ((fault ≡ NotMember) × ¬ IsInGroup fixed me)) }
     {
         // A law: no effect at run time. The proof takes from it that a node keeps the limits at its opening.
         node_fits_law::<O>();

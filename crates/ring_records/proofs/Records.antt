@@ -1,17 +1,9 @@
 -- A record is read and written part by part.
-use Rattle.std.proofs.Common.{◌≡◌, ℕ, ◌+◌, List, [], ◌∷◌, ◌++◌, length, Option, Some, None, Result, ◌*◌, ◌<◌, ◌/◌, ◌%◌, sym, ap, subst, ◌∙◌, append_assoc, arith}
+use Rattle.std.proofs.Common.{◌≡◌, ℕ, ◌+◌, List, [], ◌∷◌, ◌++◌, length, Option, Some, None, Result, sym, ap, subst, ◌∙◌, append_assoc}
 use Rattle.std.specs.Prelude.{OnOk}
 use Rattle.std.specs.Io.KnownBytes.{Keeps, Appends, Consumes, IsAtEnd}
-use Rattle.std.proofs.KnownBytes.{Consumes-trans}
 use Rattle.byteorder.specs.Endian.{big_bytes}
 use Rattle.ring_records.specs.Records.{record_of, IsNextByte}
-
--- the kind was taken, the two bytes of the length, and the bytes
-pub record_read : (a b c d : Option (List ℕ)) (kind : ℕ) (word bytes : List ℕ) → big_bytes 2 (length bytes) ≡ word
-    → Consumes a b (kind ∷ []) → Consumes b c word → Consumes c d bytes → Consumes a d (record_of kind bytes)
-record_read a b c d kind word bytes e p q r =
-    subst (λ (w : List ℕ). Consumes a d (kind ∷ [] ++ w ++ bytes)) (sym e)
-    (Consumes-trans a b d (kind ∷ []) (word ++ bytes) p (Consumes-trans b c d word bytes q r))
 
 -- what was read of no more than one byte, after reads that took nothing: none, at the end
 pub none_read : (a b c : Option (List ℕ)) → Keeps a b → Consumes b c [] → IsAtEnd c → IsNextByte a c None
@@ -19,22 +11,6 @@ none_read None b c p q end = (tt, end)
 none_read (Some x) None c p q end = absurd p
 none_read (Some x) (Some y) None p q end = absurd q
 none_read (Some x) (Some y) (Some z) p q end = (sym q ∙ p, end)
-
--- or one
-pub one_read : (a b c : Option (List ℕ)) (byte : ℕ) → Keeps a b → Consumes b c (byte ∷ []) → IsNextByte a c (Some byte)
-one_read None b c byte p q = tt
-one_read (Some x) None c byte p q = absurd p
-one_read (Some x) (Some y) None byte p q = absurd q
-one_read (Some x) (Some y) (Some z) byte p q = sym p ∙ q
-
--- two bytes were taken, and they are a length
-pub length_read : (a b c : Option (List ℕ)) (high low count : ℕ) → high < 256 → low < 256 → count ≡ 256 * high + low
-    → Consumes a b (high ∷ []) → Consumes b c (low ∷ []) → Consumes a c (big_bytes 2 count)
-length_read a b c high low count small less is p q =
-    let first : count / 256 % 256 ≡ high = omega (arith, is, small, less) in
-    let last : count % 256 ≡ low = omega (arith, is, small, less) in
-    subst (λ (x : ℕ). Consumes a c (x ∷ count % 256 ∷ [])) (sym first)
-    (subst (λ (x : ℕ). Consumes a c (high ∷ x ∷ [])) (sym last) (Consumes-trans a b c (high ∷ []) (low ∷ []) p q))
 
 -- what was written, with the parts of the record as they are otherwise known
 pub told_as : {T E : Type 0} (r : Result T E) (old new : Option (List ℕ)) (kind : ℕ) (first rest first' rest' : List ℕ) → first ≡ first' → rest ≡ rest'

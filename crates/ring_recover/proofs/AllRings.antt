@@ -1,19 +1,18 @@
 -- A node keeps the messages of all rings in one list, and a window those of one ring: what recovery asks of the old ring and of the new is the same of both.
-use Rattle.std.proofs.Common.{◌≡◌, ℕ, ◌+◌, ◌-◌, Bool, List, [], ◌∷◌, ◌++◌, filter, filter_map, Option, Some, None, ap, ◌∙◌}
+use Rattle.std.proofs.Common.{◌≡◌, ℕ, ◌+◌, ◌-◌, Bool, List, [], ◌∷◌, filter, filter_map, Option, Some, None, ap, ◌∙◌}
 use Rattle.std.specs.Prelude.{not, ◌&&◌, nat_le, nat_lt, if◌then◌else◌}
 use Rattle.std.specs.List.{list_all}
 use Rattle.ring_base.specs.Numbers.{numbers_from}
 use Rattle.ring_base.specs.Rings.{same_ring}
 use Rattle.ring_base.specs.declared.ring_id.RingId.{RingId}
-use Rattle.ring_window.specs.Payloads.{is_user, payload_of, Wrapped as WrappedMessage}
+use Rattle.ring_window.specs.Payloads.{payload_of, Wrapped as WrappedMessage}
 use Rattle.ring_window.specs.Messages.{Message}
 use Rattle.ring_window.specs.Held.{found, holds, of_ring, highest, front_of}
 use Rattle.ring_window.proofs.OfRing.{highest_of_ring, front_of_ring, is_new_of_ring, all_of_ring, all_found}
 use Rattle.ring_recover.specs.Plans.{Plan, safe, low, gap, known_above_safe}
 use Rattle.ring_recover.specs.Wrapping.{is_wrapped, left_to_wrap, inner_if_new}
-use Rattle.ring_recover.specs.Recovering.{Recovering, first_number, next_to_wrap}
-use Rattle.ring_recover.specs.Installing.{in_front, is_ready, is_ready_by}
-use Rattle.ring_recover.specs.Deliveries.{is_complete, sent_by_mate, regular_part, transitional_part, past_gap_part, delivery, finish, rests}
+use Rattle.ring_recover.specs.Installing.{in_front}
+use Rattle.ring_recover.specs.Deliveries.{is_complete, sent_by_mate, regular_part, transitional_part, past_gap_part, delivery, finish}
 
 -- What is handed on
 
@@ -24,9 +23,6 @@ left_of_ring {A} p fresh held =
     (of_ring p.old held) p.old - low p)))) (all_found held p.old)
     ∙ ap (λ n. filter (λ (x : Message A). not (is_wrapped fresh p.old x.number)) (filter_map (found held p.old) (numbers_from (low p + 1)
     (n - low p)))) (highest_of_ring held p.old)
-
-pub next_of_ring : {A : Type 0} (r : Recovering A) (held : List (Message A)) → next_to_wrap r (of_ring r.plan.old held) ≡ next_to_wrap r held
-next_of_ring {A} r held = ap (λ (xs : List (Message A)). first_number (filter (λ (x : Message A). is_user x.payload) xs)) (left_of_ring r.plan r.seen held)
 
 -- what a message of the new ring gives to the old window
 pub inner_of_ring : {A : Type 0} (old : RingId) (mark : ℕ) (held : List (Message A)) (w : WrappedMessage A)
@@ -61,19 +57,9 @@ finish_of_ring p held =
           ns;
     }) else None) (past_gap_of_ring p held)
 
-pub rests_of_ring : {A : Type 0} (p : Plan) (held : List (Message A)) → rests p (of_ring p.old held) ≡ rests p held
-rests_of_ring {A} p held =
-    ap (λ (f : ℕ → Option (Message A)). filter
-    (λ (x : Message A). is_user x.payload) (filter_map f (transitional_part p ++ past_gap_part p (of_ring p.old held)))) (all_found held p.old)
-    ∙ ap (λ (ns : List ℕ). filter (λ (x : Message A). is_user x.payload) (filter_map (found held p.old) (transitional_part p ++ ns))) (past_gap_of_ring p held)
-
 -- When the ring is installed
 
 pub in_front_of_ring : {A : Type 0} (ring : RingId) (held : List (Message A)) → in_front (of_ring ring held) ring ≡ in_front held ring
 in_front_of_ring {A} ring held =
     ap (λ (f : ℕ → Option (Message A)). filter_map f (numbers_from 1 (front_of (of_ring ring held) ring))) (all_found held ring)
     ∙ ap (λ n. filter_map (found held ring) (numbers_from 1 n)) (front_of_ring held ring)
-
-pub ready_of_ring : {A : Type 0} (ring : RingId) (held : List (Message A)) (members mark : ℕ)
-    → is_ready (of_ring ring held) ring members mark ≡ is_ready held ring members mark
-ready_of_ring {A} ring held members mark = ap (λ (xs : List (Message A)). is_ready_by xs members mark) (in_front_of_ring ring held)

@@ -7,8 +7,7 @@ use Rattle.std.proofs.lemmas.Bool.{cond-true, cond-false}
 use Rattle.std.proofs.lemmas.Nat.{or_disjoint}
 use Rattle.std.proofs.lemmas.Nat.Bits.{bit_at-lt, and_pow}
 use Rattle.std.proofs.lemmas.List.Kept.{AllPairs-from_increasing}
-use Rattle.ring_base.specs.Processors.{IsProc, IsMember, nobody, only, union, elements}
-use Rattle.ring_base.specs.Members.{nobody_member}
+use Rattle.ring_base.specs.Processors.{IsProc, IsMember, only, union, elements}
 use Rattle.ring_base.specs.Elements.{elements_members, IsStrictlyIncreasing-elements}
 use Rattle.ring_base.specs.Rings.{same_ring}
 use Rattle.ring_base.specs.declared.ring_id.RingId.{RingId}
@@ -19,9 +18,6 @@ use Rattle.ring_recover.specs.Plans.{mates_among}
 pub record IsGathered (old : RingId) (members : List ℕ) (entries : List CommitEntry) (mates : ℕ) (left : List ℕ) (rest : List CommitEntry) : Type 0 where
   pub sum : mates_among old members entries ≡ mates + mates_among old left rest
   pub apart : (i : ℕ) → IsMember mates i → Contains left i → ⊥
-
-pub gathered_none : (old : RingId) (members : List ℕ) (entries : List CommitEntry) → IsGathered old members entries nobody members entries
-gathered_none old members entries = record { sum = omega arith; apart = λ i m c. nobody_member i m }
 
 -- a member that is no longer to come makes the sum
 pub union_apart : (mates m : ℕ) → 1 ≤ m → (IsMember mates m → ⊥) → union mates (only m) ≡ mates + only m
@@ -88,7 +84,3 @@ pub gathered_all : (old : RingId) (members : List ℕ) (entries : List CommitEnt
     → IsGathered old members entries mates left [] → mates ≡ mates_among old members entries
 gathered_all old members entries mates [] g = (let s = g.sum in omega arith)
 gathered_all old members entries mates (i ∷ left) g = (let s = g.sum in omega arith)
-
-pub gathered_few : (old : RingId) (members : List ℕ) (entries : List CommitEntry) (mates : ℕ) (left : List ℕ) (rest : List CommitEntry) → left ≡ []
-    → IsGathered old members entries mates left rest → mates ≡ mates_among old members entries
-gathered_few old members entries mates left rest none g = (let s = g.sum ∙ ap (λ (xs : List ℕ). mates + mates_among old xs rest) none in omega arith)

@@ -1,8 +1,8 @@
 -- A plan as it is made of a commit token, and what the code keeps of it as messages of the new ring are seen.
-use Rattle.std.proofs.Common.{◌≡◌, ℕ, ◌+◌, ◌-◌, ◌<◌, ◌≤◌, min, Bool, true, false, List, [], ◌∷◌, map, length, Option}
+use Rattle.std.proofs.Common.{◌≡◌, ℕ, ◌+◌, ◌-◌, ◌<◌, ◌≤◌, Bool, true, false, List, [], ◌∷◌, map, length, Option}
 use Rattle.std.proofs.Common.{Some, None, refl, ap, ◌∙◌, sym, inl, inr, arith, leb}
 use Rattle.std.specs.Prelude.{◌&&◌, ◌||◌, ◌==◌, nat_le, nat_lt, slice_get, if◌then◌else◌}
-use Rattle.std.specs.List.{list_all, list_any}
+use Rattle.std.specs.List.{list_all}
 use Rattle.std.specs.Option.{option_map}
 use Rattle.std.proofs.lemmas.Bool.{cases_Bool, cond-true, cond-false, and_parts, leb-true, le-leb, lt-leb, lt-ltb, true≢false}
 use Rattle.ring_base.specs.Processors.{has, size, position_of}
@@ -16,9 +16,9 @@ use Rattle.ring_window.specs.Held.{found, holds, highest, front_of}
 use Rattle.ring_window.specs.Windows.{Windowed, kept}
 use Rattle.ring_window.proofs.HeldFront.{highest_covers}
 use Rattle.ring_window.proofs.Windows.{found_none}
-use Rattle.ring_commit.specs.Reports.{reports_of, safe_of, none_behind, is_sound}
+use Rattle.ring_commit.specs.Reports.{safe_of, none_behind, is_sound}
 use Rattle.ring_recover.specs.Chosen.{chosen}
-use Rattle.ring_recover.specs.Plans.{Plan, plan_of, plan_if_sound, plan_from, least, low, safe, is_reported, is_known, known_above_safe}
+use Rattle.ring_recover.specs.Plans.{Plan, plan_of, plan_if_sound, plan_from, least, low, safe, is_known, known_above_safe}
 use Rattle.ring_recover.specs.Wrapping.{is_wrap_of, is_wrapped}
 use Rattle.ring_recover.specs.Recovering.{Recovering, with_seen, old_of, IsPlanKept, is_from}
 use Rattle.ring_recover.specs.Deliveries.{is_complete, sent_by_mate, is_from_mate}
@@ -33,10 +33,6 @@ sound_is k None old e = absurd (let q : ⊥ = cc in q)
 sound_is k (Some own) old e = (let same : own.old ≡ old = cc in ap
     (λ (r : RingId). if is_sound r k.entries then Some (plan_of r k.members k.entries) else None) same)
 
-none_is : (k : CommitToken) (o : Option CommitEntry) → option_map (λ (e : CommitEntry). e.old) o ≡ None → plan_if_sound k o ≡ None
-none_is k None e = refl
-none_is k (Some own) e = absurd (let q : ⊥ = cc in q)
-
 pub planned : (me : ℕ) (k : CommitToken) (old : RingId) → old_of me k ≡ Some old
     → plan_from me k ≡ (if is_sound old k.entries then Some (plan_of old k.members k.entries) else None)
 planned me k old h =
@@ -47,23 +43,6 @@ planned me k old h =
       | inr e ↦ absurd (let q : None ≡ Some old = sym (cond-false (has k.members me && leb (size k.members) (length k.entries)) (option_map
           (λ (x : CommitEntry). x.old) o) None e) ∙ h in let r : ⊥ = cc in r)
     ]
-
-pub planned_none : (me : ℕ) (k : CommitToken) → old_of me k ≡ None → plan_from me k ≡ None
-planned_none me k h =
-    let o = slice_get k.entries (position_of k.members me) in
-    elim (cases_Bool (has k.members me && leb (size k.members) (length k.entries))) [
-      | inl e ↦ rw e (none_is k o (sym (cond-true (has k.members me && leb (size k.members) (length k.entries)) (option_map
-          (λ (x : CommitEntry). x.old) o) None e) ∙ h))
-      | inr e ↦ rw e refl
-    ]
-
-pub planned_some : (me : ℕ) (k : CommitToken) (old : RingId) → old_of me k ≡ Some old
-    → none_behind (safe_of (reports_of old k.entries)) (reports_of old k.entries) ≡ true → plan_from me k ≡ Some (plan_of old k.members k.entries)
-planned_some me k old h s = planned me k old h ∙ cond-true (is_sound old k.entries) (Some (plan_of old k.members k.entries)) None s
-
-pub planned_behind : (me : ℕ) (k : CommitToken) (old : RingId) → old_of me k ≡ Some old
-    → none_behind (safe_of (reports_of old k.entries)) (reports_of old k.entries) ≡ false → plan_from me k ≡ None
-planned_behind me k old h s = planned me k old h ∙ cond-false (is_sound old k.entries) (Some (plan_of old k.members k.entries)) None s
 
 -- where none is behind a mark, the least front is not, if there is one
 least_behind : (mark : ℕ) (e : CommitEntry) (reports : List CommitEntry) → none_behind mark (e ∷ reports) ≡ true
@@ -117,32 +96,6 @@ pub kept_known : {A : Type 0} (r : Recovering A) (old : RingId) (mates least_one
 kept_known r old mates least_one high front known wrapped ended k =
     ap (λ n. chosen n known) k.safe_is ∙ chosen_by (is_known r.plan) (safe r.plan) known (λ j l. k.known_is j l
     ∙ ap (λ n. is_known r.plan (n + 1 + j)) k.safe_is)
-
--- Of reports, one after another
-
-pub least_more : (a x : ℕ) (xs : List ℕ) → least (a ∷ x ∷ xs) ≡ least (min a x ∷ xs)
-least_more a x [] = refl
-least_more a x (y ∷ ys) = omega arith
-
-pub any_goes_on : (mark n : ℕ) (e : CommitEntry) (es reports : List CommitEntry) (holds : Bool) → (mark ≤ e.front → holds ≡ is_reported n e)
-    → (none_behind mark reports ≡ true → (none_behind mark (e ∷ es) ≡ true) × (list_any (is_reported n) (e ∷ es) ≡ list_any
-    (is_reported n) reports)) → holds ≡ false
-    → none_behind mark reports ≡ true → (none_behind mark es ≡ true) × (list_any (is_reported n) es ≡ list_any (is_reported n) reports)
-any_goes_on mark n e es reports holds is before none all =
-    let b = before all in
-    let both = and_parts (nat_le mark e.front) (none_behind mark es) b.0 in
-    let this : is_reported n e ≡ false = sym (is (leb-true mark e.front both.0)) ∙ none in
-    (both.1, sym (ap (λ c. c || list_any (is_reported n) es) this) ∙ b.1)
-
-pub any_found : (mark n : ℕ) (e : CommitEntry) (es reports : List CommitEntry) (holds : Bool) → (mark ≤ e.front → holds ≡ is_reported n e)
-    → (none_behind mark reports ≡ true → (none_behind mark (e ∷ es) ≡ true) × (list_any (is_reported n) (e ∷ es) ≡ list_any
-    (is_reported n) reports)) → holds ≡ true
-    → none_behind mark reports ≡ true → true ≡ list_any (is_reported n) reports
-any_found mark n e es reports holds is before one all =
-    let b = before all in
-    let both = and_parts (nat_le mark e.front) (none_behind mark es) b.0 in
-    let this : is_reported n e ≡ true = sym (is (leb-true mark e.front both.0)) ∙ one in
-    sym (ap (λ c. c || list_any (is_reported n) es) this) ∙ b.1
 
 -- What the window of the old ring holds
 

@@ -57,12 +57,14 @@ has_ended me running held = has_own_end me (of_ring running held)
 abbrev pub wraps_and_end : {A : Type 0} → ℕ → Plan → RingId → List (Message A) → List (Payload A)
 wraps_and_end me p running held = filter_map wrap (to_wrap p running held) ++ (if has_ended me running held then [] else End ∷ [])
 
+-- what a payload wraps, as a message of its ring
+abbrev pub inner_message : {A : Type 0} → WrappedMessage A → Message A
+inner_message w = record { ring = w.ring; number = w.number; sender = w.sender; payload = payload_of w.payload }
+
 -- what a Wrapped of the new ring gives to the old window: its inner message, if that is of the old ring and new there
 abbrev pub inner_if_new : {A : Type 0} → RingId → ℕ → List (Message A) → WrappedMessage A → List (Message A)
 inner_if_new old mark held w =
-    if same_ring w.ring old && is_new held mark old w.number
-    then record { ring = w.ring; number = w.number; sender = w.sender; payload = payload_of w.payload } ∷ []
-    else []
+    if same_ring w.ring old && is_new held mark old w.number then inner_message w ∷ [] else []
 
 -- what any payload of the new ring gives to it: nothing, unless it is a Wrapped
 abbrev pub unwrapped : {A : Type 0} → RingId → ℕ → List (Message A) → Payload A → List (Message A)

@@ -1,17 +1,8 @@
 -- A submit commits nothing, and a node that has stopped stays as it is when it stops again.
 use Rattle.std.proofs.Common.{◌≡◌, true, refl, ap}
-use Rattle.ring_core.specs.Payloads.{Call}
-use Rattle.ring_rules.specs.Nodes.{Node, node_committed, is_stopped, node_stopped}
-use Rattle.ring_rules.specs.Stepping.{due_by_submit, submitted}
-use Rattle.ring_log.proofs.CommittedOf.{hands-kept}
-use Rattle.ring_log.specs.Kept.{Kept, log_kept}
-use Rattle.ring_log.specs.Logs.{committed_calls}
+use Rattle.ring_rules.specs.Nodes.{Node, is_stopped, node_stopped}
 use Rattle.ring_base.specs.declared.state.State.{State}
 use Rattle.ring_base.specs.declared.state.State.TheVariants.{Gather, Commit, Recovery, Operational, Stopped}
-
--- a submit commits nothing
-pub submitted-committed : {A : Type 0} (n : Node A) (c : Call A) → node_committed (submitted n c) ≡ node_committed n
-submitted-committed n c = ap (λ (k : Kept _). committed_calls (log_kept k)) (hands-kept n.group (due_by_submit n c) n.life)
 
 is_state : (state : State) → is_stopped state ≡ true → Stopped ≡ state
 is_state Stopped h = refl

@@ -182,14 +182,3 @@ module _ {O A : Type 0} (object : Sequential O) where
       → AreOneLog moment.committed → AreOneLog (last_moment moment rest).committed
   agrees-run moment [] run agrees = agrees
   agrees-run moment (after ∷ rest) run agrees = agrees-run after rest run.1 run.0.agrees
-
--- where each list grows, so does the one at a place
-pub grows-at : {A : Type 0} (xs ys : List (List (Call A))) (k : ℕ) (a b : List (Call A)) → EachGrows xs ys
-    → slice_get xs k ≡ Some a → slice_get ys k ≡ Some b → IsFront a b
-grows-at [] ys k a b h e f = absurd (let q : ⊥ = cc e in q)
-grows-at (x ∷ xs) [] k a b h e f = absurd h
-grows-at {A} (x ∷ xs) (y ∷ ys) zero a b h e f =
-    let one : x ≡ a = cc e in
-    let two : y ≡ b = cc f in
-    subst (λ (l : List (Call A)). IsFront a l) two (subst (λ (l : List (Call A)). IsFront l y) one h.0)
-grows-at (x ∷ xs) (y ∷ ys) (suc k) a b h e f = grows-at xs ys k a b h.1 e f

@@ -7,13 +7,11 @@ use Rattle.std.proofs.lemmas.List.{set-get_or, length-replicate}
 use lib.ListN.{get_elem?}
 use Rattle.atomic_table.proofs.Lists.{at_set}
 use Rattle.atomic_table.specs.Table.{Me, Allows, step, keeps, Splits}
+use Rattle.ring_base.specs.Numbers.{greatest}
+use Rattle.ring_base.proofs.ListPlaces.{zero_at, greatest-push}
 use Rattle.ring_seat.specs.declared.rule.View.{View}
-use Rattle.ring_seat.specs.Gauges.{greatest, IsIn, IsZeroOrIn, seen_of, Fits, Rises, Keeps, published_in, seen_at, Publishes, Looks, made, owner, guest}
+use Rattle.ring_seat.specs.Gauges.{IsIn, IsZeroOrIn, seen_of, Fits, Rises, Keeps, published_in, seen_at, Publishes, Looks, made, owner, guest}
 use Rattle.ring_seat.specs.Gauges.{first_view}
-
-greatest-snoc : (xs : List ℕ) (k : ℕ) → greatest (xs ++ k ∷ []) ≡ max (greatest xs) k
-greatest-snoc [] k = omega arith
-greatest-snoc (x ∷ xs) k = let h = greatest-snoc xs k in omega arith
 
 greater_in : (x : ℕ) (xs : List ℕ) (b : Bool) → nat_le x (greatest xs) ≡ b → IsZeroOrIn (greatest xs) xs → IsZeroOrIn (max x (greatest xs)) (x ∷ xs)
 greater_in x xs false e h = inr (inl (let h : greatest xs ≤ x = grind (arith, nat_tests) in omega arith))
@@ -119,7 +117,7 @@ publish_word : (words : List ℕ) (lists : ℕ → List ℕ) (i k j : ℕ) (b : 
 publish_word words lists i k j true e lt word =
     let same : j ≡ i = grind (arith, nat_tests) in
     let a = get_or-set_same words i (max (slice_index words i) k) 0 lt in
-    let c = greatest-snoc (lists i) k in
+    let c = greatest-push (lists i) k in
     ap (λ (n : ℕ). slice_index (set words i (max (slice_index words i) k)) n) same
     ∙ (a ∙ (ap (λ (n : ℕ). max n k) (word i) ∙ (sym c ∙ (ap (λ (n : ℕ). greatest (lists n ++ k ∷ [])) (sym same) ∙ ap greatest (sym (with_one_here lists i k j same))))))
 publish_word words lists i k j false e lt word =
@@ -214,17 +212,12 @@ guest_splits id v s h at = record {
   ];
 }
 
-slice_index-zeros : (n i : ℕ) → slice_index (replicate n 0) i ≡ 0
-slice_index-zeros zero i = refl
-slice_index-zeros (suc n) zero = refl
-slice_index-zeros (suc n) (suc i) = slice_index-zeros n i
-
 pub first_rises : (n : ℕ) → Rises (replicate n 0) (first_view n ∷ [])
 first_rises n = record {
   lists = λ _. [];
   seat = λ _. None;
   maker = 0;
-  word = λ i. slice_index-zeros n i;
+  word = λ i. zero_at n i;
   each = λ j w e. elim (at_snoc_or [] (first_view n) w j e) [
     | inl c ↦ absurd (some-ne-none w (sym c))
     | inr c ↦ rw (c.0, ← c.1) record { own = λ o. cc; seen = λ i. (inl refl, omega arith); makes = λ _. (refl, sym (length-replicate n 0), λ i h. (refl, refl)) }

@@ -1,14 +1,10 @@
 -- The rule of the gauge: what its words hold, and what each seat knows.
-use Rattle.std.specs.Prelude.{ℕ, ◌≡◌, ◌<◌, ◌≤◌, ◌+◌, ◌⊎◌, ◌==◌, ◌++◌, true, false, List, [], ◌∷◌, Option, Some, None, length, slice_index, max, cond}
+use Rattle.std.specs.Prelude.{ℕ, ◌≡◌, ◌<◌, ◌≤◌, ◌+◌, ◌⊎◌, ◌==◌, ◌++◌, true, false, List, [], ◌∷◌, Option, Some, None, length, slice_index, cond}
 use mathlib.Core.Option.{some}
 use lib.ListN.{get_elem?}
 use Rattle.atomic_table.specs.Table.{State, Step, Me}
+use Rattle.ring_base.specs.Numbers.{greatest}
 use Rattle.ring_seat.specs.declared.rule.View.{View}
-
--- the greatest of a list, or 0
-abbrev pub greatest : List ℕ → ℕ
-greatest [] = 0
-greatest (x ∷ xs) = max x (greatest xs)
 
 -- the number stands in the list
 abbrev pub IsIn : ℕ → List ℕ → Type 0

@@ -2,7 +2,8 @@
 
 ghost use Rattle.std.specs.Prelude.{◌≡◌, ◌<◌, ◌≤◌, ◌+◌, ◌-◌, ◌++◌, ◌∷◌, [], Some, slice_get, length, All, IfOk, IfErr};
 ghost use Rattle.ring_base.specs.declared.fault.Fault.TheVariants.{Memory};
-ghost use Rattle.ring_seat.specs.Gauges.{greatest, seen_in};
+ghost use Rattle.ring_base.specs.Numbers.{greatest};
+ghost use Rattle.ring_seat.specs.Gauges.{seen_in};
 ghost use Rattle.ring_seat.specs.Seats.{SeatView, IsAt, IsOwn, node_at, new_seat};
 
 use crate::rule::{Guest, Look, Owner, Publish, Rising, View};

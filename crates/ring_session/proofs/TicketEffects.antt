@@ -45,17 +45,6 @@ deduplicated_after-few kept (c ∷ calls) =
     few-step c (deduplicated_after (kept ++ c ∷ []) calls) (deduplicated_after kept calls) (length calls)
     (takes_effect kept c) (deduplicated_after-few (kept ++ c ∷ []) calls) (deduplicated_after-few kept calls)
 
-one-few : (b : Bool) (m n : ℕ) → m ≤ n → (if b then 1 else 0) + m ≤ suc n
-one-few true m n le = omega (arith, le)
-one-few false m n le = omega (arith, le)
-
--- no more calls are told so than there are
-pub done_after-few : {O A : Type 0} (object : Sequential O) (table : Table O) (calls : List (Call A)) → done_after object table calls ≤ length calls
-done_after-few object table [] = omega arith
-done_after-few object table (c ∷ calls) =
-    one-few (is_done (table_answer object table c)) (done_after object (table_next object table c) calls)
-    (length calls) (done_after-few object (table_next object table c) calls)
-
 -- one committed call more goes through the sessions
 pub done-next : {O A : Type 0} (object : Sequential O) (t t' : Table O) (more : List (Call A)) (i : ℕ) (c : Call A) (a : Answer) (all before after : ℕ)
     → drop i more ≡ c ∷ drop (i + 1) more → a ≡ table_answer object t c → t' ≡ table_next object t c → after ≡ before + (if is_done a then 1 else 0)

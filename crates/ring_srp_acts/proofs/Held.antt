@@ -12,7 +12,7 @@ use Rattle.ring_base.specs.declared.ring_id.RingId.{RingId}
 use Rattle.ring_base.specs.contracts.state.State.{the_type}
 use Rattle.ring_base.specs.declared.state.State.{State}
 use Rattle.ring_base.specs.declared.state.State.TheVariants.{Gather, Commit, Recovery, Operational, Stopped}
-use Rattle.ring_payload.specs.Kinds.{is_user, payload_of}
+use Rattle.ring_payload.specs.Kinds.{is_user}
 use Rattle.ring_payload.specs.declared.content.Payload.{Payload}
 use Rattle.ring_payload.specs.declared.content.Payload.TheVariants.{Call, Wrapped, End, Head, Part, Pack, Snap}
 use Rattle.ring_wire.specs.declared.message.Message.{Message}
@@ -36,6 +36,7 @@ use Rattle.ring_core.specs.State.{Core, floor}
 use Rattle.ring_core.specs.Acting.{gives_old, took}
 use Rattle.ring_core.specs.Deciding.{takes_of, members_of, is_taken}
 use Rattle.ring_core.specs.Giving.{users}
+use Rattle.ring_core.specs.Recoveries.{inner_message}
 use Rattle.ring_core.specs.Views.{front, mark, plan, takes_number}
 use Rattle.ring_base.specs.Processors.{has}
 use Rattle.ring_srp_state.specs.declared.recovering.Recovering.{Recovering}
@@ -382,7 +383,7 @@ module _ {A : Type 0} (c : Core A) (gather : Gatherer) (window : Windowed A) (vi
   held_inner (Snap snap) s = m
   held_inner (Wrapped w) s =
       let old = c.installed.ring in
-      let y : Message A = record { ring = w.ring; number = w.number; sender = w.sender; payload = payload_of w.payload } in
+      let y : Message A = inner_message w in
       let test = same_ring w.ring old && is_new c.held (mark c old) old w.number in
       elim (cases_Bool test) [
         | inr other ↦ subst (λ (ys : List (Message A)). IsMachine (with_held c (ys ++ c.held)) gather

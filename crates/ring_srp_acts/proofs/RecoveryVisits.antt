@@ -17,9 +17,6 @@ use Rattle.ring_srp_acts.specs.Machines.{IsPart, Recovers, window_of}
 use Rattle.ring_srp_state.specs.declared.recovering.Recovering.{Recovering}
 use Rattle.ring_srp_state.specs.Wraps.{left_and_end}
 
-pub plan_is_old : {A : Type 0} (c : Core A) (r : Recovering A) → Recovers c r → (r.plan.plan ≡ plan c)
-plan_is_old c r m = ap (λ (s : Seen _). s.plan) m.plan_is
-
 module _ {A : Type 0} (c : Core A) (w : Windowed A) (v : TokenHistory A) (r : Recovering A) (p : IsPart c c.installed.ring w v) (m : Recovers c r) where
   pub wrap_ring : w.ring ≡ r.plan.plan.old
   wrap_ring = ap (λ (u : Windowed A). u.ring) p.window_is ∙ sym (ap (λ (s : Seen A). s.plan.old) m.plan_is)

@@ -1,8 +1,8 @@
 -- Whether calls are a front of an order.
-use Rattle.std.proofs.Common.{◌≡◌, ℕ, zero, suc, ◌+◌, ◌<◌, ◌≤◌, ◌↔◌, true, false, IsTrue, List, [], ◌∷◌, length, Some, slice_get, refl, ap, sym, ◌∙◌, arith, inl, inr}
+use Rattle.std.proofs.Common.{◌≡◌, ℕ, zero, suc, ◌+◌, ◌≤◌, ◌↔◌, true, false, IsTrue, List, [], ◌∷◌, length, Some, slice_get, refl, ap, sym, ◌∙◌, arith, inl, inr}
 use Rattle.std.proofs.lemmas.Option.{slice_get_within}
 use Rattle.std.proofs.lemmas.Bool.{cases_lt}
-use Rattle.ring_base.specs.Fronts.{IsFront, front_get, front_length}
+use Rattle.ring_base.specs.Fronts.{IsFront, front_get}
 use Rattle.ring_rules.proofs.FirstPassing.{EachUpTo}
 
 -- what stands at each place of the first list stands there in the second
@@ -33,9 +33,6 @@ begins-all xs ys n all same = (
   λ _. front_from_places xs ys (λ p x at. same p x (omega (arith, all, slice_get_within xs p x at)) at),
   λ _. refl,
 )
-
-pub begins-longer : {X : Type 0} (xs ys : List X) → length ys < length xs → IsTrue false ↔ IsFront xs ys
-begins-longer xs ys longer = (λ so. absurd (cc so), λ front. absurd (omega (arith, longer, front_length xs ys front)))
 
 pub begins-other : {X : Type 0} (xs ys : List X) (n : ℕ) (x y : X) → slice_get xs n ≡ Some x → slice_get ys n ≡ Some y → (x ≡ y → ⊥)
     → IsTrue false ↔ IsFront xs ys

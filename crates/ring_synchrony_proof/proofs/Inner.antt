@@ -23,7 +23,7 @@ use Rattle.ring_wire.specs.declared.token.Token.{Token}
 use Rattle.ring_core.specs.Windows.{holds, is_new}
 use Rattle.ring_core.proofs.Windows.{front_is, found-holds, holds-more}
 use Rattle.ring_core.specs.Tokens.{numbered}
-use Rattle.ring_core.specs.Recoveries.{safe, is_reported, is_known, unwrapped}
+use Rattle.ring_core.specs.Recoveries.{safe, is_reported, is_known, unwrapped, inner_message}
 use Rattle.ring_core.specs.State.{Core, floor}
 use Rattle.ring_core.specs.Views.{front, mark}
 use Rattle.ring_core.specs.Acting.{gives_old, took}
@@ -37,7 +37,6 @@ use Rattle.ring_core_proof.proofs.WithinWindow.{mark_below}
 use Rattle.ring_core_proof.proofs.Lifting.{kept_run}
 use Rattle.ring_core_proof.proofs.OwnMessages.{holds_in}
 use Rattle.ring_core_proof.proofs.OwnFacts.{running_not_commit}
-use Rattle.ring_chain_proof.specs.ChainWords.{inner_message}
 use Rattle.ring_chain_proof.proofs.FactsGrow.{put-each}
 use Rattle.ring_chain_proof.proofs.Rings.{came_right}
 use Rattle.ring_chain_proof.proofs.AllLayers.{Holds}

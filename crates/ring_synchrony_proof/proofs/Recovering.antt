@@ -27,7 +27,7 @@ use Rattle.ring_core.specs.Windows.{is_numbered, holds, is_new}
 use Rattle.ring_base.proofs.SameRing.{ring_same}
 use Rattle.ring_core.specs.Tokens.{Turn, turns_of, VisitBy, numbered}
 use Rattle.ring_core.specs.Commits.{position_of_hop, Configuration}
-use Rattle.ring_core.specs.Recoveries.{Plan, plan_of, is_known, unwrapped}
+use Rattle.ring_core.specs.Recoveries.{Plan, plan_of, is_known, unwrapped, inner_message}
 use Rattle.ring_core.specs.State.{Core, Report, floor, opening, alone}
 use Rattle.ring_core.specs.Views.{mark}
 use Rattle.ring_core.specs.Acting.{gives_old, took}
@@ -42,7 +42,7 @@ use Rattle.ring_core_proof.proofs.InLists.{in-each, each-in, in-left, in-right, 
 use Rattle.ring_core_proof.proofs.Rises.{Rising, moved_rises, runs_in, alone_rises}
 use Rattle.ring_core_proof.proofs.WithinWindow.{Fit, moved_fits}
 use Rattle.ring_core_proof.proofs.Lifting.{IsKeptInWorlds, kept_run}
-use Rattle.ring_chain_proof.specs.ChainWords.{IsGenuine, inner_message}
+use Rattle.ring_chain_proof.specs.ChainWords.{IsGenuine}
 use Rattle.ring_chain_proof.proofs.FactsGrow.{put-each, moved_grows}
 use Rattle.ring_chain_proof.proofs.Rings.{came_right}
 use Rattle.ring_chain_proof.proofs.OneText.{numbered_in}

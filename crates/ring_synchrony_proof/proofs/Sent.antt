@@ -14,14 +14,13 @@ use Rattle.ring_wire.specs.declared.token.Token.{Token}
 use Rattle.ring_core.specs.Windows.{found, highest, of_ring, holds}
 use Rattle.ring_core.proofs.Windows.{highest_covers}
 use Rattle.ring_core.specs.Tokens.{Turn, numbered}
-use Rattle.ring_core.specs.Recoveries.{has_ended}
+use Rattle.ring_core.specs.Recoveries.{has_ended, inner_message}
 use Rattle.ring_core.specs.State.{Core}
 use Rattle.ring_core_proof.specs.FactWords.{IsIn}
 use Rattle.ring_core_proof.specs.LawWords.{EndsWrapping, HasEnded}
 use Rattle.ring_core_proof.specs.Moves.{Move, Idles, Enters, Learns, Visits, Takes, Installs, moved, MayMove, MayVisit}
 use Rattle.ring_core_proof.specs.Moves.{MayEnd, AreWraps, AreLast, IsWrapping, AllAreUsers}
 use Rattle.ring_core_proof.proofs.InLists.{in-each, in-parts, in-filter, any-in}
-use Rattle.ring_chain_proof.specs.ChainWords.{inner_message}
 use Rattle.ring_chain_proof.proofs.OneText.{numbered_in}
 use Rattle.ring_core_proof.proofs.OwnMessages.{AreHeldOf, holds_in}
 use Rattle.ring_synchrony_proof.specs.Ends.{IsSentBy, EndsLast}

@@ -5,7 +5,6 @@ use Rattle.std.specs.Prelude.{not, slice_index}
 use Rattle.std.proofs.lemmas.Bool.{cases_lt, cond-true, cond-false}
 use Rattle.std.proofs.lemmas.List.{append-nil, ext_get_or, length_push}
 use Rattle.ring_base.specs.Numbers.{numbers_from, word_of}
-use Rattle.ring_base.proofs.ListFronts.{take-nil}
 use Rattle.ring_wire.specs.declared.message.Message.{Message}
 use Rattle.ring_window.specs.Bits.{is_set, IsFirstClear, bytes_of, held_bits}
 use Rattle.ring_window.specs.Held.{holds, front_of}
@@ -127,14 +126,6 @@ module _ {A : Type 0} (w : Windowed A) (front top : ℕ) (words : List ℕ) (pla
         i.safe,
       ) in i.bits (front - w.mark + 8 * k + j) ∙ ap (λ n. holds w.held w.ring n) e))
       ∙ sym (byte_at (holds w.held w.ring) first 32 k (omega arith)))
-
--- it ends at the limit, or with as many as a token may ask for
-pub counted_all : {A : Type 0} (w : Windowed A) (words : List ℕ) (upto end offset : ℕ) (found : List ℕ) → IsCounted w words upto end offset found
-    → end ≤ offset → found ≡ first_missing w upto
-counted_all w words upto end offset found c l =
-    let n : end - offset ≡ 0 = omega arith in
-    sym (append-nil found) ∙ sym (ap (λ xs. found ++ xs) (take-nil (32 - length found)))
-    ∙ sym (ap (λ q. found ++ take (32 - length found) (lacks w offset q)) n) ∙ c.so_far
 
 pub counted_full : {A : Type 0} (w : Windowed A) (words : List ℕ) (upto end offset : ℕ) (found : List ℕ) → IsCounted w words upto end offset found
     → 32 ≤ length found → found ≡ first_missing w upto

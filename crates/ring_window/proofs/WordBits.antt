@@ -81,11 +81,6 @@ word_across words first low high shift j a b e small some within =
           ∙ sym (set_past words first shift j e l within)
     ]
 
--- and of one word
-pub word_whole : (words : List ℕ) (first low j : ℕ) → low ≡ slice_index words (first / 64) → first % 64 ≡ 0 → j < 64 → has_bit low j ≡ is_set words (first + j)
-word_whole words first low j a e within = ap (λ w. has_bit w j) a
-    ∙ sym (set_at words first 0 j e (omega arith) ∙ ap (λ i. has_bit (slice_index words (first / 64)) i) (omega arith))
-
 -- past the last of four words each bit is clear
 pub clear_past : (words : List ℕ) (j : ℕ) → length words ≡ 4 → 256 ≤ j → is_set words j ≡ false
 clear_past words j n l = (let e : slice_index words (j / 64) ≡ 0 = get_or_past words (j / 64) 0 (omega arith) in rw e

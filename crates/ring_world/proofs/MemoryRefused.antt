@@ -1,21 +1,18 @@
 -- What a run of one event shows of a step that memory was refused to.
 use Rattle.std.proofs.Common.{◌≡◌, ℕ, suc, ◌+◌, ◌-◌, List, [], ◌∷◌, ◌++◌, length, Option, Some, None, slice_get, inl, inr, ◌↔◌}
 use Rattle.std.proofs.Common.{refl, sym, ap, ◌∙◌, arith, length-append}
+use Rattle.ring_base.proofs.ListPlaces.{get-last}
 use Rattle.ring_object.specs.Operations.{Sequential}
 use Rattle.ring_rules.specs.declared.event.Event.{Event}
 use Rattle.ring_rules.specs.declared.event.Event.TheVariants.{Issue, Deliver, Noise, Timeout, Stop}
 use Rattle.ring_world.specs.Played.{Played, IsStopped, Goes, Plays}
 use Rattle.ring_world.specs.Refusals.{stop_of, last_stop, stopped_for_memory, IsStoppedAt}
 
-at_end : {X : Type 0} (xs : List X) (x : X) → slice_get (xs ++ x ∷ []) (length xs) ≡ Some x
-at_end [] x = refl
-at_end (y ∷ ys) x = at_end ys x
-
 last_is : {X : Type 0} (xs : List X) (x : X) → slice_get (xs ++ x ∷ []) (length (xs ++ x ∷ []) - 1) ≡ Some x
 last_is xs x =
     let more : length (xs ++ x ∷ []) ≡ length xs + 1 = length-append xs (x ∷ []) in
     let same : length (xs ++ x ∷ []) - 1 ≡ length xs = omega (arith, more) in
-    ap (λ (n : ℕ). slice_get (xs ++ x ∷ []) n) same ∙ at_end xs x
+    ap (λ (n : ℕ). slice_get (xs ++ x ∷ []) n) same ∙ get-last xs x
 
 -- the last event is the one that came last
 stop_behind : {A : Type 0} (xs : List (Event A)) (e : Event A) (ys : List (Event A)) → ys ≡ xs ++ e ∷ [] → last_stop ys ≡ stop_of (Some e)

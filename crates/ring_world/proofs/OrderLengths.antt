@@ -17,11 +17,6 @@ use Rattle.ring_world.specs.Keeping.{IsWorldKept}
 use Rattle.ring_world.specs.Ordering.{effects_of, effects_in}
 use Rattle.ring_world.specs.Spares.{Spares}
 
--- one number more
-pub greatest-push : (xs : List ℕ) (x : ℕ) → greatest (xs ++ x ∷ []) ≡ max (greatest xs) x
-greatest-push [] x = omega arith
-greatest-push (y ∷ xs) x = (let rest = greatest-push xs x in omega (arith, rest))
-
 length-longer : {X : Type 0} (xs ys : List X) → length (longer xs ys) ≡ max (length xs) (length ys)
 length-longer {X} xs ys =
     cond_both (nat_lt (length xs) (length ys)) ys xs (λ (zs : List X). length zs ≡ max (length xs) (length ys))

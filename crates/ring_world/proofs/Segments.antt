@@ -1,7 +1,6 @@
 -- The longest of what nodes committed, segment by segment, and its first so many calls.
-use Rattle.std.proofs.Common.{◌≡◌, ℕ, zero, suc, ◌+◌, ◌-◌, ◌≤◌, List, [], ◌∷◌, ◌++◌, length, take, drop, Some, slice_get, refl, ap, ◌∙◌, sym, arith}
+use Rattle.std.proofs.Common.{◌≡◌, ℕ, zero, suc, ◌+◌, ◌-◌, List, [], ◌∷◌, ◌++◌, length, take, drop, Some, slice_get, refl, ap, ◌∙◌, sym, arith}
 use Rattle.std.proofs.Common.{append_assoc, append-nil}
-use Rattle.std.proofs.lemmas.List.{drop_all}
 use Rattle.ring_base.proofs.Rows.{take-more}
 use Rattle.ring_payload.specs.declared.call.Call.{Call}
 use Rattle.ring_rules.specs.Worlds.{calls_past}
@@ -15,13 +14,6 @@ calls_of-push (t ∷ ss) s = ap (λ l. t ++ l) (calls_of-push ss s) ∙ sym (app
 pub calls_of-more : {A : Type 0} (ss : List (List (Call A))) (k : ℕ) (s : List (Call A)) → slice_get ss k ≡ Some s
     → calls_of (take (k + 1) ss) ≡ calls_of (take k ss) ++ s
 calls_of-more ss k s at = ap calls_of (take-more ss k s at) ∙ calls_of-push (take k ss) s
-
--- where nothing is new, nothing is added
-pub nothing-new : {A : Type 0} (longest calls : List (Call A)) (committed len many from : ℕ) → len ≡ length longest → many ≡ length calls
-    → from ≡ many - (committed - len) → many ≤ from → longest ≡ longest ++ calls_past (length longest) committed calls
-nothing-new longest calls committed len many from len_is many_is from_is past =
-    sym (ap (λ l. longest ++ l) (drop_all (length calls - (committed - length longest)) calls (omega (arith, len_is, many_is, from_is, past)))
-    ∙ append-nil longest)
 
 -- what is new
 pub new-calls : {A : Type 0} (longest calls : List (Call A)) (committed len many from : ℕ) → len ≡ length longest → many ≡ length calls

@@ -3,10 +3,10 @@ use Rattle.std.proofs.Common.{[], ◌∷◌, take, length, refl, ap, ◌∙◌, 
 use Rattle.std.proofs.lemmas.List.{take_all, map-append}
 use Rattle.std.proofs.lemmas.Option.{slice_get_read}
 use Rattle.ring_base.specs.Numbers.{greatest}
+use Rattle.ring_base.proofs.ListPlaces.{greatest-push}
 use Rattle.ring_base.proofs.Rows.{take-more}
 use Rattle.ring_rules.specs.Nodes.{Node}
 use Rattle.ring_world.specs.Ordering.{effects_of, effects_in}
-use Rattle.ring_world.proofs.OrderLengths.{greatest-push}
 use Rattle.ring_world.proofs.order.most_effects.Goals as goal
 use Rattle.ring_world.proofs.order.most_effects.Goals.{then-len-most, else-len-most}
 
