@@ -19,14 +19,14 @@ use Rattle.ring_payload.specs.Kinds.{units, calls_of}
 use Rattle.ring_log.specs.Messages.{Message}
 use Rattle.ring_log.specs.declared.wanted.Wanted.{Wanted}
 use Rattle.ring_log.specs.Exchanges.{Exchange, opened, wanted, hear_head, is_next_piece, hear_snap, is_wanted, hear_part, heard}
-use Rattle.ring_log.specs.Stays.{Stay}
+use Rattle.ring_log.specs.Stays.{Stay, above}
 use Rattle.ring_log.specs.Lives.{Whole, heard_by, after_all, exchanged, calls_in, places_below, base_on, own_base, log_by, log_of}
 use Rattle.ring_log.specs.Kept.{Kept, kept_of, head_kept}
 use Rattle.ring_log_proof.specs.RingFacts.{IsStay, StayIn, said_by, RingFacts}
 use Rattle.ring_log_proof.specs.Time.{IsKnownCall, OnlyHandsOver}
 use Rattle.ring_log_proof.specs.Discipline.{FollowsHead, KeepsRules}
 use Rattle.ring_log_proof.proofs.Wholes.{exchanged-whole}
-use Rattle.ring_log_proof.proofs.Stays.{IsLifeBelow, life-behind, above, below-above}
+use Rattle.ring_log_proof.proofs.Stays.{IsLifeBelow, life-behind, below-above}
 use Rattle.ring_log_proof.proofs.Heads.{said-each, log_before, before-is, outcome}
 use Rattle.ring_log_proof.proofs.Hard.{by-ring, heard-in}
 use Rattle.ring_log_proof.proofs.Moment.{views-all}

@@ -12,7 +12,7 @@ use Rattle.ring_payload.specs.declared.call.Call.{Call as OneCall}
 use Rattle.ring_log.specs.Messages.{Message}
 use Rattle.ring_log.specs.declared.wanted.Wanted.{Wanted}
 use Rattle.ring_log.specs.Exchanges.{wanted}
-use Rattle.ring_log.specs.Stays.{Stay}
+use Rattle.ring_log.specs.Stays.{Stay, above}
 use Rattle.ring_log.specs.Lives.{Whole, exchanged, log_of, own_base, committed_of, base_of, ring_log_by, ring_log, keeps_committed, is_sound}
 use Rattle.ring_log.specs.Kept.{kept_of, keeps_kept, is_kept_sound}
 use Rattle.ring_log_proof.specs.RingFacts.{IsStay, StayIn, Rises, AllHeard, RingFacts}
@@ -20,7 +20,7 @@ use Rattle.ring_log_proof.specs.Discipline.{KeepsRules, OrderlyLives}
 use Rattle.ring_log_proof.specs.Settled.{IsSettled}
 use Rattle.ring_log_proof.specs.Time.{LivesOn}
 use Rattle.ring_log_proof.proofs.Wholes.{log_on}
-use Rattle.ring_log_proof.proofs.Stays.{IsLifeBelow, above, below-above, life-behind}
+use Rattle.ring_log_proof.proofs.Stays.{IsLifeBelow, below-above, life-behind}
 use Rattle.ring_log_proof.proofs.Views.{keeps-more}
 use Rattle.ring_log_proof.proofs.Hard.{same-number, hard}
 use Rattle.ring_log_proof.proofs.Settled.{ground_log, SettledBelow, settled-either}

@@ -9,12 +9,13 @@ use Rattle.ring_payload.specs.declared.call.Call.{Call as OneCall}
 use Rattle.ring_payload.specs.declared.head.Head.{Head as OneHead}
 use Rattle.ring_payload.specs.declared.content.Payload.{Payload}
 use Rattle.ring_payload.specs.declared.content.Payload.TheVariants.{Call, Wrapped, End, Head, Part, Pack, Snap}
+use Rattle.ring_log.specs.Examples.{group_of_three, message_of}
 use Rattle.ring_log.specs.Messages.{Message}
 use Rattle.ring_log.specs.Stays.{Stay, born}
 use Rattle.ring_log.specs.Kept.{kept_of, head_kept}
 use Rattle.ring_log_proof.specs.RingFacts.{RingFacts}
 use Rattle.ring_log_proof.specs.Discipline.{FollowsHead, KeepsDiscipline}
-use Rattle.ring_log_proof.specs.Examples.{three, first_ring, call_by, part_at, text, members, first_text, message_of, first_head, head_at, in_second}
+use Rattle.ring_log_proof.specs.Examples.{first_ring, call_by, part_at, text, members, first_text, first_head, head_at, in_second}
 use Rattle.ring_log_proof.specs.Examples.{one_first, two_first, lives_with, unheard, misheard, smaller, silent, falling, older_head}
 use Rattle.ring_log_proof.specs.Examples.{late_head, wrong_part}
 use Rattle.ring_log_proof.proofs.Stays.{stay-each}
@@ -82,7 +83,7 @@ last-or : Option OneHead → Option RingId
 last-or None = None
 last-or (Some h) = h.last
 
-pub refuses-older_head : KeepsDiscipline three (lives_with older_head) → ⊥
+pub refuses-older_head : KeepsDiscipline group_of_three (lives_with older_head) → ⊥
 unfolding head-first last-or elements
 refuses-older_head keeps =
     elim (keeps 2 (in_second [] 0 (head_at None 1 0 ∷ [])) (two_first ∷ born 2) (inl (refl, refl))) as (λ _. ⊥) [
@@ -90,12 +91,12 @@ refuses-older_head keeps =
       | inr opens ↦ absurd (let e : None ≡ Some first_ring = ap (λ l. last-or (head-first l)) opens.opens in cc e)
     ]
 
-pub refuses-late_head : KeepsDiscipline three (lives_with late_head) → ⊥
+pub refuses-late_head : KeepsDiscipline group_of_three (lives_with late_head) → ⊥
 unfolding head-first
 refuses-late_head keeps =
     elim (keeps 2 (in_second [] 0 (Call (call_by 9) ∷ head_at (Some first_ring) 1 0 ∷ [])) (two_first ∷ born 2) (inl (refl, refl))) as (λ _. ⊥) [
       | inl none ↦ absurd (cc none)
-      | inr opens ↦ absurd (let e : None ≡ Some (head_kept (kept_of three (two_first ∷ born 2))) = ap head-first opens.opens in cc e)
+      | inr opens ↦ absurd (let e : None ≡ Some (head_kept (kept_of group_of_three (two_first ∷ born 2))) = ap head-first opens.opens in cc e)
     ]
 
 rest-of : List (Payload Global) → List (Payload Global)
@@ -106,15 +107,15 @@ client-first : List (OneCall Global) → ℕ
 client-first [] = 0
 client-first (c ∷ cs) = c.client
 
-pub refuses-wrong_part : KeepsDiscipline three (lives_with wrong_part) → ⊥
+pub refuses-wrong_part : KeepsDiscipline group_of_three (lives_with wrong_part) → ⊥
 unfolding rest-of client-first elements
 refuses-wrong_part keeps =
     elim (keeps 2 (in_second [] 0 (head_at (Some first_ring) 1 0 ∷ part_at 0 (call_by 9 ∷ []) ∷ [])) (two_first ∷ born 2) (inl (refl, refl))) as (λ _. ⊥) [
       | inl none ↦ absurd (cc none)
       | inr opens ↦
           let is : part_at 0 (call_by 9 ∷ []) ∷ [] ≡ opens.rest = ap rest-of opens.opens in
-          let f : Each (FollowsHead (kept_of three (two_first ∷ born 2))) (part_at 0 (call_by 9 ∷ []) ∷ []) =
-          subst (Each (FollowsHead (kept_of three (two_first ∷ born 2)))) (sym is) opens.follows in
+          let f : Each (FollowsHead (kept_of group_of_three (two_first ∷ born 2))) (part_at 0 (call_by 9 ∷ []) ∷ []) =
+          subst (Each (FollowsHead (kept_of group_of_three (two_first ∷ born 2)))) (sym is) opens.follows in
           let e : 9 ≡ 7 = ap client-first f.0.1.1 in
           absurd (omega (arith, e))
     ]

@@ -1,9 +1,9 @@
 -- The stays of one life: which is below which, and what was before each.
-use Rattle.std.proofs.Common.{◌≡◌, ℕ, suc, ◌≤◌, ◌<◌, ◌==◌, true, false, List, [], ◌∷◌, inl, inr, ap, sym, ◌∙◌, subst, arith}
+use Rattle.std.proofs.Common.{◌≡◌, ℕ, ◌≤◌, ◌<◌, ◌==◌, true, false, List, [], ◌∷◌, inl, inr, ap, sym, ◌∙◌, subst, arith}
 use Rattle.std.specs.List.{AllByRecursion as Each}
 use Rattle.std.proofs.lemmas.Bool.{cond_both, eqb-true, eq-eqb}
 use Rattle.ring_base.specs.declared.ring_id.RingId.{RingId}
-use Rattle.ring_log.specs.Stays.{Stay}
+use Rattle.ring_log.specs.Stays.{Stay, above}
 use Rattle.ring_log.specs.Lives.{older_at}
 use Rattle.ring_log_proof.specs.RingFacts.{IsStay, StayIn, Rises}
 
@@ -96,13 +96,8 @@ life-behind life r rises at = record {
 
 -- A number above a life's rings
 
-pub above : {A : Type 0} → List (Stay A) → ℕ
-above [] = 0
-above (s ∷ older) = suc s.ring.seq
-
 pub below-above : {A : Type 0} (life : List (Stay A)) (bound : ℕ) → Rises life → above life ≤ bound → (s : Stay A) (older : List (Stay A))
     → IsStay life s older → s.ring.seq < bound
-unfolding above
 below-above [] bound rises le s older h = absurd h
 below-above (t ∷ before) bound rises le s older (inl e) = omega (arith, le, seq-same e.0)
 below-above (t ∷ before) bound rises le s older (inr i) = omega (arith, le, top-above t before s older rises i)

@@ -12,11 +12,12 @@ use Rattle.ring_base.specs.Rings.{same_ring}
 use Rattle.ring_base.specs.declared.ring_id.RingId.{RingId}
 use Rattle.ring_payload.specs.Kinds.{units}
 use Rattle.ring_payload.specs.declared.content.Payload.TheVariants.{Call}
+use Rattle.ring_log.specs.Examples.{group_of_three, message_of}
 use Rattle.ring_log.specs.Messages.{Message}
 use Rattle.ring_log.specs.Stays.{Stay, born}
 use Rattle.ring_log_proof.specs.RingFacts.{IsStay, StayIn, Rises, said_by, safe_part, AllHeard, RingFacts}
 use Rattle.ring_log_proof.specs.Discipline.{OpensWithHead, KeepsDiscipline}
-use Rattle.ring_log_proof.specs.Examples.{three, first_ring, second_ring, call_by, part_at, text, members, first_text, second_exchange, second_text, message_of}
+use Rattle.ring_log_proof.specs.Examples.{first_ring, second_ring, call_by, part_at, text, members, first_text, second_exchange, second_text}
 use Rattle.ring_log_proof.specs.Examples.{first_head, one_first, one_second, two_first, two_second, three_first, lives, life_of_one}
 use Rattle.ring_log_proof.specs.Examples.{life_of_two, life_of_three}
 use Rattle.ring_log_proof.proofs.Stays.{stay-each}
@@ -161,13 +162,13 @@ over-each P [] h s older i = absurd i
 over-each P (t ∷ before) h s older (inl e) = subst (λ u. P u older) e.0 (subst (P t) e.1 h.0)
 over-each P (t ∷ before) h s older (inr i) = over-each P before h.1 s older i
 
-majority : (set : ℕ) → is_primary three set ≡ true → IsPrimary three set
-majority set h = (primary_tested three set).0 h
+majority : (set : ℕ) → is_primary group_of_three set ≡ true → IsPrimary group_of_three set
+majority set h = (primary_tested group_of_three set).0 h
 
-pub three-discipline : KeepsDiscipline three lives
+pub three-discipline : KeepsDiscipline group_of_three lives
 unfolding EachOver elements
 three-discipline p =
-    let P : Stay Global → List (Stay Global) → Type 0 = λ s older. (s.sent ≡ []) ⊎ OpensWithHead three s older in
+    let P : Stay Global → List (Stay Global) → Type 0 = λ s older. (s.sent ≡ []) ⊎ OpensWithHead group_of_three s older in
     over-each P (lives p) (by-processor (λ q l. EachOver P l) (
       inr (record { primary = majority 3 refl; rest = part_at 0 (call_by 7 ∷ []) ∷ []; opens = refl; follows = ((let none : 0 ≤ 0 = omega arith in none, ([], refl)), tt) }),
       (inr (record { primary = majority 7 refl; rest = Call (call_by 7) ∷ []; opens = refl; follows = (tt, tt) }), (inl refl, tt)),

@@ -2,19 +2,15 @@
 -- Processor 1 owns the place that 2 has not committed, and sends it in a Part. The replicated log, rules 2 to 6 and 16, of docs/PROTOCOL.md.
 use Rattle.std.specs.Prelude.{ℕ, ◌==◌, if◌then◌else◌, List, [], ◌∷◌, Option, Some, None}
 use Rattle.std.specs.declared.alloc.Global.{Global}
-use Rattle.ring_base.specs.Group.{Group}
 use Rattle.ring_base.specs.Processors.{only}
 use Rattle.ring_base.specs.Rings.{same_ring}
 use Rattle.ring_base.specs.declared.ring_id.RingId.{RingId}
 use Rattle.ring_payload.specs.declared.call.Call.{Call as OneCall}
 use Rattle.ring_payload.specs.declared.content.Payload.{Payload}
 use Rattle.ring_payload.specs.declared.content.Payload.TheVariants.{Call, Head, Part}
+use Rattle.ring_log.specs.Examples.{message_of}
 use Rattle.ring_log.specs.Messages.{Message}
 use Rattle.ring_log.specs.Stays.{Stay, born}
-
--- three processors with one vote each
-abbrev pub three : Group
-three = record { count = 3; votes = 1 ∷ 1 ∷ 1 ∷ [] }
 
 -- ring 4.1
 abbrev pub first_ring : RingId
@@ -39,10 +35,6 @@ part_at first calls = Part (record { first = first; calls = calls })
 -- the Head of a processor that has no log yet
 abbrev pub first_head : Payload Global
 first_head = head_at None 0 0
-
--- a message of a ring: its number, its sender and its payload
-abbrev pub message_of : RingId → ℕ → ℕ → Payload Global → Message Global
-message_of ring number sender payload = record { ring = ring; number = number; sender = sender; payload = payload }
 
 -- the user messages of ring 4.1: before them stand the Ends
 abbrev pub first_text : List (Message Global)

@@ -10,7 +10,7 @@ use Rattle.ring_core.specs.State.{Core}
 use Rattle.ring_core.specs.Giving.{users}
 use Rattle.ring_core.specs.Views.{front, mark}
 use Rattle.ring_core_proof.proofs.WithinWindow.{mark_below}
-use Rattle.ring_log.specs.Stays.{Stay}
+use Rattle.ring_log.specs.Stays.{Stay, above}
 use Rattle.ring_log.specs.Lives.{Whole, upto, exchanged, log_of, committed_of, older_at, ring_log, fronts_below}
 use Rattle.ring_log_proof.specs.Discipline.{KeepsRules}
 use Rattle.ring_log_proof.specs.RingFacts.{IsStay, Rises, safe_part}
@@ -26,7 +26,7 @@ use Rattle.ring_order_proof.proofs.RingsOfRuns.{safe_is}
 use Rattle.ring_order_proof.proofs.RunFacts.{AreNodes, facts_of, all_nodes, node_is}
 use Rattle.ring_order_proof.proofs.RunTexts.{heard_is}
 use Rattle.ring_rules.specs.declared.event.Event.{Event}
-use Rattle.ring_rules.specs.Worlds.{World, world_opening, is_node, run, lives_in, above}
+use Rattle.ring_rules.specs.Worlds.{World, world_opening, is_node, run, lives_in}
 
 module _ {O A : Type 0} (object : Sequential O) (group : Group) (events : List (Event A)) (i : ℕ) (few : group.count ≤ 16)
     (low : 1 ≤ i) (high : i ≤ group.count) where

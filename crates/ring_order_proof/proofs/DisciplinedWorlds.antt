@@ -9,7 +9,7 @@ use Rattle.ring_object.specs.Operations.{Sequential}
 use Rattle.ring_payload.specs.declared.call.Call.{Call as OneCall}
 use Rattle.ring_wire.specs.declared.frame.Frame.{Frame}
 use Rattle.ring_core.specs.State.{Carried, frame_at}
-use Rattle.ring_log.specs.Stays.{Stay, stay_in}
+use Rattle.ring_log.specs.Stays.{Stay, stay_in, above}
 use Rattle.ring_log.specs.Kept.{kept_of}
 use Rattle.ring_log.specs.Lives.{whole_life}
 use Rattle.ring_core_proof.specs.LawWords.{IsFalling}
@@ -20,7 +20,7 @@ use Rattle.ring_rules.specs.Stepping.{submit_fault}
 use Rattle.ring_rules.specs.declared.event.Event.{Event}
 use Rattle.ring_rules.specs.declared.event.Event.TheVariants.{Issue, Deliver, Noise, Timeout, Stop}
 use Rattle.ring_rules.specs.Worlds.{World, put, world_opening, is_node, issued_or, issued_if, stopped_if}
-use Rattle.ring_rules.specs.Worlds.{stepped_if, handed_if, handed, happens, run, lives_in, above, lives_of}
+use Rattle.ring_rules.specs.Worlds.{stepped_if, handed_if, handed, happens, run, lives_in, lives_of}
 use Rattle.ring_log_proof.specs.RingFacts.{IsStay, Rises}
 use Rattle.ring_log_proof.specs.Discipline.{KeepsDiscipline, IsDropping, DropsCommitted, KeepsRules}
 use Rattle.ring_log_proof.specs.Time.{AllMayHappen, LivesOn}

@@ -9,7 +9,7 @@ use Rattle.ring_payload.specs.declared.call.Call.{Call}
 use Rattle.ring_payload.specs.declared.content.Payload.{Payload}
 use Rattle.ring_log.specs.Kept.{Kept, kept_of}
 use Rattle.ring_log.specs.Lives.{log_of, committed_of, fronts_below}
-use Rattle.ring_log.specs.Stays.{Stay}
+use Rattle.ring_log.specs.Stays.{Stay, above}
 use Rattle.ring_log_proof.specs.RingFacts.{IsStay}
 use Rattle.ring_log_proof.specs.Time.{IsKnownCall, OnlyHandsOver}
 use Rattle.ring_log_proof.proofs.Fronts.{filled-stay}
@@ -17,7 +17,7 @@ use Rattle.ring_log_proof.proofs.FilledLives.{kept-filled}
 use Rattle.ring_log_proof.proofs.Moment.{committed-front, view-at}
 use Rattle.ring_session.specs.Snapshots.{KeepsLimits}
 use Rattle.ring_rules.specs.Nodes.{node_kept, snapshot_kept}
-use Rattle.ring_rules.specs.Worlds.{World, is_node, above}
+use Rattle.ring_rules.specs.Worlds.{World, is_node}
 use Rattle.ring_order_proof.specs.Living.{lives_in, lives_of}
 use Rattle.ring_order_proof.proofs.HandedTickets.{NodeKnows, knows-more}
 use Rattle.ring_order_proof.proofs.HonestPieces.{IsPieceOf}

@@ -21,7 +21,7 @@ use Rattle.ring_core.specs.State.{Core, Carried, Stepped, frame_at}
 use Rattle.ring_core.specs.Stepping.{ring_step}
 use Rattle.ring_core.specs.declared.input.Input.TheVariants.{Frame as CoreFrame, Timeout as CoreTimeout}
 use Rattle.ring_core.specs.declared.out.Out.{Out}
-use Rattle.ring_log.specs.Stays.{Stay, born, hands, trims}
+use Rattle.ring_log.specs.Stays.{Stay, born, hands, trims, above}
 use Rattle.ring_log.specs.Lives.{Whole, exchanged, log_of, committed_of, filled, fronts_below}
 use Rattle.ring_log.specs.Kept.{Kept, kept_by, nothing_kept, kept_of, log_kept, is_kept_sound}
 use Rattle.ring_log.specs.Logs.{committed_calls}
@@ -47,7 +47,7 @@ use Rattle.ring_rules.specs.declared.input.Input.TheVariants.{Frame as FrameInpu
 use Rattle.ring_rules.specs.declared.event.Event.{Event}
 use Rattle.ring_rules.specs.declared.event.Event.TheVariants.{Issue, Deliver, Noise, Timeout, Stop}
 use Rattle.ring_rules.specs.Worlds.{World, world_opening, put, is_node, calls_past, after_step, issued_or, issued_if, stopped_if, stepped_if, handed_if}
-use Rattle.ring_rules.specs.Worlds.{handed, happens, run, lives_in, above, lives_of, committed_in, order}
+use Rattle.ring_rules.specs.Worlds.{handed, happens, run, lives_in, lives_of, committed_in, order}
 use Rattle.ring_order_proof.proofs.DisciplinedWorlds.{AllKept, opened_on, run_group}
 use Rattle.ring_order_proof.proofs.Orderly.{IsOrderlyWorld, run-more, orderly, lives_on}
 use Rattle.ring_order_proof.proofs.RestoredPlaces.{Restored, gone, dropped-most, most-through, restored-hands, restored-trims, restored-owned}

@@ -11,13 +11,13 @@ use Rattle.ring_base.specs.Processors.{only}
 use Rattle.ring_base.proofs.Each.{each-append}
 use Rattle.ring_object.specs.Operations.{Sequential}
 use Rattle.ring_payload.specs.declared.call.Call.{Call}
-use Rattle.ring_log.specs.Stays.{Stay, born}
+use Rattle.ring_log.specs.Stays.{Stay, born, above}
 use Rattle.ring_log.specs.Lives.{Whole, exchanged, committed_by, restored_by, committed_of, log_of, filled, fronts_below}
 use Rattle.ring_session.specs.Deduplicated.{deduplicated}
 use Rattle.ring_rules.specs.declared.event.Event.{Event}
 use Rattle.ring_rules.specs.Histories.{IsLinearization}
 use Rattle.ring_rules.specs.Orders.{longer, order_of, IsOrderStep}
-use Rattle.ring_rules.specs.Worlds.{World, world_opening, is_node, above, happens, run, order, committed_in, moment_of}
+use Rattle.ring_rules.specs.Worlds.{World, world_opening, is_node, happens, run, order, committed_in, moment_of}
 use Rattle.ring_rules.proofs.Linear.{linear-nothing}
 use Rattle.ring_rules.proofs.Orders.{order_of-grows, order_of-fronts, linear-step}
 use Rattle.ring_order_proof.specs.Linear.{EventKeeps, OnlyIssued, Follows, FollowsOrder}

@@ -24,7 +24,7 @@ use Rattle.ring_payload.specs.declared.content.Payload.TheVariants.{Call, Wrappe
 use Rattle.ring_wire.specs.declared.message.Message.{Message}
 use Rattle.ring_log.specs.declared.wanted.Wanted.{Wanted}
 use Rattle.ring_log.specs.Exchanges.{opened, wanted}
-use Rattle.ring_log.specs.Stays.{Stay}
+use Rattle.ring_log.specs.Stays.{Stay, above}
 use Rattle.ring_log.specs.Logs.{begins}
 use Rattle.ring_log.specs.Lives.{Whole, exchanged, calls_in, upto, log_by, log_of, committed_of, own_base, older_at, keeps_committed, is_known_on}
 use Rattle.ring_log.specs.Kept.{Kept, restores, restored_kept, joined_kept, adopts_wanted, adopts, kept_by, kept_of}
@@ -39,7 +39,7 @@ use Rattle.ring_log_proof.proofs.Heads.{Says, log_before, said-each, text-honest
 use Rattle.ring_log_proof.proofs.HonestExchanges.{Outcome, IsHonest as IsHonestLog}
 use Rattle.ring_log_proof.proofs.Issued.{logs-before}
 use Rattle.ring_log_proof.proofs.Moment.{adopted-base, keeps-all, views-all}
-use Rattle.ring_log_proof.proofs.Stays.{IsLifeBelow, life-behind, life-lower, older-in, top-above, above, below-above}
+use Rattle.ring_log_proof.proofs.Stays.{IsLifeBelow, life-behind, life-lower, older-in, top-above, below-above}
 use Rattle.ring_log_proof.proofs.Wholes.{exchanged-whole}
 use Rattle.ring_session.specs.Snapshots.{KeepsLimits, table_snapshot, restored_table}
 use Rattle.ring_session.specs.Table.{opening, table_next, table_after}

@@ -20,14 +20,14 @@ use Rattle.ring_core_proof.specs.Worlds.{World as RingWorld}
 use Rattle.ring_core_proof.proofs.InLists.{in-each}
 use Rattle.ring_synchrony_proof.specs.Chains.{IsRingOf}
 use Rattle.ring_synchrony_proof.proofs.Ordered.{Ordered}
-use Rattle.ring_log.specs.Stays.{Stay}
+use Rattle.ring_log.specs.Stays.{Stay, above}
 use Rattle.ring_log.specs.Lives.{upto, fronts_below}
 use Rattle.ring_payload.specs.declared.call.Call.{Call as OneCall}
 use Rattle.ring_log_proof.specs.RingFacts.{IsStay, StayIn, Rises, said_by, safe_part, AllHeard, RingFacts}
 use Rattle.ring_log_proof.proofs.FilledLives.{filled-heard, facts-filled}
 use Rattle.ring_core.specs.Tokens.{Turn, turns_of, IsSafeIn}
 use Rattle.ring_rules.specs.declared.event.Event.{Event}
-use Rattle.ring_rules.specs.Worlds.{World, world_opening, is_node, run, lives_in, above, lives_of}
+use Rattle.ring_rules.specs.Worlds.{World, world_opening, is_node, run, lives_in, lives_of}
 use Rattle.ring_order_proof.specs.Projection.{ring_part, IsRingRun}
 use Rattle.ring_order_proof.proofs.ProjectedEvents.{ring_run}
 use Rattle.ring_order_proof.proofs.DisciplinedWorlds.{opened_on}

@@ -1,6 +1,6 @@
 -- Worlds of nodes: the nodes, all frames ever sent, the history and what was told; how an event changes a world; and
 -- the order that it shows. The book and the threads, rules 1 to 6, and Sessions, rules 9 and 10, of docs/PROTOCOL.md.
-use Rattle.std.specs.Prelude.{ℕ, suc, ◌-◌, Bool, true, false, ◌&&◌, ◌==◌, nat_le, if◌then◌else◌, List, [], ◌∷◌, ◌++◌, length, map, drop, Option, Some, None}
+use Rattle.std.specs.Prelude.{ℕ, ◌-◌, Bool, true, false, ◌&&◌, ◌==◌, nat_le, if◌then◌else◌, List, [], ◌∷◌, ◌++◌, length, map, drop, Option, Some, None}
 use Rattle.ring_base.specs.Fault.{fault_number}
 use Rattle.ring_base.specs.Group.{Group}
 use Rattle.ring_base.specs.Numbers.{numbers_from}
@@ -14,7 +14,7 @@ use Rattle.ring_core.specs.State.{Sent, Carried, frame_at}
 use Rattle.ring_rules.specs.Stepping.{Answered}
 use Rattle.ring_rules.specs.declared.input.Input.{Input}
 use Rattle.ring_rules.specs.declared.input.Input.TheVariants.{Frame as FrameInput, Timeout as TimeInput}
-use Rattle.ring_log.specs.Stays.{Stay}
+use Rattle.ring_log.specs.Stays.{Stay, above}
 use Rattle.ring_log.specs.Lives.{committed_of, whole_life}
 use Rattle.ring_rules.specs.Nodes.{Node, node_opening, node_stopped, node_kept}
 use Rattle.ring_rules.specs.Stepping.{NodeStepped, node_step, submit_fault, submitted}
@@ -137,11 +137,6 @@ module _ {O : Type 0} (object : Sequential O) where
 -- the lives, of which a processor that isn't one of the group has the empty one
 abbrev pub lives_in : {A : Type 0} → World A → ℕ → List (Stay A)
 lives_in w i = if is_node w i then (w.nodes i).life else []
-
--- a number above those of a life's rings
-abbrev pub above : {A : Type 0} → List (Stay A) → ℕ
-above [] = 0
-above (s ∷ older) = suc s.ring.seq
 
 -- the same with what their snapshots stand for
 abbrev pub lives_of : {A : Type 0} → World A → ℕ → List (Stay A)
