@@ -17,6 +17,7 @@ pub use ring_report::{Failure, report};
 pub use ring_script::{
     Groups, Line, NoWords, Numbered, Script, ScriptFault, ShelfWords, Vocabulary,
 };
+pub use ring_things::Things;
 pub use ring_world::{Event, Pair, Told, World};
 pub use run::Run;
-pub use running::{Things, is_legal, script, script_check, script_of};
+pub use running::{is_legal, script, script_check, script_of};

@@ -17,12 +17,9 @@ use ring_checker::is_linearization;
 use ring_object::Object;
 use ring_report::{Failure, Lent, NOT_LEGAL, exit_status, report};
 use ring_script::{Script, ShelfWords, Vocabulary};
-use ring_things::{Counters, Names, Queue, Registers, Shelf};
+use ring_things::Things;
 use std::alloc::Allocator;
 use std::io::{BufWriter, Read, Write};
-
-/// The program's object.
-pub type Things<A> = Shelf<Registers<A>, Counters<A>, Queue<A>, Names<A>>;
 
 /// Reads a script, checks the whole of it, and runs it: what comes of its events is printed on `out`. The exit
 /// status is 0, or else 1:

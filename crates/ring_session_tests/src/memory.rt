@@ -2,11 +2,11 @@
 
 use crate::sessions::refusals;
 use crate::snapshots::call_and_come_back;
-use crate::things::{Things, change_and_come_back_anew};
+use crate::things::change_and_come_back_anew;
 use crate::tickets::answer_three;
 use refusing_alloc::{Refusing, refuse_in_turn};
 use ring_base::Fault;
-use ring_things::{Counters, Names, Queue};
+use ring_things::{Counters, Names, Queue, Things};
 use std::alloc::{AllocError, Global};
 
 /// Whether work ends with the request that is refused, and tells so.

@@ -3,13 +3,10 @@
 use crate::spelled::is_spelled;
 use ring_base::Fault;
 use ring_object::{Object, Short};
-use ring_things::{Counters, Names, Place, Queue, Registers, Shelf};
+use ring_things::{Counters, Names, Place, Queue, Registers, Things};
 use std::alloc::Global;
 use std::process::Abort;
 use std::test::Fail;
-
-/// The four objects on one shelf.
-pub type Things<A> = Shelf<Registers<A>, Counters<A>, Queue<A>, Names<A>>;
 
 const REGISTERS: [(&str, &str); 10] = [
     ("0107", "000000000000000000"),

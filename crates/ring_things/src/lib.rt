@@ -22,4 +22,4 @@ pub use operations::{Operation, ShelfOperation};
 pub use queue::Queue;
 pub use registers::Registers;
 pub use replies::{Outcome, Replied, reply, reply_with};
-pub use shelf::{Place, Shelf};
+pub use shelf::{Place, Shelf, Things};

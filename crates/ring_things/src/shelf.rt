@@ -6,7 +6,11 @@ ghost use Rattle.ring_object.specs.Snapshots.{IsRestored};
 ghost use Rattle.ring_things.specs.Shelf.{number_of, first_text, texts_of, shelf_snapshot, both_of};
 ghost use Rattle.ring_things.specs.ShelfLaws.{AreContents};
 
+use crate::counters::Counters;
+use crate::names::Names;
 use crate::operations::{Operation, ShelfOperation, headed};
+use crate::queue::Queue;
+use crate::registers::Registers;
 use crate::replies::{Outcome, reply};
 use byteorder::{BigEndian, ByteOrder};
 use ring_base::Fault;
@@ -23,6 +27,9 @@ pub struct Shelf<P: Drop, Q: Drop, R: Drop, S: Drop> {
     third: R,
     fourth: S,
 }
+
+/// The objects of the program, on one shelf.
+pub type Things<A> = Shelf<Registers<A>, Counters<A>, Queue<A>, Names<A>>;
 
 impl<P: Drop, Q: Drop, R: Drop, S: Drop> Model for Shelf<P, Q, R, S> {
     ghost Value = { P × Q × R × S };

@@ -6,16 +6,13 @@ ghost use Rattle.totem_c.specs.Calls.{IsOpened, IsOneOf};
 
 use ring_base::{Fault, Fixed};
 use ring_pipe::Embedded;
-use ring_things::{Counters, Names, Queue, Registers, Shelf};
+use ring_things::Things;
 use std::alloc::Global;
-
-/// The program's objects.
-pub type Things = Shelf<Registers<Global>, Counters<Global>, Queue<Global>, Names<Global>>;
 
 /// A node of the program's objects. It has a name without parameters, since what is told of a handle names it.
 #[derive(Drop)]
 pub struct Desk {
-    pub node: Embedded<Things>,
+    pub node: Embedded<Things<Global>>,
 }
 
 impl Desk {

@@ -12,9 +12,9 @@ ghost use Rattle.totem_c.specs.Calls.{Opens, Takes, Reads};
 ghost use Rattle.totem_c.specs.Status.{status_number};
 ghost use Rattle.totem_c.specs.declared.status.Status.{Status as Told};
 
-use desk::Things;
 use held::Held;
 use ring_object::Object;
+use ring_things::Things;
 use std::alloc::Global;
 
 /// Makes processor `me` of a group with these votes, at its opening, and puts it behind a handle that is empty. Answers a status.
@@ -28,7 +28,7 @@ pub extern "C" fn totem_c_open(alloc: Global, handle: &mut Held, me: u32, votes:
 /// Hands the node behind the handle the record of this kind and these bytes. What it tells of it waits to be read. Answers a status.
 #[unsafe(no_mangle)]
 pub extern "C" fn totem_c_take(alloc: Global, handle: &mut Held, kind: u8, bytes: &[u8]) -> u8
-    ensures { let object = ⟦<Things as Object>⟧ in
+    ensures { let object = ⟦<Things<Global> as Object>⟧ in
         (status : Told) × (result ≡ status_number status) × Takes object.sequential handle.old.value kind bytes.now status handle.new.value }
 {
     work::take(alloc, handle, kind, bytes).number()

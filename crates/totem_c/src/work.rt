@@ -4,12 +4,13 @@ ghost use Rattle.std.specs.Prelude.{◌≡◌, ◌⊎◌, None, IfOk, IfErr};
 ghost use Rattle.ring_base.specs.declared.fault.Fault.TheVariants.{Memory, NotMember};
 ghost use Rattle.totem_c.specs.Calls.{IsOneOf, IsOpened, Opens, Takes, Reads};
 
-use crate::desk::{Desk, Things};
+use crate::desk::Desk;
 use crate::held::Held;
 use crate::loose::Loose;
 use crate::status::Status;
 use ring_base::Fault;
 use ring_object::Object;
+use ring_things::Things;
 use std::alloc::Global;
 use std::mem::replace;
 
@@ -43,7 +44,7 @@ pub(crate) fn open(alloc: Global, handle: &mut Held, me: u32, votes: &[u8]) -> S
 
 /// Hands the node a record.
 pub(crate) fn take(alloc: Global, handle: &mut Held, kind: u8, bytes: &[u8]) -> Status
-    ensures { let object = ⟦<Things as Object>⟧ in Takes object.sequential handle.old.value kind bytes.now result handle.new.value }
+    ensures { let object = ⟦<Things<Global> as Object>⟧ in Takes object.sequential handle.old.value kind bytes.now result handle.new.value }
 {
     match replace(handle, Held::none()).into_loose(alloc) {
         Some(loose) => {
