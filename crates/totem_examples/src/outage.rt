@@ -12,7 +12,8 @@
 use crate::client::{client_of, count_of, cut_network};
 use std::io;
 use totem_threads::{
-    Client, Counters, Event, Fault, Fixed, Kind, Object, Port, Proc, ProcSet, Shared, WorldPort,
+    Client, Counters, Event, Fault, Fixed, Kind, Object, Operation, Port, Proc, ProcSet, Shared,
+    WorldPort,
 };
 
 /// How often a call is tried anew that no node has answered.
@@ -83,15 +84,9 @@ fn stop<O: Object>(shared: &Shared<O>, node: Proc) -> Result<(), Fault> {
     network.happen(Event::Stop(node))
 }
 
-/// Adds 1, and answers the count.
-fn add<P: Port>(client: &mut Client<P>) -> Result<u64, Fault> {
-    let reply = client.until_answered(Counters::add(0, 1).as_slice(), TRIES)?;
-    Ok(count_of(&reply))
-}
-
-/// The count.
-fn read<P: Port>(client: &mut Client<P>) -> Result<u64, Fault> {
-    let reply = client.until_answered(Counters::read(0).as_slice(), TRIES)?;
+/// Asks for this until it is answered, and answers the count.
+fn ask<P: Port>(client: &mut Client<P>, operation: &Operation) -> Result<u64, Fault> {
+    let reply = client.until_answered(operation.as_slice(), TRIES)?;
     Ok(count_of(&reply))
 }
 
@@ -111,13 +106,14 @@ fn story_of<O: Object>(
 ) -> Result<OutageStory, Fault> {
     let everybody = fixed.everybody();
     time_out(shared, stopping, Kind::Join)?;
-    let first = add(client)?;
+    let add = Counters::add(0, 1);
+    let first = ask(client, &add)?;
     cut(shared, everybody)?;
     stop(shared, stopping)?;
     time_out(shared, alone, Kind::Join)?;
-    let second = add(client)?;
+    let second = ask(client, &add)?;
     cut(shared, everybody.less(ProcSet::only(alone)))?;
-    let refused = add(client).err();
+    let refused = ask(client, &add).err();
     cut(shared, everybody)?;
     time_out(shared, alone, Kind::Loss)?;
     Ok(OutageStory {
@@ -125,7 +121,7 @@ fn story_of<O: Object>(
         second,
         refused,
         third: again(client)?,
-        read: read(client)?,
+        read: ask(client, &Counters::read(0))?,
     })
 }
 
