@@ -2,7 +2,7 @@
 
 use crate::beside::Beside;
 use crate::records::{Record, first_number, first_record};
-use ring_base::{Fault, Fixed, Kind, Proc, ProcSet};
+use ring_base::{Fault, Fixed, Kind, MOST_PROCESSORS, Proc, ProcSet};
 use ring_object::Object;
 use ring_sweep::{Groups, Line, Script};
 use std::alloc::Allocator;
@@ -172,7 +172,7 @@ impl<O: Object> Driven<O> {
         let bytes = Vec::from_slice(self.alloc, frame)?;
         let place = self.sent.len();
         self.sent.push(Carried { from, to, bytes })?;
-        for before in 0..16u8 {
+        for before in 0..MOST_PROCESSORS {
             let receiver = Proc::new(before + 1);
             if to.contains(receiver) {
                 self.copies.push(UnderWay {

@@ -9,4 +9,4 @@ mod running;
 
 pub use legal::is_legal;
 pub use printing::live;
-pub use running::{LiveSetting, Lived, run_live};
+pub use running::{Lived, run_live};

@@ -6,10 +6,10 @@ ghost use Rattle.ring_report.specs.declared.failure.Failure.TheVariants.{Output}
 ghost use Rattle.ring_live.specs.Lived.{lived_text};
 ghost use Rattle.ring_live.specs.declared.running.Lived.{Lived};
 
-use crate::running::{LiveSetting, Lived, run_live};
+use crate::running::{Lived, run_live};
 use ring_base::{Fault, Fixed};
 use ring_console::{Failure, Things, report};
-use ring_host_port::{INBOX, Opening};
+use ring_host_port::Opening;
 use ring_report::NOT_LEGAL;
 use std::alloc::Global;
 use std::io::Write;
@@ -64,13 +64,7 @@ fn run<W: Threads + Wait + Sync>(
 {
     let group = Fixed::new(nodes)?;
     let opening = Opening::<Things<Global>>::new(alloc, group)?;
-    let setting = LiveSetting {
-        nodes: group.count(),
-        inbox: INBOX,
-        calls,
-        rests: true,
-    };
-    run_live::<Things<Global>, Brand, W>(rt, alloc, opening, setting)
+    run_live::<Things<Global>, Brand, W>(rt, alloc, opening, group.count(), calls)
 }
 
 /// Prints what came of a run in which the counter was read so. Otherwise `Output`.

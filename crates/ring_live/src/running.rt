@@ -7,26 +7,13 @@ ghost use Rattle.ring_live.specs.Callers.{HasSeatsAt};
 use crate::caller::{Caller, call};
 use crate::legal::is_legal;
 use ring_base::{Fault, MOST_PROCESSORS};
-use ring_host_port::{BookName, Gate, Host, Open, Opening, Seat};
+use ring_host_port::{BookName, Gate, Host, Opening, Seat};
 use ring_object::Object;
 use std::alloc::Allocator;
 use std::sync::Wait;
 use std::sync::atomic::{AtomicBool, AtomicU64, Ordering};
 use std::thread;
 use std::thread::Threads;
-
-/// How a live run goes.
-#[derive(Clone, Copy, Debug, PartialEq, Eq)]
-pub struct LiveSetting {
-    /// How many nodes there are, and as many clients.
-    pub nodes: u8,
-    /// How many items an inbox has at most.
-    pub inbox: usize,
-    /// How many adds each client makes.
-    pub calls: u8,
-    /// Whether the nodes rest where there is nothing to do.
-    pub rests: bool,
-}
 
 /// What came of a live run.
 #[derive(Clone, Copy, Debug, PartialEq, Eq)]
@@ -154,52 +141,34 @@ fn counter_in<A: Allocator + Copy + Drop>(callers: &[Caller<A>]) -> Result<u64, 
     }
 }
 
-/// What comes of a run of the opening that K names, of a shelf, where the opening is of as many nodes as the setting says, whatever
-/// was answered. Or `Memory`.
+/// What comes of a run of the opening that K names, of a shelf and so many nodes, where each of as many clients makes so many adds,
+/// whatever was answered. The nodes rest where there is nothing to do. Or `Memory`.
 pub fn run_live<O: Object + Send, K: BookName<O::Alloc> + Send + Sync, W: Threads + Wait + Sync>(
     rt: &W,
     alloc: O::Alloc,
     opening: Opening<O>,
-    setting: LiveSetting,
+    nodes: u8,
+    calls: u8,
 ) -> Result<Lived, Fault>
 where
     O::Alloc: Send + Sync,
     requires name { opening ≡ K.name }
-    requires nodes { setting.nodes ≤ 16 }
-    requires inbox { (1 ≤ setting.inbox) × (setting.inbox ≤ 1024) }
-    ensures { IfOk result (λ lived. (lived.nodes ≡ setting.nodes) × (lived.is_legal ≡ true)) }
+    requires nodes { nodes ≤ 16 }
+    ensures { IfOk result (λ lived. (lived.nodes ≡ nodes) × (lived.is_legal ≡ true)) }
 {
-    let LiveSetting {
-        nodes,
-        inbox,
-        calls,
-        rests,
-    } = setting;
     let guests = 16 * u16::from(nodes);
-    let (host, mut seats) = Host::<O, K>::with_inbox(alloc, opening, guests, inbox)?;
+    let (host, mut seats) = Host::<O, K>::new(alloc, opening, guests)?;
     let mut callers = callers_of(alloc, &host, &mut seats, nodes)?;
-    let ran = if rests {
-        let gate = host.paced(rt)?;
-        run_all(
-            rt,
-            alloc,
-            &host,
-            &gate,
-            seats,
-            callers.as_mut_slice(),
-            calls,
-        )
-    } else {
-        run_all(
-            rt,
-            alloc,
-            &host,
-            &Open,
-            seats,
-            callers.as_mut_slice(),
-            calls,
-        )
-    };
+    let gate = host.paced(rt)?;
+    let ran = run_all(
+        rt,
+        alloc,
+        &host,
+        &gate,
+        seats,
+        callers.as_mut_slice(),
+        calls,
+    );
     let counter = match ran {
         Ok(()) => counter_in(callers.as_slice()),
         Err(fault) => Err(fault),

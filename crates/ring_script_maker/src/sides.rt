@@ -1,7 +1,7 @@
 //! The sides of a cut.
 
 use crate::draws::Draws;
-use ring_base::{Proc, ProcSet};
+use ring_base::{MOST_PROCESSORS, Proc, ProcSet};
 use std::fmt;
 
 /// The sides that nodes are parted into: each node is on one of them. Without a cut all are on the first.
@@ -39,7 +39,7 @@ impl Sides {
     pub fn draw(draws: &mut Draws, nodes: ProcSet) -> Sides {
         let many = if draws.happens(TWO_SIDES) { 2 } else { 3 };
         let mut drawn = Sides::joined(ProcSet::new());
-        for before in 0..16u8 {
+        for before in 0..MOST_PROCESSORS {
             let node = Proc::new(before + 1);
             let side = draws.below(many);
             if nodes.contains(node) {
@@ -104,7 +104,7 @@ struct Members(ProcSet);
 impl fmt::Display for Members {
     fn fmt<W: fmt::Write>(&self, f: &mut fmt::Formatter<W>) -> fmt::Result {
         let mut parting = "";
-        for before in 0..16u8 {
+        for before in 0..MOST_PROCESSORS {
             let node = Proc::new(before + 1);
             if self.0.contains(node) {
                 write!(f, "{parting}{node}")?;
