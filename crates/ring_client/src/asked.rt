@@ -5,12 +5,12 @@ ghost use Rattle.ring_client.specs.Asking.{unasked, submitted, refused_with, pol
 
 use ring_base::Fault;
 use ring_object::Short;
-use ring_payload::Call;
+use ring_payload::{Call, MOST_OPERATION};
 use ring_session::Answer;
 use std::alloc::Allocator;
 
 /// An operation, kept in place: 0 to 1,024 bytes.
-pub type Op = Short<1024>;
+pub type Op = Short<MOST_OPERATION>;
 
 /// What a port was asked last, and what came of it. It lies in place, so telling it takes no memory.
 ///
@@ -54,7 +54,7 @@ impl Asked {
         let op = call.op.as_slice();
         self.client = call.client;
         self.number = call.number;
-        self.op = Op::from_slice(&op[..op.len().min(1024)]);
+        self.op = Op::from_slice(&op[..op.len().min(MOST_OPERATION)]);
         self.refused = None;
         self.polls = 0;
         self.answer = None;

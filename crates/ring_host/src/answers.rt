@@ -10,12 +10,9 @@ use crate::host::HostTicket;
 use ring_base::Proc;
 use ring_book::{Book, BookName};
 use ring_object::Object;
-use ring_session::{Answer, Ticket};
+use ring_session::{Answer, MAX_UNANSWERED, Ticket};
 use std::alloc::Allocator;
 use std::marker::{Model, PhantomData};
-
-/// How many answers are kept of one look.
-const MOST: usize = 64;
 
 /// The answers that one look at a host's book found: those to a node's tickets from one of them on, up to the first that has none, and at
 /// most 64. Contracts see the node, the first ticket and the answers.
@@ -80,7 +77,7 @@ impl<O: Object, K: BookName<O::Alloc>> Answers<O, K> {
     pub(crate) fn make_room(&mut self)
         ensures { self.new ≡ self.old }
     {
-        let _room = self.found.reserve(MOST);
+        let _room = self.found.reserve(MAX_UNANSWERED);
     }
 
     /// Looks into the book for the answers from this ticket on, which take the place of those found before. Where memory refuses an
@@ -115,7 +112,7 @@ fn keep<A: Allocator + Copy + Drop>(
     if from >= told.len() {
         return;
     }
-    for ahead in 0..MOST {
+    for ahead in 0..MAX_UNANSWERED {
         let Some(answer) = answer_at(told, from + ahead) else {
             return;
         };

@@ -5,11 +5,11 @@ ghost use Rattle.ring_base.specs.declared.fault.Fault.TheVariants.{Memory};
 ghost use Rattle.ring_log.specs.Parts.{parts_of};
 
 use ring_base::Fault;
-use ring_wire::{Call, Calls, Part};
+use ring_wire::{Call, Calls, MOST_PART_CALLS, Part};
 use std::alloc::Allocator;
 
 /// So many places are in a Part, or fewer in the last.
-const PLACES: usize = 7;
+const PLACES: usize = MOST_PART_CALLS as usize;
 
 /// The Parts of places, of which the first is the place `at`. Refused with `Memory` alone.
 #[tactic(auto, using(ring_base::proofs::ListPlaces::map_numbers, ring_base::proofs::ListFronts::take_shorter))]

@@ -15,5 +15,5 @@ pub use copies::copied;
 pub use laws::object_law;
 pub use nothing::Nothing;
 pub use object::Object;
-pub use short::{Reply, Short};
+pub use short::{MOST_REPLY, Reply, Short};
 pub use sized::append_sized;

@@ -5,8 +5,11 @@ ghost use Rattle.std.specs.Prelude.{◌≡◌, ◌==◌, ◌≤◌, length};
 use std::fmt;
 use std::marker::Model;
 
+/// A reply has at most so many bytes.
+pub const MOST_REPLY: usize = 64;
+
 /// The reply to an operation: 0 to 64 bytes.
-pub type Reply = Short<64>;
+pub type Reply = Short<MOST_REPLY>;
 
 /// At most `N` bytes, kept in place: copied and compared without memory.
 #[derive(Clone, Copy, PartialEq, Eq)]

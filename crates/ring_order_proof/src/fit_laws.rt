@@ -33,6 +33,7 @@ pub fn node_fits_law<O: Object>()
 pub fn call_keeps_law<A: Allocator + Copy>(call: &OneCall<A>)
     ensures { CallFits call.now → KeepsLimits call.now }
 {
+    // A law: no effect at run time. The proof takes from it that the operation's bytes are below 256.
     bytes_law(call.op.as_slice());
 }
 

@@ -58,6 +58,9 @@ impl<A: Allocator + Copy> Clone for Calls<A> {
     }
 }
 
+/// A part of a log has at most so many calls.
+pub const MOST_PART_CALLS: u8 = 7;
+
 /// A part of a log: the place of its first call, counted from 0, and one to seven calls.
 #[derive(Clone, Drop)]
 pub struct Part<A: Allocator + Copy = Global> {
@@ -98,7 +101,7 @@ impl<A: Allocator + Copy> Decode<A> for Part<A> {
             return Err(Fault::BadFrame);
         }
         let count: u8 = Decode::read(alloc, from)?;
-        if count < 1 || count > 7 {
+        if count < 1 || count > MOST_PART_CALLS {
             return Err(Fault::BadFrame);
         }
         let calls = read_many(alloc, count as usize, from)?;
@@ -114,6 +117,9 @@ impl<A: Allocator + Copy> Decode<A> for Part<A> {
 pub struct Pack<A: Allocator + Copy = Global> {
     pub calls: Calls<A>,
 }
+
+/// A pack has at most so many calls.
+pub const MOST_PACK_CALLS: u8 = 16;
 
 /// A pack as a whole payload has at most so many bytes.
 pub const MOST_PACK_BYTES: usize = 7276;
@@ -161,7 +167,7 @@ impl<A: Allocator + Copy> Decode<A> for Pack<A> {
     #[tactic(auto, unfolding(crate::specs::Packs::pack_at))]
     fn read(alloc: A, from: &mut Reader<'_>) -> Result<Pack<A>, Fault> {
         let count: u8 = Decode::read(alloc, from)?;
-        if count < 2 || count > 16 {
+        if count < 2 || count > MOST_PACK_CALLS {
             return Err(Fault::BadFrame);
         }
         let calls = read_many(alloc, count as usize, from)?;

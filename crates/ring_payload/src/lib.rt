@@ -15,7 +15,7 @@ mod tags;
 mod versions;
 
 pub use call::Call;
-pub use calls::{Calls, MOST_PACK_BYTES, Pack, Part};
+pub use calls::{Calls, MOST_PACK_BYTES, MOST_PACK_CALLS, MOST_PART_CALLS, Pack, Part};
 pub use content::{Content, Payload, Wrapped};
 pub use head::Head;
 pub use operation::{MOST_OPERATION, Operation};

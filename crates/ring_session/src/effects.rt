@@ -46,6 +46,7 @@ impl<A: Allocator + Copy + Drop> Effects<A> {
         ensures ok { (before : List (OneCall A)) → AreOf before self.old → OnOk result (AreOf (before ++ call.now ∷ []) self.new) }
         ensures refused { IfErr result (λ fault. fault ≡ Memory) }
     {
+        // A law: no effect at run time. The proof takes from it which answer one call more has.
         table_law::<Nothing<A>>();
         match self.sessions.apply(call)? {
             Answer::Done(_) => {

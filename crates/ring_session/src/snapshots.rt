@@ -15,13 +15,11 @@ use crate::session::append_last;
 use byteorder::{BigEndian, ByteOrder};
 use ring_base::Fault;
 use ring_last_call::LastCall;
+use ring_object::MOST_REPLY;
 use ring_payload::MOST_OPERATION;
 use std::alloc::Allocator;
 use std::collections::BTreeMap;
 use std::marker::Model;
-
-/// The greatest length of a reply.
-const MOST_REPLY: usize = 64;
 
 // ---- writing
 

@@ -6,12 +6,12 @@ ghost use Rattle.ring_payload.specs.Packing.{front_run, behind, packed, left_beh
 ghost use Rattle.ring_srp_state.specs.Packing.{call_of, bytes_of, IsLeftOf};
 
 use ring_base::Fault;
-use ring_payload::{Call, Calls, MOST_PACK_BYTES, Pack, Payload};
+use ring_payload::{Call, Calls, MOST_PACK_BYTES, MOST_PACK_CALLS, Pack, Payload};
 use std::alloc::Allocator;
 use std::collections::VecDeque;
 
 /// A Pack has at most so many calls.
-const MOST_CALLS: usize = 16;
+const MOST_CALLS: usize = MOST_PACK_CALLS as usize;
 
 /// Takes a queue's first messages off it, at most so many: each is made anew of what is left, the longest run of
 /// Calls at the front that fits one Pack as a Pack, a run of one as a Call, anything else alone. `Memory` where a growth

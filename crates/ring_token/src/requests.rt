@@ -5,7 +5,7 @@ ghost use Rattle.std.specs.List.Sorted.{IsStrictlyIncreasing};
 ghost use Rattle.ring_token.specs.Visits.{left, requests_after};
 ghost use Rattle.ring_token.specs.Requesting.{least_first, after};
 
-use ring_wire::Requests;
+use ring_wire::{MOST_REQUESTS, Requests};
 
 /// The requests that stay at a member: those above its safe mark that it does not hold.
 pub fn left<F: Fn(u64) -> bool>(requests: &Requests, mark: u64, holds: F) -> Requests
@@ -31,7 +31,7 @@ pub fn requests_after(stays: &Requests, missing: &Requests) -> Requests
     let mut smallest = Requests::new();
     let mut left = stays.as_slice();
     let mut lacking = missing.as_slice();
-    while smallest.as_slice().len() < 32 {
+    while smallest.as_slice().len() < MOST_REQUESTS {
         let Some(number) = least_first(left, lacking) else {
             return smallest;
         };

@@ -11,15 +11,12 @@ ghost use Rattle.ring_base.specs.Numbers.{window_size};
 use crate::held_bits::HeldBits;
 use crate::history::{nothing_held, one_more};
 use ring_base::{Fault, Past, RingId, WINDOW};
-use ring_wire::{Message, Requests};
+use ring_wire::{MOST_REQUESTS, Message, Requests};
 use std::alloc::{AllocError, Allocator, Global};
 use std::marker::Model;
 
 /// As many messages are kept as the window has numbers.
 const PLACES: usize = WINDOW as usize;
-
-/// A token asks for at most so many messages.
-const MOST_REQUESTS: usize = 32;
 
 /// What a node holds of one ring. Messages are taken within the window, the 256 numbers after the safe mark,
 /// and kept until the mark passes them. Contracts see all messages ever taken, newest first, and the mark.

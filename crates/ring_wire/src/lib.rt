@@ -18,9 +18,9 @@ pub use entries::{CommitEntry, Entries};
 pub use frame::{Frame, decode_frame, one_spelling_law, short_law, spelling_law};
 pub use join::Join;
 pub use message::Message;
-pub use requests::Requests;
+pub use requests::{MOST_REQUESTS, Requests};
 pub use ring_payload::{
-    Call, Calls, Content, Head, MAX, MOST_SNAPSHOT, Part, Past, Payload, Piece, Proc, ProcSet,
-    RingId, Snap, WHOLE_PIECE, Wire, Wrapped, past_of,
+    Call, Calls, Content, Head, MAX, MOST_PART_CALLS, MOST_SNAPSHOT, Part, Past, Payload, Piece,
+    Proc, ProcSet, RingId, Snap, WHOLE_PIECE, Wire, Wrapped, past_of,
 };
 pub use token::Token;

@@ -9,10 +9,13 @@ use ring_payload::{Decode, Encode, Fault, Reader, Words, write_many};
 use std::alloc::{AllocError, Allocator};
 use std::marker::Model;
 
+/// A token asks for at most so many messages.
+pub const MOST_REQUESTS: usize = 32;
+
 /// At most 32 numbers, in place. Contracts see the list.
 #[derive(Drop)]
 pub struct Requests {
-    numbers: ArrayVec<u64, 32>,
+    numbers: ArrayVec<u64, MOST_REQUESTS>,
 }
 
 impl Model for Requests {
@@ -124,10 +127,11 @@ impl Requests {
         ensures few { IfOk result (λ numbers. length numbers ≤ 32) }
     {
         let count: u8 = Decode::read(alloc, from)?;
-        if count > 32 {
+        let count = count as usize;
+        if count > MOST_REQUESTS {
             return Err(Fault::BadFrame);
         }
-        Words::read(count as usize, from)
+        Words::read(count, from)
     }
 }
 

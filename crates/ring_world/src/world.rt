@@ -43,7 +43,7 @@ use ring_order_proof::laws::linear_law;
 use ring_order_proof::longest_laws::longest_law;
 use ring_payload::Call;
 use ring_rules::{Event, Item, Told};
-use ring_session::copy_of;
+use ring_session::{MAX_UNANSWERED, copy_of};
 use ring_wire::Frame;
 use std::alloc::Allocator;
 use std::marker::Model;
@@ -626,16 +626,16 @@ fn make_room<A: Allocator + Copy>(
     ensures refused { IfErr result (λ fault. fault ≡ Memory) }
 {
     let has_room = events.len() < events.capacity()
-        && told.capacity() - told.len() >= ANSWERS
-        && history.capacity() - history.len() >= ANSWERS
+        && told.capacity() - told.len() >= MAX_UNANSWERED
+        && history.capacity() - history.len() >= MAX_UNANSWERED
         && frames.has_room()
         && longest.has_room();
     if has_room {
         return Ok(());
     }
     events.reserve(1)?;
-    told.reserve(ANSWERS)?;
-    history.reserve(ANSWERS)?;
+    told.reserve(MAX_UNANSWERED)?;
+    history.reserve(MAX_UNANSWERED)?;
     frames.make_room()?;
     longest.make_room()
 }
@@ -650,6 +650,3 @@ fn keep_all<A: Allocator + Copy>(frames: &mut Frames<A>, from: Proc, sends: &[Se
         frames.keep(from, sent.to, &sent.frame);
     }
 }
-
-/// A step gives at most so many answers.
-const ANSWERS: usize = 64;
