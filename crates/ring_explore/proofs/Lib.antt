@@ -1,2 +1,2 @@
-mod Sharing
-mod Turning
+mod SeedsInShares
+mod TriedScripts

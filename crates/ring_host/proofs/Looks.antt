@@ -8,7 +8,7 @@ use Rattle.ring_session.specs.declared.answer.Answer.{Answer}
 use Rattle.ring_book.specs.Lines.{told_at, answer_in, IsRun, LineView}
 use Rattle.ring_host.specs.Answering.{IsAnswered, AreAnswered}
 use Rattle.ring_host.specs.Looking.{Looked, kept_for}
-use Rattle.ring_host.proofs.Issued.{is_answered}
+use Rattle.ring_host.proofs.TicketsGiven.{is_answered}
 
 -- answers of a run's book are answered
 pub are_answered : {A O : Type 0} (object : Sequential O) (group : Group) (lines : List (LineView A)) (told : List (Option Answer)) (node first : ℕ)

@@ -22,7 +22,7 @@ enum Content {
 type Row = (u8, Content);
 
 /// What an exchange hears, and the last, by which it becomes whole.
-type Story = (&'static [Row], Row);
+type LogStory = (&'static [Row], Row);
 
 /// The places 9 to 19 of processor 1's log are wanted. A Part that doesn't continue, and one of another sender, are ignored.
 const PLACES: [Row; 6] = [
@@ -152,7 +152,7 @@ fn heard<A: Allocator + Copy>(
 fn ended<A: Allocator + Copy>(
     heap: A,
     exchange: &mut Exchange<A>,
-    (before, last): Story,
+    (before, last): LogStory,
     refused: &mut u64,
 ) -> Result<Option<Base<A>>, Fault> {
     for row in before {
@@ -166,7 +166,7 @@ fn ended<A: Allocator + Copy>(
 /// The base that a new exchange brings.
 fn brought<A: Allocator + Copy>(
     heap: A,
-    story: Story,
+    story: LogStory,
     refused: &mut u64,
 ) -> Result<Option<Base<A>>, Fault> {
     let mut exchange = Exchange::new(heap, ProcSet::from_bits(0b111));

@@ -30,7 +30,7 @@
 -- DroppedInSteps: What a core gives in a step lets its node drop no place but by restoring a snapshot of more than it had committed.
 -- KnownWhole: What a node knows of its log by its life alone, beside the whole log: its tables, its snapshot and the places that it keeps.
 -- CommittingSteps: What a step of a node commits, by the one list, and the table before that.
--- Following: A node that knows of its log what the whole log is follows its committed places, and the order.
+-- FollowedByNodes: A node that knows of its log what the whole log is follows its committed places, and the order.
 -- RestoredTables: What snapshots hold, of all lives at one moment: each that was restored is that of the table after the places that it stands for.
 -- RepliesTold: Each reply that a step adds to the history is the session table's at a committed place of that node at which the call stands.
 -- HandedTickets: Each call that a node hands over is one of its tickets', and each ticket's call was issued.
@@ -87,7 +87,7 @@ pub mod PiecesHanded
 pub mod DroppedInSteps
 pub mod KnownWhole
 pub mod CommittingSteps
-pub mod Following
+pub mod FollowedByNodes
 pub mod RestoredTables
 pub mod RepliesTold
 pub mod HandedTickets

@@ -24,7 +24,7 @@ use Rattle.ring_order_proof.specs.Linear.{EventKeeps, OnlyIssued, Follows, Follo
 use Rattle.ring_order_proof.specs.Living.{lives_in, lives_of}
 use Rattle.ring_order_proof.proofs.CommittingSteps.{IsSteady}
 use Rattle.ring_order_proof.proofs.DisciplinedWorlds.{opened_on}
-use Rattle.ring_order_proof.proofs.Following.{follows, follows-order}
+use Rattle.ring_order_proof.proofs.FollowedByNodes.{follows, follows-order}
 use Rattle.ring_order_proof.proofs.IssuedInWorlds.{WorldKnows, opening-knows, run-knows}
 use Rattle.ring_order_proof.proofs.IssuedLimits.{HistoryKeeps, run-keeps}
 use Rattle.ring_order_proof.proofs.KnownByNodes.{all-know}

@@ -2,6 +2,6 @@ pub mod Acts
 pub mod Fates
 pub mod Limits
 pub mod Served
-pub mod Submits
+pub mod PipedSubmits
 pub mod Telling
 pub mod Writing

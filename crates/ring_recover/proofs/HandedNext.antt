@@ -15,7 +15,7 @@ use Rattle.ring_window.specs.Windows.{Windowed, kept}
 use Rattle.ring_recover.specs.Plans.{low}
 use Rattle.ring_recover.specs.Wrapping.{is_wrapped}
 use Rattle.ring_recover.specs.Recovering.{Recovering, first_number, next_to_wrap, is_users, IsPlanKept}
-use Rattle.ring_recover.proofs.Following.{kept_found}
+use Rattle.ring_recover.proofs.MessagesInFront.{kept_found}
 
 -- what is found of a number has it
 pub found_number : {A : Type 0} (held : List (Message A)) (ring : RingId) (n : ℕ) (x : Message A) → found held ring n ≡ Some x → x.number ≡ n

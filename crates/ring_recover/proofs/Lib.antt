@@ -5,7 +5,7 @@
 -- GatheredMates: Those that come from the old ring, gathered member by member.
 -- HandedNext: What is handed on next, number by number; and, of what a node in Recovery would send, what is left once the first of it is seen.
 -- EndsCounted: One more of a new ring's messages is counted: whose Ends there are, the last of them, and whether there is a users' message.
--- Following: A new ring's messages in the front, as the front rises.
+-- MessagesInFront: A new ring's messages in the front, as the front rises.
 -- AllRings: A node keeps the messages of all rings in one list, and a window those of one ring: what recovery asks of the old ring and of the new is the
 --   same of both.
 -- RecoverySends: What a node in Recovery sends of its old ring: the first of it is what `to_wrap` names, and once a message that wraps that is seen, the
@@ -19,7 +19,7 @@ pub mod Planning
 pub mod GatheredMates
 pub mod HandedNext
 pub mod EndsCounted
-pub mod Following
+pub mod MessagesInFront
 pub mod AllRings
 pub mod RecoverySends
 pub mod Commits

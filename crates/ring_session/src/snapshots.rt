@@ -111,14 +111,14 @@ fn first_reply(bytes: &[u8]) -> Option<(&[u8], &[u8])>
 
 /// A client and its last call, as bytes tell them.
 #[derive(Drop)]
-pub struct Told<'a> {
+pub struct ClientTold<'a> {
     client: u32,
     number: u64,
     operation: &'a [u8],
     reply: &'a [u8],
 }
 
-impl<'a> Model for Told<'a> {
+impl<'a> Model for ClientTold<'a> {
     ghost use Rattle.std.specs.Prelude.{ℕ, ◌≤◌, length};
     ghost use Rattle.ring_session.specs.Table.{LastCall};
 
@@ -129,7 +129,7 @@ impl<'a> Model for Told<'a> {
     ghost invariant = { λ t. length t.reply.now ≤ 64 };
 }
 
-impl<'a> Told<'a> {
+impl<'a> ClientTold<'a> {
     fn client(&self) -> u32
         ensures { result ≡ self.now.0 }
     {
@@ -153,7 +153,7 @@ impl<'a> Told<'a> {
 }
 
 /// The client at the front, if its number is none below this one, and what stands behind it.
-fn first_client(low: u64, bytes: &[u8]) -> Option<(Told<'_>, &[u8])>
+fn first_client(low: u64, bytes: &[u8]) -> Option<(ClientTold<'_>, &[u8])>
     ensures { option_map (λ p. (p.0, p.1.now)) result ≡ next_at low bytes.now }
 {
     let (client, rest) = first_number(4, bytes)?;
@@ -166,7 +166,7 @@ fn first_client(low: u64, bytes: &[u8]) -> Option<(Told<'_>, &[u8])>
     if client < low {
         return None;
     }
-    let told = Told {
+    let told = ClientTold {
         client: client as u32,
         number,
         operation,

@@ -29,7 +29,7 @@ use Rattle.ring_recover.specs.Recovering.{with_seen, Recovering as Seen}
 use Rattle.ring_recover.specs.Wrapping.{unwrapped}
 use Rattle.ring_recover.proofs.AllRings.{in_front_of_ring, inner_of_ring}
 use Rattle.ring_recover.proofs.EndsCounted.{or_right}
-use Rattle.ring_recover.proofs.Following.{up_to, up_to_all, up_to_front, front_with}
+use Rattle.ring_recover.proofs.MessagesInFront.{up_to, up_to_all, up_to_front, front_with}
 use Rattle.ring_join.specs.Gatherers.{Gatherer}
 use Rattle.ring_commit.specs.declared.configuration.Configuration.{Configuration}
 use Rattle.ring_core.specs.State.{Core, floor}

@@ -30,7 +30,7 @@ use Rattle.ring_recover.specs.Installing.{in_front, is_ready_by, is_ready}
 use Rattle.ring_recover.specs.Recovering.{Recovering as Planned}
 use Rattle.ring_recover.proofs.AllRings.{finish_of_ring}
 use Rattle.ring_recover.specs.Deliveries.{delivery, finish, transitional_part, past_gap_part, is_from_mate, rests}
-use Rattle.ring_recover.proofs.Following.{kept_found}
+use Rattle.ring_recover.proofs.MessagesInFront.{kept_found}
 use Rattle.ring_core.specs.declared.out.Out.{Out}
 use Rattle.ring_core.specs.declared.out.Out.TheVariants.{Agreed, Trans, Rest, Regular}
 use Rattle.ring_core.specs.State.{Core, Sent}

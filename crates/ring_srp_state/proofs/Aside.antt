@@ -3,7 +3,7 @@ use Rattle.std.proofs.Common.{◌≡◌, ℕ, ◌+◌, ◌<◌, ◌≤◌, ◌++
 use Rattle.ring_wire.specs.declared.message.Message.{Message}
 use Rattle.ring_window.specs.Held.{found, front_of}
 use Rattle.ring_window.specs.Windows.{kept}
-use Rattle.ring_recover.proofs.Following.{kept_found}
+use Rattle.ring_recover.proofs.MessagesInFront.{kept_found}
 use Rattle.ring_srp_state.specs.declared.part.Part.{Part}
 use Rattle.ring_srp_state.specs.declared.recovering.Recovering.{Recovering}
 use Rattle.ring_srp_state.specs.Setting.{SetsAside}

@@ -39,7 +39,7 @@ use Rattle.ring_synchrony_proof.proofs.Quantified.{all_decides, numbers_in}
 use Rattle.ring_synchrony_proof.specs.Recovery.{HoldsEnd}
 use Rattle.ring_synchrony_proof.proofs.Heard.{found_as}
 use Rattle.ring_synchrony_proof.proofs.Inner.{AllUnwrap}
-use Rattle.ring_synchrony_proof.proofs.Known.{in_reports}
+use Rattle.ring_synchrony_proof.proofs.KnownReports.{in_reports}
 use Rattle.ring_synchrony_proof.proofs.MatesReported.{got_in}
 use Rattle.ring_synchrony_proof.proofs.Recovering.{numbered_by}
 use Rattle.ring_synchrony_proof.proofs.Unwrapped.{ready_ends}

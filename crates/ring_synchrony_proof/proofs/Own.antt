@@ -23,7 +23,7 @@ use Rattle.ring_chain_proof.proofs.FactsGrow.{moved_grows}
 use Rattle.ring_core_proof.proofs.OwnMessages.{AreFit}
 use Rattle.ring_core_proof.proofs.OwnReports.{exact_now}
 use Rattle.ring_core.proofs.Windows.{holds-more}
-use Rattle.ring_synchrony_proof.proofs.Known.{own_is}
+use Rattle.ring_synchrony_proof.proofs.KnownReports.{own_is}
 
 pub record HasOwn {A : Type 0} (c : Core A) : Type 0 where
   pub commit : CommitToken

@@ -27,7 +27,7 @@ use Rattle.ring_core_proof.proofs.WithinWindow.{Fit}
 use Rattle.ring_synchrony_proof.specs.Tales.{plan_into}
 use Rattle.ring_synchrony_proof.proofs.Keeps.{IsSameOf}
 use Rattle.ring_synchrony_proof.proofs.MatesReported.{is_mate, got_in}
-use Rattle.ring_synchrony_proof.proofs.Known.{own_is, IsReach, held_reported, safe_most, in_reports, reports_in, known_by, known_reach, safe_low, raised_is}
+use Rattle.ring_synchrony_proof.proofs.KnownReports.{own_is, IsReach, held_reported, safe_most, in_reports, reports_in, known_by, known_reach, safe_low, raised_is}
 
 pub record HasPlan {A : Type 0} (c : Core A) (next old : Configuration) : Type 0 where
   pub commit : CommitToken

@@ -54,7 +54,7 @@ use Rattle.ring_synchrony_proof.specs.Tales.{plan_into}
 use Rattle.ring_synchrony_proof.proofs.Ordered.{Ordered, moved_ordered, opening_ordered}
 use Rattle.ring_synchrony_proof.proofs.Keeps.{Keeps, IsStill, all_same, visited_same, moved_keeps}
 use Rattle.ring_synchrony_proof.proofs.MatesReported.{has_at}
-use Rattle.ring_synchrony_proof.proofs.Known.{IsReach, own_reach}
+use Rattle.ring_synchrony_proof.proofs.KnownReports.{IsReach, own_reach}
 use Rattle.ring_synchrony_proof.proofs.Planned.{HasPlan, learned_plan, plan_stays, complete_stays, HasChanged, HaveChanged, AllChanged}
 
 -- Facts of one core

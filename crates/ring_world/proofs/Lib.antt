@@ -11,7 +11,7 @@
 -- Copying: What a copy of a world keeps is what the world keeps.
 -- Playing: A run goes on event by event, and only adds to what was.
 -- OutputsGrow: What the cores gave in a run goes on in a longer one.
--- GoingOn: What the laws of every run say of a world that has gone on.
+-- WorldsGoOn: What the laws of every run say of a world that has gone on.
 -- EventLimits: Calls of events that keep the limits of snapshots keep those of frames, as copies of events do.
 -- Segments: The longest of what nodes committed, segment by segment.
 -- OrderLengths: How long the order is: as many calls as took effect at the node where the most did.
@@ -34,7 +34,7 @@ pub mod FrameHanded
 pub mod Copying
 pub mod Playing
 pub mod OutputsGrow
-pub mod GoingOn
+pub mod WorldsGoOn
 pub mod Opening
 pub mod Segments
 pub mod OrderLengths

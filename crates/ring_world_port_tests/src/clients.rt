@@ -147,7 +147,7 @@ fn counts_once<O: Object>(
 
 /// What becomes of the nodes that a client tries.
 #[derive(Clone, Copy)]
-enum Story {
+enum ClientStory {
     /// Nobody hears anybody, until the call was tried twice.
     NobodyHears,
     /// The first node stops.
@@ -156,13 +156,13 @@ enum Story {
     FirstIsCutOff,
 }
 
-impl Story {
+impl ClientStory {
     /// Which nodes hear each other at first, and how often the client polls each of its ports at most.
     fn opening(self) -> Result<(ProcSet, u64), Fault> {
         match self {
-            Story::NobodyHears => Ok((ProcSet::new(), 300)),
-            Story::FirstStops => Ok((everybody()?, 400)),
-            Story::FirstIsCutOff => Ok((everybody()?.less(ProcSet::only(Proc::new(1))), 200)),
+            ClientStory::NobodyHears => Ok((ProcSet::new(), 300)),
+            ClientStory::FirstStops => Ok((everybody()?, 400)),
+            ClientStory::FirstIsCutOff => Ok((everybody()?.less(ProcSet::only(Proc::new(1))), 200)),
         }
     }
 }
@@ -171,17 +171,17 @@ impl Story {
 fn goes_well<O: Object>(
     client: &mut Client<WorldPort<O>>,
     shared: &Shared<O>,
-    story: Story,
+    story: ClientStory,
 ) -> Result<bool, Fault> {
     match story {
-        Story::NobodyHears => is_answered_later(client, shared),
-        Story::FirstStops => is_passed_over(client, shared),
-        Story::FirstIsCutOff => counts_once(client, shared),
+        ClientStory::NobodyHears => is_answered_later(client, shared),
+        ClientStory::FirstStops => is_passed_over(client, shared),
+        ClientStory::FirstIsCutOff => counts_once(client, shared),
     }
 }
 
 /// The same of a new client of three nodes.
-fn goes_well_anew<O: Object>(alloc: O::Alloc, story: Story) -> Result<bool, Fault> {
+fn goes_well_anew<O: Object>(alloc: O::Alloc, story: ClientStory) -> Result<bool, Fault> {
     let (group, polls) = story.opening()?;
     let (shared, mut client) = opened::<O>(alloc, group, polls)?;
     let goes_well = goes_well(&mut client, &shared, story);
@@ -192,18 +192,18 @@ fn goes_well_anew<O: Object>(alloc: O::Alloc, story: Story) -> Result<bool, Faul
 
 #[test]
 fn an_open_call_is_answered_once_all_hear_each_other(rt: HostRuntime) -> Result<(), Fail> {
-    assert!(rt; goes_well_anew::<Counters>(rt.alloc(), Story::NobodyHears)?);
+    assert!(rt; goes_well_anew::<Counters>(rt.alloc(), ClientStory::NobodyHears)?);
     Ok(())
 }
 
 #[test]
 fn a_stopped_node_is_passed_over(rt: HostRuntime) -> Result<(), Fail> {
-    assert!(rt; goes_well_anew::<Counters>(rt.alloc(), Story::FirstStops)?);
+    assert!(rt; goes_well_anew::<Counters>(rt.alloc(), ClientStory::FirstStops)?);
     Ok(())
 }
 
 #[test]
 fn a_call_that_two_nodes_took_counts_once(rt: HostRuntime) -> Result<(), Fail> {
-    assert!(rt; goes_well_anew::<Counters>(rt.alloc(), Story::FirstIsCutOff)?);
+    assert!(rt; goes_well_anew::<Counters>(rt.alloc(), ClientStory::FirstIsCutOff)?);
     Ok(())
 }

@@ -19,7 +19,7 @@ const POLLS: u64 = 400;
 
 /// What the calls were replied, in order.
 #[derive(Clone, Copy)]
-struct Story {
+struct LockStory {
     acquired: Replied,
     refused: Replied,
     released: Replied,
@@ -36,8 +36,8 @@ pub fn tell<R: AllocGlobal + Print>(rt: &R) -> io::Result<()> {
 }
 
 /// Prints a story.
-fn tell_story<R: Print>(rt: &R, story: &Story) -> io::Result<()> {
-    let Story {
+fn tell_story<R: Print>(rt: &R, story: &LockStory) -> io::Result<()> {
+    let LockStory {
         acquired,
         refused,
         released,
@@ -119,11 +119,11 @@ fn call_all<O: Object>(
     group: Fixed,
     one: &mut Client<WorldPort<O>>,
     two: &mut Client<WorldPort<O>>,
-) -> Result<Story, Fault> {
+) -> Result<LockStory, Fault> {
     let acquired = ask(one, LockOperation::Acquire(7, 11))?;
     let refused = ask(two, LockOperation::Acquire(7, 22))?;
     cut_off(shared, group, 1)?;
-    Ok(Story {
+    Ok(LockStory {
         acquired,
         refused,
         released: ask(one, LockOperation::Release(7, 11))?,
@@ -138,7 +138,7 @@ fn call_with<O: Object>(
     shared: &Shared<O>,
     group: Fixed,
     one: &mut Client<WorldPort<O>>,
-) -> Result<Story, Fault> {
+) -> Result<LockStory, Fault> {
     let mut two = client_of(alloc, shared, group, 2, (2, 3))?;
     let story = call_all(shared, group, one, &mut two);
     drop(two);
@@ -146,7 +146,11 @@ fn call_with<O: Object>(
 }
 
 /// The story of two clients of these nodes.
-fn call_over<O: Object>(alloc: O::Alloc, shared: &Shared<O>, group: Fixed) -> Result<Story, Fault> {
+fn call_over<O: Object>(
+    alloc: O::Alloc,
+    shared: &Shared<O>,
+    group: Fixed,
+) -> Result<LockStory, Fault> {
     let mut one = client_of(alloc, shared, group, 1, (1, 2))?;
     let story = call_with(alloc, shared, group, &mut one);
     drop(one);
@@ -154,7 +158,7 @@ fn call_over<O: Object>(alloc: O::Alloc, shared: &Shared<O>, group: Fixed) -> Re
 }
 
 /// The story of three nodes at their opening.
-fn ask_for_lock<O: Object>(alloc: O::Alloc) -> Result<Story, Fault> {
+fn ask_for_lock<O: Object>(alloc: O::Alloc) -> Result<LockStory, Fault> {
     let group = Fixed::new(3)?;
     let shared = network_of::<O>(alloc, group)?;
     let story = call_over(alloc, &shared, group);

@@ -3,7 +3,7 @@ use Rattle.std.proofs.Common.{length, take, refl}
 use Rattle.std.proofs.lemmas.Option.{slice_get_read}
 use Rattle.ring_checker.specs.Checks.{IsRightIn}
 use Rattle.ring_checker.proofs.Indexes.{each-more}
-use Rattle.ring_checker.proofs.Fronts.{all_issued-later, right-not, right-all}
+use Rattle.ring_checker.proofs.IssuedFronts.{all_issued-later, right-not, right-all}
 use Rattle.ring_checker.proofs.check.are_right.Goals as goal
 
 pub returns-then-not-is_right : goal.returns-then-not-is_right

@@ -1,7 +1,7 @@
 -- One more place, or the end of the front.
 use Rattle.std.proofs.Common.{length, refl, arith}
 use Rattle.std.proofs.lemmas.Option.{slice_get_read}
-use Rattle.ring_checker.proofs.Fronts.{front-more, front-ended, front-whole}
+use Rattle.ring_checker.proofs.IssuedFronts.{front-more, front-ended, front-whole}
 use Rattle.ring_checker.proofs.check.front_before.Goals as goal
 
 pub loop-front-preserved : goal.loop-front-preserved

@@ -3,7 +3,7 @@ use Rattle.std.proofs.Common.{◌≡◌, ◌≤◌, ◌<◌, ◌+◌, ℕ, Optio
 use Rattle.ring_shares.proofs.Sharing.{round_grows, round_within}
 use Rattle.ring_explore.specs.Explored.{AreTried, seeds_in}
 use Rattle.ring_explore.specs.Tried.{IsTried}
-use Rattle.ring_explore.proofs.Sharing.{tried_none, tried_more, tried_append, tried_part}
+use Rattle.ring_explore.proofs.SeedsInShares.{tried_none, tried_more, tried_append, tried_part}
 use Rattle.ring_explore.proofs.exploring.+try_rounds.Goals as goal
 
 pub returns-then-from-many : goal.returns-then-from-many

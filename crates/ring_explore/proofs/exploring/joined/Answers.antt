@@ -6,7 +6,7 @@ use Rattle.ring_shares.specs.Shares.{share_begin}
 use Rattle.ring_shares.proofs.Sharing.{found_of, one_longer, shares_end}
 use Rattle.ring_explore.specs.Explored.{AreTried, seeds_in}
 use Rattle.ring_explore.specs.Tried.{IsTried}
-use Rattle.ring_explore.proofs.Sharing.{tried_share}
+use Rattle.ring_explore.proofs.SeedsInShares.{tried_share}
 use Rattle.ring_explore.proofs.exploring.joined.Goals as goal
 
 pub loop-part-preserved : goal.loop-part-preserved

@@ -1,7 +1,7 @@
 -- All seeds in rounds.
 use Rattle.ring_explore.specs.Explored.{seeds_in}
 use Rattle.ring_explore.specs.Tried.{IsTried}
-use Rattle.ring_explore.proofs.Sharing.{tried_whole}
+use Rattle.ring_explore.proofs.SeedsInShares.{tried_whole}
 use Rattle.ring_explore.proofs.exploring.try_all.Goals as goal
 
 pub returns-in-Some : goal.returns-in-Some

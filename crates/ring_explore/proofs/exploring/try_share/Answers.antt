@@ -3,7 +3,7 @@ use Rattle.ring_shares.specs.Shares.{share_begin}
 use Rattle.ring_shares.proofs.Sharing.{share_grows, next_begin}
 use Rattle.ring_explore.specs.Explored.{AreTried, seeds_in}
 use Rattle.ring_explore.specs.Tried.{IsTried}
-use Rattle.ring_explore.proofs.Sharing.{tried_next, tried_more}
+use Rattle.ring_explore.proofs.SeedsInShares.{tried_next, tried_more}
 use Rattle.ring_explore.proofs.exploring.try_share.Goals as goal
 
 pub returns-then-is_some : goal.returns-then-is_some

@@ -1,7 +1,7 @@
 use Rattle.std.proofs.Common.{subst}
 use Rattle.std.specs.declared.alloc.Global.{Global}
 use Rattle.ring_console.specs.Running.{RunView, Runs}
-use Rattle.ring_explore.proofs.Turning.{found_tried}
+use Rattle.ring_explore.proofs.TriedScripts.{found_tried}
 use Rattle.ring_explore.proofs.one.try_script.Goals as goal
 
 pub returns : goal.returns

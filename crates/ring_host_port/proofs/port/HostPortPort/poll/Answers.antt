@@ -1,4 +1,4 @@
-use Rattle.ring_host_port.proofs.Told.{holds_of_told}
+use Rattle.ring_host_port.proofs.AnswersTold.{holds_of_told}
 use Rattle.ring_host_port.proofs.port.HostPortPort.poll.Goals as goal
 
 pub returns-then-is_none-clause-answered : goal.returns-then-is_none-clause-answered

@@ -2,7 +2,7 @@
 use Rattle.std.proofs.Common.{arith}
 use Rattle.ring_order_proof.proofs.NodeLimits.{takes}
 use Rattle.ring_payload.specs.Calls.{CallFits}
-use Rattle.ring_pipe.proofs.Submits.{not_made, made}
+use Rattle.ring_pipe.proofs.PipedSubmits.{not_made, made}
 use Rattle.ring_pipe.proofs.piped.Piped.submit.Goals as goal
 
 pub invariant_of-self : goal.invariant_of-self

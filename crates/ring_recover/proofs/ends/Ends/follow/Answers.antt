@@ -2,7 +2,7 @@
 use Rattle.std.proofs.Common.{◌≡◌, ◌+◌, ◌≤◌, [], ◌∷◌, ◌++◌, length, ap, sym, ◌∙◌, arith}
 use Rattle.std.specs.Option.{option_copied}
 use Rattle.ring_window.specs.Held.{front_of}
-use Rattle.ring_recover.proofs.Following.{up_to, up_to_few, up_to_some, up_to_none, front_short, front_up_to, kept_found, none_from}
+use Rattle.ring_recover.proofs.MessagesInFront.{up_to, up_to_few, up_to_some, up_to_none, front_short, front_up_to, kept_found, none_from}
 use Rattle.ring_recover.proofs.ends.Ends.follow.Goals.{in-Some, in_default}
 use Rattle.ring_recover.proofs.ends.Ends.follow.Goals as goal
 

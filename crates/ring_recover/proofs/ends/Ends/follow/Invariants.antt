@@ -1,7 +1,7 @@
 -- Those up to here are counted.
 use Rattle.std.proofs.Common.{◌≡◌, ◌≤◌}
 use Rattle.ring_window.specs.Held.{front_of}
-use Rattle.ring_recover.proofs.Following.{up_to}
+use Rattle.ring_recover.proofs.MessagesInFront.{up_to}
 use Rattle.ring_recover.proofs.ends.Ends.follow.Given as goal
 
 abbrev pub invariant-loop-before : goal.invariant-loop-before

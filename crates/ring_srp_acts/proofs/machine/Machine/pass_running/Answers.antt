@@ -4,7 +4,7 @@ use Rattle.ring_base.specs.Processors.{only}
 use Rattle.ring_base.specs.declared.state.State.TheVariants.{Recovery}
 use Rattle.ring_window.specs.Windows.{forgotten}
 use Rattle.ring_token.specs.Histories.{TokenHistory, mark_of}
-use Rattle.ring_recover.proofs.Following.{none_from}
+use Rattle.ring_recover.proofs.MessagesInFront.{none_from}
 use Rattle.ring_core.specs.State.{Core}
 use Rattle.ring_srp_state.specs.declared.recovering.Recovering.{Recovering}
 use Rattle.ring_srp_state.specs.Histories.{with_visit}

@@ -1,6 +1,6 @@
 -- What holds of every run holds of this one.
 use Rattle.std.proofs.Common.{ap}
-use Rattle.ring_world.proofs.GoingOn.{longer, goes_on}
+use Rattle.ring_world.proofs.WorldsGoOn.{longer, goes_on}
 use Rattle.ring_world.proofs.world.World.run_one.Goals as goal
 
 pub returns-clause-shows : goal.returns-clause-shows
