@@ -4,7 +4,9 @@ ghost use Rattle.std.specs.Prelude.{◌≡◌, ◌≢◌, ℕ, ◌^◌, ◌<◌,
 ghost use Rattle.ring_base.specs.Processors.{most_processors, IsProc, IsMember, IsSubset, has, within, nobody, only};
 ghost use Rattle.ring_base.specs.Processors.{union, common, less, size, smallest, position_of, at, next};
 
+use crate::limits::MOST_PROCESSORS;
 use crate::processor::Proc;
+use std::fmt::{self, Display};
 use std::marker::Model;
 
 /// A set of processors. Contracts see a word: processor i is its bit of value 2 ^ (i - 1).
@@ -164,5 +166,20 @@ impl ProcSet {
         ProcSet {
             bits: self.bits & !other.bits,
         }
+    }
+}
+
+/// The numbers of its members, ascending, parted by commas.
+impl Display for ProcSet {
+    fn fmt<W: fmt::Write>(&self, f: &mut fmt::Formatter<W>) -> fmt::Result {
+        let mut parting = "";
+        for before in 0..MOST_PROCESSORS {
+            let node = Proc::new(before + 1);
+            if self.contains(node) {
+                write!(f, "{parting}{node}")?;
+                parting = ",";
+            }
+        }
+        Ok(())
     }
 }

@@ -3,10 +3,8 @@
 
 mod frame;
 mod mark;
-mod members;
 mod picture;
 mod shapes;
 
 pub use mark::{Mark, Shade};
-pub use members::MemberNumbers;
 pub use picture::Picture;

@@ -2,7 +2,6 @@
 
 use crate::frame::Frame;
 use crate::mark::Shade;
-use crate::members::MemberNumbers;
 use ring_base::{Proc, ProcSet, RingId, State};
 use std::fmt::Display;
 use std::io::{self, Write};
@@ -150,7 +149,6 @@ pub(crate) fn write_ring<W: Write>(
 ) -> io::Result<()> {
     let x = frame.x(column).saturating_add(3);
     let y = frame.y(node).saturating_add(BASE);
-    let members = MemberNumbers(members);
     write_text(
         out,
         (x, y),
@@ -253,12 +251,11 @@ pub(crate) fn write_side<W: Write>(
 ) -> io::Result<()> {
     let behind = before.saturating_mul(LETTER).saturating_add(4);
     let x = frame.x(column).saturating_add(behind);
-    let members = MemberNumbers(side);
     write_text(
         out,
         (x, 13),
         " fill=\"#cc0000\"",
-        format_args!("{{{members}}}"),
+        format_args!("{{{side}}}"),
     )
 }
 

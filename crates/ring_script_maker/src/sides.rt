@@ -90,25 +90,7 @@ impl fmt::Display for Sides {
     fn fmt<W: fmt::Write>(&self, f: &mut fmt::Formatter<W>) -> fmt::Result {
         for side in self.all() {
             if !side.is_empty() {
-                write!(f, " {}", Members(side))?;
-            }
-        }
-        Ok(())
-    }
-}
-
-/// The numbers of a set's members, parted by commas.
-#[derive(Clone, Copy)]
-struct Members(ProcSet);
-
-impl fmt::Display for Members {
-    fn fmt<W: fmt::Write>(&self, f: &mut fmt::Formatter<W>) -> fmt::Result {
-        let mut parting = "";
-        for before in 0..MOST_PROCESSORS {
-            let node = Proc::new(before + 1);
-            if self.0.contains(node) {
-                write!(f, "{parting}{node}")?;
-                parting = ",";
+                write!(f, " {side}")?;
             }
         }
         Ok(())

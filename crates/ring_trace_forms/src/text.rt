@@ -4,7 +4,6 @@ ghost use Rattle.std.specs.Prelude.{◌≡◌, IfErr};
 ghost use Rattle.ring_report.specs.declared.failure.Failure.TheVariants.{Output};
 
 use ring_base::ProcSet;
-use ring_picture::MemberNumbers;
 use ring_report::Failure;
 use ring_trace_words::{Change, Counts, Fold, Happening, Told, ToldWords, Waiting, Why, Wording};
 use std::alloc::Allocator;
@@ -45,7 +44,7 @@ pub(crate) fn print_cut<W: Write>(out: &mut W, groups: &[ProcSet]) -> Result<(),
 {
     write!(out, "cut").map_err(|_| Failure::Output)?;
     for group in groups {
-        write!(out, " {}", MemberNumbers(*group)).map_err(|_| Failure::Output)?;
+        write!(out, " {group}").map_err(|_| Failure::Output)?;
     }
     writeln!(out).map_err(|_| Failure::Output)
 }

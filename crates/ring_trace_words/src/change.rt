@@ -2,7 +2,6 @@
 
 use crate::votes::Share;
 use ring_base::{ProcSet, RingId, State};
-use ring_picture::MemberNumbers;
 use ring_report::state_word;
 use std::fmt;
 
@@ -39,11 +38,7 @@ impl fmt::Display for Change {
                 } else {
                     "not primary"
                 };
-                write!(
-                    f,
-                    "installs ring {ring} of {} with {share}, {kind}",
-                    MemberNumbers(members)
-                )
+                write!(f, "installs ring {ring} of {members} with {share}, {kind}")
             }
             Change::Committed(length) => write!(f, "has committed {length}"),
             Change::Trimmed(length) => write!(f, "keeps its first {length} as a snapshot"),

@@ -2,7 +2,6 @@
 
 use crate::votes::Share;
 use ring_base::{ProcSet, State};
-use ring_picture::MemberNumbers;
 use ring_report::state_word;
 use std::fmt;
 
@@ -26,9 +25,7 @@ impl fmt::Display for Why {
         match *self {
             Why::Stopped => write!(f, "its node has stopped"),
             Why::State(state) => write!(f, "its node is in {}", state_word(state)),
-            Why::Minority { members, share } => {
-                write!(f, "its ring {{{}}} has {share}", MemberNumbers(members))
-            }
+            Why::Minority { members, share } => write!(f, "its ring {{{members}}} has {share}"),
             Why::NotSent => write!(f, "not sent yet"),
             Why::NotSafe => write!(f, "sent, and not safe yet"),
         }
