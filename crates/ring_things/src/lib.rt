@@ -18,8 +18,10 @@ mod values;
 
 pub use counters::Counters;
 pub use names::Names;
+pub use numbers::read_numbers;
 pub use operations::{Operation, ShelfOperation};
 pub use queue::Queue;
 pub use registers::Registers;
 pub use replies::{Outcome, Replied, reply, reply_with};
 pub use shelf::{Place, Shelf, Things};
+pub use values::KEYS;

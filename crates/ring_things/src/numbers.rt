@@ -21,7 +21,7 @@ pub fn append_numbers<A: Allocator>(out: &mut Vec<u8, A>, numbers: &[u64])
     }
 }
 
-/// The numbers that the bytes hold, or `Memory`.
+/// The numbers that the bytes hold, 8 bytes each, big-endian; or `Memory`.
 pub fn read_numbers<A: Allocator + Copy + Drop>(
     alloc: A,
     count: usize,

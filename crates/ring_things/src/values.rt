@@ -8,8 +8,8 @@ use ring_base::Fault;
 use std::alloc::{Allocator, Global};
 use std::marker::Model;
 
-/// How many keys there are.
-const KEYS: usize = 256;
+/// How many keys there are: a key is a byte.
+pub const KEYS: usize = 256;
 
 /// A value for each key.
 #[derive(Drop)]

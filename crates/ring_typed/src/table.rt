@@ -1,15 +1,13 @@
 //! A number for each of 256 keys.
 
-ghost use Rattle.std.specs.Prelude.{◌≡◌, ◌*◌, ◌++◌, length, take, vec_len, slice_index, slice_set, Some, IfOk, IfErr, OnOk, OnErr};
-ghost use Rattle.ring_things.specs.Numbers.{spelled, numbers_of};
+ghost use Rattle.std.specs.Prelude.{◌≡◌, ◌++◌, take, vec_len, slice_index, slice_set, Some, IfOk, IfErr, OnOk, OnErr};
+ghost use Rattle.ring_things.specs.Numbers.{spelled};
 
 use byteorder::{BigEndian, ByteOrder};
 use ring_base::Fault;
+use ring_things::{KEYS, read_numbers};
 use std::alloc::{Allocator, Global};
 use std::marker::Model;
-
-/// How many keys there are.
-const KEYS: usize = 256;
 
 /// 256 numbers of 64 bits under the keys 0 to 255, at the start all 0. In clauses it is the list of them.
 ///
@@ -83,21 +81,6 @@ impl<A: Allocator + Copy + Drop> Table<A> {
         let numbers = read_numbers(alloc, KEYS, bytes)?;
         Ok(Table { numbers })
     }
-}
-
-/// The numbers that the bytes hold, or `Memory`.
-fn read_numbers<A: Allocator + Copy + Drop>(
-    alloc: A,
-    count: usize,
-    bytes: &[u8],
-) -> Result<Vec<u64, A>, Fault>
-    requires { length bytes.now ≡ 8 * count }
-    ensures ok { IfOk result (λ numbers. numbers.items ≡ numbers_of 8 count bytes.now) }
-    ensures refused { IfErr result (λ fault. fault ≡ Fault.Memory) }
-{
-    let mut numbers = vec![in alloc; 0; count]?;
-    BigEndian::read_u64_into(bytes, numbers.as_mut_slice());
-    Ok(numbers)
 }
 
 /// Appends the numbers; or a front of them, for want of memory.
