@@ -1,11 +1,19 @@
 //! What is explored.
 
 use ring_explore::{ExplorePlan, explore};
+use ring_script_maker::made_script;
+use ring_sweep::{script, sweep};
+use std::alloc::{AllocError, Global};
+use std::test::Fail;
 use std::thread::Threads;
 use std::time::Clock;
 
-/// What is printed of three nodes and some seeds, by so many threads.
-fn printed<R: AllocGlobal + Threads + Clock + Sync>(rt: &R, threads: u16) -> Vec<u8> {
+/// What is printed of what is explored, by so many threads.
+fn printed<R: AllocGlobal + Threads + Clock + Sync>(
+    rt: &R,
+    plan: ExplorePlan<'_>,
+    threads: u16,
+) -> Vec<u8> {
     let mut out = Vec::new(rt.alloc());
     let mut err = Vec::new(rt.alloc());
     let mut watched = Vec::new(rt.alloc());
@@ -13,12 +21,6 @@ fn printed<R: AllocGlobal + Threads + Clock + Sync>(rt: &R, threads: u16) -> Vec
         Some(&mut watched)
     } else {
         None
-    };
-    let plan = ExplorePlan {
-        votes: &[1, 1, 1],
-        first: 1,
-        last: 6,
-        lines: 40,
     };
     let status = explore(rt, rt.alloc(), plan, threads, &mut out, &mut err, progress);
     if status != 0 || !err.is_empty() {
@@ -30,10 +32,65 @@ fn printed<R: AllocGlobal + Threads + Clock + Sync>(rt: &R, threads: u16) -> Vec
 /// One thread prints the totals, and two and seven print the same.
 #[test]
 fn threads_change_nothing(rt: HostRuntime) {
-    let one = printed(&rt, 1);
+    let plan = ExplorePlan {
+        votes: &[1, 1, 1],
+        first: 1,
+        last: 6,
+        lines: 40,
+    };
+    let one = printed(&rt, plan, 1);
     let text = one.as_slice();
     assert!(rt; text.starts_with(b"seeds 6\nevents ") && text.ends_with(b"\nlegal yes\n"));
     for threads in [2, 7] {
-        assert!(rt; printed(&rt, threads).as_slice() == text, "{threads}");
+        assert!(rt; printed(&rt, plan, threads).as_slice() == text, "{threads}");
     }
+}
+
+/// What a sweep of a script prints.
+fn swept(alloc: Global, text: &str) -> String {
+    let mut out = Vec::new(alloc);
+    let mut err = Vec::new(alloc);
+    let _ = sweep(alloc, &mut text.as_bytes(), &mut out, &mut err);
+    String::from_utf8(out).unwrap_or(String::new(alloc))
+}
+
+/// How many answers are printed of a script.
+fn answers(alloc: Global, text: &str) -> usize {
+    let mut out = Vec::new(alloc);
+    let mut err = Vec::new(alloc);
+    let _ = script(alloc, &mut text.as_bytes(), &mut out, &mut err);
+    let printed = String::from_utf8(out).unwrap_or(String::new(alloc));
+    printed.as_str().matches("reply ").count()
+}
+
+/// What must be printed of one seed with this script, up to its rings.
+fn told_of(alloc: Global, text: &str) -> Result<String, AllocError> {
+    let swept = swept(alloc, text);
+    let events = swept.as_str().lines().next().unwrap_or("");
+    let calls = text.matches("\ncall ").count();
+    let answered = answers(alloc, text);
+    format!(in alloc; "seeds 1\n{events}\ncalls {calls}\nanswered {answered}\nrings ")
+}
+
+/// A seed has the script that is made of the same numbers: as many events as a sweep of it counts, as many calls as it has, and
+/// as many answers as are printed of it. In it rings are installed.
+#[test]
+fn a_seed_has_its_own_script(rt: HostRuntime) -> Result<(), Fail> {
+    for seed in [3, 7] {
+        let plan = ExplorePlan {
+            votes: &[2, 1, 1],
+            first: seed,
+            last: seed,
+            lines: 20,
+        };
+        let text = made_script(rt.alloc(), plan.votes, seed, plan.lines)?;
+        let told = told_of(rt.alloc(), text.as_str())?;
+        let shown = printed(&rt, plan, 1);
+        let (shown, told) = (shown.as_slice(), told.as_bytes());
+        assert!(rt;
+            shown.starts_with(told) && !shown.ends_with(b"\nrings 0\nlegal yes\n"),
+            "{seed}"
+        );
+    }
+    Ok(())
 }
