@@ -1,13 +1,12 @@
 -- A node with what its last step gave, and what its calls make of it.
-use Rattle.std.specs.Prelude.{◌≡◌, ℕ, ◌<◌, ◌≤◌, ◌⊎◌, List, [], ◌∷◌, length, Option, Some, None}
+use Rattle.std.specs.Prelude.{◌≡◌, ℕ, ◌⊎◌, List, [], ◌∷◌, Option, Some, None, Ok, Err, MatchOption}
 use Rattle.ring_base.specs.Group.{Group, IsInGroup}
 use Rattle.ring_base.specs.declared.fault.Fault.{Fault}
-use Rattle.ring_base.specs.declared.fault.Fault.TheVariants.{Memory, NotMember, OpTooLong, NumberGap}
+use Rattle.ring_base.specs.declared.fault.Fault.TheVariants.{Memory, NotMember}
 use Rattle.ring_object.specs.Operations.{Sequential}
 use Rattle.ring_core.specs.State.{Sent}
 use Rattle.ring_payload.specs.declared.call.Call.{Call}
-use Rattle.ring_payload.specs.Calls.{call_of}
-use Rattle.ring_payload.specs.Limits.{most_operation}
+use Rattle.ring_payload.specs.Calls.{call_of, IsNewCall}
 use Rattle.ring_wire.specs.declared.frame.Frame.{Frame}
 use Rattle.ring_rules.specs.Nodes.{Node, node_opening, node_stopped}
 use Rattle.ring_rules.specs.Stepping.{node_step, submitted, submit_fault}
@@ -52,10 +51,11 @@ called d client number op = record d { node = submitted d.node (call_of client n
 abbrev pub IsNotOpened : Group → ℕ → Fault → Type 0
 IsNotOpened group number fault = (fault ≡ Memory) ⊎ ((fault ≡ NotMember) × (IsInGroup group number → ⊥))
 
--- why a call is not submitted
-abbrev pub IsRefused : {A : Type 0} → Driven A → ℕ → List ℕ → Fault → Type 0
-IsRefused d number op fault =
-    (fault ≡ Memory) ⊎ ((fault ≡ OpTooLong) × (most_operation < length op)) ⊎ ((fault ≡ NumberGap) × (number ≡ 0)) ⊎ (submit_fault d.node ≡ Some fault)
+-- why a call is not submitted: it is none that may be made; or it is, and the node has a reason, or else memory was refused
+abbrev pub IsRefused : {A : Type 0} → Driven A → ℕ → ℕ → List ℕ → Fault → Type 0
+IsRefused {A} d client number op fault =
+    IsNewCall {A = A} client number op (Err fault)
+    ⊎ (IsNewCall {A = A} client number op (Ok (call_of {A = A} client number op)) × MatchOption (submit_fault d.node) (fault ≡ Memory) (λ first. fault ≡ first))
 
 -- the first of a list is taken, if there is any
 abbrev pub IsFirst : {T : Type 0} → List T → List T → Option T → Type 0

@@ -1,12 +1,13 @@
 //! A node that keeps the limits of frames.
 
-ghost use Rattle.std.specs.Prelude.{◌≡◌, length, false, if◌then◌else◌, IfOk, IfErr, IsOk, OnOk, OnErr};
+ghost use Rattle.std.specs.Prelude.{◌≡◌, ◌≤◌, length, false, None, if◌then◌else◌, IfOk, IfErr, IsOk, OnOk, OnErr};
 ghost use Rattle.std.specs.Option.{option_map};
 ghost use Rattle.ring_base.specs.Group.{IsInGroup};
 ghost use Rattle.ring_base.specs.declared.fault.Fault.TheVariants.{Memory, Stopped as StoppedFault};
 ghost use Rattle.ring_driver.specs.Driving.{opened, stepped, ended, called, IsNotOpened, IsRefused, IsTaken, IsFirst};
 ghost use Rattle.ring_rules.specs.NodeLimits.{InputFits};
 ghost use Rattle.ring_rules.specs.Nodes.{node_reply, is_stopped};
+ghost use Rattle.ring_rules.specs.Stepping.{submit_fault};
 ghost use Rattle.ring_rules.specs.declared.input.Input.TheVariants.{Frame as FrameInput, Timeout as TimeoutInput, Stop as StopInput};
 
 use crate::letter::Letter;
@@ -85,9 +86,11 @@ impl<O: Object> Driver<O> {
     #[tactic(auto, using(crate::proofs::DriverLimits::not_made, crate::proofs::DriverLimits::not_taken))]
     pub fn submit(&mut self, client: u32, number: u64, operation: &[u8]) -> Result<Ticket, Fault>
         ensures ticket { IfOk result (λ ticket. ticket ≡ length self.old.node.tickets) }
+        ensures fits { OnOk result ((length operation.now ≤ 1024) × (1 ≤ number)) }
+        ensures taken { OnOk result (submit_fault self.old.node ≡ None) }
         ensures ok { OnOk result (self.new ≡ called self.old client number operation.now) }
         ensures err { OnErr result (self.new ≡ self.old) }
-        ensures refused { IfErr result (IsRefused self.old number operation.now) }
+        ensures refused { IfErr result (IsRefused self.old client number operation.now) }
     {
         // A law: no effect at run time. The proof takes from it that a node keeps the limits where a call is submitted.
         node_fits_law::<O>();
@@ -98,6 +101,7 @@ impl<O: Object> Driver<O> {
     /// A letter comes. Refused with `Stopped` in a stopped node, else with `Memory`: then the node has stopped for good. A refused
     /// step gives nothing, and what the step before gave stays to be taken.
     pub fn hear(&mut self, letter: Letter<O::Alloc>) -> Result<(), Fault>
+        ensures runs { OnOk result (is_stopped self.old.node.core.state ≡ false) }
         ensures ok { OnOk result (self.new ≡ stepped O.sequential self.old (FrameInput letter)) }
         ensures err { OnErr result (self.new ≡ ended self.old) }
         ensures refused { IfErr result (λ fault. fault ≡ (if is_stopped self.old.node.core.state then StoppedFault else Memory)) }
@@ -107,6 +111,7 @@ impl<O: Object> Driver<O> {
 
     /// A timeout comes. Refused as a letter is.
     pub fn timeout(&mut self, kind: Kind) -> Result<(), Fault>
+        ensures runs { OnOk result (is_stopped self.old.node.core.state ≡ false) }
         ensures ok { OnOk result (self.new ≡ stepped O.sequential self.old (TimeoutInput kind)) }
         ensures err { OnErr result (self.new ≡ ended self.old) }
         ensures refused { IfErr result (λ fault. fault ≡ (if is_stopped self.old.node.core.state then StoppedFault else Memory)) }
@@ -116,6 +121,7 @@ impl<O: Object> Driver<O> {
 
     /// The node stops, for good, which gives nothing and takes no memory. Refused with `Stopped` where it had.
     pub fn stop(&mut self) -> Result<(), Fault>
+        ensures runs { OnOk result (is_stopped self.old.node.core.state ≡ false) }
         ensures ok { OnOk result (self.new ≡ stepped O.sequential self.old StopInput) }
         ensures err { OnErr result (self.new ≡ ended self.old) }
         ensures refused { IfErr result (λ fault. fault ≡ (if is_stopped self.old.node.core.state then StoppedFault else Memory)) }
@@ -127,6 +133,7 @@ impl<O: Object> Driver<O> {
     /// Does a step, and keeps what it gives.
     fn step(&mut self, input: Input<O::Alloc>) -> Result<(), Fault>
         requires { InputFits input }
+        ensures runs { OnOk result (is_stopped self.old.node.core.state ≡ false) }
         ensures ok { OnOk result (self.new ≡ stepped O.sequential self.old input) }
         ensures err { OnErr result (self.new ≡ ended self.old) }
         ensures refused { IfErr result (λ fault. fault ≡ (if is_stopped self.old.node.core.state then StoppedFault else Memory)) }

@@ -1,12 +1,12 @@
 //! The trying of many seeds.
 
-ghost use Rattle.std.specs.Prelude.{◌≡◌, ℕ, ◌≤◌, ◌<◌, ◌+◌, ◌↔◌, IsTrue, OnOk, IfOk, None, max, vec_len, slice_index_or};
+ghost use Rattle.std.specs.Prelude.{◌≡◌, ℕ, ◌≤◌, ◌<◌, ◌+◌, ◌↔◌, IsTrue, OnOk, IfOk, None, length, max, vec_len, slice_index_or};
 ghost use Rattle.std.specs.Io.KnownBytes.{Appends};
 ghost use Rattle.ring_console.specs.Running.{Prints};
-ghost use Rattle.ring_script_maker.specs.Made.{IsScriptBy};
+ghost use Rattle.ring_script_maker.specs.Made.{IsMadeBy};
 ghost use Rattle.ring_shares.specs.Shares.{share_begin};
 ghost use Rattle.ring_explore.specs.Explored.{AreTried, seeds_in, totals_text, IsTotals, IsIllegal};
-ghost use Rattle.ring_explore.specs.Tried.{IsTried};
+ghost use Rattle.ring_explore.specs.Tried.{IsTriedIn};
 
 use crate::found::Found;
 use crate::one::try_seed;
@@ -33,7 +33,8 @@ const FIRST: u64 = 16;
 /// - where memory or a thread is refused, `err` is told so, and nothing is printed;
 /// - where `out` fails, nothing is told.
 ///
-/// Where the status is 0, a script was made and run for each seed, and each run is legal. Which script a seed makes no contract says.
+/// Where the status is 0, a script of so many nodes and lines was made and run for each seed, and each run is legal. Which of these
+/// scripts a seed makes no contract says.
 /// Where there is a `progress`, it is told from the first second on how far it has come, and in the end that is taken away again, as a
 /// terminal does it.
 pub fn explore<R: Threads + Clock + Sync, O: Write, E: Write, P: Write>(
@@ -48,7 +49,7 @@ pub fn explore<R: Threads + Clock + Sync, O: Write, E: Write, P: Write>(
     ensures status { result ≤ 1 }
     ensures quiet { result ≡ 0 → err.new ≡ err.old }
     ensures legal { let object = ⟦<Things<Global> as Object>⟧ in let words = ⟦<ShelfWords as Vocabulary>⟧ in
-        result ≡ 0 → AreTried (IsTried object.sequential words.forms) plan.entry.first (plan.entry.first + seeds_in plan.entry.first plan.entry.last) None }
+        result ≡ 0 → AreTried (IsTriedIn object.sequential words.forms plan.entry) plan.entry.first (plan.entry.first + seeds_in plan.entry.first plan.entry.last) None }
     ensures printed { result ≡ 0 → Prints (O.contents out.old) (O.contents out.new) (IsTotals (seeds_in plan.entry.first plan.entry.last)) }
 {
     explore_of::<Things<Global>, ShelfWords, R, O, E, P>(
@@ -75,7 +76,7 @@ pub fn explore_of<
 ) -> u8
     ensures status { result ≤ 1 }
     ensures quiet { result ≡ 0 → err.new ≡ err.old }
-    ensures legal { result ≡ 0 → AreTried (IsTried T.sequential V.forms) plan.entry.first (plan.entry.first + seeds_in plan.entry.first plan.entry.last) None }
+    ensures legal { result ≡ 0 → AreTried (IsTriedIn T.sequential V.forms plan.entry) plan.entry.first (plan.entry.first + seeds_in plan.entry.first plan.entry.last) None }
     ensures printed { result ≡ 0 → Prints (O.contents out.old) (O.contents out.new) (IsTotals (seeds_in plan.entry.first plan.entry.last)) }
 {
     match explore_all::<T, V, R, O, P>(rt, alloc, &plan, threads, out, progress) {
@@ -101,7 +102,7 @@ fn explore_all<
     progress: Option<&mut P>,
 ) -> Result<bool, Failure>
     ensures legal { IfOk result (λ is_legal. IsTrue is_legal
-        → AreTried (IsTried T.sequential V.forms) plan.now.first (plan.now.first + seeds_in plan.now.first plan.now.last) None) }
+        → AreTried (IsTriedIn T.sequential V.forms plan.now) plan.now.first (plan.now.first + seeds_in plan.now.first plan.now.last) None) }
     ensures printed { IfOk result (λ is_legal. IsTrue is_legal
         → Prints (O.contents out.old) (O.contents out.new) (IsTotals (seeds_in plan.now.first plan.now.last))) }
 {
@@ -116,9 +117,9 @@ fn print_found<T: Object, V: Vocabulary, O: Write>(
     found: &Found,
     out: &mut O,
 ) -> Result<bool, Failure>
-    requires { AreTried (IsTried T.sequential V.forms) plan.now.first (plan.now.first + seeds_in plan.now.first plan.now.last) found.now.illegal }
+    requires { AreTried (IsTriedIn T.sequential V.forms plan.now) plan.now.first (plan.now.first + seeds_in plan.now.first plan.now.last) found.now.illegal }
     ensures legal { IfOk result (λ is_legal. IsTrue is_legal
-        → AreTried (IsTried T.sequential V.forms) plan.now.first (plan.now.first + seeds_in plan.now.first plan.now.last) None) }
+        → AreTried (IsTriedIn T.sequential V.forms plan.now) plan.now.first (plan.now.first + seeds_in plan.now.first plan.now.last) None) }
     ensures printed { IfOk result (λ is_legal. IsTrue is_legal
         → Prints (O.contents out.old) (O.contents out.new) (IsTotals (seeds_in plan.now.first plan.now.last))) }
 {
@@ -141,7 +142,7 @@ fn print_illegal<V: Vocabulary, O: Write>(
     seed: u64,
     out: &mut O,
 ) -> Result<(), Failure>
-    ensures { OnOk result (Prints (O.contents out.old) (O.contents out.new) (IsIllegal (IsScriptBy V.forms))) }
+    ensures { OnOk result (Prints (O.contents out.old) (O.contents out.new) (IsIllegal (IsMadeBy V.forms (length plan.now.votes.now) plan.now.lines))) }
 {
     let text = made_script_by::<V, Global>(alloc, plan.votes, seed, plan.lines)?;
     write!(out, "# legal no\n{text}").map_err(|_| Failure::Output)
@@ -175,7 +176,7 @@ fn try_all<
     progress: Option<&mut P>,
 ) -> Result<Found, Fault>
     ensures { IfOk result (λ found.
-        AreTried (IsTried O.sequential V.forms) plan.now.first (plan.now.first + seeds_in plan.now.first plan.now.last) found.illegal) }
+        AreTried (IsTriedIn O.sequential V.forms plan.now) plan.now.first (plan.now.first + seeds_in plan.now.first plan.now.last) found.illegal) }
 {
     match progress {
         Some(out) => {
@@ -206,7 +207,7 @@ fn try_rounds<
     out: &mut P,
 ) -> Result<Found, Fault>
     ensures { let many = seeds_in plan.now.first plan.now.last in IfOk result (λ found. from ≤ many
-        → AreTried (IsTried O.sequential V.forms) (plan.now.first + from) (plan.now.first + many) found.illegal) }
+        → AreTried (IsTriedIn O.sequential V.forms plan.now) (plan.now.first + from) (plan.now.first + many) found.illegal) }
 {
     let many = plan.many();
     if from >= many {
@@ -232,7 +233,7 @@ fn try_part<O: Object<Alloc = Global> + Send, V: Vocabulary + Send, R: Threads +
     threads: u16,
 ) -> Result<Found, Fault>
     ensures { IfOk result (λ found.
-        AreTried (IsTried O.sequential V.forms) plan.now.first (plan.now.first + seeds_in plan.now.first plan.now.last) found.illegal) }
+        AreTried (IsTriedIn O.sequential V.forms plan.now) plan.now.first (plan.now.first + seeds_in plan.now.first plan.now.last) found.illegal) }
 {
     let parts = try_shares::<O, V, R>(rt, alloc, plan, threads)?;
     joined::<O, V>(plan, threads, parts)
@@ -248,7 +249,7 @@ fn try_shares<O: Object<Alloc = Global> + Send, V: Vocabulary + Send, R: Threads
     ensures len { IfOk result (λ parts. vec_len parts ≡ max shares 1) }
     ensures each { let many = seeds_in plan.now.first plan.now.last in
         IfOk result (λ parts. (share : ℕ) (part : _) → share < max shares 1 → IfOk (slice_index_or parts.items share part) (λ found.
-        AreTried (IsTried O.sequential V.forms) (plan.now.first + share_begin many shares share)
+        AreTried (IsTriedIn O.sequential V.forms plan.now) (plan.now.first + share_begin many shares share)
         (plan.now.first + share_begin many shares (share + 1)) found.illegal)) }
 {
     thread::map_indices(
@@ -268,10 +269,10 @@ fn joined<O: Object<Alloc = Global>, V: Vocabulary>(
     requires len { vec_len parts ≡ max shares 1 }
     requires each { let many = seeds_in plan.now.first plan.now.last in
         (share : ℕ) (part : _) → share < max shares 1 → IfOk (slice_index_or parts.items share part) (λ found.
-        AreTried (IsTried O.sequential V.forms) (plan.now.first + share_begin many shares share)
+        AreTried (IsTriedIn O.sequential V.forms plan.now) (plan.now.first + share_begin many shares share)
         (plan.now.first + share_begin many shares (share + 1)) found.illegal) }
     ensures { IfOk result (λ found.
-        AreTried (IsTried O.sequential V.forms) plan.now.first (plan.now.first + seeds_in plan.now.first plan.now.last) found.illegal) }
+        AreTried (IsTriedIn O.sequential V.forms plan.now) plan.now.first (plan.now.first + seeds_in plan.now.first plan.now.last) found.illegal) }
 {
     // The contract alone speaks of these two.
     let (_, _) = (plan, shares);
@@ -291,7 +292,7 @@ fn try_share<O: Object<Alloc = Global>, V: Vocabulary>(
     share: u64,
 ) -> Result<Found, Fault>
     ensures { let many = seeds_in plan.now.first plan.now.last in
-        IfOk result (λ found. AreTried (IsTried O.sequential V.forms) (plan.now.first + share_begin many shares share)
+        IfOk result (λ found. AreTried (IsTriedIn O.sequential V.forms plan.now) (plan.now.first + share_begin many shares share)
         (plan.now.first + share_begin many shares (share + 1)) found.illegal) }
 {
     let many = plan.many();

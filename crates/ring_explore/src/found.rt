@@ -1,6 +1,6 @@
 //! What was found.
 
-ghost use Rattle.std.specs.Prelude.{◌≡◌, None};
+ghost use Rattle.std.specs.Prelude.{◌≡◌, ◌+◌, ◌-◌, ◌^◌, min, None};
 ghost use Rattle.ring_shares.specs.Shares.{first_of};
 
 /// What was found of some seeds.
@@ -21,7 +21,8 @@ pub(crate) struct Found {
 impl Found {
     /// Nothing yet.
     pub fn new() -> Found
-        ensures { result.illegal ≡ None }
+        ensures illegal { result.illegal ≡ None }
+        ensures totals { (result.events ≡ 0) × (result.calls ≡ 0) × (result.answered ≡ 0) × (result.rings ≡ 0) }
     {
         Found {
             events: 0,
@@ -32,9 +33,13 @@ impl Found {
         }
     }
 
-    /// Adds what was found of the seeds behind these.
+    /// Adds what was found of the seeds behind these. In each count 2^64 - 1 stays.
     pub fn add(&mut self, other: &Found)
-        ensures { self.new.illegal ≡ first_of self.old.illegal other.now.illegal }
+        ensures illegal { self.new.illegal ≡ first_of self.old.illegal other.now.illegal }
+        ensures events { self.new.events ≡ min (self.old.events + other.now.events) (2 ^ 64 - 1) }
+        ensures calls { self.new.calls ≡ min (self.old.calls + other.now.calls) (2 ^ 64 - 1) }
+        ensures answered { self.new.answered ≡ min (self.old.answered + other.now.answered) (2 ^ 64 - 1) }
+        ensures rings { self.new.rings ≡ min (self.old.rings + other.now.rings) (2 ^ 64 - 1) }
     {
         self.events = self.events.saturating_add(other.events);
         self.calls = self.calls.saturating_add(other.calls);

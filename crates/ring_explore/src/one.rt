@@ -1,8 +1,9 @@
 //! One seed: its script is made, run and checked.
 
-ghost use Rattle.std.specs.Prelude.{◌≡◌, ℕ, ◌+◌, ◌↔◌, Bool, List, Ok, OnOk, IfOk, IsTrue};
+ghost use Rattle.std.specs.Prelude.{◌≡◌, ℕ, ◌+◌, ◌↔◌, Bool, List, Ok, OnOk, IfOk, IsTrue, length};
 ghost use Rattle.ring_script.specs.Fits.{IsFit, AreFit};
 ghost use Rattle.ring_script.specs.Scripts.{script_by, schedule_by};
+ghost use Rattle.ring_script_maker.specs.Made.{IsMadeBy};
 ghost use Rattle.ring_console.specs.Running.{run_opening, hears, Comes, Does, Pumps, Runs, IsLegal};
 ghost use Rattle.ring_explore.specs.Explored.{AreTried, illegal_of};
 ghost use Rattle.ring_explore.specs.Tried.{IsTried};
@@ -24,7 +25,7 @@ pub(crate) fn try_seed<O: Object<Alloc = Global>, V: Vocabulary>(
     seed: u64,
     lines: u32,
 ) -> Result<Found, Fault>
-    ensures { IfOk result (λ found. AreTried (IsTried O.sequential V.forms) seed (seed + 1) found.illegal) }
+    ensures { IfOk result (λ found. AreTried (IsTried O.sequential V.forms (length votes.now) lines) seed (seed + 1) found.illegal) }
 {
     let text = made_script_by::<V, Global>(alloc, votes, seed, lines)?;
     match Script::parse_by::<V>(alloc, text.as_bytes()) {
@@ -41,8 +42,8 @@ fn try_script<O: Object<Alloc = Global>, V: Vocabulary>(
     seed: u64,
 ) -> Result<Found, Fault>
     requires { AreFit script.lines.items }
-    ensures { IfOk result (λ found. (made : List ℕ) → script_by V.forms made ≡ Ok (schedule_by script)
-        → AreTried (IsTried O.sequential V.forms) seed (seed + 1) found.illegal) }
+    ensures { IfOk result (λ found. (made : List ℕ) (nodes lines : ℕ) → script_by V.forms made ≡ Ok (schedule_by script)
+        → IsMadeBy V.forms nodes lines made → AreTried (IsTried O.sequential V.forms nodes lines) seed (seed + 1) found.illegal) }
 {
     let mut seen = Seen::<O>::new(alloc, script.nodes)?;
     seen.take(script)?;
@@ -156,8 +157,10 @@ impl<O: Object> Seen<O> {
 
     /// What was found of this seed. It is named where its run is not legal, and there alone.
     fn found(&self, alloc: O::Alloc, seed: u64) -> Result<Found, Fault>
-        ensures { IfOk result (λ found. (is_legal : Bool) × (IsTrue is_legal ↔ IsLegal O.sequential self.now.run.played)
+        ensures legal { IfOk result (λ found. (is_legal : Bool) × (IsTrue is_legal ↔ IsLegal O.sequential self.now.run.played)
             × (found.illegal ≡ illegal_of is_legal seed)) }
+        ensures events { IfOk result (λ found. found.events ≡ length self.now.run.played.events) }
+        ensures calls { IfOk result (λ found. found.calls ≡ self.now.calls) }
     {
         let is_legal = is_legal(alloc, &self.run)?;
         let world = self.run.world();

@@ -31,6 +31,8 @@ impl ExplorePlan<'_> {
         requires within { upto ≤ seeds_in self.now.first self.now.last }
         ensures first { result.first ≡ self.now.first + from }
         ensures last { result.last + 1 ≡ self.now.first + upto }
+        ensures votes { result.votes.now ≡ self.now.votes.now }
+        ensures lines { result.lines ≡ self.now.lines }
     {
         ExplorePlan {
             votes: self.votes,

@@ -6,6 +6,7 @@ ghost use Rattle.ring_client.specs.Asking.{unasked, submitted, refused_with, pol
 ghost use Rattle.ring_seat.specs.Seats.{IsAt};
 ghost use Rattle.ring_host.specs.Answering.{IsAnswered};
 ghost use Rattle.ring_host_port.specs.Noted.{told_of};
+ghost use Rattle.ring_host_port.specs.Submitting.{IsSubmittable, IsNotSubmitted};
 
 use ring_base::{Fault, Proc};
 use ring_client::{Asked, Port, tellable};
@@ -113,6 +114,8 @@ impl<'a, O: Object, K: BookName<O::Alloc>, W: Wait> HostPort<'a, O, K, W> {
     /// Submits the call, of which the node takes a copy.
     fn try_submit(&mut self, call: &Call<O::Alloc>) -> Result<HostTicket, Fault>
         ensures ticket { IfOk result (λ ticket. ticket.node ≡ self.new.node) }
+        ensures fits { OnOk result (IsSubmittable call.now) }
+        ensures refused { IfErr result (IsNotSubmitted call.now) }
         ensures node { self.new.node ≡ self.old.node }
         ensures asked { self.new.asked ≡ self.old.asked }
     {
@@ -190,6 +193,8 @@ impl<'a, O: Object, K: BookName<O::Alloc>, W: Wait> Port for HostPort<'a, O, K, 
     fn submit(&mut self, call: &Call<O::Alloc>) -> Result<HostTicket, Fault>
         ensures ok { OnOk result (self.new.asked ≡ submitted call.now) }
         ensures refused { IfErr result (λ fault. self.new.asked ≡ refused_with fault (submitted call.now)) }
+        ensures fits { OnOk result (IsSubmittable call.now) }
+        ensures why { IfErr result (IsNotSubmitted call.now) }
         ensures ticket { IfOk result (λ ticket. ticket.node ≡ self.new.node) }
         ensures node { self.new.node ≡ self.old.node }
     {

@@ -1,6 +1,6 @@
 //! What the program prints of a live run.
 
-ghost use Rattle.std.specs.Prelude.{ℕ, ◌≡◌, ◌≤◌, true, Ok, IfOk, IfErr, OnOk};
+ghost use Rattle.std.specs.Prelude.{ℕ, ◌≡◌, ◌≤◌, ◌⊎◌, true, Ok, IfOk, IfErr, OnOk};
 ghost use Rattle.std.specs.Io.KnownBytes.{Appends, Keeps};
 ghost use Rattle.ring_report.specs.declared.failure.Failure.TheVariants.{Output};
 ghost use Rattle.ring_live.specs.Lived.{lived_text};
@@ -35,6 +35,8 @@ pub fn live<W: Threads + Wait + Sync, O: Write, E: Write>(
 ) -> u8
     ensures status { result ≤ 1 }
     ensures quiet { result ≡ 0 → err.new ≡ err.old }
+    ensures kept { result ≡ 1 → (out.new ≡ out.old) ⊎ (err.new ≡ err.old) }
+    ensures range { result ≡ 0 → (1 ≤ nodes) × (nodes ≤ 16) }
     ensures printed { result ≡ 0 → (lived : Lived) × (counter : ℕ) × (lived.nodes ≡ nodes) × (lived.counter ≡ Ok counter) × (lived.is_legal ≡ true)
         × Appends (O.contents out.old) (O.contents out.new) (lived_text lived counter) }
 {
@@ -60,7 +62,8 @@ fn run<W: Threads + Wait + Sync>(
     nodes: u8,
     calls: u8,
 ) -> Result<Lived, Fault>
-    ensures { IfOk result (λ lived. (lived.nodes ≡ nodes) × (lived.is_legal ≡ true)) }
+    ensures lived { IfOk result (λ lived. (lived.nodes ≡ nodes) × (lived.is_legal ≡ true)) }
+    ensures range { OnOk result ((1 ≤ nodes) × (nodes ≤ 16)) }
 {
     let group = Fixed::new(nodes)?;
     let opening = Opening::<Things<Global>>::new(alloc, group)?;

@@ -1,8 +1,8 @@
 //! The making of a script.
 
-ghost use Rattle.std.specs.Prelude.{◌≡◌, ◌≤◌, ℕ, List, IfOk, OnOk, string_bytes};
+ghost use Rattle.std.specs.Prelude.{◌≡◌, ◌≤◌, ◌+◌, ℕ, min, length, List, IfOk, OnOk, string_bytes};
 ghost use Rattle.std.specs.Io.KnownBytes.{Appends, Keeps};
-ghost use Rattle.ring_script_maker.specs.Made.{IsScriptBy, IsScript};
+ghost use Rattle.ring_script_maker.specs.Made.{IsMadeBy, IsMade};
 
 use crate::maker::Maker;
 use ring_base::{Fault, Fixed};
@@ -22,7 +22,7 @@ pub fn made_script<A: Allocator + Copy + Drop>(
     seed: u64,
     lines: u32,
 ) -> Result<String<A>, Fault>
-    ensures { IfOk result (λ text. IsScript (string_bytes text)) }
+    ensures { IfOk result (λ text. IsMade (length votes.now) lines (string_bytes text)) }
 {
     made_script_by::<ShelfWords, A>(alloc, votes, seed, lines)
 }
@@ -34,10 +34,10 @@ pub fn made_script_by<V: Vocabulary, A: Allocator + Copy + Drop>(
     seed: u64,
     lines: u32,
 ) -> Result<String<A>, Fault>
-    ensures { IfOk result (λ text. IsScriptBy V.forms (string_bytes text)) }
+    ensures { IfOk result (λ text. IsMadeBy V.forms (length votes.now) lines (string_bytes text)) }
 {
     let text = told_script::<V, A>(alloc, votes, seed, lines)?;
-    read_back::<V, A>(alloc, text.as_bytes())?;
+    read_back::<V, A>(alloc, votes.len(), lines, text.as_bytes())?;
     Ok(text)
 }
 
@@ -56,15 +56,36 @@ fn told_script<V: Vocabulary, A: Allocator>(
     Ok(maker.into_text())
 }
 
-/// Reads a text as a script. `BadScript` where it is none; or `Memory`.
-fn read_back<V: Vocabulary, A: Allocator + Copy + Drop>(alloc: A, text: &[u8]) -> Result<(), Fault>
-    ensures { OnOk result (IsScriptBy V.forms text.now) }
+/// Reads a text as a script of so many nodes and lines, with one line more. `BadScript` where it is none; or `Memory`.
+fn read_back<V: Vocabulary, A: Allocator + Copy + Drop>(
+    alloc: A,
+    nodes: usize,
+    lines: u32,
+    text: &[u8],
+) -> Result<(), Fault>
+    ensures { OnOk result (IsMadeBy V.forms nodes lines text.now) }
 {
     match Script::parse_by::<V>(alloc, text) {
-        Ok(_) => Ok(()),
+        Ok(script) => is_as_asked(nodes, lines, &script),
         Err(ScriptFault::Memory) => Err(Fault::Memory),
         Err(ScriptFault::AtLine(_)) => Err(Fault::BadScript),
     }
+}
+
+/// `BadScript` unless the script has so many nodes, and so many lines and one more.
+fn is_as_asked<A: Allocator + Copy + Drop>(
+    nodes: usize,
+    lines: u32,
+    script: &Script<A>,
+) -> Result<(), Fault>
+    ensures nodes { OnOk result (script.now.nodes.count ≡ nodes) }
+    ensures lines { OnOk result (length script.now.lines.items ≡ min lines 10000 + 1) }
+{
+    let many = lines.min(MOST_LINES) as usize;
+    if usize::from(script.nodes.count()) != nodes || script.lines.len() != many + 1 {
+        return Err(Fault::BadScript);
+    }
+    Ok(())
 }
 
 /// A script that is made has at most so many lines that ask for something, `show` left out.
@@ -104,7 +125,7 @@ pub fn generate<A: Allocator + Copy + Drop, O: Write, E: Write>(
 ) -> u8
     ensures status { result ≤ 1 }
     ensures quiet { result ≡ 0 → Keeps (E.contents err.old) (E.contents err.new) }
-    ensures printed { result ≡ 0 → (text : List ℕ) × IsScript text × Appends (O.contents out.old) (O.contents out.new) text }
+    ensures printed { result ≡ 0 → (text : List ℕ) × IsMade (length votes.now) lines text × Appends (O.contents out.old) (O.contents out.new) text }
 {
     generate_by::<ShelfWords, A, O, E>(alloc, votes, seed, lines, out, err)
 }
@@ -120,7 +141,7 @@ pub fn generate_by<V: Vocabulary, A: Allocator + Copy + Drop, O: Write, E: Write
 ) -> u8
     ensures status { result ≤ 1 }
     ensures quiet { result ≡ 0 → Keeps (E.contents err.old) (E.contents err.new) }
-    ensures printed { result ≡ 0 → (text : List ℕ) × IsScriptBy V.forms text × Appends (O.contents out.old) (O.contents out.new) text }
+    ensures printed { result ≡ 0 → (text : List ℕ) × IsMadeBy V.forms (length votes.now) lines text × Appends (O.contents out.old) (O.contents out.new) text }
 {
     match made_script_by::<V, A>(alloc, votes, seed, lines) {
         Ok(text) => match out.write_all(text.as_bytes()) {

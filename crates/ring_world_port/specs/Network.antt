@@ -1,5 +1,5 @@
 -- A network over a world, and what its calls do. Clients, rule 8, of docs/PROTOCOL.md.
-use Rattle.std.specs.Prelude.{◌≡◌, ℕ, ◌+◌, ◌-◌, ◌/◌, ◌%◌, ◌^◌, ◌<◌, ◌==◌, ◌&&◌, ◌⊎◌, min, if◌then◌else◌}
+use Rattle.std.specs.Prelude.{◌≡◌, ℕ, ◌+◌, ◌-◌, ◌/◌, ◌%◌, ◌^◌, ◌<◌, ◌≤◌, ◌==◌, ◌&&◌, ◌⊎◌, min, if◌then◌else◌}
 use Rattle.std.specs.Prelude.{Bool, true, false, List, [], ◌∷◌, ◌++◌, length, drop, Option, Some, None}
 use Rattle.ring_base.specs.Fault.{fault_number}
 use Rattle.ring_base.specs.Processors.{has, size, at}
@@ -117,11 +117,11 @@ module _ {O : Type 0} (object : Sequential O) where
     pub group : m.group ≡ n.group
     pub timeouts : m.timeouts ≡ n.timeouts
 
-  -- why a call is not issued: no such node, too long, the number 0, refused by the node, or no memory for the event
+  -- why a call is not issued, by the first that holds: no such node, too long, the number 0; or refused by the node; or no memory for the event
   abbrev pub IsNotIssued : {A : Type 0} → ℕ → Call A → Networked A → Networked A → Fault → Type 0
   IsNotIssued i c n m NotMember = (n.pump.played.group.count < i) × (m ≡ n)
-  IsNotIssued i c n m OpTooLong = (1024 < length c.op) × (m ≡ n)
-  IsNotIssued i c n m NumberGap = (c.number ≡ 0) × (m ≡ n)
+  IsNotIssued i c n m OpTooLong = (i ≤ n.pump.played.group.count) × (1024 < length c.op) × (m ≡ n)
+  IsNotIssued i c n m NumberGap = (i ≤ n.pump.played.group.count) × (length c.op ≤ 1024) × (c.number ≡ 0) × (m ≡ n)
   IsNotIssued i c n m Memory = Stays n m ⊎ IsToldRefused i c n m Memory
   IsNotIssued i c n m PendingFull = IsToldRefused i c n m PendingFull
   IsNotIssued i c n m StoppedFault = IsToldRefused i c n m StoppedFault

@@ -101,6 +101,7 @@ impl<O: Object> Network<O> {
     /// node, `OpTooLong` over 1,024 bytes, `NumberGap` for number 0, `Memory` for the call's copy; then by the node, which
     /// the world tells: `Stopped`, `PendingFull`, `Memory`.
     pub fn submit(&mut self, node: Proc, call: &Call<O::Alloc>) -> Result<(), Fault>
+        ensures member { OnOk result (node ≤ self.old.pump.played.group.count) }
         ensures issued { OnOk result (IsIssued O.sequential node call.now self.old self.new) }
         ensures refused { IfErr result (IsNotIssued O.sequential node call.now self.old self.new) }
     {
@@ -148,6 +149,7 @@ impl<O: Object> Network<O> {
     /// Submits a call at a node as `submit` does, and gives what is polled for its answer.
     pub(crate) fn ask(&mut self, node: Proc, call: &Call<O::Alloc>) -> Result<WorldTicket, Fault>
         ensures ticket { IfOk result (λ ticket. ticket ≡ question_of node (submitted call.now)) }
+        ensures member { OnOk result (node ≤ self.old.pump.played.group.count) }
         ensures issued { OnOk result (IsIssued O.sequential node call.now self.old self.new) }
         ensures refused { IfErr result (IsNotIssued O.sequential node call.now self.old self.new) }
     {

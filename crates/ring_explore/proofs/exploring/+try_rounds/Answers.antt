@@ -2,25 +2,26 @@
 use Rattle.std.proofs.Common.{◌≡◌, ◌≤◌, ◌<◌, ◌+◌, ℕ, Option, None, sym, subst, ◌∙◌, arith}
 use Rattle.ring_shares.proofs.Sharing.{round_grows, round_within}
 use Rattle.ring_explore.specs.Explored.{AreTried, seeds_in}
-use Rattle.ring_explore.specs.Tried.{IsTried}
+use Rattle.ring_explore.specs.Tried.{IsTriedIn}
+use Rattle.ring_explore.proofs.TriedScripts.{same_scripts}
 use Rattle.ring_explore.proofs.SeedsInShares.{tried_none, tried_more, tried_append, tried_part}
 use Rattle.ring_explore.proofs.exploring.+try_rounds.Goals as goal
 
 pub returns-then-from-many : goal.returns-then-from-many
 returns-then-from-many g t c =
-    let IsT = IsTried g.O.Object.sequential g.V.Vocabulary.forms in
+    let IsT = IsTriedIn g.O.Object.sequential g.V.Vocabulary.forms c.args.plan.now in
     let first = c.args.plan.now.first in
     let many = seeds_in first c.args.plan.now.last in
     let is_many = c.many-many.ensures in
     let past = c.if-from-many.true in
     λ order.
     let ends : first + c.args.from ≡ first + many = omega (arith, order, is_many, past) in
-    subst (λ (f : Option ℕ). AreTried IsT (first + c.args.from) (first + many) f) (sym c.new.ensures)
+    subst (λ (f : Option ℕ). AreTried IsT (first + c.args.from) (first + many) f) (sym c.new.ensures.illegal)
     (subst (λ (n : ℕ). AreTried IsT (first + c.args.from) n None) ends (tried_none IsT (first + c.args.from)))
 
 pub returns-then-is_some : goal.returns-then-is_some
 returns-then-is_some g t c =
-    let IsT = IsTried g.O.Object.sequential g.V.Vocabulary.forms in
+    let IsT = IsTriedIn g.O.Object.sequential g.V.Vocabulary.forms c.args.plan.now in
     let first = c.args.plan.now.first in
     let many = seeds_in first c.args.plan.now.last in
     let from = c.args.from in
@@ -33,13 +34,15 @@ returns-then-is_some g t c =
     let most : upto ≤ many = omega (arith, is_end, within, is_many) in
     let round = c.part-round.result in
     let found = c.in_ok-found.found.illegal in
+    let tried = same_scripts g.O.Object.sequential g.V.Vocabulary.forms round c.args.plan.now round.first (round.first + seeds_in round.first round.last) found
+    c.part-round.ensures.votes c.part-round.ensures.lines c.in_ok-found.ensures in
     λ order. tried_more IsT (first + from) (first + upto) (first + many) found (sym c.is_some.ensures ∙ c.if-is_some.true) (omega (arith, most))
     (tried_part IsT first from upto round.first round.last found less (omega (arith, most)) c.part-round.ensures.first c.part-round.ensures.last
-    c.in_ok-found.ensures)
+    tried)
 
 pub returns : goal.returns
 returns g t c =
-    let IsT = IsTried g.O.Object.sequential g.V.Vocabulary.forms in
+    let IsT = IsTriedIn g.O.Object.sequential g.V.Vocabulary.forms c.args.plan.now in
     let first = c.args.plan.now.first in
     let many = seeds_in first c.args.plan.now.last in
     let from = c.args.from in
@@ -52,8 +55,10 @@ returns g t c =
     let most : upto ≤ many = omega (arith, is_end, within, is_many) in
     let round = c.part-round.result in
     let found = c.in_ok-found.found.illegal in
+    let tried = same_scripts g.O.Object.sequential g.V.Vocabulary.forms round c.args.plan.now round.first (round.first + seeds_in round.first round.last) found
+    c.part-round.ensures.votes c.part-round.ensures.lines c.in_ok-found.ensures in
     let others = c.in_ok-others.others.illegal in
-    λ order. subst (λ (f : Option ℕ). AreTried IsT (first + from) (first + many) f) (sym c.add.ensures)
+    λ order. subst (λ (f : Option ℕ). AreTried IsT (first + from) (first + many) f) (sym c.add.ensures.illegal)
     (tried_append IsT (first + from) (first + upto) (first + many) found others (omega (arith, less)) (omega (arith, most))
     (tried_part IsT first from upto round.first round.last found less (omega (arith, most)) c.part-round.ensures.first c.part-round.ensures.last
-    c.in_ok-found.ensures) (c.in_ok-others.ensures most))
+    tried) (c.in_ok-others.ensures most))

@@ -5,13 +5,13 @@ use Rattle.ring_explore.specs.declared.found.Found.{Found}
 use Rattle.ring_shares.specs.Shares.{share_begin}
 use Rattle.ring_shares.proofs.Sharing.{found_of, one_longer, shares_end}
 use Rattle.ring_explore.specs.Explored.{AreTried, seeds_in}
-use Rattle.ring_explore.specs.Tried.{IsTried}
+use Rattle.ring_explore.specs.Tried.{IsTriedIn}
 use Rattle.ring_explore.proofs.SeedsInShares.{tried_share}
 use Rattle.ring_explore.proofs.exploring.joined.Goals as goal
 
 pub loop-part-preserved : goal.loop-part-preserved
 loop-part-preserved g c =
-    let IsT = IsTried g.O.Object.sequential g.V.Vocabulary.forms in
+    let IsT = IsTriedIn g.O.Object.sequential g.V.Vocabulary.forms c.args.plan.now in
     let begun = c.into_iter-part-iterator.ensures.into_iter_gives in
     let parts = c.args.parts in
     let turn = YieldsList-turn (YieldsList-from_vec parts.items begun.0 (begun.1 ∙ parts.ok.0)) c.loop-part.yielded
@@ -29,11 +29,11 @@ loop-part-preserved g c =
     let more = tried_share IsT first many shares k c.loop-part.all.illegal c.in_ok-found.found.illegal c.loop-part.invariant found in
     let next = one_longer c.loop-part.yielded c.in-Some.part in
     subst (λ (n : ℕ). AreTried IsT first (first + share_begin many shares n) c.add.new.self.illegal) next
-    (subst (λ (f : Option ℕ). AreTried IsT first (first + share_begin many shares (k + 1)) f) (sym c.add.ensures) more)
+    (subst (λ (f : Option ℕ). AreTried IsT first (first + share_begin many shares (k + 1)) f) (sym c.add.ensures.illegal) more)
 
 pub returns : goal.returns
 returns g c =
-    let IsT = IsTried g.O.Object.sequential g.V.Vocabulary.forms in
+    let IsT = IsTriedIn g.O.Object.sequential g.V.Vocabulary.forms c.args.plan.now in
     let begun = c.into_iter-part-iterator.ensures.into_iter_gives in
     let parts = c.args.parts in
     let ended = YieldsList-end (YieldsList-from_vec parts.items begun.0 (begun.1 ∙ parts.ok.0)) c.loop-part.yielded

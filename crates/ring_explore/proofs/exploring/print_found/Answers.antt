@@ -1,9 +1,9 @@
 use Rattle.std.proofs.Common.{◌+◌, subst}
 use Rattle.ring_explore.specs.Explored.{AreTried, seeds_in}
-use Rattle.ring_explore.specs.Tried.{IsTried}
+use Rattle.ring_explore.specs.Tried.{IsTriedIn}
 use Rattle.ring_explore.proofs.exploring.print_found.Goals as goal
 
 pub returns-in_ok-print_totals-in-None-clause-legal : goal.returns-in_ok-print_totals-in-None-clause-legal
 returns-in_ok-print_totals-in-None-clause-legal g c =
     let plan = c.args.plan.now in
-    λ is. subst (AreTried (IsTried g.T.Object.sequential g.V.Vocabulary.forms) plan.first (plan.first + seeds_in plan.first plan.last)) c.in-None.is c.requires
+    λ is. subst (AreTried (IsTriedIn g.T.Object.sequential g.V.Vocabulary.forms plan) plan.first (plan.first + seeds_in plan.first plan.last)) c.in-None.is c.requires

@@ -2,13 +2,13 @@ use Rattle.std.proofs.Common.{◌≡◌, ◌+◌, ℕ, Option, sym, ap, subst, �
 use Rattle.ring_shares.specs.Shares.{share_begin}
 use Rattle.ring_shares.proofs.Sharing.{share_grows, next_begin}
 use Rattle.ring_explore.specs.Explored.{AreTried, seeds_in}
-use Rattle.ring_explore.specs.Tried.{IsTried}
+use Rattle.ring_explore.specs.Tried.{IsTriedIn}
 use Rattle.ring_explore.proofs.SeedsInShares.{tried_next, tried_more}
 use Rattle.ring_explore.proofs.exploring.try_share.Goals as goal
 
 pub returns-then-is_some : goal.returns-then-is_some
 returns-then-is_some g c =
-    let IsT = IsTried g.O.Object.sequential g.V.Vocabulary.forms in
+    let IsT = IsTriedIn g.O.Object.sequential g.V.Vocabulary.forms c.args.plan.now in
     let plan = c.args.plan.now in
     let first = plan.first in
     let many = seeds_in first plan.last in
@@ -24,14 +24,14 @@ returns-then-is_some g c =
     let passed = c.loop-place.auto.place in
     let behind = tried_next IsT first (share_begin many shares share) place c.loop-place.found.illegal c.in_ok-one.one.illegal
     (omega (arith, begin, passed)) c.loop-place.invariant c.in_ok-one.ensures in
-    let added = subst (λ (f : Option ℕ). AreTried IsT (first + share_begin many shares share) (first + (place + 1)) f) (sym c.add.ensures) behind in
+    let added = subst (λ (f : Option ℕ). AreTried IsT (first + share_begin many shares share) (first + (place + 1)) f) (sym c.add.ensures.illegal) behind in
     let less = c.loop-place-test.true in
     tried_more IsT (first + share_begin many shares share) (first + (place + 1)) (first + share_begin many shares (share + 1))
     c.add.new.self.illegal (sym c.is_some.ensures ∙ c.if-is_some.true) (omega (arith, end, less)) added
 
 pub loop-place-preserved : goal.loop-place-preserved
 loop-place-preserved g c =
-    let IsT = IsTried g.O.Object.sequential g.V.Vocabulary.forms in
+    let IsT = IsTriedIn g.O.Object.sequential g.V.Vocabulary.forms c.args.plan.now in
     let plan = c.args.plan.now in
     let first = plan.first in
     let many = seeds_in first plan.last in
@@ -43,12 +43,12 @@ loop-place-preserved g c =
     let passed = c.loop-place.auto.place in
     let behind = tried_next IsT first (share_begin many shares share) place c.loop-place.found.illegal c.in_ok-one.one.illegal
     (omega (arith, begin, passed)) c.loop-place.invariant c.in_ok-one.ensures in
-    let added = subst (λ (f : Option ℕ). AreTried IsT (first + share_begin many shares share) (first + (place + 1)) f) (sym c.add.ensures) behind in
+    let added = subst (λ (f : Option ℕ). AreTried IsT (first + share_begin many shares share) (first + (place + 1)) f) (sym c.add.ensures.illegal) behind in
     added
 
 pub returns : goal.returns
 returns g c =
-    let IsT = IsTried g.O.Object.sequential g.V.Vocabulary.forms in
+    let IsT = IsTriedIn g.O.Object.sequential g.V.Vocabulary.forms c.args.plan.now in
     let plan = c.args.plan.now in
     let first = plan.first in
     let many = seeds_in first plan.last in

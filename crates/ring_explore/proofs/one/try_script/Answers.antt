@@ -9,4 +9,4 @@ returns g c =
     let done = c.in_ok-take.ensures in
     found_tried g.O.Object.sequential g.V.Vocabulary.forms c.args.script c.args.seed c.take.new.self.run done.0 c.found.result
     (subst (λ (r : RunView Global). Runs g.O.Object.sequential c.args.script.lines.items r c.take.new.self.run done.0) c.in_ok-seen.ensures done.1)
-    c.found.ensures
+    c.found.ensures.legal

@@ -1,5 +1,6 @@
 -- The call keeps the limits as it was made, so the submit does.
-use Rattle.std.proofs.Common.{arith}
+use Rattle.std.proofs.Common.{arith, refl}
+use Rattle.ring_base.proofs.Results.{ok_always}
 use Rattle.ring_order_proof.proofs.NodeLimits.{takes}
 use Rattle.ring_payload.specs.Calls.{CallFits}
 use Rattle.ring_driver.specs.Driving.{Driven}
@@ -21,6 +22,12 @@ invariant_of-self g c =
 
 pub returns-clause-ticket : goal.returns-clause-ticket
 returns-clause-ticket g c = rw (← c.self.view_is) c.submit.ensures.ticket
+
+pub returns-clause-fits : goal.returns-clause-fits
+returns-clause-fits g c = ok_always c.submit.result (c.in_ok-call.ensures.0, c.in_ok-call.ensures.1)
+
+pub returns-clause-taken : goal.returns-clause-taken
+returns-clause-taken g c = rw (← c.self.view_is) c.submit.ensures.taken
 
 pub returns-clause-ok : goal.returns-clause-ok
 returns-clause-ok g c =
@@ -57,4 +64,5 @@ returns-clause-refused g c =
       dropped = s.dropped.items;
       restored = s.restored;
     } in
-    rw (← c.self.view_is) (not_taken driven c.args.number c.args.operation.now c.submit.result c.submit.ensures.refused)
+    let made = c.in_ok-call.ensures in
+    rw (← c.self.view_is) (not_taken driven c.args.client c.args.number c.args.operation.now c.submit.result (made.0, made.1, refl) c.submit.ensures.refused)
