@@ -1,6 +1,6 @@
 //! Ports to the nodes of a host.
 
-ghost use Rattle.std.specs.Prelude.{◌≡◌, ◌≤◌, ◌+◌, [], length, All, IfOk, IfErr, IfSome, OnOk, OnErr};
+ghost use Rattle.std.specs.Prelude.{◌≡◌, ◌≤◌, ◌+◌, [], ◌∷◌, ◌++◌, length, All, IfOk, IfErr, IfSome, OnOk, OnErr};
 ghost use Rattle.ring_base.specs.declared.fault.Fault.TheVariants.{NotMember};
 ghost use Rattle.ring_client.specs.Asking.{unasked, submitted, refused_with, polled, IsTold};
 ghost use Rattle.ring_seat.specs.Seats.{IsAt};
@@ -72,6 +72,7 @@ impl<'a, O: Object, K: BookName<O::Alloc>, W: Wait> HostPort<'a, O, K, W> {
         requires { (seat.gauge ≡ host.now) × (node ≤ host.now.words) }
         ensures node { result.node ≡ node }
         ensures asked { result.asked ≡ unasked }
+        ensures seat { result.seat ≡ seat }
     {
         HostPort {
             rt,
@@ -99,6 +100,7 @@ impl<'a, O: Object, K: BookName<O::Alloc>, W: Wait> HostPort<'a, O, K, W> {
         requires { All (IsAt host.now) seats.old.items }
         ensures seats { All (IsAt host.now) seats.new.items }
         ensures port { IfOk result (λ port. (port.node ≡ number) × (port.asked ≡ unasked)) }
+        ensures last { IfOk result (λ port. seats.old.items ≡ seats.new.items ++ port.seat ∷ []) }
         ensures taken { OnOk result (length seats.old.items ≡ length seats.new.items + 1) }
         ensures kept { OnErr result (seats.new.items ≡ seats.old.items) }
         ensures err { OnErr result (1 ≤ number → number ≤ 16 → number ≤ host.now.words → seats.old.items ≡ []) }
