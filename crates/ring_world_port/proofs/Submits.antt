@@ -1,6 +1,6 @@
 -- What a submit answers, by what is told behind it.
-use Rattle.std.proofs.Common.{◌≡◌, ℕ, List, [], ◌∷◌, ◌++◌, length, Some, None, refl, ◌∙◌, sym, ap, inl, inr, arith}
-use Rattle.std.specs.Prelude.{slice_get}
+use Rattle.std.proofs.Common.{◌≡◌, ℕ, List, [], ◌∷◌, ◌++◌, length, Some, None, Result, Ok, Err, refl, ◌∙◌, sym, ap, inl, inr, arith}
+use Rattle.std.specs.Prelude.{slice_get, IfErr}
 use Rattle.std.proofs.lemmas.Option.{slice_get_past}
 use Rattle.ring_base.specs.Fault.{fault_number}
 use Rattle.ring_base.specs.declared.fault.Fault.{Fault}
@@ -11,7 +11,7 @@ use Rattle.ring_payload.specs.declared.call.Call.{Call}
 use Rattle.ring_rules.specs.declared.event.Event.TheVariants.{Issue}
 use Rattle.ring_rules.specs.declared.told.Told.{Told}
 use Rattle.ring_rules.specs.declared.told.Told.TheVariants.{Refused}
-use Rattle.ring_world_port.specs.Network.{Networked, IsIssued, IsNotIssued, refusal_in, fault_of}
+use Rattle.ring_world_port.specs.Network.{Networked, IsIssued, IsNotIssued, IsNotAsked, refusal_in, fault_of}
 use Rattle.ring_world.specs.Pumping.{Happens}
 use Rattle.ring_world_port.proofs.SubmitTells.{IsOne, submit_tells}
 
@@ -80,3 +80,8 @@ module _ {O : Type 0} (object : Sequential O) where
             let e : r.0 ≡ fault = cc same in
             told_refused i c n m r.0 fault happens group timeouts r.1 e r.2
       ]
+
+  pub asked_in_vain : {A T : Type 0} (i : ℕ) (c : Call A) (n m : Networked A) (r : Result T Fault) → IfErr r (IsNotIssued object i c n m)
+      → IfErr r (IsNotAsked object i c)
+  asked_in_vain i c n m (Ok x) why = tt
+  asked_in_vain i c n m (Err fault) why = inr (n, m, why)

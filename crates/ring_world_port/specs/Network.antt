@@ -4,7 +4,7 @@ use Rattle.std.specs.Prelude.{Bool, true, false, List, [], ◌∷◌, ◌++◌, 
 use Rattle.ring_base.specs.Fault.{fault_number}
 use Rattle.ring_base.specs.Processors.{has, size, at}
 use Rattle.ring_base.specs.declared.fault.Fault.{Fault}
-use Rattle.ring_base.specs.declared.fault.Fault.TheVariants.{NotMember, PendingFull, OpTooLong, NumberGap, Stopped as StoppedFault, Memory}
+use Rattle.ring_base.specs.declared.fault.Fault.TheVariants.{NotMember, PendingFull, OpTooLong, NumberGap, Stopped as StoppedFault, Memory, NoAnswer}
 use Rattle.ring_base.specs.declared.kind.Kind.{Kind}
 use Rattle.ring_base.specs.declared.kind.Kind.TheVariants.{Join, Consensus, Loss}
 use Rattle.ring_base.specs.declared.state.State.{State}
@@ -126,6 +126,10 @@ module _ {O : Type 0} (object : Sequential O) where
   IsNotIssued i c n m PendingFull = IsToldRefused i c n m PendingFull
   IsNotIssued i c n m StoppedFault = IsToldRefused i c n m StoppedFault
   IsNotIssued i c n m _ = ⊥
+
+  -- why a port's call is not issued: the network is lent elsewhere, or a network does not issue it
+  abbrev pub IsNotAsked : {A : Type 0} → ℕ → Call A → Fault → Type 0
+  IsNotAsked {A} i c fault = (fault ≡ NoAnswer) ⊎ ((n : Networked A) × (m : Networked A) × IsNotIssued i c n m fault)
 
 -- Memory was refused to a turn: the copy that was closed is lost; where none was open nothing has changed.
 pub record LosesTurn {A : Type 0} (n m : Networked A) : Type 0 where

@@ -3,6 +3,7 @@
 ghost use Rattle.std.specs.Prelude.{◌≡◌, IfOk, IfErr, IfSome, OnOk};
 ghost use Rattle.ring_client.specs.Asking.{unasked, submitted, refused_with, polled, IsTold};
 ghost use Rattle.ring_world_port.specs.Answers.{question_of, HasTold};
+ghost use Rattle.ring_world_port.specs.Network.{IsNotAsked};
 
 use crate::network::{Network, WorldTicket};
 use ring_base::{Fault, Proc};
@@ -43,6 +44,7 @@ impl<O: Object> WorldPort<O> {
     fn try_submit(&mut self, call: &Call<O::Alloc>) -> Result<WorldTicket, Fault>
         ensures same { self.new ≡ self.old }
         ensures ticket { IfOk result (λ ticket. ticket ≡ question_of self.old.node (submitted call.now)) }
+        ensures why { IfErr result (IsNotAsked O.sequential self.old.node call.now) }
     {
         let Ok(mut network) = self.network.try_borrow_mut() else {
             return Err(Fault::NoAnswer);
@@ -75,6 +77,7 @@ impl<O: Object> Port for WorldPort<O> {
     fn submit(&mut self, call: &Call<O::Alloc>) -> Result<WorldTicket, Fault>
         ensures ok { OnOk result (self.new.asked ≡ submitted call.now) }
         ensures refused { IfErr result (λ fault. self.new.asked ≡ refused_with fault (submitted call.now)) }
+        ensures why { IfErr result (IsNotAsked O.sequential self.old.node call.now) }
         ensures ticket { IfOk result (λ ticket. ticket ≡ question_of self.old.node (submitted call.now)) }
         ensures node { self.new.node ≡ self.old.node }
     {
