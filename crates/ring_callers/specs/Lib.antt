@@ -1,3 +1,2 @@
 pub mod Callers
 pub mod Arguments
-pub mod Clients

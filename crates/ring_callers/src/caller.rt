@@ -1,12 +1,12 @@
 //! Clients that call from threads of their own.
 
-ghost use Rattle.std.specs.Prelude.{◌≡◌, ℕ, ◌≤◌, IfOk, IfErr};
+ghost use Rattle.std.specs.Prelude.{◌≡◌, ℕ, IfErr};
 ghost use Rattle.ring_base.specs.declared.fault.Fault.TheVariants.{Memory};
-ghost use Rattle.ring_callers.specs.Clients.{AreForAll, IsNew, node_after};
+ghost use Rattle.ring_host_port.specs.Clients.{AreForAll};
 
 use ring_base::Fault;
 use ring_client::{Client, Port};
-use ring_host_port::{BookName, Host, HostPort, POLLS, Seat};
+use ring_host_port::{BookName, Host, Seat, client_of};
 use ring_object::Object;
 use std::sync::Wait;
 
@@ -44,37 +44,4 @@ pub(crate) fn call_from<O: Object, K: BookName<O::Alloc>, C: Caller, W: Wait>(
     let mut client = client_of(rt, alloc, host, seats, number, first)?;
     caller.make_calls(&mut client);
     Ok(())
-}
-
-/// The client of this number, which tries the node `first`, and then the others in order, node 1 after the last. Each port takes one
-/// of the seats, of which there is one for each node.
-fn client_of<'a, O: Object, K: BookName<O::Alloc>, W: Wait>(
-    rt: &'a W,
-    alloc: O::Alloc,
-    host: &'a Host<O, K>,
-    seats: Vec<Seat<O::Alloc>, O::Alloc>,
-    number: u32,
-    first: u8,
-) -> Result<Client<HostPort<'a, O, K, W>>, Fault>
-    requires { AreForAll host.now seats.items }
-    ensures client { IfOk result (IsNew (λ port. port.node) number host.now.words first) }
-    ensures refused { IfErr result (λ fault. fault ≡ Memory) }
-{
-    let nodes = seats.len() as u8;
-    let mut seats = seats;
-    let mut ports = Vec::new(alloc);
-    for passed in 0..nodes {
-        let port = HostPort::to(rt, host, &mut seats, node_after(nodes, first, passed))?;
-        ports.push(port)?;
-    }
-    Ok(Client::new(alloc, number, ports, POLLS))
-}
-
-/// The node that a client tries after so many others, where this one is its first.
-fn node_after(nodes: u8, first: u8, passed: u8) -> u8
-    requires { 1 ≤ nodes }
-    ensures { result ≡ node_after nodes first passed }
-{
-    let before = u32::from(first.saturating_sub(1)) + u32::from(passed);
-    (before % u32::from(nodes)) as u8 + 1
 }

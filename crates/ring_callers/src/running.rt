@@ -1,16 +1,16 @@
 //! A group's nodes on threads, and the clients that call them.
 
-ghost use Rattle.std.specs.Prelude.{◌≡◌, ◌<◌, ◌≤◌, ◌⊎◌, ◌++◌, All, length, reverse, IfOk, IfErr, OnOk};
-ghost use Rattle.ring_base.specs.declared.fault.Fault.TheVariants.{Memory, NotMember};
+ghost use Rattle.std.specs.Prelude.{◌≡◌, ◌≤◌, All, IfOk, IfErr, OnOk};
+ghost use Rattle.ring_base.specs.declared.fault.Fault.TheVariants.{Memory};
 ghost use Rattle.ring_callers.specs.Arguments.{IsNode, AreOfGroup, MayRun, IsRefused};
 ghost use Rattle.ring_callers.specs.Callers.{AreOfRun};
-ghost use Rattle.ring_callers.specs.Clients.{AreSeats, AreForAll};
+ghost use Rattle.ring_host_port.specs.Clients.{AreSeats, AreForAll};
 
 use crate::caller::{Caller, call_from};
 use crate::checking::check_arguments;
 use crate::progress::Progress;
 use ring_base::{Fault, Fixed, Proc};
-use ring_host_port::{BookName, CallsTold, Gate, Host, Opening, Seat, calls_of};
+use ring_host_port::{BookName, CallsTold, Gate, Host, Opening, Seat, calls_of, take_seats};
 use ring_object::Object;
 use std::marker::Brand;
 use std::sync::Wait;
@@ -130,7 +130,7 @@ where
             let mut number = 0u32;
             for caller in callers {
                 number = number.saturating_add(1);
-                let own = seats_of(alloc, host, &mut seats, nodes);
+                let own = take_seats(host, &mut seats, nodes);
                 let called = move ||
                     requires { IfOk own (λ seats. AreForAll host.now seats.items) }
                 { call(rt, alloc, host, own, number, caller, left) };
@@ -149,29 +149,6 @@ where
         return Err(Fault::Memory);
     }
     Ok(())
-}
-
-/// As many of the host's seats as it has nodes, off the end of the list. Or `Memory`, or `NotMember` where there are less.
-fn seats_of<O: Object, K: BookName<O::Alloc>>(
-    alloc: O::Alloc,
-    host: &Host<O, K>,
-    seats: &mut Vec<Seat<O::Alloc>, O::Alloc>,
-    nodes: u8,
-) -> Result<Vec<Seat<O::Alloc>, O::Alloc>, Fault>
-    requires { AreSeats host.now nodes seats.old.items }
-    ensures seats { AreSeats host.now nodes seats.new.items }
-    ensures own { IfOk result (λ own. AreForAll host.now own.items) }
-    ensures taken { IfOk result (λ own. seats.old.items ≡ seats.new.items ++ reverse own.items) }
-    ensures refused { IfErr result (λ fault. (fault ≡ Memory) ⊎ ((fault ≡ NotMember) × (length seats.old.items < nodes))) }
-{
-    let mut own = Vec::new(alloc);
-    for _taken in 0..nodes {
-        let Some(seat) = host.take_seat(seats) else {
-            return Err(Fault::NotMember);
-        };
-        own.push(seat)?;
-    }
-    Ok(own)
 }
 
 /// The client of this number makes its calls, if it has got seats, and is through.

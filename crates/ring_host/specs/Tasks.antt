@@ -14,3 +14,8 @@ IsRead (Some frame) text = FrameFits frame × (text ≡ spelling_of frame)
 abbrev pub TaskFits : {A : Type 0} → Option (OneFrame A) → Task A → Type 0
 TaskFits place (Timeout kind) = ⊤
 TaskFits place (Came bytes at) = IsRead place bytes.items
+
+-- it is a frame that came
+abbrev pub IsFrame : {A : Type 0} → Task A → Type 0
+IsFrame (Timeout kind) = ⊥
+IsFrame (Came bytes at) = ⊤

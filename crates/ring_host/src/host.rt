@@ -1,15 +1,16 @@
 //! The host, and what its callers ask of it.
 
-ghost use Rattle.std.specs.Prelude.{◌≡◌, ◌<◌, ◌≤◌, [], ◌++◌, All, IfOk, IfErr, IfSome, IfNone, OnErr, Ok, Some, option_to_list};
-ghost use Rattle.ring_base.specs.declared.fault.Fault.TheVariants.{NotMember};
+ghost use Rattle.std.specs.Prelude.{◌≡◌, ◌<◌, ◌≤◌, ◌⊎◌, [], ◌++◌, All, IfOk, IfErr, IfSome, IfNone, OnErr, Ok, Some, option_to_list};
+ghost use Rattle.ring_base.specs.declared.fault.Fault.TheVariants.{NotMember, Memory, Stranger};
 ghost use Rattle.std.specs.Fn.{FnOnceReturnsAt};
 ghost use Rattle.ring_payload.specs.Calls.{CallFits};
+ghost use Rattle.ring_seat.specs.Clocks.{counted};
 ghost use Rattle.ring_seat.specs.Seats.{IsAt, IsOwn};
 ghost use Rattle.ring_host.specs.Answering.{IsAnswered};
 ghost use Rattle.ring_host.specs.Refusing.{IsTurnFault, IsSubmitFault};
 ghost use Rattle.ring_host.specs.declared.item.Task.TheVariants.{Timeout};
 ghost use Rattle.ring_host.specs.Tasks.{TaskFits};
-ghost use Rattle.ring_host.specs.Turns.{published_by};
+ghost use Rattle.ring_host.specs.Turns.{published_by, IsCounted};
 
 use crate::answers::Answers;
 use crate::bell::Bell;
@@ -118,7 +119,8 @@ impl<C, B, A: Allocator + Copy + Drop> HostOf<C, B, A> {
         self.bell.ring();
     }
 
-    /// The next task of a node: the timeout, or the first item of its inbox, whose frame is read into the place.
+    /// The next task of a node: the timeout, or the first item of its inbox, whose frame is read into the place. `Memory` or `Stranger`
+    /// where that can't be read.
     pub(crate) fn task<W: Wait>(
         &self,
         rt: &W,
@@ -129,7 +131,7 @@ impl<C, B, A: Allocator + Copy + Drop> HostOf<C, B, A> {
         requires { node ≤ self.now.words }
         ensures due { IfSome due (λ kind. result ≡ Ok (Some (Timeout kind))) }
         ensures fits { IfOk result (λ found. IfSome found (TaskFits place.new)) }
-        ensures refused { IfErr result IsTurnFault }
+        ensures refused { IfErr result (λ fault. (fault ≡ Memory) ⊎ (fault ≡ Stranger)) }
     {
         if let Some(kind) = due {
             return Ok(Some(Task::Timeout(kind)));
@@ -144,16 +146,18 @@ impl<C, B, A: Allocator + Copy + Drop> HostOf<C, B, A> {
 impl<O: Object, K: BookName<O::Alloc>> HostOf<Cell<O, K>, Book<O, K>, O::Alloc> {
     /// One turn of the seat's node: a timeout that is due, or else the first item of its inbox. Tells how many places
     /// the node has committed, dropped ones included, which is published on the seat; a turn that finds nothing yields, and publishes none.
-    /// The seat is one of this host's, and a node's own.
+    /// The seat is one of this host's, and a node's own. Its clock counts the turn, and begins anew as [`Seat::tick`] says, and as
+    /// [`Seat::take`] does where the item is a token or a commit token that the step doesn't ignore.
     ///
     /// Refused: `Memory` or `Stranger` where the item can't be read or doesn't stand in the book; `BookFull`, `Memory` of the place;
     /// then as the node's step, `Stopped` or `Memory`, which leaves the node stopped. Nothing is published then, and the timeout or item
     /// that the turn took is spent.
     pub fn turn<W: Wait>(&self, rt: &W, seat: &mut Seat<O::Alloc>) -> Result<Turn, Fault>
         requires own { IsOwn self.now seat.old }
-        ensures seat { IsOwn self.now seat.new × (seat.new.node ≡ seat.old.node) }
+        ensures seat { IsOwn self.now seat.new × (seat.new.node ≡ seat.old.node) × (seat.new.seen ≡ seat.old.seen) }
         ensures ok { IfOk result (λ turn. seat.new.published ≡ published_by turn.length seat.old.published) }
-        ensures err { OnErr result (seat.new.published ≡ seat.old.published) }
+        ensures clock { IfOk result (λ turn. IsCounted turn.length seat.old.clock seat.new.clock) }
+        ensures err { OnErr result ((seat.new.published ≡ seat.old.published) × (seat.new.clock ≡ counted seat.old.clock)) }
         ensures refused { IfErr result IsTurnFault }
     {
         self.gated_turn(rt, seat, &Open)

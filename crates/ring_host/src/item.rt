@@ -1,10 +1,13 @@
 //! What lies in an inbox, and what a turn makes of it.
 
 ghost use Rattle.std.specs.Prelude.{◌≡◌, ◌⊎◌, IfOk, IfErr, OnOk};
-ghost use Rattle.ring_base.specs.declared.fault.Fault.TheVariants.{Memory, Stranger};
+ghost use Rattle.ring_base.specs.declared.fault.Fault.TheVariants.{Memory, Stranger, BadFrame};
+ghost use Rattle.ring_wire.specs.declared.frame.Frame.{Frame as OneFrame};
 ghost use Rattle.ring_wire.specs.Fronts.{IsReadFault};
+ghost use Rattle.ring_wire.specs.Spells.{Spells};
+ghost use Rattle.ring_host.specs.declared.item.Found.TheVariants.{Token};
 ghost use Rattle.ring_host.specs.declared.item.Task.TheVariants.{Came};
-ghost use Rattle.ring_host.specs.Tasks.{IsRead, TaskFits};
+ghost use Rattle.ring_host.specs.Tasks.{IsRead, IsFrame, TaskFits};
 
 use ring_base::{Fault, Kind};
 use ring_book::FrameRef;
@@ -39,7 +42,7 @@ pub(crate) enum Task<A: Allocator + Copy + Drop = Global> {
 
 impl<A: Allocator + Copy + Drop> Task<A> {
     /// A frame that came, which is read into the place. Bytes that are none stand nowhere in the book, so they are refused as the book
-    /// would: with `Stranger`.
+    /// would: with `Stranger`. `Memory` may come in place of either answer.
     pub(crate) fn read(
         alloc: A,
         item: InboxFrame<A>,
@@ -48,6 +51,7 @@ impl<A: Allocator + Copy + Drop> Task<A> {
         ensures came { IfOk result (λ task. task ≡ Came item.bytes item.at) }
         ensures fits { IfOk result (TaskFits place.new) }
         ensures refused { IfErr result (λ fault. (fault ≡ Memory) ⊎ (fault ≡ Stranger)) }
+        ensures stranger { IfErr result (λ fault. fault ≡ Stranger → (frame : OneFrame A) → ¬ Spells frame item.bytes.items) }
     {
         let InboxFrame { at, bytes } = item;
         match read_frame(alloc, bytes.as_slice(), place) {
@@ -58,7 +62,9 @@ impl<A: Allocator + Copy + Drop> Task<A> {
     }
 
     /// What it is, of the frame in the turn's place.
-    pub(crate) fn found(&self, place: &Option<Frame<A>>) -> Found {
+    pub(crate) fn found(&self, place: &Option<Frame<A>>) -> Found
+        ensures { result ≡ Token → IsFrame self.now }
+    {
         match self {
             Task::Timeout(_) => Found::Timeout,
             Task::Came(_, _) => found_in(place),
@@ -73,6 +79,7 @@ fn read_frame<A: Allocator + Copy>(
     place: &mut Option<Frame<A>>,
 ) -> Result<(), Fault>
     ensures read { OnOk result (IsRead place.new bytes.now) }
+    ensures bad { IfErr result (λ fault. fault ≡ BadFrame → (frame : OneFrame A) → ¬ Spells frame bytes.now) }
     ensures refused { IfErr result IsReadFault }
 {
     let len = Frame::<A>::get_into(alloc, bytes, place)?;

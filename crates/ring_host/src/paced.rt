@@ -1,6 +1,6 @@
 //! A gate for hosts that last.
 
-ghost use Rattle.std.specs.Prelude.{◌≡◌, IfErr};
+ghost use Rattle.std.specs.Prelude.{◌≡◌, vec_len, IfOk, IfErr};
 ghost use Rattle.ring_base.specs.declared.fault.Fault.TheVariants.{Memory};
 
 use crate::bell::Bell;
@@ -55,7 +55,8 @@ struct Quiet {
 impl<C, B, A: Allocator + Copy + Drop> HostOf<C, B, A> {
     /// The gate for this host's `run` under which it rests where it has nothing to do. Or `Memory`.
     pub fn paced<'a, W: Wait>(&'a self, rt: &'a W) -> Result<Paced<'a, W, A>, Fault>
-        ensures { IfErr result (λ fault. fault ≡ Memory) }
+        ensures quiets { IfOk result (λ gate. vec_len gate.quiets ≡ self.now.words) }
+        ensures refused { IfErr result (λ fault. fault ≡ Memory) }
     {
         let mut quiets = Vec::new(self.alloc);
         let nodes = self.inboxes.len();

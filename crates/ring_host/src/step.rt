@@ -1,10 +1,12 @@
 //! A turn, step by step: what is done under which lock.
 
-ghost use Rattle.std.specs.Prelude.{◌≡◌, ◌≤◌, IfErr, IfOk, OnErr};
+ghost use Rattle.std.specs.Prelude.{◌≡◌, ◌≤◌, IsTrue, IfErr, IfOk, OnErr};
+ghost use Rattle.ring_seat.specs.Clocks.{counted};
 ghost use Rattle.ring_seat.specs.Seats.{IsOwn};
 ghost use Rattle.ring_host.specs.Refusing.{IsTurnFault};
-ghost use Rattle.ring_host.specs.Tasks.{TaskFits};
-ghost use Rattle.ring_host.specs.Turns.{published_by};
+ghost use Rattle.ring_host.specs.Tasks.{TaskFits, IsFrame};
+ghost use Rattle.ring_host.specs.Turns.{published_by, IsCounted};
+ghost use Rattle.ring_host.specs.declared.item.Found.TheVariants.{Token};
 
 use crate::gate::{Gate, GatePlace, Stir};
 use crate::host::HostOf;
@@ -32,7 +34,9 @@ struct Done {
 }
 
 /// What a step made that found this and sent so many frames, of the node after it. A token that the node ignores sends nothing.
-fn done_of<O: Object>(node: &Node<O>, found: Found, sent: usize) -> Done {
+fn done_of<O: Object>(node: &Node<O>, found: Found, sent: usize) -> Done
+    ensures { IsTrue result.has_taken → found ≡ Token }
+{
     let length = node.committed_len();
     let is_quiet = sent <= 1 && node.state() == State::Operational && node.log_len() == length;
     Done {
@@ -115,9 +119,10 @@ impl<O: Object, K: BookName<O::Alloc>> HostOf<Cell<O, K>, Book<O, K>, O::Alloc> 
         gate: &G,
     ) -> Result<Turn, Fault>
         requires own { IsOwn self.now seat.old }
-        ensures seat { IsOwn self.now seat.new × (seat.new.node ≡ seat.old.node) }
+        ensures seat { IsOwn self.now seat.new × (seat.new.node ≡ seat.old.node) × (seat.new.seen ≡ seat.old.seen) }
         ensures ok { IfOk result (λ turn. seat.new.published ≡ published_by turn.length seat.old.published) }
-        ensures err { OnErr result (seat.new.published ≡ seat.old.published) }
+        ensures clock { IfOk result (λ turn. IsCounted turn.length seat.old.clock seat.new.clock) }
+        ensures err { OnErr result ((seat.new.published ≡ seat.old.published) × (seat.new.clock ≡ counted seat.old.clock)) }
         ensures refused { IfErr result IsTurnFault }
     {
         let Some(node) = seat.node() else {
@@ -166,6 +171,7 @@ impl<O: Object, K: BookName<O::Alloc>> HostOf<Cell<O, K>, Book<O, K>, O::Alloc> 
     ) -> Result<Done, Fault>
         requires member { node ≤ self.now.words }
         requires fits { TaskFits came.now task }
+        ensures taken { IfOk result (λ done. IsTrue done.has_taken → IsFrame task) }
         ensures refused { IfErr result IsTurnFault }
     {
         let mut cell = take(rt, &self.cells[node.number() as usize - 1]);

@@ -1,1 +1,3 @@
 pub mod AnswersTold
+pub mod Taken
+pub mod Ports

@@ -2,11 +2,11 @@
 
 ghost use Rattle.std.specs.Prelude.{◌≡◌, ◌≤◌, ◌+◌, [], ◌∷◌, ◌++◌, length, All, IfOk, IfErr, IfSome, OnOk, OnErr};
 ghost use Rattle.ring_base.specs.declared.fault.Fault.TheVariants.{NotMember};
-ghost use Rattle.ring_client.specs.Asking.{unasked, submitted, refused_with, polled, IsTold};
+ghost use Rattle.ring_client.specs.Asking.{unasked, submitted, refused_with, polled, IsTold, IsSubmittable};
 ghost use Rattle.ring_seat.specs.Seats.{IsAt};
 ghost use Rattle.ring_host.specs.Answering.{IsAnswered};
 ghost use Rattle.ring_host_port.specs.Noted.{told_of};
-ghost use Rattle.ring_host_port.specs.Submitting.{IsSubmittable, IsNotSubmitted};
+ghost use Rattle.ring_host_port.specs.Submitting.{IsNotSubmitted};
 
 use ring_base::{Fault, Proc};
 use ring_client::{Asked, Port, tellable};

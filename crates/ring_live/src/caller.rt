@@ -1,15 +1,15 @@
 //! The clients of a live run.
 
-ghost use Rattle.std.specs.Prelude.{◌≡◌, ◌≤◌, All, IfOk};
-ghost use Rattle.ring_seat.specs.Seats.{IsAt};
-ghost use Rattle.ring_live.specs.Callers.{HasSeatsAt};
+ghost use Rattle.std.specs.Prelude.{◌≡◌};
+ghost use Rattle.ring_live.specs.Callers.{HasSeats};
 
 use ring_base::Fault;
 use ring_client::Client;
-use ring_host_port::{BookName, Host, HostPort, POLLS, Seat};
+use ring_host_port::{BookName, Host, HostPort, Seat, client_of};
 use ring_object::{Object, Reply};
 use ring_things::{Counters, Place, Replied};
 use std::alloc::{Allocator, Global};
+use std::mem::replace;
 use std::sync::Wait;
 use std::sync::atomic::{AtomicU64, Ordering};
 use std::thread;
@@ -17,7 +17,7 @@ use std::thread;
 /// Where the counters stand on the program's shelf.
 const COUNTERS: Place = Place::Second;
 
-/// A client that calls from a thread of its own: its number, the seats of the host's for its ports, and what came of its calls.
+/// A client that calls from a thread of its own: its number, a seat of the host's for each of its ports, and what came of its calls.
 #[derive(Drop)]
 pub(crate) struct Caller<A: Allocator + Copy + Drop = Global> {
     pub(crate) number: u8,
@@ -48,14 +48,13 @@ pub(crate) fn call<O: Object, K: BookName<O::Alloc>, W: Wait>(
     rt: &W,
     alloc: O::Alloc,
     host: &Host<O, K>,
-    nodes: u8,
     calls: u8,
     running: &AtomicU64,
     caller: &mut Caller<O::Alloc>,
 )
-    requires { HasSeatsAt host.now caller.old }
+    requires { HasSeats host.now caller.old }
 {
-    let counter = try_call(rt, alloc, host, nodes, calls, running, &mut *caller);
+    let counter = try_call(rt, alloc, host, calls, running, &mut *caller);
     caller.counter = counter;
     if running.fetch_sub(1, Ordering::SeqCst) == 1 {
         host.close();
@@ -67,15 +66,15 @@ fn try_call<O: Object, K: BookName<O::Alloc>, W: Wait>(
     rt: &W,
     alloc: O::Alloc,
     host: &Host<O, K>,
-    nodes: u8,
     calls: u8,
     running: &AtomicU64,
     caller: &mut Caller<O::Alloc>,
 ) -> Result<u64, Fault>
-    requires { HasSeatsAt host.now caller.old }
+    requires { HasSeats host.now caller.old }
 {
     let number = caller.number;
-    let mut client = client_of(rt, alloc, host, &mut caller.seats, nodes, number)?;
+    let seats = replace(&mut caller.seats, Vec::new(alloc));
+    let mut client = client_of(rt, alloc, host, seats, u32::from(number), number)?;
     caller.answered = add(&mut client, calls);
     if number != 1 {
         return Ok(0);
@@ -84,32 +83,6 @@ fn try_call<O: Object, K: BookName<O::Alloc>, W: Wait>(
     let read = COUNTERS.operation(&Counters::read(0));
     let reply = client.call(read.as_slice())?;
     Ok(count_in(&reply))
-}
-
-/// The client of this number, which tries the node of its own number first, and then the others in order, node 1 after the last.
-/// Each port takes one of the host's seats.
-fn client_of<'a, O: Object, K: BookName<O::Alloc>, W: Wait>(
-    rt: &'a W,
-    alloc: O::Alloc,
-    host: &'a Host<O, K>,
-    seats: &mut Vec<Seat<O::Alloc>, O::Alloc>,
-    nodes: u8,
-    number: u8,
-) -> Result<Client<HostPort<'a, O, K, W>>, Fault>
-    requires { All (IsAt host.now) seats.old.items }
-{
-    let mut ports = Vec::new(alloc);
-    for passed in 0..nodes {
-        let port = HostPort::to(rt, host, seats, node_after(nodes, number, passed))?;
-        ports.push(port)?;
-    }
-    Ok(Client::new(alloc, u32::from(number), ports, POLLS))
-}
-
-/// The node that a client of this number tries after so many others.
-fn node_after(nodes: u8, number: u8, passed: u8) -> u8 {
-    let before = u32::from(number.saturating_sub(1)) + u32::from(passed);
-    (before % u32::from(nodes.max(1))) as u8 + 1
 }
 
 /// Makes so many adds, or ends at the first fault. How many were answered.

@@ -9,11 +9,9 @@ ghost use Rattle.ring_live.specs.declared.running.Lived.{Lived};
 use crate::running::{Lived, run_live};
 use ring_base::{Fault, Fixed};
 use ring_console::{Failure, Things, report};
-use ring_host_port::Opening;
 use ring_report::NOT_LEGAL;
 use std::alloc::Global;
 use std::io::Write;
-use std::marker::Brand;
 use std::sync::Wait;
 use std::thread::Threads;
 
@@ -66,8 +64,7 @@ fn run<W: Threads + Wait + Sync>(
     ensures range { OnOk result ((1 ≤ nodes) × (nodes ≤ 16)) }
 {
     let group = Fixed::new(nodes)?;
-    let opening = Opening::<Things<Global>>::new(alloc, group)?;
-    run_live::<Things<Global>, Brand, W>(rt, alloc, opening, group.count(), calls)
+    run_live::<Things<Global>, W>(rt, alloc, group, calls)
 }
 
 /// Prints what came of a run in which the counter was read so. Otherwise `Output`.

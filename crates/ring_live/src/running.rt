@@ -1,15 +1,18 @@
 //! A live run.
 
-ghost use Rattle.std.specs.Prelude.{◌≡◌, ◌≤◌, true, All, IfOk};
+ghost use Rattle.std.specs.Prelude.{◌≡◌, ◌≤◌, ◌*◌, true, length, All, IfOk, IfErr};
+ghost use Rattle.ring_base.specs.declared.fault.Fault.TheVariants.{Memory};
+ghost use Rattle.ring_host_port.specs.Clients.{AreSeats};
+ghost use Rattle.ring_live.specs.Callers.{HasSeats};
 ghost use Rattle.ring_seat.specs.Seats.{IsAt};
-ghost use Rattle.ring_live.specs.Callers.{HasSeatsAt};
 
 use crate::caller::{Caller, call};
 use crate::legal::is_legal;
-use ring_base::{Fault, MOST_PROCESSORS};
-use ring_host_port::{BookName, Gate, Host, Opening, Seat};
+use ring_base::{Fault, Fixed};
+use ring_host_port::{BookName, Gate, Host, Opening, Seat, take_seats};
 use ring_object::Object;
 use std::alloc::Allocator;
+use std::marker::Brand;
 use std::sync::Wait;
 use std::sync::atomic::{AtomicBool, AtomicU64, Ordering};
 use std::thread;
@@ -28,41 +31,22 @@ pub struct Lived {
     pub is_legal: bool,
 }
 
-/// So many of the host's seats.
-fn seats_of<O: Object, K: BookName<O::Alloc>>(
-    alloc: O::Alloc,
-    host: &Host<O, K>,
-    seats: &mut Vec<Seat<O::Alloc>, O::Alloc>,
-    count: u8,
-) -> Result<Vec<Seat<O::Alloc>, O::Alloc>, Fault>
-    requires { All (IsAt host.now) seats.old.items }
-    ensures seats { All (IsAt host.now) seats.new.items }
-    ensures own { IfOk result (λ own. All (IsAt host.now) own.items) }
-{
-    let mut own = Vec::new(alloc);
-    for _ in 0..count {
-        let Some(seat) = host.take_seat(seats) else {
-            return Err(Fault::NotMember);
-        };
-        own.push(seat)?;
-    }
-    Ok(own)
-}
-
-/// The clients of a host, one for each of its nodes, each with a seat for each node.
+/// The clients of a host, one for each of its nodes, each with a seat for each node. Or `Memory`.
 fn callers_of<O: Object, K: BookName<O::Alloc>>(
     alloc: O::Alloc,
     host: &Host<O, K>,
     seats: &mut Vec<Seat<O::Alloc>, O::Alloc>,
     nodes: u8,
 ) -> Result<Vec<Caller<O::Alloc>, O::Alloc>, Fault>
-    requires { All (IsAt host.now) seats.old.items }
-    ensures seats { All (IsAt host.now) seats.new.items }
-    ensures callers { IfOk result (λ callers. All (HasSeatsAt host.now) callers.items) }
+    requires seats { AreSeats host.now nodes seats.old.items }
+    requires enough { 16 * nodes ≤ length seats.old.items }
+    ensures seats { AreSeats host.now nodes seats.new.items }
+    ensures callers { IfOk result (λ callers. All (HasSeats host.now) callers.items) }
+    ensures refused { IfErr result (λ fault. fault ≡ Memory) }
 {
     let mut callers = Vec::new(alloc);
     for before in 0..nodes {
-        let own = seats_of(alloc, host, seats, nodes)?;
+        let own = take_seats(host, seats, nodes)?;
         let caller = Caller::new(before + 1, own);
         callers.push(caller)?;
     }
@@ -88,11 +72,11 @@ fn run_all<
 where
     O::Alloc: Send + Sync,
     requires seats { All (IsAt host.now) seats.items }
-    requires callers { All (HasSeatsAt host.now) callers.old }
+    requires callers { All (HasSeats host.now) callers.old }
+    ensures refused { IfErr result (λ fault. fault ≡ Memory) }
 {
-    let nodes = callers.len().min(usize::from(MOST_PROCESSORS)) as u8;
     let refused = AtomicBool::new(false);
-    let running = AtomicU64::new(u64::from(nodes));
+    let running = AtomicU64::new(callers.len() as u64);
     let (told, left) = (&refused, &running);
     let each = &mut *callers;
     thread::scope(
@@ -100,12 +84,12 @@ where
         rt,
         move |scope|
             requires seats { All (IsAt host.now) seats.items }
-            requires callers { All (HasSeatsAt host.now) each.now }
+            requires callers { All (HasSeats host.now) each.now }
         {
             for caller in each {
                 let called = move ||
-                    requires { HasSeatsAt host.now caller.now }
-                { call(rt, alloc, host, nodes, calls, left, caller) };
+                    requires { HasSeats host.now caller.now }
+                { call(rt, alloc, host, calls, left, caller) };
                 if scope.spawn(called).is_err() {
                     told.store(true, Ordering::SeqCst);
                     left.fetch_sub(1, Ordering::SeqCst);
@@ -141,9 +125,25 @@ fn counter_in<A: Allocator + Copy + Drop>(callers: &[Caller<A>]) -> Result<u64, 
     }
 }
 
-/// What comes of a run of the opening that K names, of a shelf and so many nodes, where each of as many clients makes so many adds,
-/// whatever was answered. The nodes rest where there is nothing to do. Or `Memory`.
-pub fn run_live<O: Object + Send, K: BookName<O::Alloc> + Send + Sync, W: Threads + Wait + Sync>(
+/// What comes of a run of a group's nodes, of a shelf, where each of as many clients makes so many adds, whatever was answered. The nodes
+/// rest where there is nothing to do. Or `Memory`.
+pub fn run_live<O: Object + Send, W: Threads + Wait + Sync>(
+    rt: &W,
+    alloc: O::Alloc,
+    group: Fixed,
+    calls: u8,
+) -> Result<Lived, Fault>
+where
+    O::Alloc: Send + Sync,
+    ensures lived { IfOk result (λ lived. (lived.nodes ≡ group.count) × (lived.is_legal ≡ true)) }
+    ensures refused { IfErr result (λ fault. fault ≡ Memory) }
+{
+    let opening = Opening::<O>::new(alloc, group)?;
+    run_named::<O, Brand, W>(rt, alloc, opening, group.count(), calls)
+}
+
+/// The same at the opening that K names, of so many nodes.
+fn run_named<O: Object + Send, K: BookName<O::Alloc> + Send + Sync, W: Threads + Wait + Sync>(
     rt: &W,
     alloc: O::Alloc,
     opening: Opening<O>,
@@ -153,8 +153,9 @@ pub fn run_live<O: Object + Send, K: BookName<O::Alloc> + Send + Sync, W: Thread
 where
     O::Alloc: Send + Sync,
     requires name { opening ≡ K.name }
-    requires nodes { nodes ≤ 16 }
-    ensures { IfOk result (λ lived. (lived.nodes ≡ nodes) × (lived.is_legal ≡ true)) }
+    requires nodes { (nodes ≡ K.name.group.count) × (nodes ≤ 16) }
+    ensures lived { IfOk result (λ lived. (lived.nodes ≡ nodes) × (lived.is_legal ≡ true)) }
+    ensures refused { IfErr result (λ fault. fault ≡ Memory) }
 {
     let guests = 16 * u16::from(nodes);
     let (host, mut seats) = Host::<O, K>::new(alloc, opening, guests)?;

@@ -1,7 +1,7 @@
 //! When timeouts are due at a seat.
 
 ghost use Rattle.std.specs.Prelude.{◌≡◌};
-ghost use Rattle.ring_seat.specs.Clocks.{new_clock, ticked, due_of, begun, taken};
+ghost use Rattle.ring_seat.specs.Clocks.{new_clock, ticked, due_of, counted, taken};
 
 use ring_base::Kind;
 
@@ -42,7 +42,7 @@ impl Clock {
     /// several that are due the first is told, in the order join, retransmit, consensus, loss, and the others stay due.
     pub fn tick(&mut self) -> Option<Kind>
         ensures due { result ≡ due_of (ticked self.old) }
-        ensures clock { self.new ≡ begun (due_of (ticked self.old)) (ticked self.old) }
+        ensures clock { self.new ≡ counted self.old }
     {
         self.join = self.join.saturating_sub(1);
         self.retransmit = self.retransmit.saturating_sub(1);

@@ -2,7 +2,7 @@
 
 ghost use Rattle.std.specs.Prelude.{◌≡◌, ◌≤◌, IfSome};
 ghost use Rattle.ring_seat.specs.Seats.{IsSeated};
-ghost use Rattle.ring_seat.specs.Clocks.{new_clock, ticked, due_of, begun, taken};
+ghost use Rattle.ring_seat.specs.Clocks.{new_clock, ticked, due_of, counted, taken};
 
 use crate::clock::Clock;
 use crate::outbox::Outbox;
@@ -71,7 +71,7 @@ impl<A: Allocator + Copy + Drop> Seat<A> {
     /// One turn of it begins: its clock counts it, and tells the timeout that is done in it, as [`Clock::tick`] says.
     pub fn tick(&mut self) -> Option<Kind>
         ensures due { result ≡ due_of (ticked self.old.clock) }
-        ensures seat { self.new ≡ record (self.old) { clock = begun (due_of (ticked self.old.clock)) (ticked self.old.clock) } }
+        ensures seat { self.new ≡ record (self.old) { clock = counted self.old.clock } }
     {
         self.clock.tick()
     }

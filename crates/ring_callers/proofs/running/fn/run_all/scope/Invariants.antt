@@ -1,4 +1,4 @@
-use Rattle.ring_callers.specs.Clients.{AreSeats}
+use Rattle.ring_host_port.specs.Clients.{AreSeats}
 use Rattle.ring_callers.proofs.running.fn.run_all.scope.Given as goal
 
 abbrev pub invariant-loop-caller : goal.invariant-loop-caller

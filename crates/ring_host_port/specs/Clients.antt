@@ -1,5 +1,7 @@
--- The client that a caller calls with, and the seats of its ports (docs/PROTOCOL.md, The book and the threads).
-use Rattle.std.specs.Prelude.{◌≡◌, ℕ, ◌+◌, ◌-◌, ◌%◌, ◌≤◌, List, All, length, slice_get, Some, None}
+-- A client with a port to each node of a host, and the seats of its ports (docs/PROTOCOL.md, The book and the threads).
+use Rattle.std.specs.Prelude.{◌≡◌, ℕ, ◌+◌, ◌-◌, ◌%◌, ◌<◌, ◌≤◌, ◌⊎◌, List, All, length, slice_get, Some, None}
+use Rattle.ring_base.specs.declared.fault.Fault.{Fault}
+use Rattle.ring_base.specs.declared.fault.Fault.TheVariants.{NotMember, Memory}
 use Rattle.ring_client.specs.Calling.{ClientOf}
 use Rattle.ring_host_port.specs.Gauges.{TableId}
 use Rattle.ring_seat.specs.Seats.{SeatView, IsAt}
@@ -13,6 +15,10 @@ pub record AreSeats (gauge : TableId) (nodes : ℕ) (seats : List SeatView) : Ty
 -- as many of its seats as it has nodes
 abbrev pub AreForAll : TableId → List SeatView → Type 0
 AreForAll gauge seats = AreSeats gauge (length seats) seats
+
+-- why as many seats as there are nodes are not taken: there are fewer, or memory is refused
+abbrev pub AreNotTaken : ℕ → List SeatView → Fault → Type 0
+AreNotTaken nodes seats fault = ((fault ≡ NotMember) × (length seats < nodes)) ⊎ ((fault ≡ Memory) × (nodes ≤ length seats))
 
 -- the node that a client tries after so many others, where `first` is its first: node 1 after the last
 abbrev pub node_after : ℕ → ℕ → ℕ → ℕ

@@ -1,8 +1,8 @@
 use Rattle.std.proofs.Common.{rules, ◌≡◌, ◌∷◌, ◌++◌, [], ℕ, ◌+◌, ◌<◌, length, refl, arith, subst}
-use Rattle.ring_callers.specs.Clients.{node_after}
-use Rattle.ring_callers.proofs.Ports.{node_after-le, AreAsWanted, AreAsWanted-push}
-use Rattle.ring_callers.proofs.Taken.{one_left}
-use Rattle.ring_callers.proofs.caller.client_of.Goals as goal
+use Rattle.ring_host_port.specs.Clients.{node_after}
+use Rattle.ring_host_port.proofs.Ports.{node_after-le, AreAsWanted, AreAsWanted-push}
+use Rattle.ring_host_port.proofs.Taken.{one_left}
+use Rattle.ring_host_port.proofs.clients.client_of.Goals as goal
 
 -- The host has the node, and a seat is left for each port.
 pub returns-in_err-port-clause-refused : goal.returns-in_err-port-clause-refused

@@ -1,7 +1,7 @@
 use Rattle.std.proofs.Common.{◌≡◌, ℕ, ◌+◌, All, length, slice_get, Some}
 use Rattle.ring_seat.specs.Seats.{IsAt}
-use Rattle.ring_callers.specs.Clients.{node_after}
-use Rattle.ring_callers.proofs.caller.client_of.Given as goal
+use Rattle.ring_host_port.specs.Clients.{node_after}
+use Rattle.ring_host_port.proofs.clients.client_of.Given as goal
 
 abbrev pub invariant-loop-passed : goal.invariant-loop-passed
 invariant-loop-passed g l =

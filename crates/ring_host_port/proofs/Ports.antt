@@ -2,7 +2,7 @@
 use Rattle.std.proofs.Common.{◌≡◌, ℕ, ◌+◌, ◌-◌, ◌<◌, ◌≤◌, List, [], ◌∷◌, ◌++◌, length, slice_get, Some, ap, sym, subst, ◌∙◌, arith, ⊎_elim}
 use Rattle.std.proofs.Math.Nat.{mod-lt}
 use Rattle.ring_base.proofs.ListPlaces.{get-push}
-use Rattle.ring_callers.specs.Clients.{node_after}
+use Rattle.ring_host_port.specs.Clients.{node_after}
 
 -- the node that comes after others is one of so many
 pub node_after-le : (nodes first passed : ℕ) → 0 < nodes → node_after nodes first passed ≤ nodes

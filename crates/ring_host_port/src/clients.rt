@@ -1,0 +1,68 @@
+//! Clients that have a port to each node of a host.
+
+ghost use Rattle.std.specs.Prelude.{◌≡◌, ◌≤◌, ◌++◌, IfOk, IfErr, OnErr};
+ghost use Rattle.ring_base.specs.declared.fault.Fault.TheVariants.{Memory};
+ghost use Rattle.ring_host_port.specs.Clients.{AreSeats, AreForAll, AreNotTaken, IsNew, node_after};
+
+use crate::port::{HostPort, POLLS};
+use ring_base::Fault;
+use ring_client::Client;
+use ring_host::{BookName, Host, Seat};
+use ring_object::Object;
+use std::sync::Wait;
+
+/// As many of the host's seats as it has nodes, off the end of the list. Refused, in this order: `NotMember` where there are fewer;
+/// `Memory`. The seats are as before then.
+pub fn take_seats<O: Object, K: BookName<O::Alloc>>(
+    host: &Host<O, K>,
+    seats: &mut Vec<Seat<O::Alloc>, O::Alloc>,
+    nodes: u8,
+) -> Result<Vec<Seat<O::Alloc>, O::Alloc>, Fault>
+    requires { AreSeats host.now nodes seats.old.items }
+    ensures seats { AreSeats host.now nodes seats.new.items }
+    ensures own { IfOk result (λ own. AreForAll host.now own.items) }
+    ensures taken { IfOk result (λ own. seats.old.items ≡ seats.new.items ++ own.items) }
+    ensures kept { OnErr result (seats.new.items ≡ seats.old.items) }
+    ensures refused { IfErr result (AreNotTaken nodes seats.old.items) }
+{
+    // The contract alone speaks of it: these are seats of this host.
+    let _host = host;
+    let count = usize::from(nodes);
+    if seats.len() < count {
+        return Err(Fault::NotMember);
+    }
+    Ok(seats.split_off(seats.len() - count)?)
+}
+
+/// The client of this number, which tries the node `first`, and then the others in order, node 1 after the last. Each port takes one
+/// of the seats, of which there is one for each node. It polls a node 1,000,000 times a call at most. Or `Memory`.
+pub fn client_of<'a, O: Object, K: BookName<O::Alloc>, W: Wait>(
+    rt: &'a W,
+    alloc: O::Alloc,
+    host: &'a Host<O, K>,
+    seats: Vec<Seat<O::Alloc>, O::Alloc>,
+    number: u32,
+    first: u8,
+) -> Result<Client<HostPort<'a, O, K, W>>, Fault>
+    requires { AreForAll host.now seats.items }
+    ensures client { IfOk result (IsNew (λ port. port.node) number host.now.words first) }
+    ensures refused { IfErr result (λ fault. fault ≡ Memory) }
+{
+    let nodes = seats.len() as u8;
+    let mut seats = seats;
+    let mut ports = Vec::new(alloc);
+    for passed in 0..nodes {
+        let port = HostPort::to(rt, host, &mut seats, node_after(nodes, first, passed))?;
+        ports.push(port)?;
+    }
+    Ok(Client::new(alloc, number, ports, POLLS))
+}
+
+/// The node that a client tries after so many others, where this one is its first.
+fn node_after(nodes: u8, first: u8, passed: u8) -> u8
+    requires { 1 ≤ nodes }
+    ensures { result ≡ node_after nodes first passed }
+{
+    let before = u32::from(first.saturating_sub(1)) + u32::from(passed);
+    (before % u32::from(nodes)) as u8 + 1
+}
