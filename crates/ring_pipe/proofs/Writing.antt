@@ -8,19 +8,22 @@ use Rattle.ring_rules.specs.Nodes.{Node}
 use Rattle.ring_records.specs.Asking.{Asks}
 use Rattle.ring_records.specs.declared.asked.Asked.{Asked}
 use Rattle.ring_records.specs.declared.asked.Asked.TheVariants.{Frame, Timeout, Call, Stop, Standing}
-use Rattle.ring_pipe.specs.Piping.{Does, Takes, Writes}
+use Rattle.ring_pipe.specs.Piping.{Does, Takes, Tells, Writes}
 
--- a text was written of which this holds
-pub writes : {T E : Type 0} (r : Result T E) (out out' : Option (List ℕ)) (text : List ℕ) (P : List ℕ → Type 0)
-    → OnOk r (Appends out out' text) → P text → OnOk r (Writes out out' P)
-writes (Ok x) out out' text P told holds = record { text = text; told = told; holds = holds }
-writes (Err e) out out' text P told holds = tt
+-- a text of which this holds was written, unless the output failed
+pub tells : {T E : Type 0} (r : Result T E) (out out' : Option (List ℕ)) (text : List ℕ) (P : List ℕ → Type 0)
+    → OnOk r (Appends out out' text) → P text → Tells r out out' P
+tells r out out' text P told holds = record { text = text; told = told; holds = holds }
 
 -- what holds of the text holds otherwise
-pub writes_as : {T E : Type 0} (r : Result T E) (out out' : Option (List ℕ)) (P Q : List ℕ → Type 0) → ((text : List ℕ) → P text → Q text)
-    → OnOk r (Writes out out' P) → OnOk r (Writes out out' Q)
-writes_as (Ok x) out out' P Q f w = record { text = w.text; told = w.told; holds = f w.text w.holds }
-writes_as (Err e) out out' P Q f w = tt
+pub tells_as : {T E : Type 0} (r : Result T E) (out out' : Option (List ℕ)) (P Q : List ℕ → Type 0) → ((text : List ℕ) → P text → Q text)
+    → Tells r out out' P → Tells r out out' Q
+tells_as r out out' P Q f w = record { text = w.text; told = w.told; holds = f w.text w.holds }
+
+-- the output did not fail, so the text was written
+pub written : {T E : Type 0} (r : Result T E) (x : T) (out out' : Option (List ℕ)) (P : List ℕ → Type 0) → r ≡ Ok x → Tells r out out' P → Writes out out' P
+written (Ok y) x out out' P e w = record { text = w.text; told = w.told; holds = w.holds }
+written (Err e) x out out' P is w = absurd (cc is)
 
 -- a text was written behind another one
 pub writes_then : {T E : Type 0} (r : Result T E) (old mid new : Option (List ℕ)) (text more : List ℕ) → Appends old mid text
@@ -38,7 +41,7 @@ call_long kind bytes Standing asks client number e = absurd cc
 
 module _ {O A : Type 0} (object : Sequential O) where
   -- what a record asks for was done, and so it was taken
-  pub writes_taken : (out out' : Option (List ℕ)) (old : Node A) (kind : ℕ) (bytes : List ℕ) (what : Asked) (new : Node A) → Asks kind bytes what
-      → Writes out out' (λ text. Does object old bytes what new text) → Writes out out' (λ text. Takes object old kind bytes new text)
-  writes_taken out out' old kind bytes what new asks w =
+  pub tells_taken : {T E : Type 0} (r : Result T E) (out out' : Option (List ℕ)) (old : Node A) (kind : ℕ) (bytes : List ℕ) (what : Asked) (new : Node A)
+      → Asks kind bytes what → Tells r out out' (λ text. Does object old bytes what new text) → Tells r out out' (λ text. Takes object old kind bytes new text)
+  tells_taken r out out' old kind bytes what new asks w =
       record { text = w.text; told = w.told; holds = record { what = what; asks = asks; does = w.holds } }

@@ -27,7 +27,7 @@ module _ {O A : Type 0} (object : Sequential O) where
 -- why nothing is told of a record, and what is left then
 abbrev pub IsUntold : {A : Type 0} → Embedding A → ℕ → List ℕ → Fault → Embedding A → Type 0
 IsUntold old kind bytes Stopped new = (old.node ≡ None) × (new ≡ old)
-IsUntold old kind bytes BadFrame new = AsksNothing kind bytes × (new ≡ old)
+IsUntold {A} old kind bytes BadFrame new = (before : Node A) × (old.node ≡ Some before) × AsksNothing kind bytes × (new ≡ old)
 IsUntold {A} old kind bytes Memory new =
     (before : Node A) × (what : Asked) × (old.node ≡ Some before) × Asks kind bytes what × (new ≡ record { node = None; unread = [] })
 IsUntold old kind bytes _ new = ⊥

@@ -1,8 +1,8 @@
 -- What a record asks of a node, and what the node is after it and tells: Records, of docs/FORMATS.md.
-use Rattle.std.specs.Prelude.{◌≡◌, ℕ, ◌⊎◌, true, false, List, [], ◌++◌, length, drop, Option, Some, None, Result, Ok, Err, MatchOption}
+use Rattle.std.specs.Prelude.{◌≡◌, ℕ, ◌⊎◌, true, false, List, [], ◌++◌, length, drop, Option, Some, None, Result, Ok, Err, MatchOption, OnOk}
 use Rattle.std.specs.Io.KnownBytes.{Appends}
 use Rattle.ring_base.specs.declared.fault.Fault.{Fault}
-use Rattle.ring_base.specs.declared.fault.Fault.TheVariants.{Memory, Stopped}
+use Rattle.ring_base.specs.declared.fault.Fault.TheVariants.{Memory, NotMember, Stopped}
 use Rattle.ring_object.specs.Operations.{Sequential}
 use Rattle.ring_payload.specs.Calls.{call_of, IsNewCall}
 use Rattle.ring_wire.specs.Spells.{Spells}
@@ -94,3 +94,13 @@ pub record Writes (out out' : Option (List ℕ)) (Holds : List ℕ → Type 0) :
   pub text : List ℕ
   pub told : Appends out out' text
   pub holds : Holds text
+
+-- this holds of a text, and the output grew by it unless it failed
+pub record Tells {T E : Type 0} (r : Result T E) (out out' : Option (List ℕ)) (Holds : List ℕ → Type 0) : Type 0 where
+  pub text : List ℕ
+  pub told : OnOk r (Appends out out' text)
+  pub holds : Holds text
+
+-- why a node is not made: of a processor that there is, memory is refused; or there is no such processor
+abbrev pub IsUnmade : Type 0 → Fault → Type 0
+IsUnmade IsThere fault = ((fault ≡ Memory) × IsThere) ⊎ ((fault ≡ NotMember) × ¬ IsThere)

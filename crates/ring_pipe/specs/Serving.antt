@@ -64,13 +64,13 @@ module _ {O : Type 0} (object : Sequential O) (A : Type 0) where
   IsServed group me input rest out out' =
       IsInGroup group me × (new : Node A) × Serves object (node_opening group me) new input rest out out' × IsAtEnd rest
 
-  -- where it is not the output that failed: there is no such processor, and nothing is told; or its node, at its opening, took each of the
-  -- records before, the output has no more than it told of these, and the failure is why there are no more
+  -- There is no such processor, and nothing is told; or there is, its node, at its opening, took each of the records before, the output has no
+  -- more than it told of these, and the failure is why there are no more. Of an output that failed it isn't said what it has.
   abbrev pub IsCutOff : Group → ℕ → Option (List ℕ) → Option (List ℕ) → Option (List ℕ) → Failure → Type 0
-  IsCutOff group me input out out' Output = Unit {0}
+  IsCutOff group me input out out' Output = IsInGroup group me
   IsCutOff group me input out out' failure =
       ((failure ≡ Refused NotMember) × (¬ IsInGroup group me) × (out' ≡ out))
-      ⊎ ((new : Node A) × (rest : Option (List ℕ)) × (so : Serves object (node_opening group me) new input rest out out')
+      ⊎ (IsInGroup group me × (new : Node A) × (rest : Option (List ℕ)) × (so : Serves object (node_opening group me) new input rest out out')
       × IsStop (u64_saturate (length (records_text so.records))) failure)
 
   -- so the input was cut off; and where it is the output that failed, nothing is told elsewhere

@@ -1,10 +1,10 @@
 //! A node within another program.
 
-ghost use Rattle.std.specs.Prelude.{◌≡◌, ◌≤◌, ◌<◌, ◌⊎◌, ℕ, [], ◌++◌, None, Some, length, take, OnOk, IfOk, IfErr};
+ghost use Rattle.std.specs.Prelude.{◌≡◌, ◌≤◌, ◌<◌, [], ◌++◌, None, Some, length, take, OnOk, IfOk, IfErr};
 ghost use Rattle.ring_base.specs.Group.{IsInGroup};
-ghost use Rattle.ring_base.specs.declared.fault.Fault.TheVariants.{Memory, NotMember};
 ghost use Rattle.ring_rules.specs.Nodes.{node_opening};
 ghost use Rattle.ring_pipe.specs.Embedding.{IsToldOf, IsUntold};
+ghost use Rattle.ring_pipe.specs.Piping.{IsUnmade};
 
 use crate::piped::Piped;
 use ring_base::{Fault, Fixed};
@@ -33,7 +33,7 @@ impl<O: Object> Embedded<O> {
     /// The processor of this number at its opening. Refused, in this order: `NotMember` unless it is one of these; `Memory`.
     pub fn new(alloc: O::Alloc, fixed: Fixed, me: u8) -> Result<Embedded<O>, Fault>
         ensures ok { IfOk result (λ embedded. embedded ≡ record { node = Some (node_opening fixed me); unread = [] }) }
-        ensures refused { IfErr result (λ fault. (fault ≡ Memory) ⊎ ((fault ≡ NotMember) × ¬ IsInGroup fixed me)) }
+        ensures refused { IfErr result (IsUnmade (IsInGroup fixed me)) }
     {
         let piped = Piped::new(alloc, fixed, me)?;
         Ok(Embedded {

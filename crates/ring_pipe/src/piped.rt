@@ -1,9 +1,9 @@
 //! A node that takes records.
 
-ghost use Rattle.std.specs.Prelude.{◌≡◌, ◌≤◌, ◌⊎◌, false, if◌then◌else◌, None, Some, ℕ, length, drop, ◌++◌, IsTrue, OnOk, OnErr, IfOk, IfErr};
+ghost use Rattle.std.specs.Prelude.{◌≡◌, ◌≤◌, false, if◌then◌else◌, None, Some, ℕ, List, length, drop, ◌++◌, IsTrue, OnOk, OnErr, IfOk, IfErr};
 ghost use Rattle.std.specs.Io.KnownBytes.{Appends};
 ghost use Rattle.ring_base.specs.Group.{IsInGroup};
-ghost use Rattle.ring_base.specs.declared.fault.Fault.TheVariants.{Memory, NotMember, Stopped};
+ghost use Rattle.ring_base.specs.declared.fault.Fault.TheVariants.{Memory, Stopped};
 ghost use Rattle.ring_report.specs.declared.failure.Failure.TheVariants.{Output};
 ghost use Rattle.ring_rules.specs.NodeLimits.{InputFits};
 ghost use Rattle.ring_order_proof.specs.NodeFits.{SendsFit};
@@ -13,9 +13,8 @@ ghost use Rattle.ring_node.specs.Restores.{node_restored};
 ghost use Rattle.ring_records.specs.Told.{answers_text, restored_text, all_committed_text, ticket_record, refusal_record};
 ghost use Rattle.ring_records.specs.declared.fate.TokenFate.TheVariants.{NoToken};
 ghost use Rattle.ring_pipe.specs.Telling.{sends_text, end_text, standing_text};
-ghost use Rattle.ring_records.specs.Asking.{Asks};
 ghost use Rattle.ring_records.specs.declared.asked.Asked.{Asked};
-ghost use Rattle.ring_pipe.specs.Piping.{Acts, Gives, Steps, Halts, Hears, Submits, Does, Takes, AsksNothing, Writes};
+ghost use Rattle.ring_pipe.specs.Piping.{Acts, Gives, Steps, Halts, Hears, Submits, Does, Takes, AsksNothing, IsUnmade, Tells, Writes};
 
 use crate::parts::{has_sent, input_of, is_token};
 use crate::spelled::{Spelled, spell_sends, write_spelled};
@@ -57,7 +56,7 @@ impl<O: Object> Piped<O> {
     pub fn new(alloc: O::Alloc, fixed: Fixed, me: u8) -> Result<Piped<O>, Fault>
         ensures ok { IfOk result (λ piped. piped ≡ node_opening fixed me) }
         ensures member { OnOk result (IsInGroup fixed me) }
-        ensures refused { IfErr result (λ fault. (fault ≡ Memory) ⊎ ((fault ≡ NotMember) × ¬ IsInGroup fixed me)) }
+        ensures refused { IfErr result (IsUnmade (IsInGroup fixed me)) }
     {
         // A law: no effect at run time. The proof takes from it that a node keeps the limits at its opening.
         node_fits_law::<O>();
@@ -68,13 +67,13 @@ impl<O: Object> Piped<O> {
     }
 
     /// Takes the record of this kind and these bytes: does what it asks for, and writes on `out` what the node tells of it.
-    /// Answers false, and does and writes nothing, where it asks for nothing. `Output` where `out` fails.
+    /// Answers false, and does and writes nothing, where it asks for nothing. `Output` where `out` fails: what was asked for is done.
     pub fn take<W: Write>(&mut self, kind: u8, bytes: &[u8], out: &mut W) -> Result<bool, Failure>
         ensures taken { IfOk result (λ is_taken. IsTrue is_taken
             → Writes (W.contents out.old) (W.contents out.new) (Takes O.sequential self.old kind bytes.now self.new)) }
         ensures left { IfOk result (λ is_taken. is_taken ≡ false → AsksNothing kind bytes.now × (self.new ≡ self.old) × (out.new ≡ out.old)) }
         ensures failed { IfErr result (λ failure. failure ≡ Output) }
-        ensures asked { OnErr result ((what : Asked) × Asks kind bytes.now what) }
+        ensures done { OnErr result ((text : List ℕ) × Takes O.sequential self.old kind bytes.now self.new text) }
     {
         let Some(asked) = record_asks(kind, bytes) else {
             return Ok(false);
@@ -88,7 +87,7 @@ impl<O: Object> Piped<O> {
     /// Does what is asked for, and writes what the node tells of it.
     fn answer_to<W: Write>(&mut self, asked: Asked, bytes: &[u8], out: &mut W) -> io::Result<()>
         requires { (client number : ℕ) → asked ≡ Asked.Call client number → 12 ≤ length bytes.now }
-        ensures { OnOk result (Writes (W.contents out.old) (W.contents out.new) (Does O.sequential self.old bytes.now asked self.new)) }
+        ensures { Tells result (W.contents out.old) (W.contents out.new) (Does O.sequential self.old bytes.now asked self.new) }
     {
         match asked {
             Asked::Frame => self.hear(bytes, out),
@@ -103,7 +102,7 @@ impl<O: Object> Piped<O> {
 
     /// A frame came, or bytes that are none.
     fn hear<W: Write>(&mut self, bytes: &[u8], out: &mut W) -> io::Result<()>
-        ensures { OnOk result (Writes (W.contents out.old) (W.contents out.new) (Hears O.sequential self.old bytes.now self.new)) }
+        ensures { Tells result (W.contents out.old) (W.contents out.new) (Hears O.sequential self.old bytes.now self.new) }
     {
         match input_of(self.alloc, bytes) {
             Some(input) => self.act(input, out),
@@ -114,7 +113,7 @@ impl<O: Object> Piped<O> {
     /// Does a step, and tells its outputs, or why it was refused.
     fn act<W: Write>(&mut self, input: Input<O::Alloc>, out: &mut W) -> io::Result<()>
         requires { InputFits input }
-        ensures { OnOk result (Writes (W.contents out.old) (W.contents out.new) (Steps O.sequential self.old input self.new)) }
+        ensures { Tells result (W.contents out.old) (W.contents out.new) (Steps O.sequential self.old input self.new) }
     {
         let is_token = is_token(&input);
         match self.step(input) {
@@ -194,7 +193,7 @@ impl<O: Object> Piped<O> {
 
     /// Stops the node where there is no memory for a frame that came, and tells it.
     fn give_up<W: Write>(&mut self, out: &mut W) -> io::Result<()>
-        ensures { OnOk result (Writes (W.contents out.old) (W.contents out.new) (Halts O.sequential self.old self.new)) }
+        ensures { Tells result (W.contents out.old) (W.contents out.new) (Halts O.sequential self.old self.new) }
     {
         let fault = self.halt();
         self.tell_refusal(fault, TokenFate::NoToken, out)
@@ -208,8 +207,8 @@ impl<O: Object> Piped<O> {
         operation: &[u8],
         out: &mut W,
     ) -> io::Result<()>
-        ensures { OnOk result (Writes (W.contents out.old) (W.contents out.new)
-            (Submits O.sequential self.old client number operation.now self.new)) }
+        ensures { Tells result (W.contents out.old) (W.contents out.new)
+            (Submits O.sequential self.old client number operation.now self.new) }
     {
         match self.submit(client, number, operation) {
             Ok(ticket) => self.tell_ticket(ticket, out),

@@ -2,6 +2,7 @@
 
 ghost use Rattle.std.specs.Prelude.{◌≡◌, ◌≤◌, OnOk, IfOk, IfErr};
 ghost use Rattle.std.specs.Io.KnownBytes.{Appends};
+ghost use Rattle.ring_base.specs.declared.fault.Fault.TheVariants.{Memory};
 ghost use Rattle.ring_report.specs.declared.failure.Failure.TheVariants.{Output};
 ghost use Rattle.ring_pipe.specs.Serving.{ServesNext, IsServed, IsCutOff, IsCutShort, IsStop};
 
@@ -10,14 +11,15 @@ use ring_base::{Fault, Fixed};
 use ring_object::Object;
 use ring_records::{MOST_BYTES, read_record};
 use ring_report::{Failure, report};
+use std::alloc::Allocator;
 use std::io::{self, Read, Write};
 
 /// Runs the processor of this number from its opening: it takes the records of the input, and after each `out` has all that
 /// the node tells of it before the next is read. The exit status is 0 at the end of the input, or else 1:
 ///
 /// - where a record asks for nothing that a node does, or the input ends or fails within a record, `err` is told so;
-/// - where `me` is none of these processors, or memory is refused to begin with, for a record or for what is told of it, `err`
-///   is told so;
+/// - where `me` is none of these processors, `err` is told so, and nothing else is done;
+/// - where memory is refused to begin with, for a record or for what is told of it, `err` is told so;
 /// - where `out` fails, or there are more records than can be counted, nothing is told.
 ///
 /// Where it is not `out` that fails, what the records before that asked for is done, and just what the node told of it stands
@@ -43,8 +45,8 @@ pub fn serve<O: Object, R: Read, W: Write, E: Write>(
     }
 }
 
-/// Takes the records of the input, and writes what the node tells. Otherwise `Refused` with `NotMember` or `Memory`,
-/// `BadFrame` at a record's first byte, or `Output`.
+/// Takes the records of the input, and writes what the node tells. Otherwise `Refused` with `NotMember`, before all else, or with
+/// `Memory`, `BadFrame` at a record's first byte, or `Output`.
 fn serve_all<O: Object, R: Read, W: Write>(
     alloc: O::Alloc,
     fixed: Fixed,
@@ -57,7 +59,9 @@ fn serve_all<O: Object, R: Read, W: Write>(
     ensures cut { IfErr result (IsCutOff O.sequential O.Alloc fixed me (R.remaining input.old)
         (W.contents out.old) (W.contents out.new)) }
 {
-    let mut bytes = Vec::with_capacity(alloc, MOST_BYTES).map_err(Fault::from)?;
+    // That there is no such processor is told before memory is asked for.
+    fixed.proc(me)?;
+    let mut bytes = room_for_bytes(alloc)?;
     let mut told = Vec::new(alloc);
     let mut node = Piped::<O>::new(alloc, fixed, me)?;
     let mut at = 0u64;
@@ -68,6 +72,13 @@ fn serve_all<O: Object, R: Read, W: Write>(
         }
     }
     Err(Failure::Output)
+}
+
+/// Room for the bytes of a record. Or `Memory`.
+fn room_for_bytes<A: Allocator + Copy>(alloc: A) -> Result<Vec<u8, A>, Fault>
+    ensures refused { IfErr result (λ fault. fault ≡ Memory) }
+{
+    Ok(Vec::with_capacity(alloc, MOST_BYTES)?)
 }
 
 /// Takes the next record of the input, which begins at this byte of it, and writes out what the node tells. Answers the first

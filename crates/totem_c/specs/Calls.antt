@@ -1,9 +1,9 @@
 -- What each call of C comes to: a node behind a handle is opened, is handed records, and is read. A library for C, of docs/FORMATS.md.
-use Rattle.std.specs.Prelude.{◌≡◌, ℕ, ◌≤◌, ◌<◌, ◌⊎◌, List, [], ◌++◌, length, take, Option, Some, None}
+use Rattle.std.specs.Prelude.{◌≡◌, ℕ, ◌≤◌, ◌<◌, List, [], ◌++◌, length, take, Option, Some, None}
 use Rattle.ring_base.specs.Group.{AreVotes}
-use Rattle.ring_base.specs.declared.fault.Fault.TheVariants.{Memory, NotMember}
 use Rattle.ring_object.specs.Operations.{Sequential}
 use Rattle.ring_rules.specs.Nodes.{node_opening}
+use Rattle.ring_pipe.specs.Piping.{IsUnmade}
 use Rattle.ring_pipe.specs.Embedding.{IsToldOf, IsUntold}
 use Rattle.totem_c.specs.declared.desk.Desk.{Desk}
 use Rattle.totem_c.specs.declared.status.Status.{Status}
@@ -21,7 +21,7 @@ IsOpened me votes desk =
 -- a node was put behind an empty handle, or why none was
 abbrev pub Opens : Option Desk → ℕ → List ℕ → Status → Option Desk → Type 0
 Opens old me votes Done new = (desk : Desk) × (old ≡ None) × (new ≡ Some desk) × IsOpened me votes desk
-Opens old me votes (Refused fault) new = (old ≡ None) × (new ≡ None) × ((fault ≡ Memory) ⊎ ((fault ≡ NotMember) × ¬ IsOneOf me votes))
+Opens old me votes (Refused fault) new = (old ≡ None) × (new ≡ None) × IsUnmade (IsOneOf me votes) fault
 Opens old me votes Misused new = (desk : Desk) × (old ≡ Some desk) × (new ≡ Some desk)
 
 -- the node behind a handle was handed a record
@@ -32,9 +32,9 @@ Takes object old kind bytes (Refused fault) new =
     (before : Desk) × (after : Desk) × (old ≡ Some before) × (new ≡ Some after) × IsUntold before.node kind bytes fault after.node
 Takes object old kind bytes Misused new = (old ≡ None) × (new ≡ None)
 
--- bytes that it told were moved
-abbrev pub Reads : Option Desk → List ℕ → ℕ → Option Desk → Type 0
-Reads None into count new = (count ≡ 0) × (new ≡ None)
-Reads (Some before) into count new =
+-- bytes that it told were moved to the room, which is told as it was and as it is; behind an empty handle there are none
+abbrev pub Reads : Option Desk → List ℕ → List ℕ → ℕ → Option Desk → Type 0
+Reads None room into count new = (count ≡ 0) × (new ≡ None) × (into ≡ room)
+Reads (Some before) room into count new =
     (after : Desk) × (new ≡ Some after) × (count ≤ length into) × (before.node.unread ≡ take count into ++ after.node.unread)
     × (count ≡ 0 → 0 < length into → after.node.unread ≡ []) × (after.node.node ≡ before.node.node)

@@ -1,7 +1,7 @@
 //! What a handle has.
 
-ghost use Rattle.std.specs.Prelude.{◌≡◌, ◌⊎◌, IfOk, IfErr};
-ghost use Rattle.ring_base.specs.declared.fault.Fault.TheVariants.{Memory, NotMember};
+ghost use Rattle.std.specs.Prelude.{IfOk, IfErr};
+ghost use Rattle.ring_pipe.specs.Piping.{IsUnmade};
 ghost use Rattle.totem_c.specs.Calls.{IsOpened, IsOneOf};
 
 use ring_base::{Fault, Fixed};
@@ -20,7 +20,7 @@ impl Desk {
     /// of 1 to 16 processors, each one at least, and it is one of them; `Memory`.
     pub(crate) fn new(alloc: Global, me: u32, votes: &[u8]) -> Result<Desk, Fault>
         ensures ok { IfOk result (IsOpened me votes.now) }
-        ensures refused { IfErr result (λ fault. (fault ≡ Memory) ⊎ ((fault ≡ NotMember) × ¬ IsOneOf me votes.now)) }
+        ensures refused { IfErr result (IsUnmade (IsOneOf me votes.now)) }
     {
         let group = Fixed::with_votes(votes)?;
         let Ok(me) = u8::try_from(me) else {

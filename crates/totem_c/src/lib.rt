@@ -37,7 +37,7 @@ pub extern "C" fn totem_c_take(alloc: Global, handle: &mut Held, kind: u8, bytes
 /// Moves the first bytes that the node behind the handle told and that are unread to the front of `into`, and answers how many.
 #[unsafe(no_mangle)]
 pub extern "C" fn totem_c_read(alloc: Global, handle: &mut Held, into: &mut [u8]) -> usize
-    ensures { Reads handle.old.value into.new result handle.new.value }
+    ensures { Reads handle.old.value into.old into.new result handle.new.value }
 {
     work::read(alloc, handle, into)
 }

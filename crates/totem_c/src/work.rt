@@ -1,7 +1,7 @@
 //! What is done with the node behind a handle.
 
-ghost use Rattle.std.specs.Prelude.{◌≡◌, ◌⊎◌, None, IfOk, IfErr};
-ghost use Rattle.ring_base.specs.declared.fault.Fault.TheVariants.{Memory, NotMember};
+ghost use Rattle.std.specs.Prelude.{◌≡◌, None, IfOk, IfErr};
+ghost use Rattle.ring_pipe.specs.Piping.{IsUnmade};
 ghost use Rattle.totem_c.specs.Calls.{IsOneOf, IsOpened, Opens, Takes, Reads};
 
 use crate::desk::Desk;
@@ -17,7 +17,7 @@ use std::mem::replace;
 /// The node on the heap.
 fn boxed(alloc: Global, me: u32, votes: &[u8]) -> Result<Box<Desk, Global>, Fault>
     ensures ok { IfOk result (λ desk. IsOpened me votes.now desk.value) }
-    ensures refused { IfErr result (λ fault. (fault ≡ Memory) ⊎ ((fault ≡ NotMember) × ¬ IsOneOf me votes.now)) }
+    ensures refused { IfErr result (IsUnmade (IsOneOf me votes.now)) }
 {
     let desk = Desk::new(alloc, me, votes)?;
     Ok(Box::new(alloc, desk)?)
@@ -62,7 +62,7 @@ pub(crate) fn take(alloc: Global, handle: &mut Held, kind: u8, bytes: &[u8]) -> 
 
 /// Moves bytes that the node told.
 pub(crate) fn read(alloc: Global, handle: &mut Held, into: &mut [u8]) -> usize
-    ensures { Reads handle.old.value into.new result handle.new.value }
+    ensures { Reads handle.old.value into.old into.new result handle.new.value }
 {
     match replace(handle, Held::none()).into_loose(alloc) {
         Some(loose) => {
