@@ -47,11 +47,11 @@ ended d = record d { node = node_stopped d.node }
 abbrev pub called : {A : Type 0} → Driven A → ℕ → ℕ → List ℕ → Driven A
 called d client number op = record d { node = submitted d.node (call_of client number op) }
 
--- why a node is not opened
+-- why a node is not opened: of a processor of the group memory is refused; or it is none
 abbrev pub IsNotOpened : Group → ℕ → Fault → Type 0
-IsNotOpened group number fault = (fault ≡ Memory) ⊎ ((fault ≡ NotMember) × (IsInGroup group number → ⊥))
+IsNotOpened group number fault = ((fault ≡ Memory) × IsInGroup group number) ⊎ ((fault ≡ NotMember) × ¬ IsInGroup group number)
 
--- why a call is not submitted: it is none that may be made; or it is, and the node has a reason, or else memory was refused
+-- why a call is not submitted: it isn't made, since it is none that may be or memory is refused; or it is, and the node has a reason, or else memory was refused
 abbrev pub IsRefused : {A : Type 0} → Driven A → ℕ → ℕ → List ℕ → Fault → Type 0
 IsRefused {A} d client number op fault =
     IsNewCall {A = A} client number op (Err fault)

@@ -26,7 +26,7 @@ use std::marker::Model;
 /// - hands it each letter that comes for it ([`hear`](Driver::hear)), in the order in which its network hands them over;
 /// - tells it each timeout as it is due ([`timeout`](Driver::timeout)); how long each is, `docs/PROTOCOL.md` leaves open;
 /// - takes what it sends after each of these ([`next_send`](Driver::next_send)), and brings it to its receivers. Letters may be
-///   lost, repeated and reordered; what is left as the next step begins is lost.
+///   lost, repeated and reordered; what is left as the next step is done is lost.
 ///
 /// Its calls are submitted, and their answers asked for, by ticket. Whoever follows its log takes, after each step too, the calls
 /// newly committed ([`next_committed`](Driver::next_committed)). They go on where those of the steps before ended, or, where the step
@@ -82,7 +82,7 @@ impl<O: Object> Driver<O> {
 
     /// Submits a client's call of this number, counted from 1, and gives its ticket. Refused, in this order: `OpTooLong` over
     /// 1,024 bytes; `NumberGap` for number 0; `Stopped` in a stopped node; `PendingFull` where 64 tickets have no answer, or 2^62
-    /// were given; `Memory`, which may come before the last two. A refusal leaves the node as it was.
+    /// were given; `Memory`, which may come in place of these two, where the call can't be made. A refusal leaves the node as it was.
     #[tactic(auto, using(crate::proofs::DriverLimits::not_made, crate::proofs::DriverLimits::not_taken))]
     pub fn submit(&mut self, client: u32, number: u64, operation: &[u8]) -> Result<Ticket, Fault>
         ensures ticket { IfOk result (λ ticket. ticket ≡ length self.old.node.tickets) }

@@ -1,8 +1,9 @@
 //! The trying of many seeds.
 
-ghost use Rattle.std.specs.Prelude.{◌≡◌, ℕ, ◌≤◌, ◌<◌, ◌+◌, ◌↔◌, IsTrue, OnOk, IfOk, None, length, max, vec_len, slice_index_or};
+ghost use Rattle.std.specs.Prelude.{◌≡◌, ℕ, ◌≤◌, ◌<◌, ◌+◌, ◌⊎◌, ◌↔◌, IsTrue, OnOk, IfOk, IfErr, None, length, max, vec_len, slice_index_or};
 ghost use Rattle.std.specs.Io.KnownBytes.{Appends};
 ghost use Rattle.ring_console.specs.Running.{Prints};
+ghost use Rattle.ring_report.specs.declared.failure.Failure.TheVariants.{Output};
 ghost use Rattle.ring_script_maker.specs.Made.{IsMadeBy};
 ghost use Rattle.ring_shares.specs.Shares.{share_begin};
 ghost use Rattle.ring_explore.specs.Explored.{AreTried, seeds_in, totals_text, IsTotals, IsIllegal};
@@ -30,7 +31,9 @@ const FIRST: u64 = 16;
 /// and answered, how many rings were installed, and `legal yes`. The exit status is 0, or else 1:
 ///
 /// - where a run is not legal, a comment that says so and the script of the least such seed are printed, and nothing else;
-/// - where memory or a thread is refused, `err` is told so, and nothing is printed;
+/// - where memory is refused to a script, or to a run itself, `err` is told so, and nothing is printed; a node that is refused memory in
+///   its step has stopped, and its run goes on;
+/// - where the votes are none of 1 to 16 nodes, each at least 1, `err` is told so, and nothing is printed;
 /// - where `out` fails, nothing is told.
 ///
 /// Where the status is 0, a script of so many nodes and lines was made and run for each seed, and each run is legal. Which of these
@@ -51,6 +54,7 @@ pub fn explore<R: Threads + Clock + Sync, O: Write, E: Write, P: Write>(
     ensures legal { let object = ⟦<Things<Global> as Object>⟧ in let words = ⟦<ShelfWords as Vocabulary>⟧ in
         result ≡ 0 → AreTried (IsTriedIn object.sequential words.forms plan.entry) plan.entry.first (plan.entry.first + seeds_in plan.entry.first plan.entry.last) None }
     ensures printed { result ≡ 0 → Prints (O.contents out.old) (O.contents out.new) (IsTotals (seeds_in plan.entry.first plan.entry.last)) }
+    ensures kept { result ≡ 1 → (out.new ≡ out.old) ⊎ (err.new ≡ err.old) }
 {
     explore_of::<Things<Global>, ShelfWords, R, O, E, P>(
         rt, alloc, plan, threads, out, err, progress,
@@ -78,6 +82,7 @@ pub fn explore_of<
     ensures quiet { result ≡ 0 → err.new ≡ err.old }
     ensures legal { result ≡ 0 → AreTried (IsTriedIn T.sequential V.forms plan.entry) plan.entry.first (plan.entry.first + seeds_in plan.entry.first plan.entry.last) None }
     ensures printed { result ≡ 0 → Prints (O.contents out.old) (O.contents out.new) (IsTotals (seeds_in plan.entry.first plan.entry.last)) }
+    ensures kept { result ≡ 1 → (out.new ≡ out.old) ⊎ (err.new ≡ err.old) }
 {
     match explore_all::<T, V, R, O, P>(rt, alloc, &plan, threads, out, progress) {
         Ok(true) => 0,
@@ -105,6 +110,7 @@ fn explore_all<
         → AreTried (IsTriedIn T.sequential V.forms plan.now) plan.now.first (plan.now.first + seeds_in plan.now.first plan.now.last) None) }
     ensures printed { IfOk result (λ is_legal. IsTrue is_legal
         → Prints (O.contents out.old) (O.contents out.new) (IsTotals (seeds_in plan.now.first plan.now.last))) }
+    ensures failed { IfErr result (λ failure. (failure ≡ Output) ⊎ (out.new ≡ out.old)) }
 {
     let found = try_all::<T, V, R, P>(rt, alloc, plan, threads, progress)?;
     print_found::<T, V, O>(alloc, plan, &found, out)
@@ -122,6 +128,7 @@ fn print_found<T: Object, V: Vocabulary, O: Write>(
         → AreTried (IsTriedIn T.sequential V.forms plan.now) plan.now.first (plan.now.first + seeds_in plan.now.first plan.now.last) None) }
     ensures printed { IfOk result (λ is_legal. IsTrue is_legal
         → Prints (O.contents out.old) (O.contents out.new) (IsTotals (seeds_in plan.now.first plan.now.last))) }
+    ensures failed { IfErr result (λ failure. (failure ≡ Output) ⊎ (out.new ≡ out.old)) }
 {
     match found.illegal {
         Some(seed) => {
@@ -142,7 +149,8 @@ fn print_illegal<V: Vocabulary, O: Write>(
     seed: u64,
     out: &mut O,
 ) -> Result<(), Failure>
-    ensures { OnOk result (Prints (O.contents out.old) (O.contents out.new) (IsIllegal (IsMadeBy V.forms (length plan.now.votes.now) plan.now.lines))) }
+    ensures printed { OnOk result (Prints (O.contents out.old) (O.contents out.new) (IsIllegal (IsMadeBy V.forms (length plan.now.votes.now) plan.now.lines))) }
+    ensures failed { IfErr result (λ failure. (failure ≡ Output) ⊎ (out.new ≡ out.old)) }
 {
     let text = made_script_by::<V, Global>(alloc, plan.votes, seed, plan.lines)?;
     write!(out, "# legal no\n{text}").map_err(|_| Failure::Output)
@@ -150,8 +158,9 @@ fn print_illegal<V: Vocabulary, O: Write>(
 
 /// Prints how much was tried of so many seeds, and that all of it is legal.
 fn print_totals<O: Write>(seeds: u64, found: &Found, out: &mut O) -> Result<(), Failure>
-    ensures { OnOk result (Appends (O.contents out.old) (O.contents out.new)
+    ensures printed { OnOk result (Appends (O.contents out.old) (O.contents out.new)
         (totals_text seeds found.now.events found.now.calls found.now.answered found.now.rings)) }
+    ensures failed { IfErr result (λ failure. failure ≡ Output) }
 {
     let (events, calls) = (found.events, found.calls);
     let (answered, rings) = (found.answered, found.rings);

@@ -1,28 +1,31 @@
 //! The making of a script.
 
-ghost use Rattle.std.specs.Prelude.{◌≡◌, ◌≤◌, ◌+◌, ℕ, min, length, List, IfOk, OnOk, string_bytes};
+ghost use Rattle.std.specs.Prelude.{◌≡◌, ◌≤◌, ◌+◌, ◌⊎◌, ℕ, min, length, slice_get, List, IfOk, IfErr, OnOk, IsSomeAnd, string_bytes};
 ghost use Rattle.std.specs.Io.KnownBytes.{Appends, Keeps};
-ghost use Rattle.ring_script_maker.specs.Made.{IsMadeBy, IsMade};
+ghost use Rattle.ring_base.specs.declared.fault.Fault.TheVariants.{BadScript, Memory};
+ghost use Rattle.ring_script.specs.declared.line.Line.TheVariants.{Show};
+ghost use Rattle.ring_script_maker.specs.Made.{IsMadeBy, IsMade, IsNotMade};
 
 use crate::maker::Maker;
 use ring_base::{Fault, Fixed};
 use ring_report::{Failure, report};
-use ring_script::{Script, ScriptFault, ShelfWords, Vocabulary};
+use ring_script::{LONGEST_TEXT, Line, Numbered, Script, ScriptFault, ShelfWords, Vocabulary};
 use std::alloc::Allocator;
 use std::fmt::Write as _;
 use std::io::Write;
 
-/// The script of this seed, over the program's object: of as many nodes as there are votes, each with its own, and of so many lines
-/// that call, deliver, time out, make noise, stop, cut, heal and pump, of 1 to 10,000. Comments say what these tell, and `show` stands
-/// last. `NotMember` unless there are 1 to 16 votes, each at least 1; or `Memory`. What was made is read back before it is given:
-/// where it were no script, that would be `BadScript`.
+/// The script of this seed, over the program's object: of as many nodes as there are votes, each with its own, and of as many lines
+/// that call, deliver, time out, make noise, stop, cut, heal and pump as are asked for, or 10,000 where more are. Comments say what
+/// these tell, and `show` stands last. `NotMember` unless there are 1 to 16 votes, each at least 1; or `Memory`. What was made is read
+/// back before it is given: where it were no such script, that would be `BadScript`.
 pub fn made_script<A: Allocator + Copy + Drop>(
     alloc: A,
     votes: &[u8],
     seed: u64,
     lines: u32,
 ) -> Result<String<A>, Fault>
-    ensures { IfOk result (λ text. IsMade (length votes.now) lines (string_bytes text)) }
+    ensures made { IfOk result (λ text. IsMade (length votes.now) lines (string_bytes text)) }
+    ensures refused { IfErr result (IsNotMade votes.now) }
 {
     made_script_by::<ShelfWords, A>(alloc, votes, seed, lines)
 }
@@ -34,21 +37,23 @@ pub fn made_script_by<V: Vocabulary, A: Allocator + Copy + Drop>(
     seed: u64,
     lines: u32,
 ) -> Result<String<A>, Fault>
-    ensures { IfOk result (λ text. IsMadeBy V.forms (length votes.now) lines (string_bytes text)) }
+    ensures made { IfOk result (λ text. IsMadeBy V.forms (length votes.now) lines (string_bytes text)) }
+    ensures refused { IfErr result (IsNotMade votes.now) }
 {
-    let text = told_script::<V, A>(alloc, votes, seed, lines)?;
+    let nodes = Fixed::with_votes(votes)?;
+    let text = told_script::<V, A>(alloc, nodes, votes, seed, lines).map_err(|_| Fault::Memory)?;
     read_back::<V, A>(alloc, votes.len(), lines, text.as_bytes())?;
     Ok(text)
 }
 
-/// The script as it is told.
+/// The script as it is told. What it is refused with is want of memory.
 fn told_script<V: Vocabulary, A: Allocator>(
     alloc: A,
+    nodes: Fixed,
     votes: &[u8],
     seed: u64,
     lines: u32,
 ) -> Result<String<A>, Fault> {
-    let nodes = Fixed::with_votes(votes)?;
     let mut head = String::new(alloc);
     write_head(&mut head, votes, seed, lines)?;
     let mut maker = Maker::<V, A>::new(head, nodes, seed, lines.min(MOST_LINES));
@@ -56,15 +61,20 @@ fn told_script<V: Vocabulary, A: Allocator>(
     Ok(maker.into_text())
 }
 
-/// Reads a text as a script of so many nodes and lines, with one line more. `BadScript` where it is none; or `Memory`.
+/// Reads a text as a script of so many nodes and lines, with one line more that shows the state. `BadScript` where it is none; or
+/// `Memory`.
 fn read_back<V: Vocabulary, A: Allocator + Copy + Drop>(
     alloc: A,
     nodes: usize,
     lines: u32,
     text: &[u8],
 ) -> Result<(), Fault>
-    ensures { OnOk result (IsMadeBy V.forms nodes lines text.now) }
+    ensures made { OnOk result (IsMadeBy V.forms nodes lines text.now) }
+    ensures refused { IfErr result (λ fault. (fault ≡ BadScript) ⊎ (fault ≡ Memory)) }
 {
+    if text.len() as u64 > LONGEST_TEXT {
+        return Err(Fault::BadScript);
+    }
     match Script::parse_by::<V>(alloc, text) {
         Ok(script) => is_as_asked(nodes, lines, &script),
         Err(ScriptFault::Memory) => Err(Fault::Memory),
@@ -72,7 +82,7 @@ fn read_back<V: Vocabulary, A: Allocator + Copy + Drop>(
     }
 }
 
-/// `BadScript` unless the script has so many nodes, and so many lines and one more.
+/// `BadScript` unless the script has so many nodes, so many lines, and one more that shows the state.
 fn is_as_asked<A: Allocator + Copy + Drop>(
     nodes: usize,
     lines: u32,
@@ -80,12 +90,22 @@ fn is_as_asked<A: Allocator + Copy + Drop>(
 ) -> Result<(), Fault>
     ensures nodes { OnOk result (script.now.nodes.count ≡ nodes) }
     ensures lines { OnOk result (length script.now.lines.items ≡ min lines 10000 + 1) }
+    ensures shows { OnOk result (IsSomeAnd (slice_get script.now.lines.items (min lines 10000)) (λ last. last.line ≡ Show)) }
+    ensures refused { IfErr result (λ fault. fault ≡ BadScript) }
 {
     let many = lines.min(MOST_LINES) as usize;
     if usize::from(script.nodes.count()) != nodes || script.lines.len() != many + 1 {
         return Err(Fault::BadScript);
     }
-    Ok(())
+    match script.lines.get(many) {
+        Some(
+            Numbered {
+                line: Line::Show,
+                ..
+            },
+        ) => Ok(()),
+        _ => Err(Fault::BadScript),
+    }
 }
 
 /// A script that is made has at most so many lines that ask for something, `show` left out.
@@ -126,6 +146,7 @@ pub fn generate<A: Allocator + Copy + Drop, O: Write, E: Write>(
     ensures status { result ≤ 1 }
     ensures quiet { result ≡ 0 → Keeps (E.contents err.old) (E.contents err.new) }
     ensures printed { result ≡ 0 → (text : List ℕ) × IsMade (length votes.now) lines text × Appends (O.contents out.old) (O.contents out.new) text }
+    ensures kept { result ≡ 1 → (out.new ≡ out.old) ⊎ (err.new ≡ err.old) }
 {
     generate_by::<ShelfWords, A, O, E>(alloc, votes, seed, lines, out, err)
 }
@@ -142,6 +163,7 @@ pub fn generate_by<V: Vocabulary, A: Allocator + Copy + Drop, O: Write, E: Write
     ensures status { result ≤ 1 }
     ensures quiet { result ≡ 0 → Keeps (E.contents err.old) (E.contents err.new) }
     ensures printed { result ≡ 0 → (text : List ℕ) × IsMadeBy V.forms (length votes.now) lines text × Appends (O.contents out.old) (O.contents out.new) text }
+    ensures kept { result ≡ 1 → (out.new ≡ out.old) ⊎ (err.new ≡ err.old) }
 {
     match made_script_by::<V, A>(alloc, votes, seed, lines) {
         Ok(text) => match out.write_all(text.as_bytes()) {

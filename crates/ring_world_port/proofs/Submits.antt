@@ -11,7 +11,7 @@ use Rattle.ring_payload.specs.declared.call.Call.{Call}
 use Rattle.ring_rules.specs.declared.event.Event.TheVariants.{Issue}
 use Rattle.ring_rules.specs.declared.told.Told.{Told}
 use Rattle.ring_rules.specs.declared.told.Told.TheVariants.{Refused}
-use Rattle.ring_world_port.specs.Network.{Networked, IsIssued, IsNotIssued, IsNotAsked, refusal_in, fault_of}
+use Rattle.ring_world_port.specs.Network.{Networked, IsIssuable, IsIssued, IsNotIssued, IsNotAsked, refusal_in, fault_of}
 use Rattle.ring_world.specs.Pumping.{Happens}
 use Rattle.ring_world_port.proofs.SubmitTells.{IsOne, submit_tells}
 
@@ -49,26 +49,28 @@ module _ {O : Type 0} (object : Sequential O) where
 
   told_refused : {A : Type 0} (i : ℕ) (c : Call A) (n m : Networked A) (f fault : Fault)
       → Happens object (Issue i c) n.pump m.pump → m.group ≡ n.group → m.timeouts ≡ n.timeouts
-      → IsOne f → f ≡ fault → m.pump.played.told ≡ n.pump.played.told ++ Refused i c (fault_number f) ∷ [] → IsNotIssued object i c n m fault
-  told_refused i c n m f fault happens group timeouts one e more =
+      → IsIssuable i c n → IsOne f → f ≡ fault → m.pump.played.told ≡ n.pump.played.told ++ Refused i c (fault_number f) ∷ []
+      → IsNotIssued object i c n m fault
+  told_refused i c n m f fault happens group timeouts able one e more =
       elim one [
         | inl s ↦
             let fault_is : fault ≡ Stopped = sym e ∙ s in
-            rw fault_is (record { happens = happens; told = rw s at more; group = group; timeouts = timeouts })
+            rw fault_is (able, record { happens = happens; told = rw s at more; group = group; timeouts = timeouts })
         | inr o ↦ elim o [
           | inl s ↦
               let fault_is : fault ≡ PendingFull = sym e ∙ s in
-              rw fault_is (record { happens = happens; told = rw s at more; group = group; timeouts = timeouts })
+              rw fault_is (able, record { happens = happens; told = rw s at more; group = group; timeouts = timeouts })
           | inr s ↦
               let fault_is : fault ≡ Memory = sym e ∙ s in
-              rw fault_is (inr (record { happens = happens; told = rw s at more; group = group; timeouts = timeouts }))
+              rw fault_is (able, inr (record { happens = happens; told = rw s at more; group = group; timeouts = timeouts }))
         ]
       ]
 
   pub not_issued : {A : Type 0} (i : ℕ) (c : Call A) (n m : Networked A) (place : ℕ) (fault : Fault)
       → Happens object (Issue i c) n.pump m.pump → m.group ≡ n.group → m.timeouts ≡ n.timeouts
-      → place ≡ length n.pump.played.told → refusal_in (slice_get m.pump.played.told place) ≡ Some fault → IsNotIssued object i c n m fault
-  not_issued i c n m place fault happens group timeouts at some =
+      → IsIssuable i c n → place ≡ length n.pump.played.told → refusal_in (slice_get m.pump.played.told place) ≡ Some fault
+      → IsNotIssued object i c n m fault
+  not_issued i c n m place fault happens group timeouts able at some =
       elim (submit_tells object i c n.pump.played m.pump.played happens.goes) [
         | inl same ↦
             let none = nothing_there n.pump.played.told m.pump.played.told place at same in
@@ -78,7 +80,7 @@ module _ {O : Type 0} (object : Sequential O) where
             let there = refusal_there i c n.pump.played.told m.pump.played.told place r.0 at r.1 r.2 in
             let same : Some r.0 ≡ Some fault = sym there ∙ some in
             let e : r.0 ≡ fault = cc same in
-            told_refused i c n m r.0 fault happens group timeouts r.1 e r.2
+            told_refused i c n m r.0 fault happens group timeouts able r.1 e r.2
       ]
 
   pub asked_in_vain : {A T : Type 0} (i : ℕ) (c : Call A) (n m : Networked A) (r : Result T Fault) → IfErr r (IsNotIssued object i c n m)

@@ -9,6 +9,7 @@ use Rattle.ring_base.specs.declared.kind.Kind.{Kind}
 use Rattle.ring_base.specs.declared.kind.Kind.TheVariants.{Join, Consensus, Loss}
 use Rattle.ring_base.specs.declared.state.State.{State}
 use Rattle.ring_base.specs.declared.state.State.TheVariants.{Gather, Commit, Recovery, Operational, Stopped}
+use Rattle.ring_client.specs.Asking.{IsSubmittable}
 use Rattle.ring_object.specs.Operations.{Sequential}
 use Rattle.ring_payload.specs.declared.call.Call.{Call}
 use Rattle.ring_rules.specs.declared.event.Event.{Event}
@@ -78,6 +79,10 @@ refusal_in None = None
 refusal_in (Some (Answer i c answer)) = None
 refusal_in (Some (Refused i c number)) = Some (fault_of number)
 
+-- a call that may be issued at a node: the network has the node, and the call may be submitted
+abbrev pub IsIssuable : {A : Type 0} → ℕ → Call A → Networked A → Type 0
+IsIssuable i c n = (i ≤ n.pump.played.group.count) × IsSubmittable c
+
 module _ {O : Type 0} (object : Sequential O) where
   -- the event happens, if there is one
   abbrev pub HappensIf : {A : Type 0} → Option (Event A) → Pumped A → Pumped A → Type 0
@@ -117,14 +122,14 @@ module _ {O : Type 0} (object : Sequential O) where
     pub group : m.group ≡ n.group
     pub timeouts : m.timeouts ≡ n.timeouts
 
-  -- why a call is not issued, by the first that holds: no such node, too long, the number 0; or refused by the node; or no memory for the event
+  -- why a call is not issued, by the first that holds: no such node, too long, the number 0; no memory for its copy or the event, or refused by the node
   abbrev pub IsNotIssued : {A : Type 0} → ℕ → Call A → Networked A → Networked A → Fault → Type 0
   IsNotIssued i c n m NotMember = (n.pump.played.group.count < i) × (m ≡ n)
   IsNotIssued i c n m OpTooLong = (i ≤ n.pump.played.group.count) × (1024 < length c.op) × (m ≡ n)
   IsNotIssued i c n m NumberGap = (i ≤ n.pump.played.group.count) × (length c.op ≤ 1024) × (c.number ≡ 0) × (m ≡ n)
-  IsNotIssued i c n m Memory = Stays n m ⊎ IsToldRefused i c n m Memory
-  IsNotIssued i c n m PendingFull = IsToldRefused i c n m PendingFull
-  IsNotIssued i c n m StoppedFault = IsToldRefused i c n m StoppedFault
+  IsNotIssued i c n m Memory = IsIssuable i c n × (Stays n m ⊎ IsToldRefused i c n m Memory)
+  IsNotIssued i c n m PendingFull = IsIssuable i c n × IsToldRefused i c n m PendingFull
+  IsNotIssued i c n m StoppedFault = IsIssuable i c n × IsToldRefused i c n m StoppedFault
   IsNotIssued i c n m _ = ⊥
 
   -- why a port's call is not issued: the network is lent elsewhere, or a network does not issue it

@@ -9,7 +9,7 @@ ghost use Rattle.ring_world.specs.Pairs.{frames_of, all_pairs};
 ghost use Rattle.ring_world.specs.Pumping.{Happens, Rests};
 ghost use Rattle.ring_world.specs.Played.{world_of};
 ghost use Rattle.ring_world_port.specs.Answers.{answer_in, question_of, HasTold};
-ghost use Rattle.ring_world_port.specs.Network.{Stays, IsIssued, IsNotIssued, HappensIf, HasTurned, LosesTurn};
+ghost use Rattle.ring_world_port.specs.Network.{Stays, IsIssuable, IsIssued, IsNotIssued, HappensIf, HasTurned, LosesTurn};
 ghost use Rattle.ring_world_port.specs.Network.{following, fault_of, hears, arrival, kind_in, timeout_in, refusal_in};
 
 use crate::answers::Question;
@@ -98,10 +98,10 @@ impl<O: Object> Network<O> {
     }
 
     /// Submits a call at a node, which has then taken it. Refused, in this order: `NotMember` where the world has no such
-    /// node, `OpTooLong` over 1,024 bytes, `NumberGap` for number 0, `Memory` for the call's copy; then by the node, which
+    /// node, `OpTooLong` over 1,024 bytes, `NumberGap` for number 0, `Memory` for the call's copy or the event; then by the node, which
     /// the world tells: `Stopped`, `PendingFull`, `Memory`.
     pub fn submit(&mut self, node: Proc, call: &Call<O::Alloc>) -> Result<(), Fault>
-        ensures member { OnOk result (node ≤ self.old.pump.played.group.count) }
+        ensures fits { OnOk result (IsIssuable node call.now self.old) }
         ensures issued { OnOk result (IsIssued O.sequential node call.now self.old self.new) }
         ensures refused { IfErr result (IsNotIssued O.sequential node call.now self.old self.new) }
     {
@@ -149,7 +149,7 @@ impl<O: Object> Network<O> {
     /// Submits a call at a node as `submit` does, and gives what is polled for its answer.
     pub(crate) fn ask(&mut self, node: Proc, call: &Call<O::Alloc>) -> Result<WorldTicket, Fault>
         ensures ticket { IfOk result (λ ticket. ticket ≡ question_of node (submitted call.now)) }
-        ensures member { OnOk result (node ≤ self.old.pump.played.group.count) }
+        ensures fits { OnOk result (IsIssuable node call.now self.old) }
         ensures issued { OnOk result (IsIssued O.sequential node call.now self.old self.new) }
         ensures refused { IfErr result (IsNotIssued O.sequential node call.now self.old self.new) }
     {

@@ -1,7 +1,7 @@
 //! Ports to the nodes of a world.
 
 ghost use Rattle.std.specs.Prelude.{◌≡◌, IfOk, IfErr, IfSome, OnOk};
-ghost use Rattle.ring_client.specs.Asking.{unasked, submitted, refused_with, polled, IsTold};
+ghost use Rattle.ring_client.specs.Asking.{unasked, submitted, refused_with, polled, IsTold, IsSubmittable};
 ghost use Rattle.ring_world_port.specs.Answers.{question_of, HasTold};
 ghost use Rattle.ring_world_port.specs.Network.{IsNotAsked};
 
@@ -28,7 +28,8 @@ pub struct WorldPort<O: Object> {
 }
 
 impl<O: Object> WorldPort<O> {
-    /// The port to this node, before any submit. If the world has no such node, each submit is refused with `NotMember`.
+    /// The port to this node, before any submit. If the world has no such node, each submit is refused: with `NotMember`, or with
+    /// `NoAnswer` while another holds the network.
     pub fn new(network: Shared<O>, node: Proc) -> WorldPort<O>
         ensures node { result.node ≡ node }
         ensures asked { result.asked ≡ unasked }
@@ -44,6 +45,7 @@ impl<O: Object> WorldPort<O> {
     fn try_submit(&mut self, call: &Call<O::Alloc>) -> Result<WorldTicket, Fault>
         ensures same { self.new ≡ self.old }
         ensures ticket { IfOk result (λ ticket. ticket ≡ question_of self.old.node (submitted call.now)) }
+        ensures fits { OnOk result (IsSubmittable call.now) }
         ensures why { IfErr result (IsNotAsked O.sequential self.old.node call.now) }
     {
         let Ok(mut network) = self.network.try_borrow_mut() else {
@@ -77,6 +79,7 @@ impl<O: Object> Port for WorldPort<O> {
     fn submit(&mut self, call: &Call<O::Alloc>) -> Result<WorldTicket, Fault>
         ensures ok { OnOk result (self.new.asked ≡ submitted call.now) }
         ensures refused { IfErr result (λ fault. self.new.asked ≡ refused_with fault (submitted call.now)) }
+        ensures fits { OnOk result (IsSubmittable call.now) }
         ensures why { IfErr result (IsNotAsked O.sequential self.old.node call.now) }
         ensures ticket { IfOk result (λ ticket. ticket ≡ question_of self.old.node (submitted call.now)) }
         ensures node { self.new.node ≡ self.old.node }

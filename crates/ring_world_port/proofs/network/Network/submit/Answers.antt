@@ -1,5 +1,6 @@
-use Rattle.std.proofs.Common.{◌≡◌, ◌∙◌, ap, length}
+use Rattle.std.proofs.Common.{rules, ◌≡◌, ◌∙◌, ap, length}
 use Rattle.ring_world.specs.Played.{Played}
+use Rattle.ring_world_port.specs.Network.{IsIssuable}
 use Rattle.ring_world_port.proofs.Submits.{issued, not_issued}
 use Rattle.ring_world_port.proofs.network.Network.submit.Goals as goal
 
@@ -11,9 +12,10 @@ returns-in-Err-clause-refused g c =
     ∙ ap (λ (p : Played g.row.O-Alloc.Denot). p.told) c.world-3.ensures in
     let happens = rw c.in_ok-copy_of.ensures at c.in_ok-happen.ensures.done in
     let some = rw after at c.in-Err.ensures.refused in
+    let able : IsIssuable c.args.node c.args.call.now c.args.self.now = search rules in
     not_issued g.O.Object.sequential c.args.node c.args.call.now c.args.self.now c.happen.new.self
     (length c.told-before.result.now) c.in-Err.fault happens c.in_ok-happen.ensures.group
-    c.in_ok-happen.ensures.timeouts (ap length before) some
+    c.in_ok-happen.ensures.timeouts able (ap length before) some
 
 pub returns-clause-issued : goal.returns-clause-issued
 returns-clause-issued g c =
