@@ -39,7 +39,8 @@ fn told_on(alloc: Global, heap: &Refusing) -> Result<(), AllocError> {
     let Ok(fixed) = Fixed::new(1) else {
         return Ok(());
     };
-    let whole = served_on::<Counters, _>(alloc, alloc, fixed, 1, &INPUT);
+    let ample = Refusing::new(alloc, u64::MAX);
+    let whole = served_on::<Counters<&Refusing>, _>(alloc, &ample, fixed, 1, &INPUT);
     let served = served_on::<Counters<&Refusing>, _>(alloc, heap, fixed, 1, &INPUT);
     if tells_refusal(&served, &whole) {
         Err(AllocError)

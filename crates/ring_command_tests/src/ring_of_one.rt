@@ -2,6 +2,7 @@
 
 use crate::beside::Beside;
 use crate::records::first_record;
+use refusing_alloc::Refusing;
 use ring_base::{Fault, Fixed};
 use ring_object::Object;
 use ring_things::Counters;
@@ -48,5 +49,6 @@ fn tells_at_last<O: Object>(alloc: O::Alloc, wanted: &[u8]) -> Result<bool, Faul
 
 #[test]
 fn a_ring_of_one_answers_a_call(rt: HostRuntime) {
-    assert!(rt; tells_at_last::<Counters>(rt.alloc(), &TOLD) == Ok(true));
+    let heap = Refusing::new(rt.alloc(), u64::MAX);
+    assert!(rt; tells_at_last::<Counters<&Refusing>>(&heap, &TOLD) == Ok(true));
 }

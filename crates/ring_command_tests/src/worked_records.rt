@@ -1,6 +1,7 @@
 //! The worked records, and what is no record.
 
 use crate::served::serves;
+use refusing_alloc::Refusing;
 use ring_things::Counters;
 use std::test::Fail;
 
@@ -49,8 +50,9 @@ fn the_worked_records_are_told_so(rt: HostRuntime) -> Result<(), Fail> {
             &[0x45, 0, 2, 4, 0, 0x58, 0, 1, 8, 0x45, 0, 2, 4, 0],
         ),
     ];
+    let heap = Refusing::new(rt.alloc(), u64::MAX);
     for (input, told) in rows {
-        assert!(rt; serves::<Counters>(rt.alloc(), input, told, "", 0)?);
+        assert!(rt; serves::<Counters<&Refusing>>(&heap, input, told, "", 0)?);
     }
     Ok(())
 }
@@ -71,8 +73,9 @@ fn a_bad_record_ends_the_node_after_those_before_it(rt: HostRuntime) -> Result<(
             "totem: 12 bad frame at byte 3\n",
         ),
     ];
+    let heap = Refusing::new(rt.alloc(), u64::MAX);
     for (input, told, line) in rows {
-        assert!(rt; serves::<Counters>(rt.alloc(), input, told, line, 1)?);
+        assert!(rt; serves::<Counters<&Refusing>>(&heap, input, told, line, 1)?);
     }
     Ok(())
 }
@@ -88,8 +91,9 @@ fn a_call_is_refused_by_its_number(rt: HostRuntime) -> Result<(), Fail> {
         (&without_number, &[0x58, 0, 1, 6, 0x45, 0, 2, 0, 0]),
         (&long, &[0x58, 0, 1, 3, 0x45, 0, 2, 0, 0]),
     ];
+    let heap = Refusing::new(rt.alloc(), u64::MAX);
     for (input, told) in rows {
-        assert!(rt; serves::<Counters>(rt.alloc(), input, told, "", 0)?);
+        assert!(rt; serves::<Counters<&Refusing>>(&heap, input, told, "", 0)?);
     }
     Ok(())
 }

@@ -6,6 +6,7 @@ use ring_checker::is_linearization;
 use ring_console::{Run, Script, ScriptFault, Things};
 use ring_object::Object;
 use std::alloc::{AllocError, Allocator, Global};
+use std::io::Write;
 
 /// Two clients; the first of them tries its call twice.
 const TWO_CLIENTS: &str =
@@ -32,7 +33,8 @@ pub fn is_explained<A: Allocator + Copy + Drop>(
     let made = Run::<Things<A>>::new(heap, script.nodes);
     let (script, mut run) = paired(script, made)?;
     let mut out = Vec::<u8>::new(alloc);
-    let _ = run.take(script, &mut out);
+    let mut output: &mut dyn Write = &mut out;
+    let _ = run.take(script, &mut output);
     let explains = order_explains(heap, &run);
     drop(run);
     explains
@@ -42,7 +44,8 @@ pub fn is_explained<A: Allocator + Copy + Drop>(
 #[test]
 fn each_refused_run_is_explained(rt: HostRuntime) {
     let alloc = rt.alloc();
-    assert!(rt; is_explained(alloc, alloc, TWO_CLIENTS) == Ok(true));
+    let ample = Refusing::new(alloc, u64::MAX);
+    assert!(rt; is_explained(&ample, alloc, TWO_CLIENTS) == Ok(true));
     let run = |heap: &Refusing| {
         let told = is_explained(heap, alloc, TWO_CLIENTS);
         let is_well = matches!(told, Ok(true) | Err(Fault::Memory));

@@ -6,7 +6,7 @@ use crate::printed::Printed;
 use refusing_alloc::{Refusing, refuse_in_turn};
 use ring_console::script;
 use std::alloc::{AllocError, Allocator, Global};
-use std::io::Read;
+use std::io::{Read, Write};
 use std::str;
 
 const FIRST_REPLY: &str =
@@ -16,26 +16,37 @@ const FIRST_REPLY: &str =
 const FIRST_REPLY_LINES: &str =
     "reply 1 7.1 done 000000000000000005\nnode 1 operational 1.1 committed 1 log 1\norder 1\n";
 
-fn run_of<A: Allocator + Copy + Drop, R: Read>(heap: A, alloc: Global, input: &mut R) -> Printed {
+/// The exit status of a script. All tests run it by this, so that it is compiled for one reader and one writer.
+fn status_of<A: Allocator + Copy + Drop>(
+    heap: A,
+    mut input: &mut dyn Read,
+    mut out: &mut dyn Write,
+    mut err: &mut dyn Write,
+) -> u8 {
+    script(heap, &mut input, &mut out, &mut err)
+}
+
+fn run_of<A: Allocator + Copy + Drop>(heap: A, alloc: Global, input: &mut dyn Read) -> Printed {
     let mut out = Vec::new(alloc);
     let mut err = Vec::new(alloc);
-    let status = script(heap, input, &mut out, &mut err);
+    let status = status_of(heap, input, &mut out, &mut err);
     Printed { out, err, status }
 }
 
 #[test]
 fn an_input_that_fails_prints_nothing(rt: HostRuntime) {
-    let alloc = rt.alloc();
-    let printed = run_of(alloc, alloc, &mut Broken(FIRST_REPLY.as_bytes()));
+    let ample = Refusing::new(rt.alloc(), u64::MAX);
+    let printed = run_of(&ample, rt.alloc(), &mut Broken(FIRST_REPLY.as_bytes()));
     assert!(rt; printed.is("", "totem: 13 bad script at line 0\n", 1));
 }
 
 #[test]
 fn an_output_that_fails_says_nothing(rt: HostRuntime) {
+    let ample = Refusing::new(rt.alloc(), u64::MAX);
     for room in [0, 1, 40, FIRST_REPLY_LINES.len() - 1] {
         let mut err = Vec::new(rt.alloc());
         let mut input = FIRST_REPLY.as_bytes();
-        let status = script(rt.alloc(), &mut input, &mut Narrow(room), &mut err);
+        let status = status_of(&ample, &mut input, &mut Narrow(room), &mut err);
         assert!(rt; status == 1 && err.is_empty(), "room for {room}");
     }
 }
@@ -55,7 +66,8 @@ fn tells_refusal(printed: &Printed) -> bool {
 #[test]
 fn each_request_for_memory_may_be_refused(rt: HostRuntime) {
     let alloc = rt.alloc();
-    let printed = run_of(alloc, alloc, &mut FIRST_REPLY.as_bytes());
+    let ample = Refusing::new(alloc, u64::MAX);
+    let printed = run_of(&ample, alloc, &mut FIRST_REPLY.as_bytes());
     assert!(rt; printed.is(FIRST_REPLY_LINES, "", 0));
     let run = |heap: &Refusing| {
         let printed = run_of(heap, alloc, &mut FIRST_REPLY.as_bytes());

@@ -6,7 +6,7 @@ use crate::printed::Printed;
 use refusing_alloc::{Refusing, refuse_in_turn};
 use ring_console::frames;
 use std::alloc::{AllocError, Allocator, Global};
-use std::io::Read;
+use std::io::{Read, Write};
 use std::test::Fail;
 
 /// A join.
@@ -27,10 +27,20 @@ const FOUR_LINES: &str = "join 2 number 5 procs 1,2,3 fails 3\n\
     message 1.1 seq 3 from 1 call 7.1 op 11\n\
     commit 1.1 members 1 hop 1 entries 1\n";
 
-fn listing_of<A: Allocator + Copy, R: Read>(heap: A, alloc: Global, input: &mut R) -> Printed {
+/// The exit status of a listing. All tests list by this, so that it is compiled for one reader and one writer.
+fn status_of<A: Allocator + Copy>(
+    heap: A,
+    mut input: &mut dyn Read,
+    mut out: &mut dyn Write,
+    mut err: &mut dyn Write,
+) -> u8 {
+    frames(heap, &mut input, &mut out, &mut err)
+}
+
+fn listing_of<A: Allocator + Copy>(heap: A, alloc: Global, input: &mut dyn Read) -> Printed {
     let mut out = Vec::new(alloc);
     let mut err = Vec::new(alloc);
-    let status = frames(heap, input, &mut out, &mut err);
+    let status = status_of(heap, input, &mut out, &mut err);
     Printed { out, err, status }
 }
 
@@ -59,9 +69,10 @@ fn a_long_file_takes_no_more_memory_than_a_short_one(rt: HostRuntime) -> Result<
 /// A file of so many bytes that fails then, and how many lines its listing has.
 #[test]
 fn a_file_that_fails_is_bad_at_byte_0_after_its_whole_frames(rt: HostRuntime) {
+    let ample = Refusing::new(rt.alloc(), u64::MAX);
     for (length, lines) in [(0, 0), (20, 0), (21, 1), (80, 2), (208, 3), (209, 4)] {
         let read = FOUR.get(..length).unwrap_or(FOUR);
-        let printed = listing_of(rt.alloc(), rt.alloc(), &mut Broken(read));
+        let printed = listing_of(&ample, rt.alloc(), &mut Broken(read));
         let told = printed.out.iter().filter(|byte| **byte == b'\n').count();
         let is_refused = printed.is_refused("totem: 12 bad frame at byte 0\n", 1);
         assert!(rt; is_refused && told == lines, "of {length}");
@@ -70,11 +81,12 @@ fn a_file_that_fails_is_bad_at_byte_0_after_its_whole_frames(rt: HostRuntime) {
 
 #[test]
 fn an_output_that_fails_says_nothing(rt: HostRuntime) {
+    let ample = Refusing::new(rt.alloc(), u64::MAX);
     let all = FOUR_LINES.len();
     for (room, wanted) in [(0, 1), (1, 1), (40, 1), (all - 1, 1), (all, 0)] {
         let mut err = Vec::new(rt.alloc());
         let mut input = FOUR;
-        let status = frames(rt.alloc(), &mut input, &mut Narrow(room), &mut err);
+        let status = status_of(&ample, &mut input, &mut Narrow(room), &mut err);
         assert!(rt; status == wanted && err.is_empty(), "room for {room}");
     }
 }

@@ -6,6 +6,7 @@ use refusing_alloc::Refusing;
 use ring_base::Fault;
 use ring_console::script_check;
 use std::alloc::Global;
+use std::io::{Read, Write};
 use std::process::Abort;
 use std::str;
 
@@ -16,11 +17,21 @@ const CUT_AND_MERGED: &str =
     cut 1 2,3\npump 10\ntimeout 1 loss\ntimeout 2 loss\npump 10\ntimeout 1 consensus\ntimeout 2 consensus\npump 200\n\
     call 2 7 1 add 0 5\npump 100\nheal\ntimeout 1 join\npump 300\ncall 3 8 1 read 0\npump 100\nshow\n";
 
+/// The exit status of a script that is checked.
+fn status_of(
+    heap: &Refusing,
+    mut input: &mut dyn Read,
+    mut out: &mut dyn Write,
+    mut err: &mut dyn Write,
+) -> u8 {
+    script_check(heap, &mut input, &mut out, &mut err)
+}
+
 /// What is printed of it.
 fn printed_over(heap: &Refusing, alloc: Global) -> Printed {
     let mut out = Vec::new(alloc);
     let mut err = Vec::new(alloc);
-    let status = script_check(heap, &mut CUT_AND_MERGED.as_bytes(), &mut out, &mut err);
+    let status = status_of(heap, &mut CUT_AND_MERGED.as_bytes(), &mut out, &mut err);
     Printed { out, err, status }
 }
 

@@ -9,11 +9,12 @@ use std::test::Fail;
 /// A script of so many bytes is `nodes 1`, and a comment.
 #[test]
 fn a_script_has_at_most_2_to_the_20_bytes(rt: HostRuntime) -> Result<(), Fail> {
+    let ample = Refusing::new(rt.alloc(), u64::MAX);
     let too_long = Some(ScriptFault::AtLine(0));
     for (length, fault) in [(1_048_576, None), (1_048_577, too_long)] {
         let mut text = Vec::from_slice(rt.alloc(), b"nodes 1\n")?;
         text.resize(length, b'#')?;
-        let told = Script::read(rt.alloc(), &mut text.as_slice()).err();
+        let told = Script::read(&ample, &mut text.as_slice()).err();
         assert!(rt; told == fault, "{length}");
     }
     Ok(())
@@ -21,8 +22,9 @@ fn a_script_has_at_most_2_to_the_20_bytes(rt: HostRuntime) -> Result<(), Fail> {
 
 #[test]
 fn an_input_that_fails_is_at_fault_as_a_whole(rt: HostRuntime) {
+    let ample = Refusing::new(rt.alloc(), u64::MAX);
     for text in ["", "nodes 1\n", "nonsense\n"] {
-        let told = Script::read(rt.alloc(), &mut Broken(text.as_bytes())).err();
+        let told = Script::read(&ample, &mut Broken(text.as_bytes())).err();
         assert!(rt; told == Some(ScriptFault::AtLine(0)), "{text}");
     }
 }

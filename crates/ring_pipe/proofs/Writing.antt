@@ -6,8 +6,8 @@ use Rattle.std.proofs.KnownBytes.{Appends-trans}
 use Rattle.ring_object.specs.Operations.{Sequential}
 use Rattle.ring_rules.specs.Nodes.{Node}
 use Rattle.ring_records.specs.Asking.{Asks}
-use Rattle.ring_records.specs.declared.asked.Asked.{Asked}
-use Rattle.ring_records.specs.declared.asked.Asked.TheVariants.{Frame, Timeout, Call, Stop, Standing}
+use Rattle.ring_records.specs.declared.request.RecordRequest.{RecordRequest}
+use Rattle.ring_records.specs.declared.request.RecordRequest.TheVariants.{Frame, Timeout, Call, Stop, Standing}
 use Rattle.ring_pipe.specs.Piping.{Does, Takes, Tells, Writes}
 
 -- a text of which this holds was written, unless the output failed
@@ -32,7 +32,7 @@ writes_then (Ok x) old mid new text more told then = Appends-trans old mid new t
 writes_then (Err e) old mid new text more told then = tt
 
 -- the bytes of a call's record are twelve at least
-pub call_long : (kind : ℕ) (bytes : List ℕ) (what : Asked) → Asks kind bytes what → (client number : ℕ) → what ≡ Call client number → 12 ≤ length bytes
+pub call_long : (kind : ℕ) (bytes : List ℕ) (what : RecordRequest) → Asks kind bytes what → (client number : ℕ) → what ≡ Call client number → 12 ≤ length bytes
 call_long kind bytes (Call c n) asks client number e = asks.1
 call_long kind bytes Frame asks client number e = absurd cc
 call_long kind bytes (Timeout t) asks client number e = absurd cc
@@ -41,7 +41,7 @@ call_long kind bytes Standing asks client number e = absurd cc
 
 module _ {O A : Type 0} (object : Sequential O) where
   -- what a record asks for was done, and so it was taken
-  pub tells_taken : {T E : Type 0} (r : Result T E) (out out' : Option (List ℕ)) (old : Node A) (kind : ℕ) (bytes : List ℕ) (what : Asked) (new : Node A)
+  pub tells_taken : {T E : Type 0} (r : Result T E) (out out' : Option (List ℕ)) (old : Node A) (kind : ℕ) (bytes : List ℕ) (what : RecordRequest) (new : Node A)
       → Asks kind bytes what → Tells r out out' (λ text. Does object old bytes what new text) → Tells r out out' (λ text. Takes object old kind bytes new text)
   tells_taken r out out' old kind bytes what new asks w =
       record { text = w.text; told = w.told; holds = record { what = what; asks = asks; does = w.holds } }

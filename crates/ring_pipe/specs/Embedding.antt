@@ -5,7 +5,7 @@ use Rattle.ring_base.specs.declared.fault.Fault.TheVariants.{Stopped, Memory, Ba
 use Rattle.ring_object.specs.Operations.{Sequential}
 use Rattle.ring_rules.specs.Nodes.{Node}
 use Rattle.ring_records.specs.Asking.{Asks}
-use Rattle.ring_records.specs.declared.asked.Asked.{Asked}
+use Rattle.ring_records.specs.declared.request.RecordRequest.{RecordRequest}
 use Rattle.ring_pipe.specs.Piping.{Takes, AsksNothing}
 
 -- the node, none once it is gone, and the bytes that it told and that are unread
@@ -29,5 +29,5 @@ abbrev pub IsUntold : {A : Type 0} → Embedding A → ℕ → List ℕ → Faul
 IsUntold old kind bytes Stopped new = (old.node ≡ None) × (new ≡ old)
 IsUntold {A} old kind bytes BadFrame new = (before : Node A) × (old.node ≡ Some before) × AsksNothing kind bytes × (new ≡ old)
 IsUntold {A} old kind bytes Memory new =
-    (before : Node A) × (what : Asked) × (old.node ≡ Some before) × Asks kind bytes what × (new ≡ record { node = None; unread = [] })
+    (before : Node A) × (what : RecordRequest) × (old.node ≡ Some before) × Asks kind bytes what × (new ≡ record { node = None; unread = [] })
 IsUntold old kind bytes _ new = ⊥

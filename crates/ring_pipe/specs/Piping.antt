@@ -13,8 +13,8 @@ use Rattle.ring_rules.specs.declared.input.Input.{Input}
 use Rattle.ring_rules.specs.declared.input.Input.TheVariants as input
 use Rattle.ring_records.specs.Asking.{Asks}
 use Rattle.ring_records.specs.Told.{ticket_record, refusal_record}
-use Rattle.ring_records.specs.declared.asked.Asked.{Asked}
-use Rattle.ring_records.specs.declared.asked.Asked.TheVariants as asked
+use Rattle.ring_records.specs.declared.request.RecordRequest.{RecordRequest}
+use Rattle.ring_records.specs.declared.request.RecordRequest.TheVariants as asked
 use Rattle.ring_records.specs.declared.fate.TokenFate.TheVariants.{NoToken}
 use Rattle.ring_pipe.specs.Telling.{outs_text, token_fate, end_text, standing_text}
 
@@ -72,7 +72,7 @@ module _ {O A : Type 0} (object : Sequential O) where
       (given : Result ℕ Fault) × Gives old client number operation given new × (text ≡ given_text given new)
 
   -- what is asked is done, and told; a frame and an operation stand in the record's bytes
-  abbrev pub Does : Node A → List ℕ → Asked → Node A → List ℕ → Type 0
+  abbrev pub Does : Node A → List ℕ → RecordRequest → Node A → List ℕ → Type 0
   Does old bytes asked.Frame new text = Hears old bytes new text
   Does old bytes (asked.Timeout kind) new text = Steps old (input.Timeout kind) new text
   Does old bytes (asked.Call client number) new text = Submits old client number (drop 12 bytes) new text
@@ -81,13 +81,13 @@ module _ {O A : Type 0} (object : Sequential O) where
 
   -- a record was taken, and this was told of it
   pub record Takes (old : Node A) (kind : ℕ) (bytes : List ℕ) (new : Node A) (text : List ℕ) : Type 0 where
-    pub what : Asked
+    pub what : RecordRequest
     pub asks : Asks kind bytes what
     pub does : Does old bytes what new text
 
 -- a record asks for nothing that a node does
 abbrev pub AsksNothing : ℕ → List ℕ → Type 0
-AsksNothing kind bytes = (what : Asked) → ¬ Asks kind bytes what
+AsksNothing kind bytes = (what : RecordRequest) → ¬ Asks kind bytes what
 
 -- an output grew by a text of which this holds
 pub record Writes (out out' : Option (List ℕ)) (Holds : List ℕ → Type 0) : Type 0 where

@@ -13,7 +13,7 @@ ghost use Rattle.ring_node.specs.Restores.{node_restored};
 ghost use Rattle.ring_records.specs.Told.{answers_text, restored_text, all_committed_text, ticket_record, refusal_record};
 ghost use Rattle.ring_records.specs.declared.fate.TokenFate.TheVariants.{NoToken};
 ghost use Rattle.ring_pipe.specs.Telling.{sends_text, end_text, standing_text};
-ghost use Rattle.ring_records.specs.declared.asked.Asked.{Asked};
+ghost use Rattle.ring_records.specs.declared.request.RecordRequest.{RecordRequest};
 ghost use Rattle.ring_pipe.specs.Piping.{Acts, Gives, Steps, Halts, Hears, Submits, Does, Takes, AsksNothing, IsUnmade, Tells, Writes};
 
 use crate::parts::{has_sent, input_of, is_token};
@@ -25,7 +25,7 @@ use ring_object::Object;
 use ring_order_proof::fit_laws::node_fits_law;
 use ring_payload::Call;
 use ring_records::{
-    Asked, TokenFate, operation_in, record_asks, write_end, write_refusal, write_standing,
+    RecordRequest, TokenFate, operation_in, record_asks, write_end, write_refusal, write_standing,
     write_ticket,
 };
 use ring_report::Failure;
@@ -85,18 +85,23 @@ impl<O: Object> Piped<O> {
     }
 
     /// Does what is asked for, and writes what the node tells of it.
-    fn answer_to<W: Write>(&mut self, asked: Asked, bytes: &[u8], out: &mut W) -> io::Result<()>
-        requires { (client number : ℕ) → asked ≡ Asked.Call client number → 12 ≤ length bytes.now }
+    fn answer_to<W: Write>(
+        &mut self,
+        asked: RecordRequest,
+        bytes: &[u8],
+        out: &mut W,
+    ) -> io::Result<()>
+        requires { (client number : ℕ) → asked ≡ RecordRequest.Call client number → 12 ≤ length bytes.now }
         ensures { Tells result (W.contents out.old) (W.contents out.new) (Does O.sequential self.old bytes.now asked self.new) }
     {
         match asked {
-            Asked::Frame => self.hear(bytes, out),
-            Asked::Timeout(kind) => self.act(Input::Timeout(kind), out),
-            Asked::Call { client, number } => {
+            RecordRequest::Frame => self.hear(bytes, out),
+            RecordRequest::Timeout(kind) => self.act(Input::Timeout(kind), out),
+            RecordRequest::Call { client, number } => {
                 self.give(client, number, operation_in(bytes), out)
             }
-            Asked::Stop => self.act(Input::Stop, out),
-            Asked::Standing => self.stand(out),
+            RecordRequest::Stop => self.act(Input::Stop, out),
+            RecordRequest::Standing => self.stand(out),
         }
     }
 

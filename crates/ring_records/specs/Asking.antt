@@ -3,8 +3,8 @@ use Rattle.std.specs.Prelude.{◌≡◌, ℕ, ◌≤◌, List, [], ◌∷◌, le
 use Rattle.byteorder.specs.Endian.{big_number}
 use Rattle.ring_base.specs.declared.kind.Kind.{Kind}
 use Rattle.ring_base.specs.declared.kind.Kind.TheVariants.{Retransmit, Join, Consensus, Loss}
-use Rattle.ring_records.specs.declared.asked.Asked.{Asked}
-use Rattle.ring_records.specs.declared.asked.Asked.TheVariants.{Frame, Timeout, Call, Stop, Standing}
+use Rattle.ring_records.specs.declared.request.RecordRequest.{RecordRequest}
+use Rattle.ring_records.specs.declared.request.RecordRequest.TheVariants.{Frame, Timeout, Call, Stop, Standing}
 
 -- the number of a timeout
 abbrev pub kind_number : Kind → ℕ
@@ -14,7 +14,7 @@ kind_number Consensus = 2
 kind_number Loss = 3
 
 -- the record of this kind and these bytes asks for it
-abbrev pub Asks : ℕ → List ℕ → Asked → Type 0
+abbrev pub Asks : ℕ → List ℕ → RecordRequest → Type 0
 Asks kind bytes Frame = kind ≡ 70
 Asks kind bytes (Timeout time) = (kind ≡ 84) × (bytes ≡ kind_number time ∷ [])
 Asks kind bytes (Call client number) =

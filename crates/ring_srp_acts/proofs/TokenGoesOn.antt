@@ -25,7 +25,7 @@ use Rattle.ring_recover.specs.Plans.{safe}
 use Rattle.ring_core.specs.State.{Core, Sent}
 use Rattle.ring_core.specs.Views.{front, mark, plan}
 use Rattle.ring_core.specs.Giving.{users}
-use Rattle.ring_srp_state.specs.declared.part.Part.{Part}
+use Rattle.ring_srp_state.specs.declared.ring_part.RingPart.{RingPart}
 use Rattle.ring_srp_state.specs.declared.recovering.Recovering.{Recovering}
 use Rattle.ring_srp_state.specs.Histories.{History}
 use Rattle.ring_srp_acts.specs.Machines.{core_of, IsPart, bound, is_forming, is_running, window_of, visits_of, raises_of, Recovers, IsMachine}
@@ -133,7 +133,7 @@ module _ {A : Type 0} (c : Core A) (ring : RingId) (w : Windowed A) (h : TokenHi
 -- more stands aside
 pub recovers_aside : {A : Type 0} (c : Core A) (r r' : Recovering A) → Recovers c r → SetsAside r r' → Recovers c r'
 recovers_aside {A} c r r' m s =
-    let part = subst (λ (q : Part A). IsPart c c.running.ring q.window q.visit) (sym s.part) m.part in
+    let part = subst (λ (q : RingPart A). IsPart c c.running.ring q.window q.visit) (sym s.part) m.part in
     let window : r'.part.window ≡ window_of c c.running.ring = part.window_is in
     let far : front_of r'.part.window.held r'.part.window.ring ≡ front c c.running.ring = front_by c c.running.ring r'.part.window r'.part.visit part in
     record {

@@ -8,7 +8,7 @@ use crate::machine::Machine;
 use ring_base::paired;
 use ring_core::Sent;
 use ring_payload::Payload;
-use ring_srp_state::{Part, Recovering};
+use ring_srp_state::{Recovering, RingPart};
 use std::alloc::{AllocError, Allocator};
 use std::collections::VecDeque;
 
@@ -53,9 +53,9 @@ fn copied_frames<A: Allocator + Copy>(
 
 /// The same of the installed ring, and the same in Recovery.
 fn copied_parts<A: Allocator + Copy>(
-    kept: &Part<A>,
+    kept: &RingPart<A>,
     recovery: &Option<Recovering<A>>,
-) -> Result<(Part<A>, Option<Recovering<A>>), AllocError>
+) -> Result<(RingPart<A>, Option<Recovering<A>>), AllocError>
     ensures kept { IfOk result (λ copy. copy.0 ≡ kept.now) }
     ensures recovery { IfOk result (λ copy. MatchOption recovery.now (copy.1 ≡ None) (λ kept. IsSomeAnd copy.1 (IsCopied kept))) }
 {

@@ -14,7 +14,7 @@ use ring_base::{Fault, Past, ProcSet, State, seen};
 use ring_commit::receiver;
 use ring_core::Sent;
 use ring_recover::{Ends, Plan};
-use ring_srp_state::{Part, Recovering, with_plan};
+use ring_srp_state::{Recovering, RingPart, with_plan};
 use ring_token::Visit;
 use ring_window::Window;
 use ring_wire::{CommitBox, CommitToken, Frame};
@@ -63,7 +63,7 @@ impl<A: Allocator + Copy> Machine<A> {
         self.shown = Some(shown);
         self.past = past;
         self.recovery = Some(Recovering {
-            part: Part { window, visit },
+            part: RingPart { window, visit },
             plan,
             ends: Ends::new(),
             most: 0,

@@ -10,7 +10,7 @@ use ring_commit::Configuration;
 use ring_core::Sent;
 use ring_join::Gather;
 use ring_payload::Payload;
-use ring_srp_state::{CoreStory, Part, Recovering, formed_of, none, opened};
+use ring_srp_state::{CoreStory, Recovering, RingPart, formed_of, none, opened};
 use ring_wire::{CommitEntry, Message};
 use std::alloc::{Allocator, Global};
 use std::collections::VecDeque;
@@ -31,7 +31,7 @@ pub struct Machine<A: Allocator + Copy = Global> {
     pub(crate) shown: Option<Sent<A>>,
     pub(crate) queue: VecDeque<Payload<A>, A>,
     /// What is kept of the installed ring.
-    pub(crate) kept: Part<A>,
+    pub(crate) kept: RingPart<A>,
     /// What is kept of the running ring until it is installed: in Recovery alone.
     pub(crate) recovery: Option<Recovering<A>>,
     /// The messages taken, sent and unwrapped, newest first.
@@ -62,7 +62,7 @@ impl<A: Allocator + Copy> Machine<A> {
         ensures ok { IfOk result (λ machine. machine ≡ opening fixed.count me) }
         ensures refused { IfErr result (λ fault. fault ≡ Memory) }
     {
-        let kept = Part::new(alloc, me, RingId { seq: 0, rep: me })?;
+        let kept = RingPart::new(alloc, me, RingId { seq: 0, rep: me })?;
         Ok(Machine {
             alloc,
             me,
@@ -86,7 +86,7 @@ impl<A: Allocator + Copy> Machine<A> {
         ensures ok { IfOk result (λ machine. machine ≡ formed fixed.count me) }
         ensures refused { IfErr result (λ fault. fault ≡ Memory) }
     {
-        let kept = Part::new(alloc, me, all_of(fixed).ring)?;
+        let kept = RingPart::new(alloc, me, all_of(fixed).ring)?;
         Ok(Machine {
             alloc,
             me,
@@ -148,7 +148,7 @@ impl<A: Allocator + Copy> Machine<A> {
     }
 
     /// What is kept of the ring whose messages are taken: of the running one in Recovery, else of the installed one.
-    pub(crate) fn part(&self) -> &Part<A>
+    pub(crate) fn part(&self) -> &RingPart<A>
         ensures taken { IsPart self.now (ring_in_use self.now.state self.now) result.now.window result.now.visit }
         ensures running { is_running self.now.state ≡ true → IsPart self.now self.now.running.ring result.now.window result.now.visit }
     {

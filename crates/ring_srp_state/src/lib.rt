@@ -5,9 +5,9 @@
 mod giving;
 mod history;
 mod packing;
-mod part;
 mod queued;
 mod recovering;
+mod ring_part;
 mod sent;
 mod wrapping;
 
@@ -17,8 +17,8 @@ pub use history::{
     with_visit,
 };
 pub use packing::take_packed;
-pub use part::Part;
 pub use queued::is_queued;
 pub use recovering::{Recovering, unwrap_into};
+pub use ring_part::RingPart;
 pub use sent::{send, send_copy, send_message};
 pub use wrapping::first_left;

@@ -10,7 +10,7 @@ ghost use Rattle.ring_srp_state.specs.Setting.{SetsAside};
 ghost use Rattle.ring_srp_state.specs.Taking.{window_front, with_taken, with_inner};
 ghost use Rattle.ring_srp_state.specs.Users.{users_in, user_of};
 
-use crate::part::Part;
+use crate::ring_part::RingPart;
 use ring_base::Fault;
 use ring_payload::Payload;
 use ring_recover::{Ends, Plan, is_user, unwrap};
@@ -24,7 +24,7 @@ use std::alloc::{AllocError, Allocator, Global};
 #[derive(Drop)]
 pub struct Recovering<A: Allocator + Copy = Global> {
     /// What is kept of the running ring.
-    pub part: Part<A>,
+    pub part: RingPart<A>,
     /// What those from the old ring know of it, and what of it went out wrapped.
     pub plan: Plan<A>,
     /// Which members sent their End, and as which number of the running ring.

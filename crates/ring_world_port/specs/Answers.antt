@@ -9,14 +9,14 @@ use Rattle.ring_session.specs.declared.answer.Answer.{Answer as OneAnswer}
 use Rattle.ring_rules.specs.declared.told.Told.{Told}
 use Rattle.ring_rules.specs.declared.told.Told.TheVariants.{Answer, Refused}
 use Rattle.ring_world.specs.Played.{Played, world_of, told_of_events}
-use Rattle.ring_world_port.specs.declared.answers.Question.{Question}
+use Rattle.ring_world_port.specs.declared.answers.SubmittedCall.{SubmittedCall}
 
 -- whether this node's call is the one asked for: of this client and number, and with this operation
-abbrev pub is_asked : {A : Type 0} → Question → ℕ → Call A → Bool
+abbrev pub is_asked : {A : Type 0} → SubmittedCall → ℕ → Call A → Bool
 is_asked q i c = (i == q.node) && (c.client == q.client) && (c.number == q.number) && bytes_eq c.op q.op
 
 -- the answer that this tells to the call, if it does
-abbrev pub answer_of : {A : Type 0} → Question → Told A → Option OneAnswer
+abbrev pub answer_of : {A : Type 0} → SubmittedCall → Told A → Option OneAnswer
 answer_of q (Answer i c answer) = if is_asked q i c then tellable answer else None
 answer_of q (Refused i c number) = None
 
@@ -26,16 +26,16 @@ first_of None later = later
 first_of (Some x) later = Some x
 
 -- the first answer among what was told
-abbrev pub answer_in : {A : Type 0} → Question → List (Told A) → Option OneAnswer
+abbrev pub answer_in : {A : Type 0} → SubmittedCall → List (Told A) → Option OneAnswer
 answer_in q [] = None
 answer_in q (t ∷ ts) = first_of (answer_of q t) (answer_in q ts)
 
 -- the call that was submitted last, at this node
-abbrev pub question_of : ℕ → Asked → Question
+abbrev pub question_of : ℕ → Asked → SubmittedCall
 question_of i asked = record { node = i; client = asked.client; number = asked.number; op = asked.op }
 
 -- The node has told the call this answer in a run of some world: it is the first one behind some of those told.
-pub record HasTold (A : Type 0) {O : Type 0} (object : Sequential O) (q : Question) (answer : OneAnswer) : Type 0 where
+pub record HasTold (A : Type 0) {O : Type 0} (object : Sequential O) (q : SubmittedCall) (answer : OneAnswer) : Type 0 where
   pub world : Played A
   pub run : told_of_events world.told ≡ (world_of object world).told
   pub looked : ℕ

@@ -13,14 +13,14 @@ use std::alloc::Allocator;
 
 /// A call as it was submitted at a node.
 #[derive(Clone, Copy)]
-pub struct Question {
+pub struct SubmittedCall {
     pub node: Proc,
     pub client: u32,
     pub number: u64,
     pub op: Op,
 }
 
-impl Question {
+impl SubmittedCall {
     /// Whether this call of this node is the one.
     fn is<A: Allocator + Copy>(&self, node: Proc, call: &Call<A>) -> bool
         ensures { result ≡ is_asked self.now node call.now }

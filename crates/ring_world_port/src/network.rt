@@ -12,7 +12,7 @@ ghost use Rattle.ring_world_port.specs.Answers.{answer_in, question_of, HasTold}
 ghost use Rattle.ring_world_port.specs.Network.{Stays, IsIssuable, IsIssued, IsNotIssued, HappensIf, HasTurned, LosesTurn};
 ghost use Rattle.ring_world_port.specs.Network.{following, fault_of, hears, arrival, kind_in, timeout_in, refusal_in};
 
-use crate::answers::Question;
+use crate::answers::SubmittedCall;
 use ring_base::{Fault, Kind, Proc, ProcSet, State};
 use ring_client::Op;
 use ring_object::Object;
@@ -54,15 +54,15 @@ impl<O: Object> Model for Network<O> {
 /// What is polled for the answer to a call that was submitted at a node. Contracts see the call with its node.
 #[derive(Drop)]
 pub struct WorldTicket {
-    question: Question,
+    question: SubmittedCall,
     /// How many of those that the world told were looked at in vain.
     looked: Cell<usize>,
 }
 
 impl Model for WorldTicket {
-    ghost use Rattle.ring_world_port.specs.declared.answers.Question.{Question};
+    ghost use Rattle.ring_world_port.specs.declared.answers.SubmittedCall.{SubmittedCall};
 
-    ghost Value = { Question };
+    ghost Value = { SubmittedCall };
 
     ghost view = { λ ticket. ticket.question };
 }
@@ -156,7 +156,7 @@ impl<O: Object> Network<O> {
         self.submit(node, call)?;
         let op = call.op.as_slice();
         Ok(WorldTicket {
-            question: Question {
+            question: SubmittedCall {
                 node,
                 client: call.client,
                 number: call.number,
@@ -185,7 +185,7 @@ impl<O: Object> Network<O> {
 
     /// The first answer to the call behind so many of those that the world told. Where there is none, a turn is taken; one
     /// that memory was refused to is left out.
-    fn poll(&mut self, question: &Question, looked: usize) -> Option<Answer>
+    fn poll(&mut self, question: &SubmittedCall, looked: usize) -> Option<Answer>
         ensures answer { result ≡ answer_in question.now (drop looked self.old.pump.played.told) }
         ensures told { IfSome result IsTold }
         ensures same { IfSome result (λ _. self.new ≡ self.old) }

@@ -1,6 +1,7 @@
 //! Worked runs of a client over three nodes of one world.
 
 use crate::shared::{add, client_of, counted, cut, everybody, happen, order_len, read, three};
+use refusing_alloc::Refusing;
 use ring_base::{Fault, Kind, Proc, ProcSet, paired};
 use ring_client::{Client, Port};
 use ring_object::{Object, Reply};
@@ -192,18 +193,21 @@ fn goes_well_anew<O: Object>(alloc: O::Alloc, story: ClientStory) -> Result<bool
 
 #[test]
 fn an_open_call_is_answered_once_all_hear_each_other(rt: HostRuntime) -> Result<(), Fail> {
-    assert!(rt; goes_well_anew::<Counters>(rt.alloc(), ClientStory::NobodyHears)?);
+    let heap = Refusing::new(rt.alloc(), u64::MAX);
+    assert!(rt; goes_well_anew::<Counters<&Refusing>>(&heap, ClientStory::NobodyHears)?);
     Ok(())
 }
 
 #[test]
 fn a_stopped_node_is_passed_over(rt: HostRuntime) -> Result<(), Fail> {
-    assert!(rt; goes_well_anew::<Counters>(rt.alloc(), ClientStory::FirstStops)?);
+    let heap = Refusing::new(rt.alloc(), u64::MAX);
+    assert!(rt; goes_well_anew::<Counters<&Refusing>>(&heap, ClientStory::FirstStops)?);
     Ok(())
 }
 
 #[test]
 fn a_call_that_two_nodes_took_counts_once(rt: HostRuntime) -> Result<(), Fail> {
-    assert!(rt; goes_well_anew::<Counters>(rt.alloc(), ClientStory::FirstIsCutOff)?);
+    let heap = Refusing::new(rt.alloc(), u64::MAX);
+    assert!(rt; goes_well_anew::<Counters<&Refusing>>(&heap, ClientStory::FirstIsCutOff)?);
     Ok(())
 }

@@ -35,7 +35,8 @@ fn answers_of_first<O: Object>(alloc: O::Alloc) -> Result<[Option<Answer>; 2], F
 #[test]
 fn a_poll_gives_the_answer_that_the_node_told(rt: HostRuntime) -> Result<(), Fail> {
     let five = Some(Answer::Done(counted(5)));
-    assert!(rt; answers_of_first::<Counters>(rt.alloc())? == [five, five]);
+    let heap = Refusing::new(rt.alloc(), u64::MAX);
+    assert!(rt; answers_of_first::<Counters<&Refusing>>(&heap)? == [five, five]);
     Ok(())
 }
 
@@ -151,7 +152,8 @@ fn a_submit_is_refused_for_its_first_reason(rt: HostRuntime) -> Result<(), Fail>
         (Some(Fault::PendingFull), Some(2)),
         (Some(Fault::Stopped), Some(8)),
     ];
-    assert!(rt; refused_by_three::<Counters>(rt.alloc())? == reasons);
+    let heap = Refusing::new(rt.alloc(), u64::MAX);
+    assert!(rt; refused_by_three::<Counters<&Refusing>>(&heap)? == reasons);
     Ok(())
 }
 

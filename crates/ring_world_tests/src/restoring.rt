@@ -130,7 +130,8 @@ fn node_that_was_away_is_restored(rt: HostRuntime) -> Result<(), Fail> {
     ];
     let told = [Some((300, 266, None)), Some((44, 0, Some(266)))];
     let replies = Some([Some(done(301)), None]);
-    assert!(rt; seen_anew::<Counters>(rt.alloc())? == (shown, told, replies));
+    let heap = Refusing::new(rt.alloc(), u64::MAX);
+    assert!(rt; seen_anew::<Counters<&Refusing>>(&heap)? == (shown, told, replies));
     Ok(())
 }
 
@@ -165,7 +166,8 @@ fn tickets_that_wait_at_a_restore(rt: HostRuntime) -> Result<(), Fail> {
         Some([Some(done(300)), Some(Answer::Refused(5))]),
     ];
     let shown = Some((State::Operational, 301, 301, 266, 300, 35));
-    assert!(rt; waited_anew::<Counters>(rt.alloc())? == (answers, shown));
+    let heap = Refusing::new(rt.alloc(), u64::MAX);
+    assert!(rt; waited_anew::<Counters<&Refusing>>(&heap)? == (answers, shown));
     Ok(())
 }
 

@@ -3,6 +3,7 @@
 
 use crate::driven::played;
 use crate::events::Line;
+use refusing_alloc::Refusing;
 use ring_things::Counters;
 use std::test::Fail;
 
@@ -116,6 +117,7 @@ events 68 history 64 order 0
 
 #[test]
 fn worlds_show_what_is_worked_out(rt: HostRuntime) -> Result<(), Fail> {
+    let heap = Refusing::new(rt.alloc(), u64::MAX);
     // how many nodes a run has, its lines, and what they show
     for (count, lines, want) in &[
         (1, &ALONE[..], ALONE_SHOWN),
@@ -123,7 +125,7 @@ fn worlds_show_what_is_worked_out(rt: HostRuntime) -> Result<(), Fail> {
         (3, &STRANGE[..], STRANGE_SHOWN),
         (1, &REFUSED[..], REFUSED_SHOWN),
     ] {
-        let shown = played::<Counters>(rt.alloc(), *count, *lines)?;
+        let shown = played::<Counters<&Refusing>>(&heap, *count, *lines)?;
         assert!(rt; shown.as_str() == *want);
     }
     Ok(())

@@ -3,6 +3,7 @@
 
 use crate::driven::Driven;
 use crate::events::Line;
+use refusing_alloc::Refusing;
 use ring_base::Fault;
 use ring_object::Object;
 use ring_things::Counters;
@@ -62,8 +63,9 @@ fn seen_anew<O: Object>(alloc: O::Alloc, more: &[Line]) -> Result<Seen, Fault> {
 
 #[test]
 fn a_world_goes_on_behind_what_its_nodes_drop(rt: HostRuntime) -> Result<(), Fail> {
+    let heap = Refusing::new(rt.alloc(), u64::MAX);
     for (more, want) in &[(&[][..], (256, 0, 256)), (&ONE_MORE[..], (256, 1, 257))] {
-        assert!(rt; seen_anew::<Counters>(rt.alloc(), *more)? == *want);
+        assert!(rt; seen_anew::<Counters<&Refusing>>(&heap, *more)? == *want);
     }
     Ok(())
 }

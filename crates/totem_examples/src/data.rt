@@ -11,7 +11,7 @@
 
 use ring_sweep::{BAD_COMMAND_LINE, frames, script, script_check, sweep};
 use std::alloc::Global;
-use std::io::{Error, ErrorKind, Write};
+use std::io::{Error, ErrorKind, Read, Write};
 use std::rt::Files;
 use std::sync::Wait;
 use std::thread::Threads;
@@ -207,14 +207,14 @@ fn run_as<R: Files + AllocGlobal + Threads + Wait + Clock + Sync>(
     kind: Kind,
     name: &str,
     input: &[u8],
-    out: &mut Vec<u8>,
-    err: &mut Vec<u8>,
+    mut out: &mut dyn Write,
+    mut err: &mut dyn Write,
 ) -> io::Result<u8> {
     let alloc = rt.alloc();
     match kind {
-        Kind::Script => Ok(script(alloc, &mut &*input, out, err)),
-        Kind::Check => Ok(script_check(alloc, &mut &*input, out, err)),
-        Kind::Sweep | Kind::Legal => Ok(sweep(alloc, &mut &*input, out, err)),
+        Kind::Script => Ok(script(alloc, &mut &*input, &mut out, &mut err)),
+        Kind::Check => Ok(script_check(alloc, &mut &*input, &mut out, &mut err)),
+        Kind::Sweep | Kind::Legal => Ok(sweep(alloc, &mut &*input, &mut out, &mut err)),
         Kind::Frames => list(alloc, input, out, err),
         Kind::Words => Ok(command(rt, input, out, err)),
         Kind::Explain | Kind::Trace | Kind::Picture => try_on(rt, kind, name, out, err),
@@ -222,9 +222,16 @@ fn run_as<R: Files + AllocGlobal + Threads + Wait + Clock + Sync>(
 }
 
 /// Lists the frames that a text spells.
-fn list(alloc: Global, text: &[u8], out: &mut Vec<u8>, err: &mut Vec<u8>) -> io::Result<u8> {
+fn list(
+    alloc: Global,
+    text: &[u8],
+    mut out: &mut dyn Write,
+    mut err: &mut dyn Write,
+) -> io::Result<u8> {
     let bytes = spelled(alloc, text)?;
-    Ok(frames(alloc, &mut bytes.as_slice(), out, err))
+    let mut bytes = bytes.as_slice();
+    let mut input: &mut dyn Read = &mut bytes;
+    Ok(frames(alloc, &mut input, &mut out, &mut err))
 }
 
 /// Tries a command line of the program on the example of this name.
@@ -232,8 +239,8 @@ fn try_on<R: Files + AllocGlobal + Threads + Wait + Clock + Sync>(
     rt: &R,
     kind: Kind,
     name: &str,
-    out: &mut Vec<u8>,
-    err: &mut Vec<u8>,
+    out: &mut dyn Write,
+    err: &mut dyn Write,
 ) -> io::Result<u8> {
     let (words, ending) = match kind {
         Kind::Trace => ("trace", ".script"),
@@ -248,13 +255,14 @@ fn try_on<R: Files + AllocGlobal + Threads + Wait + Clock + Sync>(
 fn command<R: Files + AllocGlobal + Threads + Wait + Clock + Sync>(
     rt: &R,
     text: &[u8],
-    out: &mut Vec<u8>,
-    err: &mut Vec<u8>,
+    mut out: &mut dyn Write,
+    mut err: &mut dyn Write,
 ) -> u8 {
     let words = words_in(rt.alloc(), text);
     let nobody: Option<&mut Vec<u8>> = None;
-    let mut none = [].as_slice();
-    run(rt, &words, &mut none, out, err, nobody)
+    let mut nothing = [].as_slice();
+    let mut input: &mut dyn Read = &mut nothing;
+    run(rt, &words, &mut input, &mut out, &mut err, nobody)
 }
 
 /// The words of a command line, the program's own name first.

@@ -22,15 +22,15 @@ const SCRIPT: &str = "nodes 3\n\
     pump 100\n";
 
 /// Does what the words of a command line ask for, the program's own name being the first, and answers the exit status.
-pub fn run<R: Files + AllocGlobal + Threads + Wait + Clock + Sync, I: Read, O: Write, E: Write>(
+pub fn run<R: Files + AllocGlobal + Threads + Wait + Clock + Sync>(
     rt: &R,
     words: &io::Result<Vec<String>>,
-    input: &mut I,
-    out: &mut O,
-    err: &mut E,
+    mut input: &mut dyn Read,
+    mut out: &mut dyn Write,
+    mut err: &mut dyn Write,
 ) -> u8 {
     let nobody: Option<&mut Vec<u8>> = None;
-    run_of::<Locks, LockWords, _, _, _, _, _>(rt, words, input, out, err, nobody)
+    run_of::<Locks, LockWords, _, _, _, _, _>(rt, words, &mut input, &mut out, &mut err, nobody)
 }
 
 /// Prints what the program prints of the script; whether the script is legal with a stop or a cut of each node before any of its

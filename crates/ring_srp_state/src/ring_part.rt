@@ -24,23 +24,23 @@ use std::alloc::{AllocError, Allocator, Global};
 
 /// What a processor keeps of one ring that it took part in: its messages, and its visits of the token.
 #[derive(Drop)]
-pub struct Part<A: Allocator + Copy = Global> {
+pub struct RingPart<A: Allocator + Copy = Global> {
     /// The messages.
     pub window: Window<A>,
     /// The visits of the token, and the safe mark.
     pub visit: Visit<A>,
 }
 
-impl<A: Allocator + Copy> Part<A> {
+impl<A: Allocator + Copy> RingPart<A> {
     /// A ring of which nothing is held, and whose token was not visited; or `Memory`.
-    pub fn new(alloc: A, me: Proc, ring: RingId) -> Result<Part<A>, Fault>
+    pub fn new(alloc: A, me: Proc, ring: RingId) -> Result<RingPart<A>, Fault>
         ensures window { IfOk result (λ part. part.window ≡ opened ring) }
         ensures visit { IfOk result (λ part. part.visit ≡ unvisited me ring) }
         ensures refused { IfErr result (λ fault. fault ≡ Memory) }
     {
         let window = Window::new(alloc, ring)?;
         let visit = Visit::new(me, window.ring());
-        Ok(Part { window, visit })
+        Ok(RingPart { window, visit })
     }
 
     /// The token is visited, once the `count` new messages that carry `fresh` are held, and the window may forget what is
@@ -150,11 +150,11 @@ impl<A: Allocator + Copy> Part<A> {
     }
 }
 
-impl<A: Allocator + Copy> Clone for Part<A> {
+impl<A: Allocator + Copy> Clone for RingPart<A> {
     ghost is_clone = { λ part copy. copy ≡ part };
 
-    fn clone(&self) -> Result<Part<A>, AllocError> {
-        Ok(Part {
+    fn clone(&self) -> Result<RingPart<A>, AllocError> {
+        Ok(RingPart {
             visit: self.visit.clone()?,
             window: self.window.clone()?,
         })

@@ -6,7 +6,7 @@ use Rattle.ring_token.specs.Turns.{Turn}
 use Rattle.ring_token.specs.Visits.{requests_after, token_after}
 use Rattle.ring_token.specs.Histories.{turn_by, with_turn}
 use Rattle.ring_srp_state.proofs.OneVisitMore.{mark_within}
-use Rattle.ring_srp_state.proofs.part.Part.pass.Goals as goal
+use Rattle.ring_srp_state.proofs.ring_part.RingPart.pass.Goals as goal
 
 pub forget-requires : goal.forget-requires
 forget-requires g c =

@@ -1,5 +1,5 @@
 -- What the caller names.
-use Rattle.ring_srp_state.proofs.part.visit_as.Given as goal
+use Rattle.ring_srp_state.proofs.ring_part.visit_as.Given as goal
 
 abbrev pub ghost-visit_into : goal.ghost-visit_into
 ghost-visit_into g a = g.payloads
