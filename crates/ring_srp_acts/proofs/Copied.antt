@@ -1,5 +1,5 @@
 -- What is kept of a core's rings and what Recovery goes by fit the core as well in a copy.
-use Rattle.std.proofs.Common.{◌≡◌, Option, Some, None, ◌∙◌}
+use Rattle.std.proofs.Common.{◌≡◌, Option, Some, None, refl, ◌∙◌}
 use Rattle.std.specs.Option.{MatchOption, IsSomeAnd}
 use Rattle.ring_window.specs.Windows.{Windowed}
 use Rattle.ring_token.specs.Histories.{TokenHistory}
@@ -8,6 +8,7 @@ use Rattle.ring_srp_state.specs.declared.recovering.Recovering.{Recovering}
 use Rattle.ring_srp_state.specs.Copies.{IsCopied}
 use Rattle.ring_core.specs.State.{Core}
 use Rattle.ring_srp_acts.specs.Machines.{Recovers, IsRecovering, IsMachine}
+use Rattle.ring_srp_acts.proofs.KeptByActs.{machine_as}
 
 abbrev pub IsCopiedIf : {A : Type 0} → Option (Recovering A) → Option (Recovering A) → Type 0
 IsCopiedIf recovery copy = MatchOption recovery (copy ≡ None) (λ kept. IsSomeAnd copy (IsCopied kept))
@@ -34,18 +35,8 @@ none_copied None copy same none = same
 none_copied (Some kept) copy same none = cc
 
 -- the machine's invariant, once all but the recovery is known to be the same
-pub machine_copied : {A : Type 0} (c : Core A) (gather : Gatherer) (window : Windowed A) (visit : TokenHistory A) (recovery copy : Option (Recovering A))
+pub machine_copied : {A : Type 0} {c : Core A} {gather : Gatherer} {window : Windowed A} {visit : TokenHistory A} {recovery copy : Option (Recovering A)}
     → IsCopiedIf recovery copy → IsMachine c gather window visit recovery → IsMachine c gather window visit copy
-machine_copied c gather window visit recovery copy same h = record {
-  runs = h.runs;
-  gather_me = h.gather_me;
-  gather_floor = h.gather_floor;
-  member = h.member;
-  kept = h.kept;
-  below = h.below;
-  older = h.older;
-  apart = h.apart;
-  same = h.same;
-  recovering = λ state. recovering_copied c recovery copy same (h.recovering state);
-  over = λ other. none_copied recovery copy same (h.over other);
-}
+machine_copied {c} {recovery} {copy} same h =
+    machine_as h refl refl h.kept h.below (λ state. recovering_copied c recovery copy same (h.recovering state))
+    (λ other. none_copied recovery copy same (h.over other))

@@ -42,6 +42,7 @@ use Rattle.ring_base.specs.Processors.{has}
 use Rattle.ring_srp_state.specs.declared.recovering.Recovering.{Recovering}
 use Rattle.ring_srp_acts.specs.Machines.{IsPart, IsBelow, bound, is_forming, ring_in_use, window_of, Recovers, IsRecovering, IsMachine}
 use Rattle.ring_srp_state.specs.Taking.{window_front, with_taken, inner_of, with_inner}
+use Rattle.ring_srp_acts.proofs.KeptByActs.{machine_as}
 
 -- the core with other messages held
 abbrev pub with_held : {A : Type 0} → Core A → List (Message A) → Core A
@@ -291,7 +292,7 @@ recovering_none c recovery e i = subst (λ (o : Option (Recovering _)). IsRecove
 pub used_running : {A : Type 0} (c : Core A) (x : Message A) → x.ring ≡ ring_in_use c.state c → c.state ≡ Recovery → x.ring ≡ c.running.ring
 used_running c x e s = e ∙ ap (λ q. ring_in_use q c) s
 
-module _ {A : Type 0} (c : Core A) (gather : Gatherer) (window : Windowed A) (visit : TokenHistory A) (recovery : Option (Recovering A))
+module _ {A : Type 0} {c : Core A} {gather : Gatherer} {window : Windowed A} {visit : TokenHistory A} {recovery : Option (Recovering A)}
     (m : IsMachine c gather window visit recovery) where
   -- a message of the installed ring is held, but in Recovery
   pub held_installed : (x : Message A) → (c.state ≡ Recovery → ⊥) → x.ring ≡ ring_in_use c.state c → takes_number c x.ring x.number ≡ true
@@ -303,20 +304,9 @@ module _ {A : Type 0} (c : Core A) (gather : Gatherer) (window : Windowed A) (vi
       let t = fresh_is c ring x here h in
       let l : x.ring.seq < bound c.state (floor c) = subst (λ (q : RingId). q.seq < bound c.state (floor c)) (sym here)
       (installed_below c.state ring.seq (floor c) m.older m.apart) in
-      record {
-        runs = m.runs;
-        gather_me = m.gather_me;
-        gather_floor = m.gather_floor;
-        member = m.member;
-        kept = subst (λ (u : Windowed A). IsPart (with_held c (x ∷ c.held)) ring u visit) (sym (w ∙ window_takes c ring x window visit here h m.kept))
-            (part_more c ring x t window visit m.kept);
-        below = below_more c x (bound c.state (floor c)) l m.below;
-        older = m.older;
-        apart = m.apart;
-        same = m.same;
-        recovering = λ s. absurd (n s);
-        over = λ q. none;
-      }
+      machine_as m refl refl (subst (λ (u : Windowed A). IsPart (with_held c (x ∷ c.held)) ring u visit)
+      (sym (w ∙ window_takes c ring x window visit here h m.kept)) (part_more c ring x t window visit m.kept))
+      (below_more c x (bound c.state (floor c)) l m.below) (λ s. absurd (n s)) (λ q. none)
 
   -- in Recovery a message of the running ring is held
   pub held_running : (x : Message A) (r : Recovering A) → c.state ≡ Recovery → recovery ≡ Some r → x.ring ≡ c.running.ring
@@ -328,19 +318,9 @@ module _ {A : Type 0} (c : Core A) (gather : Gatherer) (window : Windowed A) (vi
       let apart : old.seq < ring.seq = m.apart (forming c.state s) in
       let other : same_ring x.ring old ≡ false = subst (λ (q : RingId). same_ring q old ≡ false) (sym e) (higher_other ring old apart) in
       let l : x.ring.seq < bound c.state (floor c) = subst (λ (q : RingId). q.seq < bound c.state (floor c)) (sym e) (running_below c.state ring.seq s) in
-      record {
-        runs = m.runs;
-        gather_me = m.gather_me;
-        gather_floor = m.gather_floor;
-        member = m.member;
-        kept = part_same c (x ∷ c.held) old window visit (other_ring old x c.held other) m.kept;
-        below = below_more c x (bound c.state (floor c)) l m.below;
-        older = m.older;
-        apart = m.apart;
-        same = m.same;
-        recovering = λ q. recovers_more c x r e h (recovering_some c recovery r some (m.recovering s));
-        over = λ n. absurd (n s);
-      }
+      machine_as m refl refl (part_same c (x ∷ c.held) old window visit (other_ring old x c.held other) m.kept)
+      (below_more c x (bound c.state (floor c)) l m.below) (λ q. recovers_more c x r e h (recovering_some c recovery r some (m.recovering s)))
+      (λ n. absurd (n s))
 
   -- and one of the old ring
   held_old : (y : Message A) → c.state ≡ Recovery → y.ring ≡ c.installed.ring → takes_number c y.ring y.number ≡ true
@@ -352,19 +332,8 @@ module _ {A : Type 0} (c : Core A) (gather : Gatherer) (window : Windowed A) (vi
       let other : same_ring y.ring ring ≡ false = subst (λ (q : RingId). same_ring q ring ≡ false) (sym e) (lower_other old ring apart) in
       let l : y.ring.seq < bound c.state (floor c) = subst (λ (q : RingId). q.seq < bound c.state (floor c)) (sym e)
       (installed_below c.state old.seq (floor c) m.older m.apart) in
-      record {
-        runs = m.runs;
-        gather_me = m.gather_me;
-        gather_floor = m.gather_floor;
-        member = m.member;
-        kept = part_more c old y (fresh_is c old y e h) window visit m.kept;
-        below = below_more c y (bound c.state (floor c)) l m.below;
-        older = m.older;
-        apart = m.apart;
-        same = m.same;
-        recovering = λ q. recovering_on recovery (m.recovering q) (other_ring ring y c.held other);
-        over = m.over;
-      }
+      machine_as m refl refl (part_more c old y (fresh_is c old y e h) window visit m.kept) (below_more c y (bound c.state (floor c)) l m.below)
+      (λ q. recovering_on recovery (m.recovering q) (other_ring ring y c.held other)) m.over
     where
       recovering_on : (o : Option (Recovering A)) → IsRecovering c o → of_ring c.running.ring (y ∷ c.held) ≡ of_ring c.running.ring c.held
           → IsRecovering (with_held c (y ∷ c.held)) o
@@ -409,7 +378,7 @@ pub inner_by : {A : Type 0} (c : Core A) (w : Windowed A) (v : TokenHistory A) (
 inner_by {A} c w v payload p = ap (λ (u : Windowed A). inner_of u payload) p.window_is
     ∙ unwrapped_of_ring c.installed.ring (mark c c.installed.ring) c.held payload
 
-module _ {A : Type 0} (c : Core A) (gather : Gatherer) (window : Windowed A) (visit : TokenHistory A) (recovery : Option (Recovering A))
+module _ {A : Type 0} {c : Core A} {gather : Gatherer} {window : Windowed A} {visit : TokenHistory A} {recovery : Option (Recovering A)}
     (m : IsMachine c gather window visit recovery) where
   -- in Recovery a message of the running ring is held, and what it wraps in front of it
   pub held_both : (x : Message A) (r : Recovering A) (window' : Windowed A) (top : ℕ) (held : List (Message A)) → c.state ≡ Recovery → recovery ≡ Some r
@@ -431,8 +400,7 @@ module _ {A : Type 0} (c : Core A) (gather : Gatherer) (window : Windowed A) (vi
       subst (λ (ys : List (Message A)). IsMachine (with_held c ys) gather window' visit (Some (with_taken r x))) (sym all)
       (subst (λ (u : Windowed A). IsMachine (with_held c (unwrapped old (mark c old) (x ∷ c.held) x.payload ++ x ∷ c.held)) gather u visit
       (Some (with_taken r x))) (sym wide)
-      (held_inner (with_held c (x ∷ c.held)) gather window visit (Some (with_taken r x))
-      (held_running c gather window visit recovery m x r s some e h) x.payload s))
+      (held_inner (held_running m x r s some e h) x.payload s))
 
   -- the contents of the two requirements of what is kept in Recovery
   pub front_there : (x : Message A) (r : Recovering A) → c.state ≡ Recovery → recovery ≡ Some r → x.ring ≡ c.running.ring
@@ -480,7 +448,7 @@ none_old Stopped c x n = refl
 pub took_other : {A : Type 0} (c : Core A) (x : Message A) → (c.state ≡ Recovery → ⊥) → with_held c (x ∷ c.held) ≡ took c x
 took_other c x n = ap (λ (ys : List (Message _)). with_held c (ys ++ x ∷ c.held)) (sym (none_old c.state c x n))
 
-module _ {A : Type 0} (c : Core A) (gather : Gatherer) (window : Windowed A) (visit : TokenHistory A) (recovery : Option (Recovering A))
+module _ {A : Type 0} {c : Core A} {gather : Gatherer} {window : Windowed A} {visit : TokenHistory A} {recovery : Option (Recovering A)}
     (m : IsMachine c gather window visit recovery) where
   pub took_both : (x : Message A) (top : ℕ) → c.state ≡ Recovery → top ≡ window.mark
       → with_held c (unwrapped c.installed.ring top c.held x.payload ++ x ∷ c.held) ≡ took c x

@@ -15,14 +15,12 @@ use Rattle.ring_base.specs.declared.state.State.TheVariants.{Gather, Commit, Rec
 use Rattle.ring_base.proofs.Each.{each-filter}
 use Rattle.ring_base.proofs.ListPlaces.{numbers-append}
 use Rattle.ring_payload.specs.Kinds.{is_user}
-use Rattle.ring_payload.specs.declared.content.Payload.{Payload}
 use Rattle.ring_wire.specs.declared.message.Message.{Message}
 use Rattle.ring_window.specs.Held.{found, of_ring}
 use Rattle.ring_window.specs.Windows.{Windowed, kept}
 use Rattle.ring_window.proofs.OfRing.{found_of_ring}
 use Rattle.ring_token.specs.Histories.{TokenHistory}
 use Rattle.ring_join.specs.Gatherers.{Gatherer}
-use Rattle.ring_join.specs.Gathering.{Gathering}
 use Rattle.ring_commit.specs.declared.configuration.Configuration.{Configuration}
 use Rattle.ring_recover.specs.declared.delivery.Delivery.{Delivery}
 use Rattle.ring_recover.specs.Plans.{Plan, safe, gap, known_above_safe, is_known}
@@ -33,17 +31,16 @@ use Rattle.ring_recover.specs.Deliveries.{delivery, finish, transitional_part, p
 use Rattle.ring_recover.proofs.MessagesInFront.{kept_found}
 use Rattle.ring_core.specs.declared.out.Out.{Out}
 use Rattle.ring_core.specs.declared.out.Out.TheVariants.{Agreed, Trans, Rest, Regular}
-use Rattle.ring_core.specs.State.{Core, Sent}
+use Rattle.ring_core.specs.State.{Core, floor}
 use Rattle.ring_core.specs.Views.{front, mark, plan}
 use Rattle.ring_core.specs.Giving.{may_install, installs_in, ready_then_complete, install, settle, users, safe_from, delivered_from}
-use Rattle.ring_srp_state.specs.Histories.{with_install}
-use Rattle.ring_srp_state.specs.Histories.{History}
-use Rattle.ring_srp_acts.specs.Machines.{core_of, bound, window_of, Recovers, IsRecovering, IsMachine}
+use Rattle.ring_srp_acts.specs.Machines.{window_of, Recovers, IsRecovering, IsMachine}
 use Rattle.ring_srp_state.specs.declared.recovering.Recovering.{Recovering}
 use Rattle.ring_srp_acts.specs.Installs.{given_first, given_all}
 use Rattle.ring_srp_state.specs.Rests.{rest_of, all_agreed}
 use Rattle.ring_core.proofs.States.{installs_recovering}
-use Rattle.ring_srp_acts.proofs.KeptByActs.{below_wider}
+use Rattle.ring_srp_acts.proofs.Held.{recovering_some}
+use Rattle.ring_srp_acts.proofs.KeptByActs.{part_as, below_wider, bound_short}
 
 -- a ring is installed in Recovery alone
 
@@ -115,37 +112,25 @@ operational_not_gather e = (let q : Operational ≡ Gather = e in cc)
 operational_not_recovery : Operational ≡ Recovery → ⊥
 operational_not_recovery e = (let q : Operational ≡ Recovery = e in cc)
 
-module _ {A : Type 0} (me total : ℕ) (s : State) (running installed : Configuration) (g : Gathering) (shown : Option (Sent A)) (queue : List (Payload A))
-    (held : List (Message A)) (h : History A)
-    (gather : Gatherer) (window : Windowed A) (visit : TokenHistory A) (r : Recovering A) where
-  -- what was kept of the running ring is kept of the installed one
-  pub into_operational : (o : Option (Recovering A)) → o ≡ Some r
-      → IsMachine (core_of me total s running installed g shown queue held h) gather window visit o → s ≡ Recovery → (h' : History A)
-      → h' ≡ with_install h running → (recovery : Option (Recovering A)) → recovery ≡ None
-      → IsMachine (core_of me total Operational running running g shown queue held h') gather r.part.window r.part.visit recovery
-  into_operational o there m e h' is recovery none =
-      let now = core_of me total Operational running running g shown queue held (with_install h running) in
-      let f : Recovers (core_of me total s running installed g shown queue held h) r = subst (λ (x : Option (Recovering A)). IsRecovering
-      (core_of me total s running installed g shown queue held h) x) there (m.recovering e) in
-      let b : bound s running.ring.seq ≡ suc running.ring.seq = ap (λ (x : State). bound x running.ring.seq) e in
-      let wide = below_wider (core_of me total s running installed g shown queue held h) (bound s running.ring.seq) (suc running.ring.seq) (omega
-      (arith, b)) m.below in
-      let all : IsMachine now gather r.part.window r.part.visit recovery =
-      record {
-        runs = refl;
-        gather_me = m.gather_me;
-        gather_floor = λ q. absurd (operational_not_gather q);
-        member = m.member;
-        kept = record { window_is = f.part.window_is; visit_is = f.part.visit_is; reached = f.part.reached; near = f.part.near; led = f.part.led };
-        below = record { held = wide.held; turns = wide.turns; raises = wide.raises };
-        older = omega arith;
-        apart = λ q. absurd (true≢false (sym q));
-        same = λ q. refl;
-        recovering = λ q. absurd (operational_not_recovery q);
-        over = λ q. none;
-      } in
-      subst (λ (x : History A). IsMachine (core_of me total Operational running running g shown queue held x) gather r.part.window r.part.visit recovery)
-      (sym is) all
+-- what was kept of the running ring is kept of the installed one
+pub into_operational : {A : Type 0} {c : Core A} {gather : Gatherer} {window : Windowed A} {visit : TokenHistory A} {recovery recovery' : Option (Recovering A)}
+    {r : Recovering A} {installs : List Configuration} → IsMachine c gather window visit recovery → recovery ≡ Some r → c.state ≡ Recovery → recovery' ≡ None
+    → IsMachine (record c { state = Operational; installed = c.running; installs = installs }) gather r.part.window r.part.visit recovery'
+into_operational {c} {recovery} {r} m there is none =
+    let now : Recovers c r = recovering_some c recovery r there (m.recovering is) in
+    record {
+      runs = refl;
+      gather_me = m.gather_me;
+      gather_floor = λ q. absurd (operational_not_gather q);
+      member = m.member;
+      kept = part_as now.part;
+      below = below_wider m.below (bound_short c.state (floor c));
+      older = omega arith;
+      apart = λ q. absurd (true≢false (sym q));
+      same = λ q. refl;
+      recovering = λ q. absurd (operational_not_recovery q);
+      over = λ q. none;
+    }
 
 -- What the new ring gives
 

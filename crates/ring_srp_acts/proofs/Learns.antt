@@ -15,37 +15,32 @@ use Rattle.ring_base.specs.Rings.{same_ring}
 use Rattle.ring_base.specs.declared.ring_id.RingId.{RingId}
 use Rattle.ring_base.specs.declared.state.State.{State}
 use Rattle.ring_base.specs.declared.state.State.TheVariants.{Gather, Recovery, Operational}
-use Rattle.ring_payload.specs.declared.content.Payload.{Payload}
 use Rattle.ring_wire.specs.declared.commit.CommitToken.{CommitToken}
 use Rattle.ring_wire.specs.declared.entries.CommitEntry.{CommitEntry}
 use Rattle.ring_wire.specs.declared.frame.Frame.TheVariants.{Commit as CommitFrame}
 use Rattle.ring_wire.specs.declared.message.Message.{Message}
 use Rattle.ring_window.specs.Held.{found, holds, of_ring, highest, front_of}
-use Rattle.ring_window.proofs.OfRing.{front_of_ring}
 use Rattle.ring_base.proofs.SameRing.{ring_same, same-self, lower_other}
 use Rattle.ring_window.specs.Windows.{Windowed, opened, forgotten}
 use Rattle.ring_token.specs.Turns.{Turn, Raise, turns_of, mark_by, forwarded_in, raised_to, safe_mark}
 use Rattle.ring_token.specs.Histories.{TokenHistory, unvisited, with_raise, last_aru}
 use Rattle.ring_join.specs.Gatherers.{Gatherer}
-use Rattle.ring_join.specs.Gathering.{Gathering}
-use Rattle.ring_commit.specs.declared.configuration.Configuration.{Configuration}
 use Rattle.ring_commit.specs.Reports.{reports_of, safe_of, none_behind, is_sound}
 use Rattle.ring_commit.specs.Rounds.{position_of_hop, receiver, hopped, is_of, is_own}
 use Rattle.ring_recover.specs.Installing.{in_front}
 use Rattle.ring_recover.specs.Plans.{plan_of, plan_from, plan_if_sound, safe}
 use Rattle.ring_recover.specs.Recovering.{begun}
-use Rattle.ring_core.specs.State.{Core, Sent}
+use Rattle.ring_core.specs.State.{Core, Sent, floor}
 use Rattle.ring_core.specs.Views.{front, mark, own_entry, entries_for, plan}
 use Rattle.ring_core.specs.Giving.{users}
 use Rattle.ring_core.specs.Handing.{passed}
 use Rattle.ring_srp_acts.specs.Allowing.{LearnAllowed}
 use Rattle.ring_srp_acts.specs.Learns.{plan_at, safe_at}
-use Rattle.ring_srp_state.specs.Histories.{History}
-use Rattle.ring_srp_acts.specs.Machines.{core_of, IsPart, IsBelow, bound, is_forming, Recovers, IsMachine, raises_of}
-use Rattle.ring_srp_state.specs.Histories.{with_plan}
+use Rattle.ring_srp_acts.specs.Machines.{IsPart, IsBelow, bound, is_forming, Recovers, IsMachine, raises_of}
 use Rattle.ring_srp_state.specs.declared.recovering.Recovering.{Recovering}
 use Rattle.ring_srp_acts.proofs.KeptByActs.{below_wider}
 use Rattle.ring_srp_acts.proofs.Receivers.{receiver_member}
+use Rattle.ring_srp_acts.proofs.UsersOfRing.{front_by}
 
 -- a state is no other
 
@@ -275,93 +270,79 @@ raised turns raises ring n =
 
 -- In Recovery
 
-module _ {A : Type 0} (me total : ℕ) (s : State) (running installed : Configuration) (g : Gathering) (shown shown' : Option (Sent A)) (queue : List
-    (Payload A)) (held : List (Message A)) (h : History A)
-    (gather : Gatherer) (window : Windowed A) (visit : TokenHistory A) (recovery : Option (Recovering A)) (k : CommitToken)
-    (m : IsMachine (core_of me total s running installed g shown queue held h) gather window visit recovery)
-    (a : LearnAllowed (core_of me total s running installed g shown queue held h) k)
-    (n : ℕ) (n_is : n ≡ safe_at (core_of me total s running installed g shown queue held h) k) where
-  abbrev before : Core A
-  before = core_of me total s running installed g shown queue held h
+-- what is safe is held in the old window
+pub may_forget : {A : Type 0} {c : Core A} {gather : Gatherer} {window : Windowed A} {visit : TokenHistory A} {recovery : Option (Recovering A)}
+    {k : CommitToken} {n : ℕ} → IsMachine c gather window visit recovery → LearnAllowed c k → n ≡ safe_at c k → n ≤ front_of window.held window.ring
+may_forget {c} {window} {visit} {k} m a is = omega (arith, front_by c c.installed.ring window visit m.kept, safe_within c k a, is)
 
-  abbrev after : Core A
-  after = core_of me total Recovery running installed g shown' queue held (with_plan h k installed.ring n)
+-- recovery begins, by this token and with this mark of the old ring
+abbrev begun_by : {A : Type 0} → Core A → Option (Sent A) → CommitToken → ℕ → Core A
+begun_by c shown k n = record c { state = Recovery; shown = shown; raises = raise_to c.installed.ring n ∷ c.raises; plans = k ∷ c.plans }
 
+module _ {A : Type 0} {c : Core A} {gather : Gatherer} {window : Windowed A} {visit : TokenHistory A} {recovery : Option (Recovering A)}
+    {k : CommitToken} {n : ℕ} (shown : Option (Sent A)) (m : IsMachine c gather window visit recovery) (a : LearnAllowed c k) (n_is : n ≡ safe_at c k) where
   -- nothing of the running ring is known
-  below : IsBelow after running.ring.seq
+  below : IsBelow (begun_by c shown k n) (floor c)
   below =
-      let e : bound s running.ring.seq ≡ running.ring.seq = ap (λ (x : State). bound x running.ring.seq) a.state in
-      let b = below_wider before (bound s running.ring.seq) running.ring.seq (omega (arith, e)) m.below in
+      let e : bound c.state (floor c) ≡ floor c = ap (λ (x : State). bound x (floor c)) a.state in
+      let b : IsBelow c (floor c) = below_wider m.below (omega (arith, e)) in
       record { held = b.held; turns = b.turns; raises = (m.apart (ap is_forming a.state), b.raises) }
 
-  fresh : IsNew after running.ring
-  fresh = is_new after running.ring below
+  fresh : IsNew (begun_by c shown k n) c.running.ring
+  fresh = is_new (begun_by c shown k n) c.running.ring below
 
-  planned : plan after ≡ plan_at before k
-  planned = ap (plan_of installed.ring running.members) (cond-true (same_ring k.ring running.ring) k.entries (entries_for running.ring h.plans)
-      (second before k a).ring)
+  planned : plan (begun_by c shown k n) ≡ plan_at c k
+  planned = ap (plan_of c.installed.ring c.running.members) (cond-true (same_ring k.ring c.running.ring) k.entries (entries_for c.running.ring c.plans)
+      (second c k a).ring)
 
-  higher : mark after installed.ring ≡ max (mark before installed.ring) n
-  higher = raised h.turns h.raises installed.ring n
+  higher : mark (begun_by c shown k n) c.installed.ring ≡ max (mark c c.installed.ring) n
+  higher = raised c.turns c.raises c.installed.ring n
 
-  -- what is safe is held in the old window
-  pub may_forget : n ≤ front_of window.held window.ring
-  may_forget =
-      let there : front_of window.held window.ring ≡ front before installed.ring =
-      ap (λ (w : Windowed A). front_of w.held w.ring) m.kept.window_is ∙ front_of_ring held installed.ring in
-      omega (arith, there, safe_within before k a, n_is)
-
-  old_part : (window' : Windowed A) (visit' : TokenHistory A) → window' ≡ forgotten window n → visit' ≡ with_raise visit n
-      → IsPart after installed.ring window' visit'
-  old_part window' visit' w v =
+  old_part : IsPart (begun_by c shown k n) c.installed.ring (forgotten window n) (with_raise visit n)
+  old_part =
+      let ring = c.installed.ring in
       let up = higher in
-      let l = safe_within before k a in
+      let l = safe_within c k a in
       record {
-        window_is = w ∙ ap (λ (x : Windowed A). forgotten x n) m.kept.window_is
-            ∙ (λ i. record { ring = installed.ring; mark = sym higher i; held = of_ring installed.ring held });
-        visit_is = v ∙ ap (λ (x : TokenHistory A). with_raise x n) m.kept.visit_is
-            ∙ (λ i. record { me = me; ring = installed.ring; turns = turns_of installed.ring h.turns; raises = sym (raises_more installed.ring h.raises n) i });
+        window_is = ap (λ (x : Windowed A). forgotten x n) m.kept.window_is
+            ∙ (λ i. record { ring = ring; mark = sym higher i; held = of_ring ring c.held });
+        visit_is = ap (λ (x : TokenHistory A). with_raise x n) m.kept.visit_is
+            ∙ (λ i. record { me = c.me; ring = ring; turns = turns_of ring c.turns; raises = sym (raises_more ring c.raises n) i });
         reached = omega (arith, m.kept.reached, up, l, n_is);
         near = omega (arith, m.kept.near, up);
         led = m.kept.led;
       }
 
-  pub recovers : (r : Recovering A) → r.part.window ≡ opened running.ring → r.part.visit ≡ unvisited me running.ring → r.plan ≡ begun me (plan_at before k)
-      → r.ends ≡ [] → r.most ≡ 0 → r.aside.items ≡ [] → Recovers after r
+  pub recovers : (r : Recovering A) → r.part.window ≡ opened c.running.ring → r.part.visit ≡ unvisited c.me c.running.ring → r.plan ≡ begun c.me (plan_at c k)
+      → r.ends ≡ [] → r.most ≡ 0 → r.aside.items ≡ [] → Recovers (begun_by c shown k n) r
   recovers r w v p e z x =
       let f = fresh in
       let up = higher in
-      let same : safe (plan after) ≡ safe_at before k = ap safe planned in
-      let l = safe_above before k a in
+      let same : safe (plan (begun_by c shown k n)) ≡ safe_at c k = ap safe planned in
+      let l = safe_above c k a in
       record {
         part = record { window_is = w ∙ f.part.window_is; visit_is = v ∙ f.part.visit_is; reached = f.part.reached; near = f.part.near; led = f.part.led };
-        plan_is = p ∙ (λ i. record { me = me; plan = sym planned i; seen = sym f.seen i });
+        plan_is = p ∙ (λ i. record { me = c.me; plan = sym planned i; seen = sym f.seen i });
         ends_is = e ∙ sym f.ended;
-        aside_is = x ∙ ap (users after running.ring 0) (sym z);
+        aside_is = x ∙ ap (users (begun_by c shown k n) c.running.ring 0) (sym z);
         aside_far = omega (arith, z);
         aside_safe = omega (arith, f.unsafe, z);
         aside_led = omega (arith, f.unled, z);
         old_safe = omega (arith, up, same, l, n_is);
       }
 
-  pub into_recovery : (h' : History A) → h' ≡ with_plan h k installed.ring n → (window' : Windowed A) (visit' : TokenHistory A) (r : Recovering A)
-      → window' ≡ forgotten window n → visit' ≡ with_raise visit n → Recovers after r
-      → IsMachine (core_of me total Recovery running installed g shown' queue held h') gather window' visit' (Some r)
-  into_recovery h' is window' visit' r w v f =
-      let old = old_part window' visit' w v in
-      let wide = below_wider after running.ring.seq (suc running.ring.seq) (omega arith) below in
-      let all : IsMachine after gather window' visit' (Some r) =
-      record {
-        runs = refl;
-        gather_me = m.gather_me;
-        gather_floor = λ e. absurd (recovery_not_gather e);
-        member = m.member;
-        kept = old;
-        below = wide;
-        older = m.older;
-        apart = λ e. m.apart (ap is_forming a.state);
-        same = λ e. absurd (recovery_not_operational e);
-        recovering = λ e. f;
-        over = λ n. absurd (n refl);
-      } in
-      subst (λ (x : History A). IsMachine (core_of me total Recovery running installed g shown' queue held x) gather window' visit' (Some r)) (sym is) all
+  pub into_recovery : {r : Recovering A} → Recovers (begun_by c shown k n) r
+      → IsMachine (begun_by c shown k n) gather (forgotten window n) (with_raise visit n) (Some r)
+  into_recovery now = record {
+    runs = refl;
+    gather_me = m.gather_me;
+    gather_floor = λ e. absurd (recovery_not_gather e);
+    member = m.member;
+    kept = old_part;
+    below = below_wider below (omega arith);
+    older = m.older;
+    apart = λ e. m.apart (ap is_forming a.state);
+    same = λ e. absurd (recovery_not_operational e);
+    recovering = λ e. now;
+    over = λ n. absurd (n refl);
+  }

@@ -1,5 +1,5 @@
 -- A core whose token goes on: what is kept of its rings stands on.
-use Rattle.std.proofs.Common.{◌≡◌, ℕ, suc, ◌+◌, ◌<◌, ◌≤◌, max, true, false, List, ◌∷◌, map, length, Option, Some, refl}
+use Rattle.std.proofs.Common.{◌≡◌, ℕ, suc, ◌+◌, ◌≤◌, max, true, false, List, ◌∷◌, map, length, Option, Some, refl}
 use Rattle.std.proofs.Common.{ap, ◌∙◌, sym, subst, ◌⊎◌, inl, inr, arith}
 use Rattle.std.proofs.lemmas.Bool.{true≢false}
 use Rattle.ring_base.specs.Rings.{same_ring}
@@ -10,7 +10,6 @@ use Rattle.ring_base.specs.declared.state.State.{State}
 use Rattle.ring_base.specs.declared.state.State.TheVariants.{Gather, Commit, Recovery, Operational, Stopped}
 use Rattle.ring_payload.specs.declared.content.Payload.{Payload}
 use Rattle.ring_wire.specs.declared.frame.Frame.TheVariants.{Token as TokenFrame}
-use Rattle.ring_wire.specs.declared.message.Message.{Message}
 use Rattle.ring_wire.specs.declared.token.Token.{Token}
 use Rattle.ring_window.specs.Held.{of_ring, highest, front_of, missing}
 use Rattle.ring_window.specs.Windows.{Windowed, forgotten}
@@ -19,20 +18,17 @@ use Rattle.ring_token.specs.Turns.{Turn, Raise, turns_of, mark_by, forwarded_in,
 use Rattle.ring_token.specs.Visits.{requests_after}
 use Rattle.ring_token.specs.Histories.{TokenHistory, turn_by, with_turn, mark_of, last_aru}
 use Rattle.ring_join.specs.Gatherers.{Gatherer}
-use Rattle.ring_join.specs.Gathering.{Gathering}
 use Rattle.ring_commit.specs.declared.configuration.Configuration.{Configuration}
 use Rattle.ring_recover.specs.Plans.{safe}
-use Rattle.ring_core.specs.State.{Core, Sent}
+use Rattle.ring_core.specs.State.{Core, Sent, floor}
 use Rattle.ring_core.specs.Views.{front, mark, plan}
-use Rattle.ring_core.specs.Giving.{users}
 use Rattle.ring_srp_state.specs.declared.ring_part.RingPart.{RingPart}
 use Rattle.ring_srp_state.specs.declared.recovering.Recovering.{Recovering}
-use Rattle.ring_srp_state.specs.Histories.{History}
-use Rattle.ring_srp_acts.specs.Machines.{core_of, IsPart, bound, is_forming, is_running, window_of, visits_of, raises_of, Recovers, IsMachine}
+use Rattle.ring_srp_acts.specs.Machines.{IsPart, IsBelow, bound, is_forming, is_running, window_of, visits_of, raises_of, Recovers, IsMachine}
 use Rattle.ring_srp_acts.specs.Passing.{passed_on}
-use Rattle.ring_srp_state.specs.Histories.{with_visit}
 use Rattle.ring_srp_state.specs.Setting.{turn_in, SetsAside}
 use Rattle.ring_srp_state.specs.Users.{users_in}
+use Rattle.ring_srp_acts.proofs.KeptByActs.{machine_as}
 use Rattle.ring_srp_acts.proofs.UsersOfRing.{users_of, front_by, mark_of_part}
 use Rattle.ring_srp_acts.proofs.OneRingOfCore.{turns_twice, raises_twice}
 use Rattle.ring_srp_state.proofs.OneVisitMore.{other_ring, turned, unturned, mark_unturned, mark_within, mark_risen, led_turned, led_unturned, aru_within}
@@ -50,7 +46,7 @@ mark_of_visits {A} me turns raises ring =
 abbrev pub after_turn : {A : Type 0} → Core A → Turn A → Option (Sent A) → Core A
 after_turn c v x = record c { turns = v ∷ c.turns; shown = x }
 
-module _ {A : Type 0} (c : Core A) (ring : RingId) (w : Windowed A) (h : TokenHistory A) (p : IsPart c ring w h) where
+module _ {A : Type 0} {c : Core A} {ring : RingId} {w : Windowed A} {h : TokenHistory A} (p : IsPart c ring w h) where
   -- the visit is the one that the core makes
   pub turn_is : (t : Token) (stays : List ℕ) (fresh : List (Payload A)) → t.ring ≡ ring →
       turn_in w h t stays fresh ≡ turn_by c.me (front_of c.held t.ring) fresh
@@ -131,8 +127,8 @@ module _ {A : Type 0} (c : Core A) (ring : RingId) (w : Windowed A) (h : TokenHi
 -- Recovery
 
 -- more stands aside
-pub recovers_aside : {A : Type 0} (c : Core A) (r r' : Recovering A) → Recovers c r → SetsAside r r' → Recovers c r'
-recovers_aside {A} c r r' m s =
+pub recovers_aside : {A : Type 0} {c : Core A} {r r' : Recovering A} → Recovers c r → SetsAside r r' → Recovers c r'
+recovers_aside {A} {c} {r'} m s =
     let part = subst (λ (q : RingPart A). IsPart c c.running.ring q.window q.visit) (sym s.part) m.part in
     let window : r'.part.window ≡ window_of c c.running.ring = part.window_is in
     let far : front_of r'.part.window.held r'.part.window.ring ≡ front c c.running.ring = front_by c c.running.ring r'.part.window r'.part.visit part in
@@ -151,38 +147,29 @@ recovers_aside {A} c r r' m s =
     farther now before reach front a b d = omega arith
 
 -- the window still has what doesn't stand aside
-pub aside_near : {A : Type 0} (c : Core A) (r : Recovering A) → Recovers c r → r.part.window.mark ≤ r.most
-aside_near c r m = omega (arith, mark_of_part c c.running.ring r.part.window r.part.visit m.part, m.aside_safe)
+pub aside_near : {A : Type 0} {c : Core A} {r : Recovering A} → Recovers c r → r.part.window.mark ≤ r.most
+aside_near {c} {r} m = omega (arith, mark_of_part c c.running.ring r.part.window r.part.visit m.part, m.aside_safe)
 
-pub aside_there : {A : Type 0} (c : Core A) (r : Recovering A) → Recovers c r → r.aside.items ≡ users_in r.part.window 0 r.most
-aside_there {A} c r m = m.aside_is ∙ sym (ap (λ (w : Windowed A). users_in w 0 r.most) m.part.window_is ∙ users_of c c.running.ring 0 r.most)
+pub aside_there : {A : Type 0} {c : Core A} {r : Recovering A} → Recovers c r → r.aside.items ≡ users_in r.part.window 0 r.most
+aside_there {A} {c} {r} m = m.aside_is ∙ sym (ap (λ (w : Windowed A). users_in w 0 r.most) m.part.window_is ∙ users_of c c.running.ring 0 r.most)
 
--- what it takes that a token went on in Recovery
-pub record GoesOn {A : Type 0} (r r' : Recovering A) (v : Turn A) : Type 0 where
-  pub window : r'.part.window ≡ forgotten r.part.window (mark_of (with_turn r.part.visit v))
-  pub visit : r'.part.visit ≡ with_turn r.part.visit v
-  pub plan : r'.plan ≡ r.plan
-  pub ends : r'.ends ≡ r.ends
-  pub most : r'.most ≡ r.most
-  pub aside : r'.aside.items ≡ r.aside.items
+-- what is kept of the running ring once its token went on
+abbrev pub turned_in : {A : Type 0} → Recovering A → Turn A → Recovering A
+turned_in r v = record r { part = record { window = forgotten r.part.window (mark_of (with_turn r.part.visit v)); visit = with_turn r.part.visit v } }
 
-recovers_turned : {A : Type 0} (c : Core A) (r r' : Recovering A) (v : Turn A) (x : Option (Sent A)) → Recovers c r →
-    c.installed.ring.seq < c.running.ring.seq →
-    v.came.ring ≡ c.running.ring → v.went.aru ≤ front c c.running.ring → front c c.running.ring ≤ r.most → GoesOn r r' v → Recovers (after_turn c v x) r'
-recovers_turned {A} c r r' v x m newer e l all n =
-    let apart : same_ring v.came.ring c.installed.ring ≡ false = ap (λ (q : RingId). same_ring q c.installed.ring) e
-    ∙ other_ring c.installed.ring c.running.ring newer in
-    record {
-      part = rw (n.window, n.visit) (part_turned c c.running.ring r.part.window r.part.visit v x m.part e l);
-      plan_is = n.plan ∙ m.plan_is;
-      ends_is = n.ends ∙ m.ends_is;
-      aside_is = n.aside ∙ m.aside_is ∙ sym (ap (λ k. users c c.running.ring 0 k) n.most);
-      aside_far = omega (arith, n.most, m.aside_far);
-      aside_safe = subst (λ k. mark (after_turn c v x) c.running.ring ≤ k) (sym n.most)
-          (mark_within v c.turns c.raises c.running.ring r.most e m.aside_led m.aside_safe);
-      aside_led = led_turned v c.turns c.running.ring r'.most e (omega (arith, n.most, l, all));
-      old_safe = subst (λ k. k ≤ safe (plan c)) (sym (mark_unturned v c.turns c.raises c.installed.ring apart)) m.old_safe;
-    }
+recovers_turned : {A : Type 0} (c : Core A) (r : Recovering A) (v : Turn A) (x : Option (Sent A)) → Recovers c r →
+    same_ring v.came.ring c.installed.ring ≡ false →
+    v.came.ring ≡ c.running.ring → v.went.aru ≤ front c c.running.ring → front c c.running.ring ≤ r.most → Recovers (after_turn c v x) (turned_in r v)
+recovers_turned c r v x m apart e l all = record {
+  part = part_turned c c.running.ring r.part.window r.part.visit v x m.part e l;
+  plan_is = m.plan_is;
+  ends_is = m.ends_is;
+  aside_is = m.aside_is;
+  aside_far = m.aside_far;
+  aside_safe = mark_within v c.turns c.raises c.running.ring r.most e m.aside_led m.aside_safe;
+  aside_led = led_turned v c.turns c.running.ring r.most e (omega (arith, l, all));
+  old_safe = subst (λ k. k ≤ safe (plan c)) (sym (mark_unturned v c.turns c.raises c.installed.ring apart)) m.old_safe;
+}
 
 -- Every state
 
@@ -204,127 +191,47 @@ running_state Stopped h = absurd (true≢false (sym h))
 recovery_no_operational : (s : State) → s ≡ Recovery → s ≡ Operational → ⊥
 recovery_no_operational s e f = (let q : Recovery ≡ Operational = sym e ∙ f in cc)
 
-module _ {A : Type 0} (me total : ℕ) (s : State) (running installed : Configuration) (g : Gathering) (shown : Option (Sent A)) (queue : List (Payload A))
-    (held : List (Message A)) (h : History A)
-    (gather : Gatherer) (window : Windowed A) (visit : TokenHistory A) where
-  -- in Recovery more stands aside
-  pub aside_on : (r r' : Recovering A) → IsMachine (core_of me total s running installed g shown queue held h) gather window visit (Some r) →
-      s ≡ Recovery → SetsAside r r' →
-      IsMachine (core_of me total s running installed g shown queue held h) gather window visit (Some r')
-  aside_on r r' m e a =
-      record {
-        runs = m.runs;
-        gather_me = m.gather_me;
-        gather_floor = m.gather_floor;
-        member = m.member;
-        kept = m.kept;
-        below = m.below;
-        older = m.older;
-        apart = m.apart;
-        same = m.same;
-        recovering = λ q. recovers_aside (core_of me total s running installed g shown queue held h) r r' (m.recovering q) a;
-        over = λ n. absurd (n e);
-      }
+-- a visit of the ring that runs lies below the bound
+below_turned : {A : Type 0} {c : Core A} {v : Turn A} {x : Option (Sent A)} → IsBelow c (bound c.state (floor c)) → is_running c.state ≡ true
+    → v.came.ring ≡ c.running.ring → IsBelow (after_turn c v x) (bound c.state (floor c))
+below_turned {c} b runs e =
+    record { held = b.held; turns = (omega (arith, ap (λ (q : RingId). q.seq) e, bound_running c.state (floor c) runs), b.turns); raises = b.raises }
 
-  -- in Recovery the token went on
-  pub running_turned : (r r' : Recovering A) (v : Turn A) (shown' : Option (Sent A)) →
-      IsMachine (core_of me total s running installed g shown queue held h) gather window visit (Some r) → s ≡ Recovery →
-      v.came.ring ≡ running.ring → v.went.aru ≤ front_of held running.ring → front_of held running.ring ≤ r.most → GoesOn r r' v →
-      IsMachine (core_of me total s running installed g shown' queue held (record h { turns = v ∷ h.turns })) gather window visit (Some r')
-  running_turned r r' v shown' m s_is e l all n =
-      let c = core_of me total s running installed g shown queue held h in
-      let newer : installed.ring.seq < running.ring.seq = m.apart (ap is_forming s_is) in
-      let apart : same_ring v.came.ring installed.ring ≡ false = ap (λ (q : RingId). same_ring q installed.ring) e
-      ∙ other_ring installed.ring running.ring newer in
-      let new : v.came.ring.seq < bound s running.ring.seq = omega
-      (arith, ap (λ (q : RingId). q.seq) e, bound_running s running.ring.seq (ap is_running s_is)) in
-      record {
-        runs = m.runs;
-        gather_me = m.gather_me;
-        gather_floor = m.gather_floor;
-        member = m.member;
-        kept = part_apart c installed.ring window visit v shown' m.kept apart;
-        below = record { held = m.below.held; turns = (new, m.below.turns); raises = m.below.raises };
-        older = m.older;
-        apart = m.apart;
-        same = m.same;
-        recovering = λ q. recovers_turned c r r' v shown' (m.recovering q) newer e l all n;
-        over = λ n. absurd (n s_is);
-      }
+module _ {A : Type 0} {c : Core A} {gather : Gatherer} {window : Windowed A} {visit : TokenHistory A} where
+  -- in Recovery more stands aside
+  pub aside_on : {recovery : Option (Recovering A)} {r : Recovering A} → IsMachine c gather window visit recovery → c.state ≡ Recovery → Recovers c r
+      → IsMachine c gather window visit (Some r)
+  aside_on m is now = machine_as m refl refl m.kept m.below (λ q. now) (λ q. absurd (q is))
+
+  -- and the token goes on
+  pub running_on : {recovery : Option (Recovering A)} {r : Recovering A} {shown : Option (Sent A)} (t : Token) (stays : List ℕ)
+      (fresh : List (Payload A)) → IsMachine c gather window visit recovery → c.state ≡ Recovery → Recovers c r
+      → front_of r.part.window.held r.part.window.ring ≤ r.most → t.ring ≡ c.running.ring
+      → IsMachine (after_turn c (turn_in r.part.window r.part.visit t stays fresh) shown) gather window visit
+      (Some (turned_in r (turn_in r.part.window r.part.visit t stays fresh)))
+  running_on {r} {shown} t stays fresh m is now all e =
+      let w = r.part.window in
+      let v = turn_in w r.part.visit t stays fresh in
+      let f : front_of w.held w.ring ≡ front c c.running.ring = front_by c c.running.ring w r.part.visit now.part in
+      let apart : same_ring t.ring c.installed.ring ≡ false = ap (λ (q : RingId). same_ring q c.installed.ring) e
+      ∙ other_ring c.installed.ring c.running.ring (m.apart (ap is_forming is)) in
+      machine_as m refl refl (part_apart c c.installed.ring window visit v shown m.kept apart) (below_turned m.below (ap is_running is) e)
+      (λ q. recovers_turned c r v shown now apart e (subst (λ k. v.went.aru ≤ k) f (aru_within w r.part.visit t stays fresh))
+      (subst (λ k. k ≤ r.most) f all)) (λ q. absurd (q is))
 
   -- in Operational what is kept is of the running ring
-  pub running_part : (recovery : Option (Recovering A)) → IsMachine (core_of me total s running installed g shown queue held h) gather window visit
-      recovery → s ≡ Operational →
-      IsPart (core_of me total s running installed g shown queue held h) running.ring window visit
-  running_part recovery m s_is = subst (λ (q : RingId). IsPart (core_of me total s running installed g shown queue held h) q window visit)
-      (ap (λ (q : Configuration). q.ring) (m.same s_is)) m.kept
+  pub running_part : {recovery : Option (Recovering A)} → IsMachine c gather window visit recovery → c.state ≡ Operational
+      → IsPart c c.running.ring window visit
+  running_part m is = subst (λ (q : Configuration). IsPart c q.ring window visit) (m.same is) m.kept
 
-  -- in Operational
-  pub installed_turned : (recovery : Option (Recovering A)) (v : Turn A) (shown' : Option (Sent A)) →
-      IsMachine (core_of me total s running installed g shown queue held h) gather window visit recovery → s ≡ Operational →
-      v.came.ring ≡ running.ring → v.went.aru ≤ front_of held running.ring →
-      IsMachine (core_of me total s running installed g shown' queue held (record h { turns = v ∷ h.turns })) gather
-      (forgotten window (mark_of (with_turn visit v))) (with_turn visit v) recovery
-  installed_turned recovery v shown' m s_is e l =
-      let c = core_of me total s running installed g shown queue held h in
-      let one : running.ring ≡ installed.ring = sym (ap (λ (q : Configuration). q.ring) (m.same s_is)) in
-      let new : v.came.ring.seq < bound s running.ring.seq = omega
-      (arith, ap (λ (q : RingId). q.seq) e, bound_running s running.ring.seq (ap is_running s_is)) in
-      record {
-        runs = m.runs;
-        gather_me = m.gather_me;
-        gather_floor = m.gather_floor;
-        member = m.member;
-        kept = part_turned c installed.ring window visit v shown' m.kept (e ∙ one) (subst (λ (q : RingId). v.went.aru ≤ front_of held q) one l);
-        below = record { held = m.below.held; turns = (new, m.below.turns); raises = m.below.raises };
-        older = m.older;
-        apart = m.apart;
-        same = m.same;
-        recovering = λ q. absurd (recovery_no_operational s q s_is);
-        over = m.over;
-      }
-
-  -- the core that it leaves
-  pub passed_by : (w : Windowed A) (v : TokenHistory A) (t : Token) (stays : List ℕ) (fresh : List (Payload A)) (to : ℕ) (went : Token)
-      (shown' : Option (Sent A)) (h' : History A) →
-      IsPart (core_of me total s running installed g shown queue held h) running.ring w v → t.ring ≡ running.ring →
-      h' ≡ with_visit h (with_turn v (turn_in w v t stays fresh)).turns → shown' ≡ Some (record { to = to; frame = TokenFrame went }) →
-      to ≡ only (next running.members me) → went ≡ (turn_in w v t stays fresh).went →
-      core_of me total s running installed g shown' queue held h' ≡ passed_on (core_of me total s running installed g shown queue held h) t stays fresh
-  passed_by w v t stays fresh to went shown' h' p e past is to_is went_is =
-      let sent : ℕ → Token → Option (Sent A) = λ n k. Some (record { to = n; frame = TokenFrame k }) in
-      ap (λ (y : History A). core_of me total s running installed g shown' queue held y) past
-      ∙ ap (λ (x : Option (Sent A)). core_of me total s running installed g x queue held (with_visit h (with_turn v (turn_in w v t stays fresh)).turns))
-      (is ∙ ap (λ n. sent n went) to_is ∙ ap (sent (only (next running.members me))) went_is)
-      ∙ passed_is (core_of me total s running installed g shown queue held h) running.ring w v p t stays fresh e
-
-  -- what the tie says of it, in Recovery
-  pub running_on : (r r' r'' : Recovering A) (t : Token) (stays : List ℕ) (fresh : List (Payload A)) (shown' : Option (Sent A)) (h' : History A) →
-      IsMachine (core_of me total s running installed g shown queue held h) gather window visit (Some r) → s ≡ Recovery → SetsAside r r' →
-      front_of r'.part.window.held r'.part.window.ring ≤ r'.most → t.ring ≡ running.ring →
-      h' ≡ with_visit h (with_turn r'.part.visit (turn_in r'.part.window r'.part.visit t stays fresh)).turns →
-      GoesOn r' r'' (turn_in r'.part.window r'.part.visit t stays fresh) →
-      IsMachine (core_of me total s running installed g shown' queue held h') gather window visit (Some r'')
-  running_on r r' r'' t stays fresh shown' h' m s_is a all e past n =
-      let c = core_of me total s running installed g shown queue held h in
-      let m' = aside_on r r' m s_is a in
-      let w = r'.part.window in
-      let f : front_of w.held w.ring ≡ front_of held running.ring = front_by c running.ring w r'.part.visit (m'.recovering s_is).part in
-      rw past (running_turned r' r'' (turn_in w r'.part.visit t stays fresh) shown' m' s_is e
-      (subst (λ k. (turn_in w r'.part.visit t stays fresh).went.aru ≤ k) f (aru_within w r'.part.visit t stays fresh))
-      (subst (λ k. k ≤ r'.most) f all) n)
-
-  -- and in Operational
-  pub installed_on : (recovery : Option (Recovering A)) (w : Windowed A) (v : TokenHistory A) (t : Token) (stays : List ℕ) (fresh : List (Payload A))
-      (shown' : Option (Sent A)) (h' : History A) →
-      IsMachine (core_of me total s running installed g shown queue held h) gather window visit recovery → s ≡ Operational → t.ring ≡ running.ring →
-      h' ≡ with_visit h (with_turn visit (turn_in window visit t stays fresh)).turns →
-      v ≡ with_turn visit (turn_in window visit t stays fresh) → w ≡ forgotten window (mark_of v) →
-      IsMachine (core_of me total s running installed g shown' queue held h') gather w v recovery
-  installed_on recovery w v t stays fresh shown' h' m s_is e past v_is w_is =
-      let c = core_of me total s running installed g shown queue held h in
-      let turn = turn_in window visit t stays fresh in
-      let p = running_part recovery m s_is in
-      let f : front_of window.held window.ring ≡ front_of held running.ring = front_by c running.ring window visit p in
-      let w_to : w ≡ forgotten window (mark_of (with_turn visit turn)) = w_is ∙ ap (λ (y : TokenHistory A). forgotten window (mark_of y)) v_is in
-      rw (past, w_to, v_is) (installed_turned recovery turn shown' m s_is e (subst (λ k. turn.went.aru ≤ k) f (aru_within window visit t stays fresh)))
+  -- and the token goes on
+  pub installed_on : {recovery : Option (Recovering A)} {shown : Option (Sent A)} (t : Token) (stays : List ℕ) (fresh : List (Payload A))
+      → IsMachine c gather window visit recovery → c.state ≡ Operational → t.ring ≡ c.running.ring
+      → IsMachine (after_turn c (turn_in window visit t stays fresh) shown) gather
+      (forgotten window (mark_of (with_turn visit (turn_in window visit t stays fresh)))) (with_turn visit (turn_in window visit t stays fresh)) recovery
+  installed_on {shown} t stays fresh m is e =
+      let v = turn_in window visit t stays fresh in
+      let here : t.ring ≡ c.installed.ring = e ∙ sym (ap (λ (q : Configuration). q.ring) (m.same is)) in
+      let l = subst (λ k. v.went.aru ≤ k) (front_by c c.installed.ring window visit m.kept) (aru_within window visit t stays fresh) in
+      machine_as m refl refl (part_turned c c.installed.ring window visit v shown m.kept here l) (below_turned m.below (ap is_running is) e)
+      (λ q. absurd (recovery_no_operational c.state q is)) m.over

@@ -14,7 +14,7 @@ invariant_of-result g c =
     let recovery : IsCopiedIf c.self.inside.recovery made.parts.1 =
     subst (λ parts. IfOk parts (λ copy. IsCopiedIf c.self.inside.recovery copy.1)) made.ensures.second c.copied_parts.ensures.recovery in
     rw (c.in_ok-gather.ensures.cases, shown, queue, kept, c.in_ok-held.ensures.cases, c.in_ok-past.ensures.cases)
-    (machine_copied _ _ _ _ _ _ recovery c.self.invariant)
+    (machine_copied recovery c.self.invariant)
 
 pub returns : goal.returns
 returns g c =

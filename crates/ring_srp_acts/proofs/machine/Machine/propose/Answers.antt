@@ -1,54 +1,33 @@
 -- Who proposes is a member of the ring.
 use Rattle.std.proofs.Common.{List, ◌++◌, refl, ap, sym, ◌∙◌}
-use Rattle.ring_commit.specs.declared.outcome.CommitOutcome.TheVariants.{Pass}
 use Rattle.ring_core.specs.State.{Sent}
 use Rattle.ring_core.specs.Giving.{addressed}
-use Rattle.ring_srp_acts.proofs.Proposals.{proposed_by, due_passes, due_is, due_core, due_sends}
+use Rattle.ring_srp_acts.proofs.Proposals.{proposed_by, IsDue, due_passes, due_is, due_core, due_sends}
 use Rattle.ring_base.proofs.Results.{ok_to}
+use Rattle.ring_srp_acts.proofs.machine.Machine.propose.Given.{Over}
+use Rattle.ring_srp_acts.proofs.machine.Machine.propose.Goals.{After-new}
 use Rattle.ring_srp_acts.proofs.machine.Machine.propose.Goals as goal
 
-pub join-requires-clause-state : goal.join-requires-clause-state
-join-requires-clause-state g c =
-    let passes = ap Pass c.in_ok-boxed-in-Pass.ensures.ok ∙ sym c.in-Pass.is ∙ c.propose.ensures in
-    let due = due_is _ _ c.self.inside.gather _ _ _ c.in_ok-boxed-in-Pass.boxed c.self.view_is c.self.invariant.member.0 c.requires
-    c.self.invariant.gather_floor refl c.greatest_number-greatest.ensures c.candidates-candidates.ensures c.own_entry.ensures passes in
-    due.state
+-- the token is due
+due : (g : Over) (c : After-new g) → IsDue c.args.self.now c.in-Pass.token
+due g c =
+    due_is _ _ c.self.inside.gather _ _ _ c.in-Pass.token c.self.view_is c.self.invariant.member.0 c.requires c.self.invariant.gather_floor refl
+    c.greatest_number-greatest.ensures c.candidates-candidates.ensures c.own_entry.ensures (sym c.in-Pass.is ∙ c.propose.ensures)
 
-pub join-requires-clause-newer : goal.join-requires-clause-newer
-join-requires-clause-newer g c =
-    let passes = ap Pass c.in_ok-boxed-in-Pass.ensures.ok ∙ sym c.in-Pass.is ∙ c.propose.ensures in
-    let due = due_is _ _ c.self.inside.gather _ _ _ c.in_ok-boxed-in-Pass.boxed c.self.view_is c.self.invariant.member.0 c.requires
-    c.self.invariant.gather_floor refl c.greatest_number-greatest.ensures c.candidates-candidates.ensures c.own_entry.ensures passes in
-    due.newer
+pub join-requires : goal.join-requires
+join-requires g c =
+    let d = due g (goal.at.join-requires g c).After-new in
+    rw c.in_ok-boxed-in-Pass.ensures.ok (record { state = d.state; newer = d.newer; member = d.member; some = d.some })
 
-pub join-requires-clause-member : goal.join-requires-clause-member
-join-requires-clause-member g c =
-    let passes = ap Pass c.in_ok-boxed-in-Pass.ensures.ok ∙ sym c.in-Pass.is ∙ c.propose.ensures in
-    let due = due_is _ _ c.self.inside.gather _ _ _ c.in_ok-boxed-in-Pass.boxed c.self.view_is c.self.invariant.member.0 c.requires
-    c.self.invariant.gather_floor refl c.greatest_number-greatest.ensures c.candidates-candidates.ensures c.own_entry.ensures passes in
-    due.member
-
-pub join-requires-clause-some : goal.join-requires-clause-some
-join-requires-clause-some g c =
-    let passes = ap Pass c.in_ok-boxed-in-Pass.ensures.ok ∙ sym c.in-Pass.is ∙ c.propose.ensures in
-    let due = due_is _ _ c.self.inside.gather _ _ _ c.in_ok-boxed-in-Pass.boxed c.self.view_is c.self.invariant.member.0 c.requires
-    c.self.invariant.gather_floor refl c.greatest_number-greatest.ensures c.candidates-candidates.ensures c.own_entry.ensures passes in
-    due.some
-
-pub returns-in_ok-boxed-in-Pass-clause-core : goal.returns-in_ok-boxed-in-Pass-clause-core
-returns-in_ok-boxed-in-Pass-clause-core g c =
-    let passes = ap Pass c.in_ok-boxed-in-Pass.ensures.ok ∙ sym c.in-Pass.is ∙ c.propose.ensures in
-    let due = due_is _ _ c.self.inside.gather _ _ _ c.in_ok-boxed-in-Pass.boxed c.self.view_is c.self.invariant.member.0 c.requires
-    c.self.invariant.gather_floor refl c.greatest_number-greatest.ensures c.candidates-candidates.ensures c.own_entry.ensures passes in
-    ok_to c.join.result _ _ _ (due_core c.args.self.now c.in_ok-boxed-in-Pass.boxed due) c.join.ensures.core
-
-pub returns-in_ok-boxed-in-Pass-clause-sends : goal.returns-in_ok-boxed-in-Pass-clause-sends
-returns-in_ok-boxed-in-Pass-clause-sends g c =
-    let passes = ap Pass c.in_ok-boxed-in-Pass.ensures.ok ∙ sym c.in-Pass.is ∙ c.propose.ensures in
-    let due = due_is _ _ c.self.inside.gather _ _ _ c.in_ok-boxed-in-Pass.boxed c.self.view_is c.self.invariant.member.0 c.requires
-    c.self.invariant.gather_floor refl c.greatest_number-greatest.ensures c.candidates-candidates.ensures c.own_entry.ensures passes in
-    let sends = due_sends c.args.self.now c.in_ok-boxed-in-Pass.boxed due in
-    ok_to c.join.result _ _ _ (ap (λ (xs : List (Sent g.row.A.Denot)). c.args.sends.now.items ++ addressed xs) sends) c.join.ensures.sends
+pub returns-in_ok-boxed-in-Pass : goal.returns-in_ok-boxed-in-Pass
+returns-in_ok-boxed-in-Pass g c =
+    let d = rw (sym c.in_ok-boxed-in-Pass.ensures.ok) at (due g (goal.at.returns-in_ok-boxed-in-Pass g c).After-new) in
+    let sends = due_sends c.args.self.now c.in_ok-boxed-in-Pass.boxed d in
+    record {
+      core = ok_to c.join.result _ _ _ (due_core c.args.self.now c.in_ok-boxed-in-Pass.boxed d) c.join.ensures.core;
+      sends = ok_to c.join.result _ _ _ (ap (λ (xs : List (Sent g.row.A.Denot)). c.args.sends.now.items ++ addressed xs) sends) c.join.ensures.sends;
+      refused = c.join.ensures.refused;
+    }
 
 pub returns-in_default : goal.returns-in_default
 returns-in_default g c =

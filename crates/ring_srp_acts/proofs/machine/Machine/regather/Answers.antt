@@ -7,6 +7,6 @@ use Rattle.ring_srp_acts.proofs.machine.Machine.regather.Goals as goal
 
 pub invariant_of-self : goal.invariant_of-self
 invariant_of-self g c =
-    into_gather _ _ _ _ _ _ _ _ _ _ _ _ _ _ _ _ _ c.new_gather-gather.result _ c.self.invariant
+    into_gather c.self.invariant
     (ap (λ (x : Gatherer). x.me) c.new_gather-gather.ensures ∙ sym (ap (λ (x : Core g.row.A.Denot). x.me) c.self.view_is))
     (ap (λ (x : Gatherer). x.floor) c.new_gather-gather.ensures ∙ sym (ap (λ (x : Core g.row.A.Denot). floor x) c.self.view_is)) refl

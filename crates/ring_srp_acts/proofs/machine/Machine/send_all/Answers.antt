@@ -78,29 +78,18 @@ loop-payload-preserved g c =
           c.send_message.new.sends.items e same c.loop-payload.invariant.out goes;
     }
 
-pub returns-clause-fresh : goal.returns-clause-fresh
-returns-clause-fresh g c =
-    let begun = c.into_iter-payload-iterator.ensures.into_iter_gives in
-    let ended = YieldsList-end (YieldsList-from_vec c.args.payloads.items begun.0 (begun.1 ∙ c.args.payloads.ok.0))
-    c.loop-payload.yielded c.loop-payload.payload-iterator c.loop-payload.yielded_by c.next.result c.next.new.self
-    c.in-None.is c.next.ensures.steps in
-    c.loop-payload.invariant.told ∙ sym (map-id c.loop-payload.yielded) ∙ ended.0
-
-pub returns-clause-core : goal.returns-clause-core
-returns-clause-core g c =
-    let begun = c.into_iter-payload-iterator.ensures.into_iter_gives in
-    let ended = YieldsList-end (YieldsList-from_vec c.args.payloads.items begun.0 (begun.1 ∙ c.args.payloads.ok.0))
-    c.loop-payload.yielded c.loop-payload.payload-iterator c.loop-payload.yielded_by c.next.result c.next.new.self
-    c.in-None.is c.next.ensures.steps in
-    c.loop-payload.invariant.held ∙ ap (λ (ps : List (Payload g.row.A.Denot)). holding c.args.self.now
-    c.args.token.now ps) (sym (map-id c.loop-payload.yielded) ∙ ended.0)
-
-pub returns-clause-sends : goal.returns-clause-sends
-returns-clause-sends g c =
+pub returns : goal.returns
+returns g c =
     let now = c.args.self.now in
     let begun = c.into_iter-payload-iterator.ensures.into_iter_gives in
     let ended = YieldsList-end (YieldsList-from_vec c.args.payloads.items begun.0 (begun.1 ∙ c.args.payloads.ok.0))
     c.loop-payload.yielded c.loop-payload.payload-iterator c.loop-payload.yielded_by c.next.result c.next.new.self
     c.in-None.is c.next.ensures.steps in
-    c.loop-payload.invariant.out ∙ ap (λ (ps : List (Payload g.row.A.Denot)). c.args.sends.now.items ++ addressed
-    (to_others now (news now c.args.token.now ps))) (sym (map-id c.loop-payload.yielded) ∙ ended.0)
+    let all = sym (map-id c.loop-payload.yielded) ∙ ended.0 in
+    record {
+      fresh = c.loop-payload.invariant.told ∙ all;
+      core = c.loop-payload.invariant.held ∙ ap (λ (ps : List (Payload g.row.A.Denot)). holding now c.args.token.now ps) all;
+      sends = c.loop-payload.invariant.out ∙ ap (λ (ps : List (Payload g.row.A.Denot)). c.args.sends.now.items ++ addressed
+          (to_others now (news now c.args.token.now ps))) all;
+      refused = tt;
+    }

@@ -1,5 +1,5 @@
 -- Without new messages nothing goes out, and nothing more is held.
-use Rattle.std.proofs.Common.{◌≡◌, ◌++◌, [], List, length, ap, sym, ◌∙◌, arith}
+use Rattle.std.proofs.Common.{◌≡◌, ◌++◌, [], List, ap, sym, ◌∙◌, arith}
 use Rattle.std.proofs.lemmas.Bool.{eqb-true}
 use Rattle.std.proofs.lemmas.List.{append-nil}
 use Rattle.ring_payload.specs.declared.content.Payload.{Payload}
@@ -9,22 +9,15 @@ use Rattle.ring_srp_acts.specs.Sending.{news, holding}
 use Rattle.ring_srp_acts.proofs.Visits.{no_payloads}
 use Rattle.ring_srp_acts.proofs.machine.Machine.send_new.Goals as goal
 
-pub returns-then-is_empty-clause-fresh : goal.returns-then-is_empty-clause-fresh
-returns-then-is_empty-clause-fresh g c =
-    let empty : [] ≡ c.args.payloads.items = no_payloads c.args.payloads.items
-    (omega (arith, eqb-true _ _ (sym c.if-is_empty.ensures), c.args.payloads.ok.0)) in
-    c.none.ensures ∙ empty
-
-pub returns-then-is_empty-clause-core : goal.returns-then-is_empty-clause-core
-returns-then-is_empty-clause-core g c =
-    let empty : [] ≡ c.args.payloads.items = no_payloads c.args.payloads.items
-    (omega (arith, eqb-true _ _ (sym c.if-is_empty.ensures), c.args.payloads.ok.0)) in
-    ap (λ (ps : List (Payload g.row.A.Denot)). holding c.args.self.now c.args.token.now ps) empty
-
-pub returns-then-is_empty-clause-sends : goal.returns-then-is_empty-clause-sends
-returns-then-is_empty-clause-sends g c =
+pub returns-then-is_empty : goal.returns-then-is_empty
+returns-then-is_empty g c =
     let now = c.args.self.now in
     let empty : [] ≡ c.args.payloads.items = no_payloads c.args.payloads.items
     (omega (arith, eqb-true _ _ (sym c.if-is_empty.ensures), c.args.payloads.ok.0)) in
-    sym (append-nil c.args.sends.now.items)
-    ∙ ap (λ (ps : List (Payload g.row.A.Denot)). c.args.sends.now.items ++ addressed (to_others now (news now c.args.token.now ps))) empty
+    record {
+      fresh = c.none.ensures ∙ empty;
+      core = ap (λ (ps : List (Payload g.row.A.Denot)). holding now c.args.token.now ps) empty;
+      sends = sym (append-nil c.args.sends.now.items)
+          ∙ ap (λ (ps : List (Payload g.row.A.Denot)). c.args.sends.now.items ++ addressed (to_others now (news now c.args.token.now ps))) empty;
+      refused = tt;
+    }

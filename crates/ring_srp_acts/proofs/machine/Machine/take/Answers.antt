@@ -1,36 +1,37 @@
 -- A message of the ring in use, and in Recovery what it wraps.
 use contract.BorrowLft.{⊑_meet, ⊑_static, ⊑_refl}
-use Rattle.std.proofs.Common.{◌≡◌, ◌∷◌, ap, sym, ◌∙◌, subst, true}
+use Rattle.std.proofs.Common.{◌≡◌, ◌∷◌, ap, sym, ◌∙◌}
+use Rattle.ring_base.specs.declared.state.State.TheVariants.{Recovery}
 use Rattle.ring_core.specs.State.{Core}
 use Rattle.ring_core.specs.Acting.{took}
-use Rattle.ring_core.specs.Deciding.{is_taken}
 use Rattle.ring_srp_acts.proofs.Held.{with_held, held_both, took_both, took_other, front_there, mark_there, is_recovery}
 use Rattle.ring_srp_acts.proofs.Held.{no_recovery, recovering_there, taken_new, taken_used, taken_running}
 use Rattle.ring_srp_acts.proofs.machine.Machine.take.Goals as goal
-use Rattle.ring_srp_acts.proofs.machine.Machine.take.Goals.{in_default-via-in-Some+else-eq, in_default-via-in_default}
+use Rattle.ring_srp_acts.proofs.machine.Machine.take.Given.{Over}
+use Rattle.ring_srp_acts.proofs.machine.Machine.take.Goals.{Then-eq, in_default-via-in-Some+else-eq, in_default-via-in_default}
 
-pub take-requires-clause-front : goal.take-requires-clause-front
-take-requires-clause-front g c =
-    let h = subst (λ (q : Core g.row.A.Denot). is_taken q c.args.message ≡ true) (sym c.self.view_is) c.requires in
+-- in Recovery the message is of the running ring, and new there
+running : (g : Over) (c : Then-eq g) → (c.self.inside.state ≡ Recovery) × (c.args.message.ring ≡ c.self.inside.running.ring)
+running g c =
     let s = is_recovery c.self.inside.state (sym c.eq.ensures ∙ c.if-eq.true) in
-    front_there _ _ _ _ _ c.self.invariant c.args.message c.in-Some.recovering s c.in-Some.is (taken_running _ c.args.message h c.self.invariant.same s)
-    (taken_new _ c.args.message h)
+    (s, taken_running _ c.args.message (rw (sym c.self.view_is) at c.requires) c.self.invariant.same s)
 
-pub take-requires-clause-mark : goal.take-requires-clause-mark
-take-requires-clause-mark g c =
-    let h = subst (λ (q : Core g.row.A.Denot). is_taken q c.args.message ≡ true) (sym c.self.view_is) c.requires in
-    let s = is_recovery c.self.inside.state (sym c.eq.ensures ∙ c.if-eq.true) in
-    mark_there _ _ _ _ _ c.self.invariant c.args.message c.in-Some.recovering s c.in-Some.is (taken_running _ c.args.message h c.self.invariant.same s)
-    (taken_new _ c.args.message h)
+pub take-requires : goal.take-requires
+take-requires g c =
+    let h = running g (goal.at.take-requires g c).Then-eq in
+    let new = taken_new _ c.args.message (rw (sym c.self.view_is) at c.requires) in
+    record {
+      front = front_there c.self.invariant c.args.message c.in-Some.recovering h.0 c.in-Some.is h.1 new;
+      mark = mark_there c.self.invariant c.args.message c.in-Some.recovering h.0 c.in-Some.is h.1 new;
+    }
 
 pub invariant_of-self-then-eq : goal.invariant_of-self-then-eq
 invariant_of-self-then-eq g c =
-    let h = subst (λ (q : Core g.row.A.Denot). is_taken q c.args.message ≡ true) (sym c.self.view_is) c.requires in
-    let s = is_recovery c.self.inside.state (sym c.eq.ensures ∙ c.if-eq.true) in
+    let h = running g (goal.at.invariant_of-self-then-eq g c).Then-eq in
     rw c.take.ensures
-    (held_both _ _ _ _ _ c.self.invariant c.args.message c.in-Some.recovering c.unwrap_into.new.window c.mark.result c.told_both-held.result.value
-    s c.in-Some.is (taken_running _ c.args.message h c.self.invariant.same s)
-    (taken_new _ c.args.message h) c.in_ok-unwrap_into-in-Some.ensures.ok c.mark.ensures c.told_both-held.ensures)
+    (held_both c.self.invariant c.args.message c.in-Some.recovering c.unwrap_into.new.window c.mark.result c.told_both-held.result.value
+    h.0 c.in-Some.is h.1 (taken_new _ c.args.message (rw (sym c.self.view_is) at c.requires))
+    c.in_ok-unwrap_into-in-Some.ensures.ok c.mark.ensures c.told_both-held.ensures)
 
 pub told_both-held-requires : goal.told_both-held-requires
 told_both-held-requires g c κs within = (
@@ -40,8 +41,7 @@ told_both-held-requires g c κs within = (
 
 pub hold-requires-clause-ring : goal.hold-requires-clause-ring
 hold-requires-clause-ring g c =
-    let used = taken_used _ c.args.message (subst (λ (q : Core g.row.A.Denot). is_taken q c.args.message ≡ true)
-    (sym c.self.view_is) c.requires) c.self.invariant.same in
+    let used = taken_used _ c.args.message (rw (sym c.self.view_is) at c.requires) c.self.invariant.same in
     elim c.in_default.branch [
       | in_default-via-in-Some+else-eq w ↦ rw w.self-is used
       | in_default-via-in_default w ↦ rw w.self-is used
@@ -49,7 +49,7 @@ hold-requires-clause-ring g c =
 
 pub hold-requires-clause-new : goal.hold-requires-clause-new
 hold-requires-clause-new g c =
-    let new = taken_new _ c.args.message (subst (λ (q : Core g.row.A.Denot). is_taken q c.args.message ≡ true) (sym c.self.view_is) c.requires) in
+    let new = taken_new _ c.args.message (rw (sym c.self.view_is) at c.requires) in
     elim c.in_default.branch [
       | in_default-via-in-Some+else-eq w ↦ rw w.self-is new
       | in_default-via-in_default w ↦ rw w.self-is new
@@ -57,8 +57,8 @@ hold-requires-clause-new g c =
 
 pub returns-in_ok-unwrap_into-in-Some-clause-ok : goal.returns-in_ok-unwrap_into-in-Some-clause-ok
 returns-in_ok-unwrap_into-in-Some-clause-ok g c =
-    let s = is_recovery c.self.inside.state (sym c.eq.ensures ∙ c.if-eq.true) in
-    rw (c.told_both-held.ensures) (took_both _ _ _ _ _ c.self.invariant c.args.message c.mark.result s c.mark.ensures
+    let h = running g (goal.at.returns-in_ok-unwrap_into-in-Some-clause-ok g c).Then-eq in
+    rw (c.told_both-held.ensures) (took_both c.self.invariant c.args.message c.mark.result h.0 c.mark.ensures
     ∙ ap (λ (q : Core g.row.A.Denot). took q c.args.message) c.self.view_is)
 
 pub returns-in_default-clause-ok : goal.returns-in_default-clause-ok

@@ -14,10 +14,7 @@ use Rattle.ring_srp_acts.proofs.machine.Machine.take_part.Goals as goal
 
 pub invariant_of-self : goal.invariant_of-self
 invariant_of-self g c =
-    rw (c.with_ring-past.ensures) (into_commit _ _ _ _ _ _ _ _ _ _ _ _ _ _ (record {
-      ring = c.args.ring;
-      members = c.args.members;
-    }) _ c.own_entry-own.result c.self.invariant
+    rw (c.with_ring-past.ensures) (into_commit c.self.invariant
     (ap (λ (x : Core g.row.A.Denot). x.state) c.self.view_is ∙ c.requires.state)
     (subst (λ (x : Core g.row.A.Denot). floor x < c.args.ring.seq) (sym c.self.view_is) c.requires.newer)
     (subst (λ (x : Core g.row.A.Denot). IsMember c.args.members x.me) (sym c.self.view_is) c.requires.member))
