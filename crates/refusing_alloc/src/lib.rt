@@ -42,6 +42,16 @@ impl<B: Allocator> Refusing<B> {
     pub fn has_refused(&self) -> bool {
         self.requests.have_met_refused()
     }
+
+    /// What `refuse_in_turn` asks of work over it: `Err` where it has refused a request, else `Ok`. Where
+    /// the work did not come out right, the other of these.
+    pub fn answer(&self, is_right: bool) -> Result<(), AllocError> {
+        if is_right == self.has_refused() {
+            Err(AllocError)
+        } else {
+            Ok(())
+        }
+    }
 }
 
 // Sound where `inner` is: each block that is given is one of `inner`'s, and goes back to it as it came. A refused request gives none.

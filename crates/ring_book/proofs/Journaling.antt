@@ -1,5 +1,5 @@
 -- A cell whose journal got one more step.
-use Rattle.std.proofs.Common.{◌≡◌, ℕ, ◌≤◌, ◌++◌, List, [], ◌∷◌, ◌∙◌, true, false}
+use Rattle.std.proofs.Common.{◌≡◌, ℕ, ◌≤◌, ◌++◌, List, [], ◌∷◌, ◌∙◌, Bool, true, false}
 use Rattle.rtrb.specs.Ring.{sent, SameProducer}
 use Rattle.ring_book.specs.Cells.{IsCell, AllOf}
 use Rattle.ring_book.specs.Ends.{Name, ring_of_producer}
@@ -22,11 +22,11 @@ pub AllOf-last : {A : Type 0} (i : ℕ) (ls : List (StepView A)) (l : StepView A
 AllOf-last i [] l h = h.0
 AllOf-last i (x ∷ ls) l h = AllOf-last i ls l h.1
 
-pub cell_adds : {S A : Type 0} (m : Machine S A) (IsSound : S → Type 0) (name : Name A) (me : ℕ) (node node' : S)
+pub cell_adds : {S A : Type 0} (m : Machine S A) (IsSound : S → Type 0) (name : Name A) (me : ℕ) (ahead : Bool) (node node' : S)
     (p q : Writer A) (space space' : ℕ) (l : StepView A)
-    → IsCell m IsSound name me false node p space → l.node ≡ me → IsStep m node l node' → IsSound node' → most_frame ≤ space'
+    → IsCell m IsSound name me ahead node p space → l.node ≡ me → IsStep m node l node' → IsSound node' → most_frame ≤ space'
     → SameProducer p q → sent q ≡ sent p ++ l ∷ [] → IsCell m IsSound name me true node' q space'
-cell_adds m IsSound name me node node' p q space space' l k mine step sound text same e = record {
+cell_adds m IsSound name me ahead node node' p q space space' l k mine step sound text same e = record {
   counted = k.counted;
   in_book = k.in_book;
   ring = rw (ring_stays p q same) k.ring;

@@ -35,7 +35,7 @@ type Way<A> = VecDeque<(FrameRef, Proc), A>;
 
 /// A book and its cells.
 #[derive(Drop)]
-pub struct Driven<O: Object, K: BookName<O::Alloc>> {
+pub struct DrivenBook<O: Object, K: BookName<O::Alloc>> {
     pub alloc: O::Alloc,
     pub book: Book<O, K>,
     pub cells: Vec<Cell<O, K>, O::Alloc>,
@@ -43,14 +43,14 @@ pub struct Driven<O: Object, K: BookName<O::Alloc>> {
     apart: ProcSet,
 }
 
-impl<O: Object, K: BookName<O::Alloc>> Driven<O, K> {
+impl<O: Object, K: BookName<O::Alloc>> DrivenBook<O, K> {
     /// The book and the cells of the opening that K names.
-    pub fn new(alloc: O::Alloc, opening: Opening<O>) -> Result<Driven<O, K>, Fault>
+    pub fn new(alloc: O::Alloc, opening: Opening<O>) -> Result<DrivenBook<O, K>, Fault>
         requires { opening ≡ K.name }
     {
         let (book, cells) = opening.parts::<K>()?;
         let open = VecDeque::new(alloc);
-        Ok(Driven {
+        Ok(DrivenBook {
             alloc,
             book,
             cells,

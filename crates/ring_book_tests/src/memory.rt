@@ -2,7 +2,7 @@
 
 ghost use Rattle.std.specs.Prelude.{◌≡◌};
 
-use crate::driven::{Driven, FIRST, add_five, five};
+use crate::driven::{DrivenBook, FIRST, add_five, five};
 use refusing_alloc::Refusing;
 use ring_base::{Fault, Fixed, Proc, State};
 use ring_book::{Book, BookName, Cell, Opening};
@@ -15,7 +15,7 @@ use std::marker::Brand;
 
 /// The nodes of a group form one ring, and a call is submitted at the last of them.
 fn asked<O: Object, K: BookName<O::Alloc>>(
-    driven: &mut Driven<O, K>,
+    driven: &mut DrivenBook<O, K>,
     nodes: u8,
 ) -> Result<Ticket, Fault> {
     let turns = if nodes == 1 { 4 } else { 12 };
@@ -37,7 +37,7 @@ fn shows_reply<O: Object, K: BookName<O::Alloc>>(
 /// Goes the way to the first reply in a group of one, and that to a ring and a call in a larger group. Answers whether it is
 /// as it should be.
 fn goes_on<O: Object, K: BookName<O::Alloc>>(
-    driven: &mut Driven<O, K>,
+    driven: &mut DrivenBook<O, K>,
     nodes: u8,
 ) -> Result<bool, Fault> {
     let ticket = asked(driven, nodes)?;
@@ -64,7 +64,7 @@ fn has_lines_alone<O: Object, K: BookName<O::Alloc>>(book: &Book<O, K>) -> bool 
 
 /// Whether a processor goes on after a refusal, unless a step of it was refused: then its node is stopped. No place of the
 /// book is left reserved.
-fn is_kept<O: Object, K: BookName<O::Alloc>>(driven: &mut Driven<O, K>, processor: u8) -> bool {
+fn is_kept<O: Object, K: BookName<O::Alloc>>(driven: &mut DrivenBook<O, K>, processor: u8) -> bool {
     let is_settled = has_lines_alone(&driven.book);
     let steps = driven.step(processor, Input::Noise, FIRST).is_ok();
     let submits = driven.submit(processor, 2, add_five().as_slice()).is_ok();
@@ -73,7 +73,7 @@ fn is_kept<O: Object, K: BookName<O::Alloc>>(driven: &mut Driven<O, K>, processo
 }
 
 /// Whether all processors are kept.
-fn are_kept<O: Object, K: BookName<O::Alloc>>(driven: &mut Driven<O, K>, nodes: u8) -> bool {
+fn are_kept<O: Object, K: BookName<O::Alloc>>(driven: &mut DrivenBook<O, K>, nodes: u8) -> bool {
     let mut are = true;
     for before in 0..nodes {
         let is = is_kept(driven, before.saturating_add(1));
@@ -85,7 +85,7 @@ fn are_kept<O: Object, K: BookName<O::Alloc>>(driven: &mut Driven<O, K>, nodes: 
 /// Answers `Memory` where a call was refused memory and all that was done before is kept, and else whether all is as it
 /// should be.
 fn ran_or_kept<O: Object, K: BookName<O::Alloc>>(
-    driven: &mut Driven<O, K>,
+    driven: &mut DrivenBook<O, K>,
     nodes: u8,
 ) -> Result<bool, Fault> {
     let ran = goes_on(driven, nodes);
@@ -103,7 +103,7 @@ fn ran<O: Object, K: BookName<O::Alloc>>(
 ) -> Result<bool, Fault>
     requires { opening ≡ K.name }
 {
-    let mut driven = Driven::<O, K>::new(alloc, opening)?;
+    let mut driven = DrivenBook::<O, K>::new(alloc, opening)?;
     let ran = ran_or_kept(&mut driven, nodes);
     drop(driven);
     ran

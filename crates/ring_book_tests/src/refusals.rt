@@ -3,7 +3,7 @@
 ghost use Rattle.std.specs.Prelude.{◌≡◌};
 ghost use Rattle.ring_base.specs.Processors.{IsProc};
 
-use crate::driven::{Driven, FIRST, cell_of};
+use crate::driven::{DrivenBook, FIRST, cell_of};
 use ring_base::{Fault, Fixed, Proc};
 use ring_book::{Book, BookName, Cell, FrameRef, Opening, ReservedPlace};
 use ring_node::Input;
@@ -106,7 +106,7 @@ fn strange<O: Object, K: BookName<O::Alloc>>(
 
 /// The join of processor 1 goes to processor 2 alone. The same of its bytes as they were sent.
 fn strange_join<O: Object, K: BookName<O::Alloc>>(
-    driven: &mut Driven<O, K>,
+    driven: &mut DrivenBook<O, K>,
 ) -> Result<(u32, u32, usize, usize, bool), Fault> {
     driven.time(1)?;
     let mut sent = driven.spelled(FIRST)?;
@@ -120,7 +120,7 @@ fn refused_bytes<O: Object, K: BookName<O::Alloc>>(
 ) -> Result<(u32, u32, usize, usize, bool), Fault>
     requires { opening ≡ K.name }
 {
-    let mut driven = Driven::<O, K>::new(alloc, opening)?;
+    let mut driven = DrivenBook::<O, K>::new(alloc, opening)?;
     let strange = strange_join(&mut driven);
     drop(driven);
     strange
@@ -141,7 +141,7 @@ fn entered<O: Object, K: BookName<O::Alloc>>(
 
 /// At processor 2 nothing is left to enter, and then a frame that doesn't stand where it is said to.
 fn entered_at_two<O: Object, K: BookName<O::Alloc>>(
-    driven: &mut Driven<O, K>,
+    driven: &mut DrivenBook<O, K>,
     place: ReservedPlace,
 ) -> Result<(Entered, Entered), Fault> {
     let sent = driven.spelled(FIRST)?;
@@ -154,7 +154,7 @@ fn entered_at_two<O: Object, K: BookName<O::Alloc>>(
 
 /// At processor 1 a step takes the reserved place, and none is left for the next.
 fn entered_at_one<O: Object, K: BookName<O::Alloc>>(
-    driven: &mut Driven<O, K>,
+    driven: &mut DrivenBook<O, K>,
     place: ReservedPlace,
 ) -> Result<(Entered, Entered), Fault> {
     let cell = cell_of(driven.cells.as_mut_slice(), 1)?;
@@ -166,7 +166,7 @@ fn entered_at_one<O: Object, K: BookName<O::Alloc>>(
 
 /// One place is reserved, for which both processors enter.
 fn entered_at_both<O: Object, K: BookName<O::Alloc>>(
-    driven: &mut Driven<O, K>,
+    driven: &mut DrivenBook<O, K>,
 ) -> Result<((Entered, Entered), (Entered, Entered)), Fault> {
     driven.time(1)?;
     let place = driven.book.reserve()?;
@@ -181,7 +181,7 @@ fn refused_entries<O: Object, K: BookName<O::Alloc>>(
 ) -> Result<((Entered, Entered), (Entered, Entered)), Fault>
     requires { opening ≡ K.name }
 {
-    let mut driven = Driven::<O, K>::new(alloc, opening)?;
+    let mut driven = DrivenBook::<O, K>::new(alloc, opening)?;
     let entered = entered_at_both(&mut driven);
     drop(driven);
     entered

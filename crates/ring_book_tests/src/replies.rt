@@ -2,7 +2,7 @@
 
 ghost use Rattle.std.specs.Prelude.{◌≡◌};
 
-use crate::driven::{Driven, add_five, five};
+use crate::driven::{DrivenBook, add_five, five};
 use crate::linear::{answered, explained};
 use ring_base::{Fault, Fixed, Proc, State};
 use ring_book::{Book, BookName, Cell, Opening};
@@ -71,7 +71,7 @@ fn is_first<A: Allocator + Copy + Drop>(history: &[Item<A>]) -> bool {
 
 /// What is seen of the book, whose processor has this ticket.
 fn shown<O: Object, K: BookName<O::Alloc>>(
-    driven: &Driven<O, K>,
+    driven: &DrivenBook<O, K>,
     ticket: Ticket,
     processor: u8,
 ) -> Result<Shown, Fault> {
@@ -88,7 +88,7 @@ fn shown<O: Object, K: BookName<O::Alloc>>(
 
 /// The nodes of a group form one ring, and the first call is submitted twice at one of them.
 fn asked<O: Object, K: BookName<O::Alloc>>(
-    driven: &mut Driven<O, K>,
+    driven: &mut DrivenBook<O, K>,
     nodes: u8,
     processor: u8,
 ) -> Result<Ticket, Fault> {
@@ -100,7 +100,7 @@ fn asked<O: Object, K: BookName<O::Alloc>>(
 
 /// What is seen before the call is sent, and once all nodes have committed it.
 fn both_shown<O: Object, K: BookName<O::Alloc>>(
-    driven: &mut Driven<O, K>,
+    driven: &mut DrivenBook<O, K>,
     nodes: u8,
     processor: u8,
 ) -> Result<(Shown, Shown), Fault> {
@@ -119,7 +119,7 @@ fn replied<O: Object, K: BookName<O::Alloc>>(
 ) -> Result<(Shown, Shown), Fault>
     requires { opening ≡ K.name }
 {
-    let mut driven = Driven::<O, K>::new(alloc, opening)?;
+    let mut driven = DrivenBook::<O, K>::new(alloc, opening)?;
     let shown = both_shown(&mut driven, nodes, processor);
     drop(driven);
     shown

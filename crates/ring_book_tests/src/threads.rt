@@ -2,7 +2,7 @@
 
 ghost use Rattle.std.specs.Prelude.{◌≡◌};
 
-use crate::driven::Driven;
+use crate::driven::DrivenBook;
 use ring_base::{Fault, Fixed};
 use ring_book::{Book, BookName, Cell, Opening};
 use ring_object::Object;
@@ -32,7 +32,7 @@ where
 }
 
 /// The book may go to another thread, and so may each of its cells.
-fn lend_all<O: Object + Send, K: BookName<O::Alloc> + Send>(driven: &Driven<O, K>)
+fn lend_all<O: Object + Send, K: BookName<O::Alloc> + Send>(driven: &DrivenBook<O, K>)
 where
     O::Alloc: Send + Sync,
 {
@@ -53,7 +53,7 @@ where
     O::Alloc: Send + Sync,
     requires { opening ≡ K.name }
 {
-    let mut driven = Driven::<O, K>::new(alloc, opening)?;
+    let mut driven = DrivenBook::<O, K>::new(alloc, opening)?;
     lend_all(&driven);
     let lent = &mut driven;
     let (done, ()) = thread::join(rt, move || lent.time(1), || ());

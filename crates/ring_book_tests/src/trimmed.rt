@@ -3,7 +3,7 @@
 ghost use Rattle.std.specs.Prelude.{◌≡◌};
 ghost use Rattle.ring_base.specs.Processors.{IsProc};
 
-use crate::driven::{Driven, add_five};
+use crate::driven::{DrivenBook, add_five};
 use crate::linear::explained;
 use ring_base::{Fault, Fixed, Kind, Proc, ProcSet};
 use ring_book::{Book, BookName, Opening};
@@ -22,7 +22,7 @@ type Shown = (usize, [Option<Answer>; 3]);
 
 /// The places of the node of this processor, counted from 1.
 fn places<O: Object, K: BookName<O::Alloc>>(
-    driven: &Driven<O, K>,
+    driven: &DrivenBook<O, K>,
     processor: u8,
 ) -> Option<Places> {
     let cells = driven.cells.as_slice();
@@ -66,7 +66,7 @@ fn done(count: u64) -> Option<Answer> {
 
 /// The calls of client 7 from this number on, so many, are submitted at a processor; then so many frames are delivered.
 fn calls<O: Object, K: BookName<O::Alloc>>(
-    driven: &mut Driven<O, K>,
+    driven: &mut DrivenBook<O, K>,
     processor: u8,
     first: u64,
     many: u64,
@@ -80,7 +80,7 @@ fn calls<O: Object, K: BookName<O::Alloc>>(
 
 /// A node alone does 256 calls.
 fn done_alone<O: Object, K: BookName<O::Alloc>>(
-    driven: &mut Driven<O, K>,
+    driven: &mut DrivenBook<O, K>,
 ) -> Result<(Option<Places>, Shown), Fault> {
     driven.settle(1, 4)?;
     for first in [1, 65, 129, 193] {
@@ -97,20 +97,20 @@ fn alone<O: Object, K: BookName<O::Alloc>>(
 ) -> Result<(Option<Places>, Shown), Fault>
     requires { opening ≡ K.name }
 {
-    let mut driven = Driven::<O, K>::new(alloc, opening)?;
+    let mut driven = DrivenBook::<O, K>::new(alloc, opening)?;
     let done = done_alone(&mut driven);
     drop(driven);
     done
 }
 
 /// Three nodes form a ring, and 10 calls are done.
-fn form<O: Object, K: BookName<O::Alloc>>(driven: &mut Driven<O, K>) -> Result<(), Fault> {
+fn form<O: Object, K: BookName<O::Alloc>>(driven: &mut DrivenBook<O, K>) -> Result<(), Fault> {
     driven.settle(3, 200)?;
     calls(driven, 1, 1, 10, 200)
 }
 
 /// Nodes 1 and 2 go on without node 3, and do 290 calls.
-fn part<O: Object, K: BookName<O::Alloc>>(driven: &mut Driven<O, K>) -> Result<(), Fault> {
+fn part<O: Object, K: BookName<O::Alloc>>(driven: &mut DrivenBook<O, K>) -> Result<(), Fault> {
     driven.cut(ProcSet::only(Proc::new(3)));
     driven.time_out(1, Kind::Loss)?;
     driven.pump(200)?;
@@ -124,7 +124,7 @@ fn part<O: Object, K: BookName<O::Alloc>>(driven: &mut Driven<O, K>) -> Result<(
 }
 
 /// All three form a ring again.
-fn merge<O: Object, K: BookName<O::Alloc>>(driven: &mut Driven<O, K>) -> Result<(), Fault> {
+fn merge<O: Object, K: BookName<O::Alloc>>(driven: &mut DrivenBook<O, K>) -> Result<(), Fault> {
     driven.cut(ProcSet::new());
     driven.time(3)?;
     driven.pump(600)?;
@@ -133,7 +133,7 @@ fn merge<O: Object, K: BookName<O::Alloc>>(driven: &mut Driven<O, K>) -> Result<
 
 /// What is seen of node 3 and of the book before the rings merge and afterwards.
 fn merged<O: Object, K: BookName<O::Alloc>>(
-    driven: &mut Driven<O, K>,
+    driven: &mut DrivenBook<O, K>,
 ) -> Result<[(Option<Places>, Shown); 2], Fault> {
     form(driven)?;
     part(driven)?;
@@ -152,7 +152,7 @@ fn restored<O: Object, K: BookName<O::Alloc>>(
 ) -> Result<[(Option<Places>, Shown); 2], Fault>
     requires { opening ≡ K.name }
 {
-    let mut driven = Driven::<O, K>::new(alloc, opening)?;
+    let mut driven = DrivenBook::<O, K>::new(alloc, opening)?;
     let merged = merged(&mut driven);
     drop(driven);
     merged

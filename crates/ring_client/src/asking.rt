@@ -11,7 +11,7 @@ use crate::asked::Op;
 use crate::port::Port;
 use ring_base::Fault;
 use ring_object::Reply;
-use ring_payload::{Call, Operation};
+use ring_payload::{Call, CallOperation};
 use ring_session::Answer;
 use std::alloc::Allocator;
 
@@ -32,7 +32,7 @@ impl Question {
         Ok(Call {
             client: self.client,
             number: self.number,
-            op: Operation::from_slice(alloc, self.op.as_slice())?,
+            op: CallOperation::from_slice(alloc, self.op.as_slice())?,
         })
     }
 }

@@ -5,7 +5,7 @@ use crate::scripted::{Behaviour, Scripted, client_of};
 use ring_base::Fault;
 use ring_client::{Asked, Client, Op, Port};
 use ring_object::Reply;
-use ring_payload::{Call, Operation};
+use ring_payload::{Call, CallOperation};
 use ring_session::Answer;
 use std::alloc::Allocator;
 use std::test::Fail;
@@ -308,7 +308,7 @@ fn noted<A: Allocator + Copy>(alloc: A, op: &[u8]) -> Result<Asked, Fault> {
     let call = Call {
         client: 7,
         number: 1,
-        op: Operation::from_slice(alloc, op)?,
+        op: CallOperation::from_slice(alloc, op)?,
     };
     asked.note_submit(&call);
     Ok(asked)

@@ -24,7 +24,7 @@ struct UnderWay {
 
 /// The nodes of a script, the frames that they sent, the copies of these of which so many have come, the cut, and what was printed.
 #[derive(Drop)]
-pub(crate) struct Driven<O: Object> {
+pub(crate) struct ScriptNodes<O: Object> {
     alloc: O::Alloc,
     pub(crate) nodes: Vec<Beside<O>, O::Alloc>,
     sent: Vec<Carried<O::Alloc>, O::Alloc>,
@@ -34,14 +34,14 @@ pub(crate) struct Driven<O: Object> {
     pub(crate) printed: String<O::Alloc>,
 }
 
-impl<O: Object> Driven<O> {
+impl<O: Object> ScriptNodes<O> {
     /// The nodes at their opening.
-    pub(crate) fn new(alloc: O::Alloc, fixed: Fixed) -> Result<Driven<O>, Fault> {
+    pub(crate) fn new(alloc: O::Alloc, fixed: Fixed) -> Result<ScriptNodes<O>, Fault> {
         let mut nodes = Vec::new(alloc);
         for before in 0..fixed.count() {
             nodes.push(Beside::new(alloc, fixed, before + 1)?)?;
         }
-        Ok(Driven {
+        Ok(ScriptNodes {
             alloc,
             nodes,
             sent: Vec::new(alloc),

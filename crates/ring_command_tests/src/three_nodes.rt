@@ -1,7 +1,7 @@
 //! Three nodes that records drive tell what `totem script` prints of the same events.
 
 use crate::beside::Beside;
-use crate::by_script::Driven;
+use crate::by_script::ScriptNodes;
 use crate::served::served_on;
 use ring_base::{Fault, Fixed};
 use ring_object::Object;
@@ -58,11 +58,11 @@ fn tell_again<O: Object>(alloc: O::Alloc, fixed: Fixed, nodes: &[Beside<O>]) -> 
 }
 
 /// Nodes that were handed the events of a script.
-fn driven<O: Object>(alloc: O::Alloc, text: &str) -> Result<Driven<O>, Fault> {
+fn driven<O: Object>(alloc: O::Alloc, text: &str) -> Result<ScriptNodes<O>, Fault> {
     let Ok(script) = Script::parse(alloc, text.as_bytes()) else {
         return Err(Fault::BadScript);
     };
-    let mut driven = Driven::new(alloc, script.nodes)?;
+    let mut driven = ScriptNodes::new(alloc, script.nodes)?;
     driven.take(script)?;
     Ok(driven)
 }

@@ -1,8 +1,8 @@
 -- A processor's ring core, what it is now and all that ever happened to it: Rings and states, rules 3 to 6 of
 -- docs/PROTOCOL.md. Each list of facts is newest first, and nothing ever leaves it: what the program forgets is never
 -- looked at again.
-use Rattle.std.specs.Prelude.{ℕ, zero, suc, Bool, true, false, if◌then◌else◌, List, [], ◌∷◌, Option, Some, None, slice_get}
-use Rattle.ring_base.specs.Processors.{has, only, everybody}
+use Rattle.std.specs.Prelude.{ℕ, zero, suc, Bool, true, false, if◌then◌else◌, List, [], ◌∷◌, ◌++◌, map, Option, Some, None, slice_get}
+use Rattle.ring_base.specs.Processors.{has, only, everybody, elements}
 use Rattle.ring_base.specs.declared.ring_id.RingId.{RingId}
 use Rattle.ring_token.specs.Payloads.{Payload}
 use Rattle.ring_token.specs.Frames.{CommitToken, CommitEntry, Frame, Message}
@@ -33,6 +33,11 @@ frame_at frames (suc k) = slice_get frames k
 abbrev pub frame_for : {A : Type 0} → ℕ → Option (Carried A) → Option (Frame A)
 frame_for i None = None
 frame_for i (Some f) = if has f.to i then Some f.frame else None
+
+-- the pairs of frame and receiver, of frames of which the first has this number
+abbrev pub receiver_pairs : {A : Type 0} → ℕ → List (Carried A) → List (ℕ × ℕ)
+receiver_pairs k [] = []
+receiver_pairs k (f ∷ rest) = map (λ i. (k, i)) (elements f.to) ++ receiver_pairs (suc k) rest
 
 -- what was reported on the way into a ring
 pub record Report : Type 0 where

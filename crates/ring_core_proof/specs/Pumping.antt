@@ -1,22 +1,17 @@
 -- A network that loses nothing: each frame opens a pair for each of its receivers, and the oldest open pair is handed over next.
-use Rattle.std.specs.Prelude.{ℕ, zero, suc, List, [], ◌∷◌, ◌++◌, map, drop, length}
-use Rattle.ring_base.specs.Processors.{elements}
+use Rattle.std.specs.Prelude.{ℕ, zero, suc, List, [], ◌∷◌, ◌++◌, drop, length}
+use Rattle.ring_core.specs.State.{receiver_pairs}
 use Rattle.ring_core_proof.specs.declared.event.RingEvent.TheVariants.{Deliver}
-use Rattle.ring_core_proof.specs.Worlds.{Carried, World, happens}
+use Rattle.ring_core_proof.specs.Worlds.{World, happens}
 
 -- a world with the open pairs of frame and receiver, oldest first
 pub record Pumped (A : Type 0) : Type 0 where
   pub world : World A
   pub pairs : List (ℕ × ℕ)
 
--- the pairs of frames, of which the first has this number
-abbrev pub pairs_of : {A : Type 0} → ℕ → List (Carried A) → List (ℕ × ℕ)
-pairs_of k [] = []
-pairs_of k (f ∷ rest) = map (λ i. (k, i)) (elements f.to) ++ pairs_of (suc k) rest
-
 -- the pairs of the frames after the first ones
 abbrev pub pairs_after : {A : Type 0} → ℕ → World A → List (ℕ × ℕ)
-pairs_after count w = pairs_of (suc count) (drop count w.frames)
+pairs_after count w = receiver_pairs (suc count) (drop count w.frames)
 
 -- a world after an event: the pairs that were left, and behind them those of the frames sent since
 abbrev pub pumped_on : {A : Type 0} → World A → World A → List (ℕ × ℕ) → Pumped A

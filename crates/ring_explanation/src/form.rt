@@ -1,6 +1,6 @@
 //! The forms of lines, by their first words.
 
-use crate::part::Part;
+use crate::word_meaning::WordMeaning;
 
 /// What follows the parts of a form.
 #[derive(Clone, Copy, Debug, PartialEq, Eq)]
@@ -12,8 +12,8 @@ pub(crate) enum Rest {
 
 /// The words of a line, behind its first one.
 #[derive(Clone, Copy)]
-pub(crate) struct Form {
-    pub(crate) parts: &'static [Part],
+pub(crate) struct LineForm {
+    pub(crate) parts: &'static [WordMeaning],
     pub(crate) rest: Rest,
 }
 
@@ -23,8 +23,8 @@ pub(crate) const LINES: [&str; 9] = [
 ];
 
 /// The form of a line that begins with this word, if there is one.
-pub(crate) fn line_form(word: &str) -> Option<Form> {
-    use Part::{Bytes, Client, Frame, Node, Number, Timeout, Turns};
+pub(crate) fn line_form(word: &str) -> Option<LineForm> {
+    use WordMeaning::{Bytes, Client, Frame, Node, Number, Timeout, Turns};
     match word {
         "call" => made_of(&[Node, Client, Number], Rest::Operation),
         "deliver" => made_of(&[Node, Frame], Rest::Nothing),
@@ -38,6 +38,6 @@ pub(crate) fn line_form(word: &str) -> Option<Form> {
     }
 }
 
-fn made_of(parts: &'static [Part], rest: Rest) -> Option<Form> {
-    Some(Form { parts, rest })
+fn made_of(parts: &'static [WordMeaning], rest: Rest) -> Option<LineForm> {
+    Some(LineForm { parts, rest })
 }

@@ -1,7 +1,7 @@
 //! What is wrong with the groups of a cut.
 
-use crate::part::{Part, Wanted};
 use crate::shown::Shown;
+use crate::word_meaning::{WantedWord, WordMeaning};
 use ring_base::{MOST_PROCESSORS, Proc, ProcSet};
 use std::alloc::{AllocError, Global};
 use std::str::Split;
@@ -38,12 +38,13 @@ fn member_reason(
     word: &str,
     seen: &mut ProcSet,
 ) -> Result<Option<String>, AllocError> {
-    let wanted = Wanted {
-        part: Part::Node,
+    let wanted = WantedWord {
+        part: WordMeaning::Node,
         nodes,
     };
     let number = match word.parse::<u8>() {
-        Ok(number) if number >= 1 && number <= MOST_PROCESSORS && Part::Node.takes(nodes, word) => {
+        Ok(number)
+            if number >= 1 && number <= MOST_PROCESSORS && WordMeaning::Node.takes(nodes, word) => {
             number
         }
         _ => {

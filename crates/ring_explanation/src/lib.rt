@@ -9,9 +9,9 @@ mod groups;
 mod line;
 mod nearest;
 mod operation;
-mod part;
 mod reason;
 mod shown;
+mod word_meaning;
 
 pub use reason::reason_by;
 pub use ring_script::LONGEST_TEXT;

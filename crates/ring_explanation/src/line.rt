@@ -36,13 +36,13 @@ pub(crate) enum Stand {
 
 /// A line, and where it stands.
 #[derive(Clone, Copy)]
-pub(crate) struct Placed<'a> {
+pub(crate) struct PlacedLine<'a> {
     pub(crate) line: &'a [u8],
     pub(crate) stand: Stand,
 }
 
 /// The line of this number of the text, counted from 1, if it has one.
-pub(crate) fn line_at(text: &[u8], number: u64) -> Option<Placed<'_>> {
+pub(crate) fn line_at(text: &[u8], number: u64) -> Option<PlacedLine<'_>> {
     let mut rest = text;
     let mut stand = Stand::First;
     for _ in 1..number {
@@ -53,7 +53,7 @@ pub(crate) fn line_at(text: &[u8], number: u64) -> Option<Placed<'_>> {
         rest = behind;
     }
     let (line, _) = first_line(rest)?;
-    Some(Placed { line, stand })
+    Some(PlacedLine { line, stand })
 }
 
 /// Where the next line stands.

@@ -1,9 +1,9 @@
 //! What is wrong with an operation.
 
 use crate::nearest::nearest;
-use crate::part::Part;
 use crate::reason::{Reason, end_reason, part_reason, said};
 use crate::shown::Shown;
+use crate::word_meaning::WordMeaning;
 use ring_script::{Argument, Form, Vocabulary};
 use std::alloc::{AllocError, Global};
 use std::str::Split;
@@ -35,7 +35,7 @@ pub(crate) fn operation_reason<V: Vocabulary>(
 
 /// Why the next words aren't an operation's bytes and nothing else.
 fn bytes_reason(alloc: Global, nodes: u8, words: &mut Split<'_, char>) -> Reason {
-    match part_reason(alloc, nodes, Part::Operation, words)? {
+    match part_reason(alloc, nodes, WordMeaning::Operation, words)? {
         Some(reason) => Ok(Some(reason)),
         None => end_reason(alloc, words),
     }
@@ -57,11 +57,11 @@ fn arguments_reason(
 }
 
 /// What a word stands for that is this argument.
-fn part_of(argument: Argument) -> Part {
+fn part_of(argument: Argument) -> WordMeaning {
     match argument {
-        Argument::Key => Part::Key,
-        Argument::Value => Part::Value,
-        Argument::Name => Part::Name,
+        Argument::Key => WordMeaning::Key,
+        Argument::Value => WordMeaning::Value,
+        Argument::Name => WordMeaning::Name,
     }
 }
 

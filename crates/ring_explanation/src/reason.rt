@@ -1,12 +1,12 @@
 //! Why a line is at fault.
 
-use crate::form::{Form, LINES, Rest, line_form};
+use crate::form::{LINES, LineForm, Rest, line_form};
 use crate::groups::groups_reason;
-use crate::line::{Placed, Stand, line_at};
+use crate::line::{PlacedLine, Stand, line_at};
 use crate::nearest::{Meant, nearest};
 use crate::operation::operation_reason;
-use crate::part::{Part, Wanted, timeouts};
 use crate::shown::Shown;
+use crate::word_meaning::{WantedWord, WordMeaning, timeouts};
 use ring_base::MOST_PROCESSORS;
 use ring_script::{LONGEST_TEXT, Script, ScriptFault, Vocabulary};
 use std::alloc::{AllocError, Global};
@@ -49,8 +49,8 @@ pub(crate) fn said(alloc: Global, words: &str) -> Reason {
 }
 
 /// Why a line that stands there is at fault.
-fn placed_reason<V: Vocabulary>(alloc: Global, placed: Placed<'_>) -> Reason {
-    let Placed { line, stand } = placed;
+fn placed_reason<V: Vocabulary>(alloc: Global, placed: PlacedLine<'_>) -> Reason {
+    let PlacedLine { line, stand } = placed;
     if let Some(byte) = line.iter().find(|byte| !byte.is_ascii()) {
         return Ok(Some(format!(in alloc;
             "the byte {byte:02x} stands there, and a script is ASCII"
@@ -109,7 +109,7 @@ fn first_reason(alloc: Global, first: &str, words: &mut Split<'_, char>) -> Reas
         )?;
         return Ok(Some(reason));
     }
-    match part_reason(alloc, MOST_PROCESSORS, Part::Count, words)? {
+    match part_reason(alloc, MOST_PROCESSORS, WordMeaning::Count, words)? {
         Some(reason) => Ok(Some(reason)),
         None => end_reason(alloc, words),
     }
@@ -124,8 +124,8 @@ fn votes_reason(alloc: Global, nodes: u8, words: &mut Split<'_, char>) -> Reason
                 "node {node} has no votes: as many numbers stand behind `votes` as there are nodes"
             )?));
         };
-        if !Part::Vote.takes(nodes, word) {
-            return is_not(alloc, word, Part::Vote, nodes);
+        if !WordMeaning::Vote.takes(nodes, word) {
+            return is_not(alloc, word, WordMeaning::Vote, nodes);
         }
     }
     end_reason(alloc, words)
@@ -164,7 +164,7 @@ fn event_reason<V: Vocabulary>(
 fn form_reason<V: Vocabulary>(
     alloc: Global,
     nodes: u8,
-    form: Form,
+    form: LineForm,
     words: &mut Split<'_, char>,
 ) -> Reason {
     if let Some(reason) = parts_reason(alloc, nodes, form.parts, words)? {
@@ -178,7 +178,12 @@ fn form_reason<V: Vocabulary>(
 }
 
 /// Why the next words aren't these parts.
-fn parts_reason(alloc: Global, nodes: u8, parts: &[Part], words: &mut Split<'_, char>) -> Reason {
+fn parts_reason(
+    alloc: Global,
+    nodes: u8,
+    parts: &[WordMeaning],
+    words: &mut Split<'_, char>,
+) -> Reason {
     for part in parts {
         if let Some(reason) = part_reason(alloc, nodes, *part, words)? {
             return Ok(Some(reason));
@@ -191,24 +196,24 @@ fn parts_reason(alloc: Global, nodes: u8, parts: &[Part], words: &mut Split<'_, 
 pub(crate) fn part_reason(
     alloc: Global,
     nodes: u8,
-    part: Part,
+    part: WordMeaning,
     words: &mut Split<'_, char>,
 ) -> Reason {
     match words.next() {
         Some(word) if part.takes(nodes, word) => Ok(None),
         Some(word) => is_not(alloc, word, part, nodes),
         None => {
-            let wanted = Wanted { part, nodes };
+            let wanted = WantedWord { part, nodes };
             Ok(Some(format!(in alloc; "the line ends where this is expected: {wanted}")?))
         }
     }
 }
 
 /// That the word can't stand for this part.
-fn is_not(alloc: Global, word: &str, part: Part, nodes: u8) -> Reason {
-    let wanted = Wanted { part, nodes };
+fn is_not(alloc: Global, word: &str, part: WordMeaning, nodes: u8) -> Reason {
+    let wanted = WantedWord { part, nodes };
     let meant = match part {
-        Part::Timeout => nearest(alloc, word, &timeouts())?,
+        WordMeaning::Timeout => nearest(alloc, word, &timeouts())?,
         _ => Meant(None),
     };
     Ok(Some(format!(in alloc; "{} is not {wanted}{meant}", Shown(word))?))

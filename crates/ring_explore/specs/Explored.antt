@@ -3,6 +3,8 @@
 use Rattle.std.specs.Prelude.{◌≡◌, ℕ, ◌+◌, ◌-◌, ◌^◌, ◌<◌, ◌≤◌, min, Bool, true, false, Option, Some, None, List, ◌++◌, codes}
 use Rattle.std.specs.Fmt.{decimal}
 use Rattle.ring_report.specs.Texts.{line_of}
+use Rattle.ring_console.specs.declared.Told.{Told}
+use Rattle.ring_console.specs.declared.Told.TheVariants.{Answer, Refused}
 
 -- how many seeds there are from the first to the last, the last included; of all 2^64 the last is left out
 abbrev pub seeds_in : ℕ → ℕ → ℕ
@@ -12,6 +14,11 @@ seeds_in first last = min (last + 1 - first) (2 ^ 64 - 1)
 abbrev pub illegal_of : Bool → ℕ → Option ℕ
 illegal_of true seed = None
 illegal_of false seed = Some seed
+
+-- what a node told is an answer, whatever it says
+abbrev pub is_answer : {A : Type 0} → Told A → Bool
+is_answer (Answer node call answer) = true
+is_answer (Refused node call number) = false
 
 -- What was found of the seeds from one up to another, that left out: the run of each is legal; or this is the first whose run is not.
 abbrev pub AreTried : (Bool → Type 0) → ℕ → ℕ → Option ℕ → Type 0

@@ -1,13 +1,15 @@
 //! The trying of many seeds.
 
-ghost use Rattle.std.specs.Prelude.{◌≡◌, ℕ, ◌≤◌, ◌<◌, ◌+◌, ◌⊎◌, ◌↔◌, IsTrue, OnOk, IfOk, IfErr, None, length, max, vec_len, slice_index_or};
+ghost use Rattle.std.specs.Prelude.{◌≡◌, ℕ, ◌≤◌, ◌<◌, ◌+◌, ◌⊎◌, ◌↔◌, false, IsTrue, Some, None, max, vec_len};
+ghost use Rattle.std.specs.Prelude.{OnOk, IfOk, IsErr, IfErr, slice_index_or};
 ghost use Rattle.std.specs.Io.KnownBytes.{Appends};
+ghost use Rattle.ring_base.specs.Group.{AreVotes};
 ghost use Rattle.ring_console.specs.Running.{Prints};
 ghost use Rattle.ring_report.specs.declared.failure.Failure.TheVariants.{Output};
-ghost use Rattle.ring_script_maker.specs.Made.{IsMadeBy};
+ghost use Rattle.ring_script_maker.specs.Made.{IsMadeBy, IsNotMade};
 ghost use Rattle.ring_shares.specs.Shares.{share_begin};
 ghost use Rattle.ring_explore.specs.Explored.{AreTried, seeds_in, totals_text, IsTotals, IsIllegal};
-ghost use Rattle.ring_explore.specs.Tried.{IsTriedIn};
+ghost use Rattle.ring_explore.specs.Tried.{IsTriedIn, IsNotTried, IsNotExplored};
 
 use crate::found::Found;
 use crate::one::try_seed;
@@ -34,10 +36,12 @@ const FIRST: u64 = 16;
 /// - where memory is refused to a script, or to a run itself, `err` is told so, and nothing is printed; a node that is refused memory in
 ///   its step has stopped, and its run goes on;
 /// - where the votes are none of 1 to 16 nodes, each at least 1, `err` is told so, and nothing is printed;
+/// - where what was made for a seed were no such script, `err` is told so, and nothing is printed;
 /// - where `out` fails, nothing is told.
 ///
-/// Where the status is 0, a script of so many nodes and lines was made and run for each seed, and each run is legal. Which of these
-/// scripts a seed makes no contract says.
+/// Where the last seed stands before the first, there is none: the votes are not looked at, and the status is 0, with `seeds 0`.
+/// Where the status is 0, a script of nodes with these votes and of so many lines was made and run for each seed, and each run is legal.
+/// Which of these scripts a seed makes no contract says.
 /// Where there is a `progress`, it is told from the first second on how far it has come, and in the end that is taken away again, as a
 /// terminal does it.
 pub fn explore<R: Threads + Clock + Sync, O: Write, E: Write, P: Write>(
@@ -55,6 +59,7 @@ pub fn explore<R: Threads + Clock + Sync, O: Write, E: Write, P: Write>(
         result ≡ 0 → AreTried (IsTriedIn object.sequential words.forms plan.entry) plan.entry.first (plan.entry.first + seeds_in plan.entry.first plan.entry.last) None }
     ensures printed { result ≡ 0 → Prints (O.contents out.old) (O.contents out.new) (IsTotals (seeds_in plan.entry.first plan.entry.last)) }
     ensures kept { result ≡ 1 → (out.new ≡ out.old) ⊎ (err.new ≡ err.old) }
+    ensures stranger { ¬ AreVotes plan.entry.votes.now → plan.entry.first ≤ plan.entry.last → (result ≡ 1) × (out.new ≡ out.old) }
 {
     explore_of::<Things<Global>, ShelfWords, R, O, E, P>(
         rt, alloc, plan, threads, out, err, progress,
@@ -83,6 +88,7 @@ pub fn explore_of<
     ensures legal { result ≡ 0 → AreTried (IsTriedIn T.sequential V.forms plan.entry) plan.entry.first (plan.entry.first + seeds_in plan.entry.first plan.entry.last) None }
     ensures printed { result ≡ 0 → Prints (O.contents out.old) (O.contents out.new) (IsTotals (seeds_in plan.entry.first plan.entry.last)) }
     ensures kept { result ≡ 1 → (out.new ≡ out.old) ⊎ (err.new ≡ err.old) }
+    ensures stranger { ¬ AreVotes plan.entry.votes.now → plan.entry.first ≤ plan.entry.last → (result ≡ 1) × (out.new ≡ out.old) }
 {
     match explore_all::<T, V, R, O, P>(rt, alloc, &plan, threads, out, progress) {
         Ok(true) => 0,
@@ -91,7 +97,8 @@ pub fn explore_of<
     }
 }
 
-/// Tries all seeds, and prints what was found. Answers whether all runs are legal.
+/// Tries all seeds, and prints what was found. Answers whether all runs are legal. Otherwise `Output`, or, with nothing printed, a refusal
+/// as `try_seed` has them.
 fn explore_all<
     T: Object<Alloc = Global> + Send,
     V: Vocabulary + Send,
@@ -110,13 +117,18 @@ fn explore_all<
         → AreTried (IsTriedIn T.sequential V.forms plan.now) plan.now.first (plan.now.first + seeds_in plan.now.first plan.now.last) None) }
     ensures printed { IfOk result (λ is_legal. IsTrue is_legal
         → Prints (O.contents out.old) (O.contents out.new) (IsTotals (seeds_in plan.now.first plan.now.last))) }
-    ensures failed { IfErr result (λ failure. (failure ≡ Output) ⊎ (out.new ≡ out.old)) }
+    ensures illegal { IfOk result (λ is_legal. is_legal ≡ false → (first : ℕ)
+        × AreTried (IsTriedIn T.sequential V.forms plan.now) plan.now.first (plan.now.first + seeds_in plan.now.first plan.now.last) (Some first)) }
+    ensures named { IfOk result (λ is_legal. is_legal ≡ false
+        → Prints (O.contents out.old) (O.contents out.new) (IsIllegal (IsMadeBy V.forms plan.now.votes.now plan.now.lines))) }
+    ensures failed { IfErr result (λ failure. (failure ≡ Output) ⊎ ((out.new ≡ out.old) × IsNotExplored plan.now.votes.now failure)) }
+    ensures stranger { ¬ AreVotes plan.now.votes.now → plan.now.first ≤ plan.now.last → IsErr result × (out.new ≡ out.old) }
 {
     let found = try_all::<T, V, R, P>(rt, alloc, plan, threads, progress)?;
     print_found::<T, V, O>(alloc, plan, &found, out)
 }
 
-/// Prints what was found. Answers whether all runs are legal.
+/// Prints what was found. Answers whether all runs are legal. Otherwise as `explore_all`.
 fn print_found<T: Object, V: Vocabulary, O: Write>(
     alloc: Global,
     plan: &ExplorePlan<'_>,
@@ -128,7 +140,12 @@ fn print_found<T: Object, V: Vocabulary, O: Write>(
         → AreTried (IsTriedIn T.sequential V.forms plan.now) plan.now.first (plan.now.first + seeds_in plan.now.first plan.now.last) None) }
     ensures printed { IfOk result (λ is_legal. IsTrue is_legal
         → Prints (O.contents out.old) (O.contents out.new) (IsTotals (seeds_in plan.now.first plan.now.last))) }
-    ensures failed { IfErr result (λ failure. (failure ≡ Output) ⊎ (out.new ≡ out.old)) }
+    ensures verdict { IfOk result (λ is_legal. IsTrue is_legal ↔ (found.now.illegal ≡ None)) }
+    ensures illegal { IfOk result (λ is_legal. is_legal ≡ false → (first : ℕ)
+        × AreTried (IsTriedIn T.sequential V.forms plan.now) plan.now.first (plan.now.first + seeds_in plan.now.first plan.now.last) (Some first)) }
+    ensures named { IfOk result (λ is_legal. is_legal ≡ false
+        → Prints (O.contents out.old) (O.contents out.new) (IsIllegal (IsMadeBy V.forms plan.now.votes.now plan.now.lines))) }
+    ensures failed { IfErr result (λ failure. (failure ≡ Output) ⊎ ((out.new ≡ out.old) × IsNotExplored plan.now.votes.now failure)) }
 {
     match found.illegal {
         Some(seed) => {
@@ -142,15 +159,15 @@ fn print_found<T: Object, V: Vocabulary, O: Write>(
     }
 }
 
-/// Prints the script of a seed whose run is not legal.
+/// Prints the script of a seed whose run is not legal. Otherwise as `explore_all`.
 fn print_illegal<V: Vocabulary, O: Write>(
     alloc: Global,
     plan: &ExplorePlan<'_>,
     seed: u64,
     out: &mut O,
 ) -> Result<(), Failure>
-    ensures printed { OnOk result (Prints (O.contents out.old) (O.contents out.new) (IsIllegal (IsMadeBy V.forms (length plan.now.votes.now) plan.now.lines))) }
-    ensures failed { IfErr result (λ failure. (failure ≡ Output) ⊎ (out.new ≡ out.old)) }
+    ensures printed { OnOk result (Prints (O.contents out.old) (O.contents out.new) (IsIllegal (IsMadeBy V.forms plan.now.votes.now plan.now.lines))) }
+    ensures failed { IfErr result (λ failure. (failure ≡ Output) ⊎ ((out.new ≡ out.old) × IsNotExplored plan.now.votes.now failure)) }
 {
     let text = made_script_by::<V, Global>(alloc, plan.votes, seed, plan.lines)?;
     write!(out, "# legal no\n{text}").map_err(|_| Failure::Output)
@@ -184,8 +201,9 @@ fn try_all<
     threads: u16,
     progress: Option<&mut P>,
 ) -> Result<Found, Fault>
-    ensures { IfOk result (λ found.
+    ensures ok { IfOk result (λ found.
         AreTried (IsTriedIn O.sequential V.forms plan.now) plan.now.first (plan.now.first + seeds_in plan.now.first plan.now.last) found.illegal) }
+    ensures refused { IfErr result (IsNotTried plan.now.votes.now) }
 {
     match progress {
         Some(out) => {
@@ -215,8 +233,9 @@ fn try_rounds<
     meter: &mut Meter,
     out: &mut P,
 ) -> Result<Found, Fault>
-    ensures { let many = seeds_in plan.now.first plan.now.last in IfOk result (λ found. from ≤ many
+    ensures ok { let many = seeds_in plan.now.first plan.now.last in IfOk result (λ found. from ≤ many
         → AreTried (IsTriedIn O.sequential V.forms plan.now) (plan.now.first + from) (plan.now.first + many) found.illegal) }
+    ensures refused { IfErr result (IsNotTried plan.now.votes.now) }
 {
     let many = plan.many();
     if from >= many {
@@ -241,8 +260,9 @@ fn try_part<O: Object<Alloc = Global> + Send, V: Vocabulary + Send, R: Threads +
     plan: &ExplorePlan<'_>,
     threads: u16,
 ) -> Result<Found, Fault>
-    ensures { IfOk result (λ found.
+    ensures ok { IfOk result (λ found.
         AreTried (IsTriedIn O.sequential V.forms plan.now) plan.now.first (plan.now.first + seeds_in plan.now.first plan.now.last) found.illegal) }
+    ensures refused { IfErr result (IsNotTried plan.now.votes.now) }
 {
     let parts = try_shares::<O, V, R>(rt, alloc, plan, threads)?;
     joined::<O, V>(plan, threads, parts)
@@ -260,6 +280,8 @@ fn try_shares<O: Object<Alloc = Global> + Send, V: Vocabulary + Send, R: Threads
         IfOk result (λ parts. (share : ℕ) (part : _) → share < max shares 1 → IfOk (slice_index_or parts.items share part) (λ found.
         AreTried (IsTriedIn O.sequential V.forms plan.now) (plan.now.first + share_begin many shares share)
         (plan.now.first + share_begin many shares (share + 1)) found.illegal)) }
+    ensures refused { IfOk result (λ parts. (share : ℕ) (part : _) → share < max shares 1
+        → IfErr (slice_index_or parts.items share part) (IsNotMade plan.now.votes.now)) }
 {
     thread::map_indices(
         rt,
@@ -280,8 +302,11 @@ fn joined<O: Object<Alloc = Global>, V: Vocabulary>(
         (share : ℕ) (part : _) → share < max shares 1 → IfOk (slice_index_or parts.items share part) (λ found.
         AreTried (IsTriedIn O.sequential V.forms plan.now) (plan.now.first + share_begin many shares share)
         (plan.now.first + share_begin many shares (share + 1)) found.illegal) }
-    ensures { IfOk result (λ found.
+    requires refused { (share : ℕ) (part : _) → share < max shares 1
+        → IfErr (slice_index_or parts.items share part) (IsNotMade plan.now.votes.now) }
+    ensures ok { IfOk result (λ found.
         AreTried (IsTriedIn O.sequential V.forms plan.now) plan.now.first (plan.now.first + seeds_in plan.now.first plan.now.last) found.illegal) }
+    ensures refused { IfErr result (IsNotMade plan.now.votes.now) }
 {
     // The contract alone speaks of these two.
     let (_, _) = (plan, shares);
@@ -300,9 +325,10 @@ fn try_share<O: Object<Alloc = Global>, V: Vocabulary>(
     shares: u16,
     share: u64,
 ) -> Result<Found, Fault>
-    ensures { let many = seeds_in plan.now.first plan.now.last in
+    ensures ok { let many = seeds_in plan.now.first plan.now.last in
         IfOk result (λ found. AreTried (IsTriedIn O.sequential V.forms plan.now) (plan.now.first + share_begin many shares share)
         (plan.now.first + share_begin many shares (share + 1)) found.illegal) }
+    ensures refused { IfErr result (IsNotMade plan.now.votes.now) }
 {
     let many = plan.many();
     let mut found = Found::new();

@@ -1,11 +1,12 @@
 //! One seed: its script is made, run and checked.
 
-ghost use Rattle.std.specs.Prelude.{◌≡◌, ℕ, ◌+◌, ◌↔◌, Bool, List, Ok, OnOk, IfOk, IsTrue, length};
+ghost use Rattle.std.specs.Prelude.{◌≡◌, ℕ, ◌+◌, ◌↔◌, Bool, List, Ok, OnOk, IfOk, IfErr, IsTrue, length, count_by};
+ghost use Rattle.ring_base.specs.declared.fault.Fault.TheVariants.{Memory};
 ghost use Rattle.ring_script.specs.Fits.{IsFit, AreFit};
 ghost use Rattle.ring_script.specs.Scripts.{script_by, schedule_by};
-ghost use Rattle.ring_script_maker.specs.Made.{IsMadeBy};
+ghost use Rattle.ring_script_maker.specs.Made.{IsMadeBy, IsNotMade};
 ghost use Rattle.ring_console.specs.Running.{run_opening, hears, Comes, Does, Pumps, Runs, IsLegal};
-ghost use Rattle.ring_explore.specs.Explored.{AreTried, illegal_of};
+ghost use Rattle.ring_explore.specs.Explored.{AreTried, illegal_of, is_answer};
 ghost use Rattle.ring_explore.specs.Tried.{IsTried};
 
 use crate::found::Found;
@@ -17,15 +18,16 @@ use ring_object::Object;
 use ring_script_maker::made_script_by;
 use std::alloc::{Allocator, Global};
 
-/// What is found of one seed: its script is made, and run, and its run is checked. Or `Memory`; `BadScript` where what was
-/// made is no script.
+/// What is found of one seed: its script is made, and run, and its run is checked. Or `Memory`; `NotMember` where these are no votes of
+/// a group; `BadScript` where what was made is no such script.
 pub(crate) fn try_seed<O: Object<Alloc = Global>, V: Vocabulary>(
     alloc: Global,
     votes: &[u8],
     seed: u64,
     lines: u32,
 ) -> Result<Found, Fault>
-    ensures { IfOk result (λ found. AreTried (IsTried O.sequential V.forms (length votes.now) lines) seed (seed + 1) found.illegal) }
+    ensures ok { IfOk result (λ found. AreTried (IsTried O.sequential V.forms votes.now lines) seed (seed + 1) found.illegal) }
+    ensures refused { IfErr result (IsNotMade votes.now) }
 {
     let text = made_script_by::<V, Global>(alloc, votes, seed, lines)?;
     match Script::parse_by::<V>(alloc, text.as_bytes()) {
@@ -35,15 +37,16 @@ pub(crate) fn try_seed<O: Object<Alloc = Global>, V: Vocabulary>(
     }
 }
 
-/// What is found of the script of a seed: it is run, and its run is checked.
+/// What is found of the script of a seed: it is run, and its run is checked. Or `Memory`.
 fn try_script<O: Object<Alloc = Global>, V: Vocabulary>(
     alloc: Global,
     script: Script,
     seed: u64,
 ) -> Result<Found, Fault>
     requires { AreFit script.lines.items }
-    ensures { IfOk result (λ found. (made : List ℕ) (nodes lines : ℕ) → script_by V.forms made ≡ Ok (schedule_by script)
-        → IsMadeBy V.forms nodes lines made → AreTried (IsTried O.sequential V.forms nodes lines) seed (seed + 1) found.illegal) }
+    ensures ok { IfOk result (λ found. (made votes : List ℕ) (lines : ℕ) → script_by V.forms made ≡ Ok (schedule_by script)
+        → IsMadeBy V.forms votes lines made → AreTried (IsTried O.sequential V.forms votes lines) seed (seed + 1) found.illegal) }
+    ensures refused { IfErr result (λ fault. fault ≡ Memory) }
 {
     let mut seen = Seen::<O>::new(alloc, script.nodes)?;
     seen.take(script)?;
@@ -62,9 +65,10 @@ struct Seen<O: Object> {
 }
 
 impl<O: Object> Seen<O> {
-    /// The nodes at their opening.
+    /// The nodes at their opening, or `Memory`.
     fn new(alloc: O::Alloc, nodes: Fixed) -> Result<Seen<O>, Fault>
-        ensures { IfOk result (λ seen. seen.run ≡ run_opening nodes) }
+        ensures ok { IfOk result (λ seen. seen.run ≡ run_opening nodes) }
+        ensures refused { IfErr result (λ fault. fault ≡ Memory) }
     {
         let none = RingId {
             seq: 0,
@@ -78,10 +82,11 @@ impl<O: Object> Seen<O> {
         })
     }
 
-    /// Does what all lines ask for.
+    /// Does what all lines ask for. Or `Memory`.
     fn take(&mut self, script: Script<O::Alloc>) -> Result<(), Fault>
         requires { AreFit script.lines.items }
-        ensures { OnOk result ((text : List ℕ) × Runs O.sequential script.lines.items self.old.run self.new.run text) }
+        ensures ok { OnOk result ((text : List ℕ) × Runs O.sequential script.lines.items self.old.run self.new.run text) }
+        ensures refused { IfErr result (λ fault. fault ≡ Memory) }
     {
         for numbered in script.lines {
             self.take_line(numbered.line)?;
@@ -89,10 +94,11 @@ impl<O: Object> Seen<O> {
         Ok(())
     }
 
-    /// Does what a line asks for, a pump turn by turn.
+    /// Does what a line asks for, a pump turn by turn. Or `Memory`.
     fn take_line(&mut self, line: Line<O::Alloc>) -> Result<(), Fault>
         requires { IsFit line }
-        ensures { OnOk result (Does O.sequential line self.old.run self.new.run) }
+        ensures ok { OnOk result (Does O.sequential line self.old.run self.new.run) }
+        ensures refused { IfErr result (λ fault. fault ≡ Memory) }
     {
         if let Line::Pump { turns } = &line {
             return self.pump(*turns);
@@ -115,9 +121,10 @@ impl<O: Object> Seen<O> {
         }
     }
 
-    /// Takes turns, fewer where no copy is open.
+    /// Takes turns, fewer where no copy is open. Or `Memory`.
     fn pump(&mut self, turns: u32) -> Result<(), Fault>
-        ensures { OnOk result (Pumps O.sequential turns self.old.run self.new.run) }
+        ensures ok { OnOk result (Pumps O.sequential turns self.old.run self.new.run) }
+        ensures refused { IfErr result (λ fault. fault ≡ Memory) }
     {
         for _ in 0..turns {
             let Some(pair) = self.run.close_first() else {
@@ -128,9 +135,10 @@ impl<O: Object> Seen<O> {
         Ok(())
     }
 
-    /// A copy that is closed comes to its receiver, or is lost at the cut.
+    /// A copy that is closed comes to its receiver, or is lost at the cut. Or `Memory`.
     fn come(&mut self, pair: Pair) -> Result<(), Fault>
-        ensures { OnOk result (Comes O.sequential (hears self.old.run.groups pair.sender pair.receiver) pair self.old.run self.new.run) }
+        ensures ok { OnOk result (Comes O.sequential (hears self.old.run.groups pair.sender pair.receiver) pair self.old.run self.new.run) }
+        ensures refused { IfErr result (λ fault. fault ≡ Memory) }
     {
         if !self.run.hears(pair.sender, pair.receiver) {
             return Ok(());
@@ -139,11 +147,14 @@ impl<O: Object> Seen<O> {
         self.look(pair.receiver)
     }
 
-    /// Keeps the ring that is installed at this node, if it was not seen before.
+    /// Keeps the ring that is installed at this node, if it was not seen before. Or `Memory`.
     fn look(&mut self, node: Proc) -> Result<(), Fault>
-        ensures { self.new.run ≡ self.old.run }
+        ensures run { self.new.run ≡ self.old.run }
+        ensures refused { IfErr result (λ fault. fault ≡ Memory) }
     {
-        let ring = ring_of(self.run.world(), node)?;
+        let Some(ring) = ring_of(self.run.world(), node) else {
+            return Ok(());
+        };
         let place = usize::from(node.number()) - 1;
         if self.last[place] == ring {
             return Ok(());
@@ -155,12 +166,14 @@ impl<O: Object> Seen<O> {
         Ok(())
     }
 
-    /// What was found of this seed. It is named where its run is not legal, and there alone.
+    /// What was found of this seed. It is named where its run is not legal, and there alone. Or `Memory`.
     fn found(&self, alloc: O::Alloc, seed: u64) -> Result<Found, Fault>
         ensures legal { IfOk result (λ found. (is_legal : Bool) × (IsTrue is_legal ↔ IsLegal O.sequential self.now.run.played)
             × (found.illegal ≡ illegal_of is_legal seed)) }
         ensures events { IfOk result (λ found. found.events ≡ length self.now.run.played.events) }
         ensures calls { IfOk result (λ found. found.calls ≡ self.now.calls) }
+        ensures answered { IfOk result (λ found. found.answered ≡ count_by is_answer self.now.run.played.told) }
+        ensures refused { IfErr result (λ fault. fault ≡ Memory) }
     {
         let is_legal = is_legal(alloc, &self.run)?;
         let world = self.run.world();
@@ -174,10 +187,10 @@ impl<O: Object> Seen<O> {
     }
 }
 
-/// The last installed ring of a node. `NotMember` where there is no such node.
-fn ring_of<O: Object>(world: &World<O>, node: Proc) -> Result<RingId, Fault> {
-    let node = world.fixed().proc(node.number())?;
-    Ok(world.node(node).ring())
+/// The last installed ring of a node. `None` where there is no such node.
+fn ring_of<O: Object>(world: &World<O>, node: Proc) -> Option<RingId> {
+    let node = world.fixed().proc(node.number()).ok()?;
+    Some(world.node(node).ring())
 }
 
 /// The node at which a line asks for something.
@@ -193,7 +206,9 @@ fn node_of<A: Allocator + Copy>(line: &Line<A>) -> Option<Proc> {
 }
 
 /// How many calls were answered.
-fn answers<O: Object>(world: &World<O>) -> u64 {
+fn answers<O: Object>(world: &World<O>) -> u64
+    ensures { result ≡ count_by is_answer world.now.told }
+{
     let mut many = 0u64;
     for told in world.told() {
         if let Told::Answer(..) = told {

@@ -10,7 +10,7 @@ pub struct ExplorePlan<'a> {
     pub votes: &'a [u8],
     pub first: u64,
     pub last: u64,
-    /// How many lines each script has.
+    /// How many lines each script has, or 10,000 where this is more, and `show` behind them.
     pub lines: u32,
 }
 

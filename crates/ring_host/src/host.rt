@@ -1,6 +1,6 @@
 //! The host, and what its callers ask of it.
 
-ghost use Rattle.std.specs.Prelude.{◌≡◌, ◌<◌, ◌≤◌, ◌⊎◌, [], ◌++◌, All, IfOk, IfErr, IfSome, IfNone, OnErr, Ok, Some, option_to_list};
+ghost use Rattle.std.specs.Prelude.{◌≡◌, ◌<◌, ◌≤◌, ◌⊎◌, [], ◌++◌, All, IfOk, IfErr, IfSome, IfNone, OnErr, Ok, Some, None, option_to_list};
 ghost use Rattle.ring_base.specs.declared.fault.Fault.TheVariants.{NotMember, Memory, Stranger};
 ghost use Rattle.std.specs.Fn.{FnOnceReturnsAt};
 ghost use Rattle.ring_payload.specs.Calls.{CallFits};
@@ -9,7 +9,7 @@ ghost use Rattle.ring_seat.specs.Seats.{IsAt, IsOwn};
 ghost use Rattle.ring_host.specs.Answering.{IsAnswered};
 ghost use Rattle.ring_host.specs.Refusing.{IsTurnFault, IsSubmitFault};
 ghost use Rattle.ring_host.specs.declared.item.Task.TheVariants.{Timeout};
-ghost use Rattle.ring_host.specs.Tasks.{TaskFits};
+ghost use Rattle.ring_host.specs.Tasks.{TaskFits, IsFrame};
 ghost use Rattle.ring_host.specs.Turns.{published_by, IsCounted};
 
 use crate::answers::Answers;
@@ -17,11 +17,12 @@ use crate::bell::Bell;
 use crate::gate::Open;
 use crate::inbox::Inbox;
 use crate::item::Task;
-use crate::step::NOWHERE;
+use crate::submitting::submit_in;
 use crate::taking::take;
 use crate::turn::Turn;
+use crate::turning::stop_in;
 use ring_base::{Fault, Kind, MOST_PROCESSORS, Proc};
-use ring_book::{Book, BookName, Cell, Input};
+use ring_book::{Book, BookName, Cell};
 use ring_object::Object;
 use ring_payload::Call;
 use ring_seat::{Gauge, Outbox, Seat};
@@ -130,6 +131,7 @@ impl<C, B, A: Allocator + Copy + Drop> HostOf<C, B, A> {
     ) -> Result<Option<Task<A>>, Fault>
         requires { node ≤ self.now.words }
         ensures due { IfSome due (λ kind. result ≡ Ok (Some (Timeout kind))) }
+        ensures item { IfNone due (IfOk result (λ found. IfSome found IsFrame)) }
         ensures fits { IfOk result (λ found. IfSome found (TaskFits place.new)) }
         ensures refused { IfErr result (λ fault. (fault ≡ Memory) ⊎ (fault ≡ Stranger)) }
     {
@@ -156,6 +158,7 @@ impl<O: Object, K: BookName<O::Alloc>> HostOf<Cell<O, K>, Book<O, K>, O::Alloc> 
         requires own { IsOwn self.now seat.old }
         ensures seat { IsOwn self.now seat.new × (seat.new.node ≡ seat.old.node) × (seat.new.seen ≡ seat.old.seen) }
         ensures ok { IfOk result (λ turn. seat.new.published ≡ published_by turn.length seat.old.published) }
+        ensures vain { IfOk result (λ turn. turn.length ≡ None → turn.dropped ≡ 0) }
         ensures clock { IfOk result (λ turn. IsCounted turn.length seat.old.clock seat.new.clock) }
         ensures err { OnErr result ((seat.new.published ≡ seat.old.published) × (seat.new.clock ≡ counted seat.old.clock)) }
         ensures refused { IfErr result IsTurnFault }
@@ -197,7 +200,7 @@ impl<O: Object, K: BookName<O::Alloc>> HostOf<Cell<O, K>, Book<O, K>, O::Alloc> 
     {
         let mut cell = take(rt, &self.cells[node.number() as usize - 1]);
         let place = take(rt, &self.book).reserve()?;
-        let stopped = cell.step(Input::Stop, NOWHERE);
+        let stopped = stop_in(&mut cell);
         let mut none = Outbox::new(self.alloc);
         self.entered(rt, place, &mut cell, stopped, &mut none)?;
         Ok(())
@@ -247,18 +250,7 @@ impl<O: Object, K: BookName<O::Alloc>> HostOf<Cell<O, K>, Book<O, K>, O::Alloc> 
     {
         let mut cell = take(rt, &self.cells[node.number() as usize - 1]);
         let mut book = take(rt, &self.book);
-        let place = book.reserve()?;
-        let ticket = match cell.submit(call) {
-            Ok(ticket) => ticket,
-            Err(fault) => {
-                book.release(place);
-                return Err(fault);
-            }
-        };
-        if book.enter(place, &mut cell).is_err() {
-            book.release(place);
-            return Err(Fault::Stranger);
-        }
+        let ticket = submit_in(&mut cell, &mut book, call)?;
         Ok(HostTicket { node, ticket })
     }
 }

@@ -1,13 +1,13 @@
 //! What lies in an inbox, and what a turn makes of it.
 
-ghost use Rattle.std.specs.Prelude.{◌≡◌, ◌⊎◌, IfOk, IfErr, OnOk};
+ghost use Rattle.std.specs.Prelude.{◌≡◌, ◌⊎◌, ◌↔◌, IfOk, IfErr, OnOk};
 ghost use Rattle.ring_base.specs.declared.fault.Fault.TheVariants.{Memory, Stranger, BadFrame};
 ghost use Rattle.ring_wire.specs.declared.frame.Frame.{Frame as OneFrame};
 ghost use Rattle.ring_wire.specs.Fronts.{IsReadFault};
 ghost use Rattle.ring_wire.specs.Spells.{Spells};
 ghost use Rattle.ring_host.specs.declared.item.Found.TheVariants.{Token};
 ghost use Rattle.ring_host.specs.declared.item.Task.TheVariants.{Came};
-ghost use Rattle.ring_host.specs.Tasks.{IsRead, IsFrame, TaskFits};
+ghost use Rattle.ring_host.specs.Tasks.{IsRead, IsTokenRead, IsTokenTask, TaskFits};
 
 use ring_base::{Fault, Kind};
 use ring_book::FrameRef;
@@ -63,7 +63,7 @@ impl<A: Allocator + Copy + Drop> Task<A> {
 
     /// What it is, of the frame in the turn's place.
     pub(crate) fn found(&self, place: &Option<Frame<A>>) -> Found
-        ensures { result ≡ Token → IsFrame self.now }
+        ensures { (result ≡ Token) ↔ IsTokenTask place.now self.now }
     {
         match self {
             Task::Timeout(_) => Found::Timeout,
@@ -90,7 +90,9 @@ fn read_frame<A: Allocator + Copy>(
 }
 
 /// What the frame is.
-fn found_in<A: Allocator + Copy>(frame: &Option<Frame<A>>) -> Found {
+fn found_in<A: Allocator + Copy>(frame: &Option<Frame<A>>) -> Found
+    ensures { (result ≡ Token) ↔ IsTokenRead frame.now }
+{
     match frame {
         Some(Frame::Token(_) | Frame::Commit(_)) => Found::Token,
         Some(Frame::Join(_)) => Found::Join,

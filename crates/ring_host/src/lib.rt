@@ -11,8 +11,10 @@ mod making;
 mod paced;
 mod run;
 mod step;
+mod submitting;
 mod taking;
 mod turn;
+mod turning;
 
 pub use answers::Answers;
 pub use gate::{Gate, GatePlace, Open, Stir};

@@ -1,10 +1,11 @@
 //! A turn, step by step: what is done under which lock.
 
-ghost use Rattle.std.specs.Prelude.{◌≡◌, ◌≤◌, IsTrue, IfErr, IfOk, OnErr};
+ghost use Rattle.std.specs.Prelude.{◌≡◌, ◌<◌, ◌≤◌, ◌↔◌, None, IsTrue, IfErr, IfOk, OnErr};
+ghost use Rattle.ring_rules.specs.Nodes.{node_kept};
 ghost use Rattle.ring_seat.specs.Clocks.{counted};
 ghost use Rattle.ring_seat.specs.Seats.{IsOwn};
 ghost use Rattle.ring_host.specs.Refusing.{IsTurnFault};
-ghost use Rattle.ring_host.specs.Tasks.{TaskFits, IsFrame};
+ghost use Rattle.ring_host.specs.Tasks.{TaskFits, IsTokenTask};
 ghost use Rattle.ring_host.specs.Turns.{published_by, IsCounted};
 ghost use Rattle.ring_host.specs.declared.item.Found.TheVariants.{Token};
 
@@ -13,17 +14,15 @@ use crate::host::HostOf;
 use crate::item::{Found, InboxFrame, Task};
 use crate::taking::take;
 use crate::turn::Turn;
-use ring_base::{Fault, Kind, Proc, State};
-use ring_book::{Book, BookName, Cell, FrameRef, Input, Line, Node, ReservedPlace};
+use crate::turning::{entered_in, place_in, step_in};
+use ring_base::{Fault, Proc, State};
+use ring_book::{Book, BookName, Cell, FrameRef, Node, ReservedPlace};
 use ring_object::Object;
 use ring_seat::{Outbox, Seat};
 use ring_wire::Frame;
 use std::alloc::Allocator;
 use std::sync::Wait;
 use std::thread;
-
-/// What is said to stand somewhere though no frame came.
-pub(crate) const NOWHERE: FrameRef = FrameRef { line: 0, place: 0 };
 
 /// What a step made: how many places the node has committed, whether it took a token, and whether there is anything to do.
 #[derive(Clone, Copy)]
@@ -35,7 +34,8 @@ struct Done {
 
 /// What a step made that found this and sent so many frames, of the node after it. A token that the node ignores sends nothing.
 fn done_of<O: Object>(node: &Node<O>, found: Found, sent: usize) -> Done
-    ensures { IsTrue result.has_taken → found ≡ Token }
+    ensures taken { IsTrue result.has_taken ↔ ((found ≡ Token) × (0 < sent)) }
+    ensures length { result.length ≡ (node_kept node.now).committed }
 {
     let length = node.committed_len();
     let is_quiet = sent <= 1 && node.state() == State::Operational && node.log_len() == length;
@@ -85,31 +85,6 @@ impl<C, B, A: Allocator + Copy + Drop> HostOf<C, B, A> {
     }
 }
 
-/// Copies the line's frames into the outbox, for which the line alone need be lent.
-fn pack<A: Allocator + Copy + Drop>(line: &Line<A>, outbox: &mut Outbox<A>) {
-    outbox.begin(line.number());
-    let frames = line.frames();
-    let many = frames.len().min(65_535) as u16;
-    for place in 0..many {
-        let Some(to) = frames.receivers(place) else {
-            continue;
-        };
-        let is_put = frames.put(place, &mut outbox.text).is_ok();
-        outbox.note(place, to, is_put);
-    }
-}
-
-/// The step of a timeout. It stands apart, since a call clears its room for an input.
-#[inline(never)]
-fn time_out<O: Object, K: BookName<O::Alloc>>(
-    cell: &mut Cell<O, K>,
-    kind: Kind,
-) -> Result<(), Fault>
-    ensures refused { IfErr result IsTurnFault }
-{
-    cell.step(Input::Timeout(kind), NOWHERE)
-}
-
 impl<O: Object, K: BookName<O::Alloc>> HostOf<Cell<O, K>, Book<O, K>, O::Alloc> {
     /// A turn that tells the gate.
     pub(crate) fn gated_turn<W: Wait, G: Gate>(
@@ -121,6 +96,7 @@ impl<O: Object, K: BookName<O::Alloc>> HostOf<Cell<O, K>, Book<O, K>, O::Alloc> 
         requires own { IsOwn self.now seat.old }
         ensures seat { IsOwn self.now seat.new × (seat.new.node ≡ seat.old.node) × (seat.new.seen ≡ seat.old.seen) }
         ensures ok { IfOk result (λ turn. seat.new.published ≡ published_by turn.length seat.old.published) }
+        ensures vain { IfOk result (λ turn. turn.length ≡ None → turn.dropped ≡ 0) }
         ensures clock { IfOk result (λ turn. IsCounted turn.length seat.old.clock seat.new.clock) }
         ensures err { OnErr result ((seat.new.published ≡ seat.old.published) × (seat.new.clock ≡ counted seat.old.clock)) }
         ensures refused { IfErr result IsTurnFault }
@@ -171,20 +147,14 @@ impl<O: Object, K: BookName<O::Alloc>> HostOf<Cell<O, K>, Book<O, K>, O::Alloc> 
     ) -> Result<Done, Fault>
         requires member { node ≤ self.now.words }
         requires fits { TaskFits came.now task }
-        ensures taken { IfOk result (λ done. IsTrue done.has_taken → IsFrame task) }
+        ensures taken { IfOk result (λ done. IsTrue done.has_taken → IsTokenTask came.now task) }
         ensures refused { IfErr result IsTurnFault }
     {
         let mut cell = take(rt, &self.cells[node.number() as usize - 1]);
         gate.at(node, GatePlace::Held);
         let place = self.place_for(rt, node, &task)?;
         let found = task.found(came);
-        let stepped = match task {
-            Task::Timeout(kind) => time_out(&mut cell, kind),
-            Task::Came(bytes, at) => {
-                let Some(frame) = came else { unreachable!() };
-                cell.hear(frame, bytes, at)
-            }
-        };
+        let stepped = step_in(&mut cell, task, came);
         let sent = self.entered(rt, place, &mut cell, stepped, outbox)?;
         Ok(done_of(cell.node(), found, sent))
     }
@@ -199,10 +169,7 @@ impl<O: Object, K: BookName<O::Alloc>> HostOf<Cell<O, K>, Book<O, K>, O::Alloc> 
         ensures refused { IfErr result IsTurnFault }
     {
         let mut book = take(rt, &self.book);
-        if let Task::Came(bytes, at) = task {
-            book.check(node, *at, bytes.as_slice())?;
-        }
-        book.reserve()
+        place_in(&mut book, node, task)
     }
 
     /// Enters the cell's line, and copies its frames into the outbox; or gives the place back. Tells how many frames the line sent.
@@ -219,23 +186,6 @@ impl<O: Object, K: BookName<O::Alloc>> HostOf<Cell<O, K>, Book<O, K>, O::Alloc> 
         ensures refused { IfErr result IsTurnFault }
     {
         let mut book = take(rt, &self.book);
-        if let Err(fault) = stepped
-            && fault != Fault::Memory
-        {
-            book.release(place);
-            return Err(fault);
-        }
-        let sent = match book.enter(place, cell) {
-            Ok(line) => {
-                pack(line, outbox);
-                line.frames().len()
-            }
-            Err(_) => {
-                book.release(place);
-                return Err(Fault::Stranger);
-            }
-        };
-        stepped?;
-        Ok(sent)
+        entered_in(&mut book, place, cell, stepped, outbox)
     }
 }

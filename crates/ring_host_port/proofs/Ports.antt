@@ -1,4 +1,4 @@
--- A client's ports, each to the node that comes after so many others.
+-- A client's ports, each to the node that comes after so many others, and each before any submit.
 use Rattle.std.proofs.Common.{◌≡◌, ℕ, ◌+◌, ◌-◌, ◌<◌, ◌≤◌, List, [], ◌∷◌, ◌++◌, length, slice_get, Some, ap, sym, subst, ◌∙◌, arith, ⊎_elim}
 use Rattle.std.proofs.Math.Nat.{mod-lt}
 use Rattle.ring_base.proofs.ListPlaces.{get-push}
@@ -8,13 +8,13 @@ use Rattle.ring_host_port.specs.Clients.{node_after}
 pub node_after-le : (nodes first passed : ℕ) → 0 < nodes → node_after nodes first passed ≤ nodes
 node_after-le nodes first passed some = let below = mod-lt (first - 1 + passed) some in omega (arith, below)
 
-module _ {P : Type 0} (node_of : P → ℕ) (wanted : ℕ → ℕ) where
-  -- each port is to the node that is wanted at its place
+module _ {P V : Type 0} (value_of : P → V) (wanted : ℕ → V) where
+  -- each port has the value that is wanted at its place
   abbrev pub AreAsWanted : List P → Type 0
-  AreAsWanted ports = (k : ℕ) (port : P) → slice_get ports k ≡ Some port → node_of port ≡ wanted k
+  AreAsWanted ports = (k : ℕ) (port : P) → slice_get ports k ≡ Some port → value_of port ≡ wanted k
 
   pub AreAsWanted-push : (ports : List P) {more : List P} {port : P} {place : ℕ} → more ≡ ports ++ port ∷ [] → length ports ≡ place
-      → node_of port ≡ wanted place → AreAsWanted ports → AreAsWanted more
+      → value_of port ≡ wanted place → AreAsWanted ports → AreAsWanted more
   AreAsWanted-push ports {more} {port} {place} put long to old k p at =
-      let is_last : (k ≡ length ports) × (port ≡ p) → node_of p ≡ wanted k = λ last. ap node_of (sym last.1) ∙ to ∙ ap wanted (sym (last.0 ∙ long)) in
+      let is_last : (k ≡ length ports) × (port ≡ p) → value_of p ≡ wanted k = λ last. ap value_of (sym last.1) ∙ to ∙ ap wanted (sym (last.0 ∙ long)) in
       ⊎_elim (λ before. old k p before) is_last (get-push ports port k p (subst (λ xs. slice_get xs k ≡ Some p) put at))

@@ -13,6 +13,8 @@ use std::sync::Wait;
 
 /// As many of the host's seats as it has nodes, off the end of the list. Refused, in this order: `NotMember` where there are fewer;
 /// `Memory`. The seats are as before then.
+///
+/// `nodes` is how many nodes the host has, and no other number: a client has a port to each of them.
 pub fn take_seats<O: Object, K: BookName<O::Alloc>>(
     host: &Host<O, K>,
     seats: &mut Vec<Seat<O::Alloc>, O::Alloc>,
@@ -34,8 +36,12 @@ pub fn take_seats<O: Object, K: BookName<O::Alloc>>(
     Ok(seats.split_off(seats.len() - count)?)
 }
 
-/// The client of this number, which tries the node `first`, and then the others in order, node 1 after the last. Each port takes one
-/// of the seats, of which there is one for each node. It polls a node 1,000,000 times a call at most. Or `Memory`.
+/// The client of this number before its first call, which tries the node `first`, and then the others in order, node 1 after the last.
+/// Each port takes one of the seats, of which there is one for each node, and nothing was submitted there. It polls a node 1,000,000
+/// times a call at most. Or `Memory`.
+///
+/// A `first` that is no node is not refused: 0 counts as 1, and past the last node it goes on with node 1, so that 5 of three nodes is
+/// node 2.
 pub fn client_of<'a, O: Object, K: BookName<O::Alloc>, W: Wait>(
     rt: &'a W,
     alloc: O::Alloc,
@@ -45,7 +51,7 @@ pub fn client_of<'a, O: Object, K: BookName<O::Alloc>, W: Wait>(
     first: u8,
 ) -> Result<Client<HostPort<'a, O, K, W>>, Fault>
     requires { AreForAll host.now seats.items }
-    ensures client { IfOk result (IsNew (λ port. port.node) number host.now.words first) }
+    ensures client { IfOk result (IsNew (λ port. port.node) (λ port. port.asked) number host.now.words first) }
     ensures refused { IfErr result (λ fault. fault ≡ Memory) }
 {
     let nodes = seats.len() as u8;

@@ -3,7 +3,7 @@
 
 ghost use Rattle.std.specs.Prelude.{◌≡◌};
 
-use crate::driven::{Driven, done};
+use crate::driven::{DrivenHost, done};
 use ring_base::{Fault, Fixed};
 use ring_host::{BookName, HostTicket, INBOX, Opening, Turn};
 use ring_object::Object;
@@ -20,7 +20,7 @@ type Row = (Turn, u64, (Option<Answer>, bool));
 /// What is seen after so many turns more.
 fn row<O: Object, K: BookName<O::Alloc>, W: Wait>(
     rt: &W,
-    driven: &mut Driven<O, K>,
+    driven: &mut DrivenHost<O, K>,
     ticket: &HostTicket,
     turns: u32,
 ) -> Result<Row, Fault> {
@@ -32,7 +32,7 @@ fn row<O: Object, K: BookName<O::Alloc>, W: Wait>(
 /// What is seen after turn 505 and after turn 506, where a call was submitted before the first one.
 fn both_rows<O: Object, K: BookName<O::Alloc>, W: Wait>(
     rt: &W,
-    driven: &mut Driven<O, K>,
+    driven: &mut DrivenHost<O, K>,
 ) -> Result<(Row, Row), Fault> {
     let ticket = driven.submit(rt, 1, 7, 1)?;
     let before = row(rt, driven, &ticket, 505)?;
@@ -48,7 +48,7 @@ fn opened<O: Object, K: BookName<O::Alloc>, W: Wait>(
 ) -> Result<(Row, Row), Fault>
     requires { opening ≡ K.name }
 {
-    let mut driven = Driven::<O, K>::new(alloc, opening, 1, INBOX)?;
+    let mut driven = DrivenHost::<O, K>::new(alloc, opening, 1, INBOX)?;
     let rows = both_rows(rt, &mut driven);
     drop(driven);
     rows
@@ -63,7 +63,7 @@ fn counted<W: Wait>(rt: &W, alloc: Global) -> Result<(Row, Row), Fault> {
 /// The calls of client 7 from this number on, so many, are submitted, and turns pass until they are done. What the last one told.
 fn calls<O: Object, K: BookName<O::Alloc>, W: Wait>(
     rt: &W,
-    driven: &mut Driven<O, K>,
+    driven: &mut DrivenHost<O, K>,
     first: u64,
     many: u64,
 ) -> Result<Turn, Fault> {
@@ -76,7 +76,7 @@ fn calls<O: Object, K: BookName<O::Alloc>, W: Wait>(
 /// What is told once the node has done 256 calls, and after one more.
 fn all_told<O: Object, K: BookName<O::Alloc>, W: Wait>(
     rt: &W,
-    driven: &mut Driven<O, K>,
+    driven: &mut DrivenHost<O, K>,
 ) -> Result<(Turn, Turn), Fault> {
     driven.turns(rt, 1, 506)?;
     for first in [1, 65, 129] {
@@ -94,7 +94,7 @@ fn many<O: Object, K: BookName<O::Alloc>, W: Wait>(
 ) -> Result<(Turn, Turn), Fault>
     requires { opening ≡ K.name }
 {
-    let mut driven = Driven::<O, K>::new(alloc, opening, 1, INBOX)?;
+    let mut driven = DrivenHost::<O, K>::new(alloc, opening, 1, INBOX)?;
     let told = all_told(rt, &mut driven);
     drop(driven);
     told

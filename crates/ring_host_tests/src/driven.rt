@@ -33,7 +33,7 @@ fn add_of<A: Allocator + Copy>(alloc: A, client: u32, number: u64) -> Result<Cal
 
 /// A host of up to three nodes, with the seats of all.
 #[derive(Drop)]
-pub struct Driven<O: Object, K: BookName<O::Alloc>> {
+pub struct DrivenHost<O: Object, K: BookName<O::Alloc>> {
     alloc: O::Alloc,
     pub host: Host<O, K>,
     first: Seat<O::Alloc>,
@@ -43,21 +43,21 @@ pub struct Driven<O: Object, K: BookName<O::Alloc>> {
     ghost at: { (first.gauge ≡ host) × (second.gauge ≡ host) × (third.gauge ≡ host) × (guest.gauge ≡ host) },
 }
 
-impl<O: Object, K: BookName<O::Alloc>> Driven<O, K> {
+impl<O: Object, K: BookName<O::Alloc>> DrivenHost<O, K> {
     /// The host of the opening that K names, of so many nodes, with inboxes of this size.
     pub fn new(
         alloc: O::Alloc,
         opening: Opening<O>,
         nodes: u8,
         inbox: usize,
-    ) -> Result<Driven<O, K>, Fault>
+    ) -> Result<DrivenHost<O, K>, Fault>
         requires name { opening ≡ K.name }
         requires inbox { (1 ≤ inbox) × (inbox ≤ 1024) }
     {
         let guests = u16::from(4u8.saturating_sub(nodes));
         let (host, mut seats) = Host::<O, K>::with_inbox(alloc, opening, guests, inbox)?;
         let (first, second, third, guest) = four_of(&host, &mut seats)?;
-        Ok(Driven {
+        Ok(DrivenHost {
             alloc,
             host,
             first,
@@ -167,13 +167,13 @@ impl<O: Object, K: BookName<O::Alloc>> Driven<O, K> {
     }
 }
 
-impl<O: Object + Send, K: BookName<O::Alloc> + Send + Sync> Driven<O, K>
+impl<O: Object + Send, K: BookName<O::Alloc> + Send + Sync> DrivenHost<O, K>
 where
     O::Alloc: Send + Sync,
 {
     /// Runs node 1 in a thread, until that ends.
     pub fn run_first<W: Threads + Wait + Sync>(self, rt: &W) -> Result<(), Fault> {
-        let Driven {
+        let DrivenHost {
             alloc,
             host,
             first,

@@ -2,7 +2,7 @@
 
 ghost use Rattle.std.specs.Prelude.{◌≡◌};
 
-use crate::driven::Driven;
+use crate::driven::DrivenHost;
 use ring_base::{Fault, Fixed, Kind, paired};
 use ring_host::{BookName, HostTicket, INBOX, Opening};
 use ring_object::Object;
@@ -31,7 +31,7 @@ struct Shown {
 /// A turn of node 1, and whether it is refused as the book is full. Any other refusal is answered.
 fn is_full<O: Object, K: BookName<O::Alloc>, W: Wait>(
     rt: &W,
-    driven: &mut Driven<O, K>,
+    driven: &mut DrivenHost<O, K>,
 ) -> Result<bool, Fault> {
     match driven.turn(rt, 1) {
         Ok(_) => Ok(false),
@@ -43,7 +43,7 @@ fn is_full<O: Object, K: BookName<O::Alloc>, W: Wait>(
 /// Turns of node 1 until the book is full. Any other refusal is answered.
 fn fill<O: Object, K: BookName<O::Alloc>, W: Wait>(
     rt: &W,
-    driven: &mut Driven<O, K>,
+    driven: &mut DrivenHost<O, K>,
 ) -> Result<(), Fault> {
     for _ in 0..MOST {
         if is_full(rt, driven)? {
@@ -57,7 +57,7 @@ fn fill<O: Object, K: BookName<O::Alloc>, W: Wait>(
 /// the call.
 fn filled<O: Object, K: BookName<O::Alloc>, W: Wait>(
     rt: &W,
-    driven: &mut Driven<O, K>,
+    driven: &mut DrivenHost<O, K>,
 ) -> Result<HostTicket, Fault> {
     let ticket = driven.submit(rt, 2, 7, 1)?;
     driven.stop(rt, 2)?;
@@ -70,7 +70,7 @@ fn filled<O: Object, K: BookName<O::Alloc>, W: Wait>(
 /// Whether a submit is refused at the node as the book is full.
 fn is_submit_refused<O: Object, K: BookName<O::Alloc>, W: Wait>(
     rt: &W,
-    driven: &mut Driven<O, K>,
+    driven: &mut DrivenHost<O, K>,
     node: u8,
     client: u32,
 ) -> bool {
@@ -80,7 +80,7 @@ fn is_submit_refused<O: Object, K: BookName<O::Alloc>, W: Wait>(
 /// Whether a stop of the node is.
 fn is_stop_refused<O: Object, K: BookName<O::Alloc>, W: Wait>(
     rt: &W,
-    driven: &Driven<O, K>,
+    driven: &DrivenHost<O, K>,
     node: u8,
 ) -> bool {
     driven.stop(rt, node).err() == Some(Fault::BookFull)
@@ -89,7 +89,7 @@ fn is_stop_refused<O: Object, K: BookName<O::Alloc>, W: Wait>(
 /// What is seen of a host whose book is full, with the ticket of that call.
 fn seen<O: Object, K: BookName<O::Alloc>, W: Wait>(
     rt: &W,
-    driven: &mut Driven<O, K>,
+    driven: &mut DrivenHost<O, K>,
     ticket: &HostTicket,
 ) -> Shown {
     let at_one = is_submit_refused(rt, driven, 1, 8);
@@ -105,7 +105,7 @@ fn seen<O: Object, K: BookName<O::Alloc>, W: Wait>(
 /// What is seen of a host once its book is full.
 fn seen_full<O: Object, K: BookName<O::Alloc>, W: Wait>(
     rt: &W,
-    driven: &mut Driven<O, K>,
+    driven: &mut DrivenHost<O, K>,
 ) -> Result<Shown, Fault> {
     let ticket = filled(rt, driven)?;
     Ok(seen(rt, driven, &ticket))
@@ -121,7 +121,7 @@ where
     O::Alloc: Send + Sync,
     requires { opening ≡ K.name }
 {
-    let mut driven = Driven::<O, K>::new(alloc, opening, 2, INBOX)?;
+    let mut driven = DrivenHost::<O, K>::new(alloc, opening, 2, INBOX)?;
     let shown = seen_full(rt, &mut driven);
     let (driven, shown) = paired(driven, shown)?;
     Ok((shown, driven.run_first(rt).is_ok()))

@@ -2,7 +2,7 @@
 
 ghost use Rattle.std.specs.Prelude.{◌≡◌, ◌≤◌};
 
-use crate::driven::{Driven, done};
+use crate::driven::{DrivenHost, done};
 use ring_base::{Fault, Fixed, Kind};
 use ring_host::{BookName, Opening};
 use ring_object::Object;
@@ -16,7 +16,7 @@ use std::sync::Wait;
 /// inbox.
 fn dropped<O: Object, K: BookName<O::Alloc>, W: Wait>(
     rt: &W,
-    driven: &mut Driven<O, K>,
+    driven: &mut DrivenHost<O, K>,
 ) -> Result<(u32, u32), Fault> {
     driven.pass(1, Kind::Join);
     let at_500 = driven.turn(rt, 1)?;
@@ -33,7 +33,7 @@ fn opened<O: Object, K: BookName<O::Alloc>, W: Wait>(
 ) -> Result<(u32, u32), Fault>
     requires { opening ≡ K.name }
 {
-    let mut driven = Driven::<O, K>::new(alloc, opening, 2, 1)?;
+    let mut driven = DrivenHost::<O, K>::new(alloc, opening, 2, 1)?;
     let dropped = dropped(rt, &mut driven);
     drop(driven);
     dropped
@@ -76,7 +76,7 @@ fn has(first: Option<Answer>, second: Option<Answer>, third: Option<Answer>, cou
 /// so that its commit token is dropped; once it is due it goes out again.
 fn crowd<O: Object, K: BookName<O::Alloc>, W: Wait>(
     rt: &W,
-    driven: &mut Driven<O, K>,
+    driven: &mut DrivenHost<O, K>,
 ) -> Result<Cramped, Fault> {
     let first = driven.submit(rt, 1, 7, 1)?;
     let second = driven.submit(rt, 2, 8, 1)?;
@@ -108,7 +108,7 @@ fn opened_cramped<O: Object, K: BookName<O::Alloc>, W: Wait>(
 ) -> Result<Cramped, Fault>
     requires { opening ≡ K.name }
 {
-    let mut driven = Driven::<O, K>::new(alloc, opening, 3, 2)?;
+    let mut driven = DrivenHost::<O, K>::new(alloc, opening, 3, 2)?;
     let crowded = crowd(rt, &mut driven);
     drop(driven);
     crowded

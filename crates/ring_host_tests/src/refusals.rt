@@ -2,7 +2,7 @@
 
 ghost use Rattle.std.specs.Prelude.{◌≡◌};
 
-use crate::driven::Driven;
+use crate::driven::DrivenHost;
 use refusing_alloc::Refusing;
 use ring_base::{Fault, Fixed};
 use ring_host::{BookName, HostTicket, INBOX, Opening};
@@ -18,7 +18,7 @@ type Seen = (Result<HostTicket, Fault>, u32);
 /// A submit at node 1, and how many places it adds.
 fn submitted<O: Object, K: BookName<O::Alloc>, W: Wait>(
     rt: &W,
-    driven: &mut Driven<O, K>,
+    driven: &mut DrivenHost<O, K>,
     number: u64,
 ) -> Seen {
     let before = driven.places(rt);
@@ -38,7 +38,10 @@ fn is_refused(seen: Seen, fault: Fault) -> bool {
 
 /// Whether 64 submits are taken at a node that takes no turn, one more is refused as too many, and each call at it is refused
 /// once it has stopped.
-fn refuses<O: Object, K: BookName<O::Alloc>, W: Wait>(rt: &W, driven: &mut Driven<O, K>) -> bool {
+fn refuses<O: Object, K: BookName<O::Alloc>, W: Wait>(
+    rt: &W,
+    driven: &mut DrivenHost<O, K>,
+) -> bool {
     let mut are_taken = true;
     for number in 1..65u64 {
         let is = is_taken(submitted(rt, driven, number));
@@ -58,7 +61,7 @@ fn opened<O: Object, K: BookName<O::Alloc>, W: Wait>(
 ) -> Result<bool, Fault>
     requires { opening ≡ K.name }
 {
-    let mut driven = Driven::<O, K>::new(alloc, opening, 1, INBOX)?;
+    let mut driven = DrivenHost::<O, K>::new(alloc, opening, 1, INBOX)?;
     let refuses = refuses(rt, &mut driven);
     drop(driven);
     Ok(refuses)
@@ -83,7 +86,7 @@ type Short = (u64, u64, bool);
 fn short_submit<O: Object, K: BookName<O::Alloc>, W: Wait>(
     rt: &W,
     heap: &Refusing,
-    driven: &mut Driven<O, K>,
+    driven: &mut DrivenHost<O, K>,
 ) -> Short {
     let before = heap.requests();
     let seen = submitted(rt, driven, 1);
@@ -105,7 +108,7 @@ fn short<O: Object, K: BookName<O::Alloc>, W: Wait>(
 ) -> Result<Short, Fault>
     requires { opening ≡ K.name }
 {
-    let mut driven = Driven::<O, K>::new(alloc, opening, 1, INBOX)?;
+    let mut driven = DrivenHost::<O, K>::new(alloc, opening, 1, INBOX)?;
     let short = short_submit(rt, heap, &mut driven);
     drop(driven);
     Ok(short)

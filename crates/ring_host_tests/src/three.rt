@@ -3,7 +3,7 @@
 
 ghost use Rattle.std.specs.Prelude.{◌≡◌};
 
-use crate::driven::Driven;
+use crate::driven::DrivenHost;
 use refusing_alloc::Refusing;
 use ring_base::{Fault, Fixed, Kind};
 use ring_host::{Book, BookName, Cause, HostTicket, INBOX, Opening, Turn};
@@ -49,7 +49,7 @@ fn ends_with_stop<O: Object, K: BookName<O::Alloc>>(book: &Book<O, K>) -> bool {
 /// Whether turns, submits and stops are refused at node 2, since it has stopped.
 fn is_stopped<O: Object, K: BookName<O::Alloc>, W: Wait>(
     rt: &W,
-    driven: &mut Driven<O, K>,
+    driven: &mut DrivenHost<O, K>,
 ) -> bool {
     let has = driven.host.read_book(rt, |book| ends_with_stop(book));
     let stopped = Some(Fault::Stopped);
@@ -61,7 +61,7 @@ fn is_stopped<O: Object, K: BookName<O::Alloc>, W: Wait>(
 /// What came of the turn, which added so many places.
 fn came_of<O: Object, K: BookName<O::Alloc>, W: Wait>(
     rt: &W,
-    driven: &mut Driven<O, K>,
+    driven: &mut DrivenHost<O, K>,
     turned: Result<Turn, Fault>,
     added: u32,
 ) -> Came {
@@ -75,7 +75,10 @@ fn came_of<O: Object, K: BookName<O::Alloc>, W: Wait>(
 }
 
 /// A turn of node 2, and what came of it.
-fn turned<O: Object, K: BookName<O::Alloc>, W: Wait>(rt: &W, driven: &mut Driven<O, K>) -> Came {
+fn turned<O: Object, K: BookName<O::Alloc>, W: Wait>(
+    rt: &W,
+    driven: &mut DrivenHost<O, K>,
+) -> Came {
     let before = driven.places(rt);
     let turned = driven.turn(rt, 2);
     let added = driven.places(rt).wrapping_sub(before);
@@ -86,7 +89,7 @@ fn turned<O: Object, K: BookName<O::Alloc>, W: Wait>(rt: &W, driven: &mut Driven
 fn watched<O: Object, K: BookName<O::Alloc>, W: Wait>(
     rt: &W,
     heap: &Refusing,
-    driven: &mut Driven<O, K>,
+    driven: &mut DrivenHost<O, K>,
 ) -> Option<Came> {
     for _ in 0..WATCHED {
         let _ = driven.turn(rt, 1);
@@ -105,7 +108,7 @@ fn watched<O: Object, K: BookName<O::Alloc>, W: Wait>(
 /// Whether the call is done, as the book says too.
 fn is_done<O: Object, K: BookName<O::Alloc>, W: Wait>(
     rt: &W,
-    driven: &Driven<O, K>,
+    driven: &DrivenHost<O, K>,
     ticket: &HostTicket,
 ) -> bool {
     matches!(driven.polled(rt, ticket), (Some(Answer::Done(_)), true))
@@ -115,7 +118,7 @@ fn is_done<O: Object, K: BookName<O::Alloc>, W: Wait>(
 /// formed anew.
 fn goes_on<O: Object, K: BookName<O::Alloc>, W: Wait>(
     rt: &W,
-    driven: &mut Driven<O, K>,
+    driven: &mut DrivenHost<O, K>,
 ) -> Result<bool, Fault> {
     let at_one = driven.submit(rt, 1, 8, 1)?;
     let at_three = driven.submit(rt, 3, 9, 1)?;
@@ -143,7 +146,7 @@ struct Shown {
 fn story<O: Object, K: BookName<O::Alloc>, W: Wait>(
     rt: &W,
     heap: &Refusing,
-    driven: &mut Driven<O, K>,
+    driven: &mut DrivenHost<O, K>,
 ) -> Result<Shown, Fault> {
     driven.form(rt, FORM);
     driven.submit(rt, 1, 7, 1)?;
@@ -168,7 +171,7 @@ fn opened<O: Object, K: BookName<O::Alloc>, W: Wait>(
 ) -> Result<Shown, Fault>
     requires { opening ≡ K.name }
 {
-    let mut driven = Driven::<O, K>::new(alloc, opening, 3, INBOX)?;
+    let mut driven = DrivenHost::<O, K>::new(alloc, opening, 3, INBOX)?;
     let story = story(rt, heap, &mut driven);
     drop(driven);
     story

@@ -1,11 +1,12 @@
 //! The clients of a live run.
 
-ghost use Rattle.std.specs.Prelude.{◌≡◌};
-ghost use Rattle.ring_live.specs.Callers.{HasSeats};
+ghost use Rattle.std.specs.Prelude.{◌≡◌, ◌+◌, ◌≤◌, IfOk, IfErr};
+ghost use Rattle.ring_client.specs.Calling.{CallRefused};
+ghost use Rattle.ring_live.specs.Callers.{HasSeats, count_told, read_bytes, HasRead};
 
 use ring_base::Fault;
-use ring_client::Client;
-use ring_host_port::{BookName, Host, HostPort, Seat, client_of};
+use ring_client::{Client, Port};
+use ring_host_port::{BookName, Host, Seat, client_of};
 use ring_object::{Object, Reply};
 use ring_things::{Counters, Place, Replied};
 use std::alloc::{Allocator, Global};
@@ -80,25 +81,33 @@ fn try_call<O: Object, K: BookName<O::Alloc>, W: Wait>(
         return Ok(0);
     }
     wait_for_others(rt, running);
-    let read = COUNTERS.operation(&Counters::read(0));
-    let reply = client.call(read.as_slice())?;
-    Ok(count_in(&reply))
+    read_counter(&mut client)
 }
 
-/// Makes so many adds, or ends at the first fault. How many were answered.
-fn add<O: Object, K: BookName<O::Alloc>, W: Wait>(
-    client: &mut Client<HostPort<'_, O, K, W>>,
-    calls: u8,
-) -> u64 {
+/// Makes so many adds, or ends at the first fault. How many were answered: the client's number has risen by so many.
+fn add<P: Port>(client: &mut Client<P>, calls: u8) -> u64
+    ensures most { result ≤ calls }
+    ensures answered { client.new.next ≡ client.old.next + result }
+{
     let add = COUNTERS.operation(&Counters::add(0, 1));
-    let mut answered = 0u64;
-    for _ in 0..calls {
+    for answered in 0..calls {
         if client.call(add.as_slice()).is_err() {
-            return answered;
+            return u64::from(answered);
         }
-        answered = answered.saturating_add(1);
     }
-    answered
+    u64::from(calls)
+}
+
+/// Reads the counter: what a port's reply tells of it. Refused as the client's call is.
+fn read_counter<P: Port>(client: &mut Client<P>) -> Result<u64, Fault>
+    ensures counter { IfOk result (HasRead P.asked_of client.old client.new) }
+    ensures refused { IfErr result (CallRefused P.asked_of client.old client.new read_bytes) }
+{
+    let read = COUNTERS.operation(&Counters::read(0));
+    match client.call(read.as_slice()) {
+        Ok(reply) => Ok(count_in(&reply)),
+        Err(fault) => Err(fault),
+    }
 }
 
 /// Waits until one client alone runs.
@@ -112,8 +121,11 @@ fn wait_for_others<W: Wait>(rt: &W, running: &AtomicU64) {
 }
 
 /// The count that a reply tells, 0 where it tells none.
-fn count_in(reply: &Reply) -> u64 {
-    Replied::read(reply.as_slice())
-        .and_then(|replied| replied.value)
-        .unwrap_or(0)
+fn count_in(reply: &Reply) -> u64
+    ensures { result ≡ count_told reply.now }
+{
+    match Replied::read(reply.as_slice()) {
+        Some(replied) => replied.value.unwrap_or(0),
+        None => 0,
+    }
 }

@@ -1,9 +1,10 @@
 //! What the program prints of a live run.
 
 ghost use Rattle.std.specs.Prelude.{ℕ, ◌≡◌, ◌≤◌, ◌⊎◌, true, Ok, IfOk, IfErr, OnOk};
-ghost use Rattle.std.specs.Io.KnownBytes.{Appends, Keeps};
+ghost use Rattle.std.specs.Io.KnownBytes.{Appends};
+ghost use Rattle.ring_base.specs.Processors.{IsProc};
 ghost use Rattle.ring_report.specs.declared.failure.Failure.TheVariants.{Output};
-ghost use Rattle.ring_live.specs.Lived.{lived_text};
+ghost use Rattle.ring_live.specs.Lived.{lived_text, IsNotRun, IsNotPrinted};
 ghost use Rattle.ring_live.specs.declared.running.Lived.{Lived};
 
 use crate::running::{Lived, run_live};
@@ -35,6 +36,7 @@ pub fn live<W: Threads + Wait + Sync, O: Write, E: Write>(
     ensures quiet { result ≡ 0 → err.new ≡ err.old }
     ensures kept { result ≡ 1 → (out.new ≡ out.old) ⊎ (err.new ≡ err.old) }
     ensures range { result ≡ 0 → (1 ≤ nodes) × (nodes ≤ 16) }
+    ensures stranger { ¬ IsProc nodes → (result ≡ 1) × (out.new ≡ out.old) }
     ensures printed { result ≡ 0 → (lived : Lived) × (counter : ℕ) × (lived.nodes ≡ nodes) × (lived.counter ≡ Ok counter) × (lived.is_legal ≡ true)
         × Appends (O.contents out.old) (O.contents out.new) (lived_text lived counter) }
 {
@@ -42,18 +44,14 @@ pub fn live<W: Threads + Wait + Sync, O: Write, E: Write>(
         Ok(lived) => lived,
         Err(fault) => return report(err, Failure::Refused(fault)),
     };
-    let counter = match lived.counter {
-        Ok(counter) => counter,
-        Err(fault) => return report(err, Failure::Refused(fault)),
-    };
-    match print_lived(lived, counter, out) {
+    match print_lived(lived, out) {
         Ok(()) if lived.is_legal => 0,
         Ok(()) => NOT_LEGAL,
         Err(failure) => report(err, failure),
     }
 }
 
-/// What comes of a run of the program's object.
+/// What comes of a run of the program's object. Refused: `NotMember` where `nodes` isn't 1 to 16; else `Memory`.
 fn run<W: Threads + Wait + Sync>(
     rt: &W,
     alloc: Global,
@@ -62,13 +60,26 @@ fn run<W: Threads + Wait + Sync>(
 ) -> Result<Lived, Fault>
     ensures lived { IfOk result (λ lived. (lived.nodes ≡ nodes) × (lived.is_legal ≡ true)) }
     ensures range { OnOk result ((1 ≤ nodes) × (nodes ≤ 16)) }
+    ensures refused { IfErr result (IsNotRun nodes) }
 {
     let group = Fixed::new(nodes)?;
     run_live::<Things<Global>, W>(rt, alloc, group, calls)
 }
 
+/// Prints what came of a run. Nothing where the counter wasn't read: otherwise that fault, or `Output`.
+fn print_lived<O: Write>(lived: Lived, out: &mut O) -> Result<(), Failure>
+    ensures lines { OnOk result ((counter : ℕ) × (lived.counter ≡ Ok counter) × Appends (O.contents out.old) (O.contents out.new) (lived_text lived counter)) }
+    ensures refused { IfErr result (IsNotPrinted lived out.old out.new) }
+{
+    let counter = match lived.counter {
+        Ok(counter) => counter,
+        Err(fault) => return Err(Failure::Refused(fault)),
+    };
+    print_lines(lived, counter, out)
+}
+
 /// Prints what came of a run in which the counter was read so. Otherwise `Output`.
-fn print_lived<O: Write>(lived: Lived, counter: u64, out: &mut O) -> Result<(), Failure>
+fn print_lines<O: Write>(lived: Lived, counter: u64, out: &mut O) -> Result<(), Failure>
     ensures lines { OnOk result (Appends (O.contents out.old) (O.contents out.new) (lived_text lived counter)) }
     ensures failed { IfErr result (λ failure. failure ≡ Output) }
 {

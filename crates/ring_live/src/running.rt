@@ -1,9 +1,9 @@
 //! A live run.
 
-ghost use Rattle.std.specs.Prelude.{◌≡◌, ◌≤◌, ◌*◌, true, length, All, IfOk, IfErr};
+ghost use Rattle.std.specs.Prelude.{◌≡◌, ◌≤◌, ◌*◌, ◌-◌, ◌^◌, min, true, length, All, IfOk, IfErr};
 ghost use Rattle.ring_base.specs.declared.fault.Fault.TheVariants.{Memory};
 ghost use Rattle.ring_host_port.specs.Clients.{AreSeats};
-ghost use Rattle.ring_live.specs.Callers.{HasSeats};
+ghost use Rattle.ring_live.specs.Callers.{HasSeats, answered_of, counter_of, counter_after, lived_of};
 ghost use Rattle.ring_seat.specs.Seats.{IsAt};
 
 use crate::caller::{Caller, call};
@@ -108,8 +108,10 @@ where
     Ok(())
 }
 
-/// How many adds were answered, of all clients.
-fn answered_in<A: Allocator + Copy + Drop>(callers: &[Caller<A>]) -> u64 {
+/// How many adds were answered, of all clients, or the greatest number of 64 bits where that is more.
+fn answered_in<A: Allocator + Copy + Drop>(callers: &[Caller<A>]) -> u64
+    ensures { result ≡ min (2 ^ 64 - 1) (answered_of callers.now) }
+{
     let mut answered = 0u64;
     for caller in callers {
         answered = answered.saturating_add(caller.answered);
@@ -117,11 +119,44 @@ fn answered_in<A: Allocator + Copy + Drop>(callers: &[Caller<A>]) -> u64 {
     answered
 }
 
-/// What the first client read.
-fn counter_in<A: Allocator + Copy + Drop>(callers: &[Caller<A>]) -> Result<u64, Fault> {
+/// What the first client read, or its fault. `NotMember` where there is none.
+fn counter_in<A: Allocator + Copy + Drop>(callers: &[Caller<A>]) -> Result<u64, Fault>
+    ensures { result ≡ counter_of callers.now }
+{
     match callers.first() {
         Some(first) => first.counter,
         None => Err(Fault::NotMember),
+    }
+}
+
+/// What the first client read in a run that ended so. Of one that was refused, its fault.
+fn counter_after<A: Allocator + Copy + Drop>(
+    ran: Result<(), Fault>,
+    callers: &[Caller<A>],
+) -> Result<u64, Fault>
+    ensures { result ≡ counter_after ran callers.now }
+{
+    match ran {
+        Ok(()) => counter_in(callers),
+        Err(fault) => Err(fault),
+    }
+}
+
+/// What came of a run of so many nodes that ended so, as these clients tell it: how many of their adds were answered, and what the first
+/// read.
+fn lived_of<A: Allocator + Copy + Drop>(
+    nodes: u8,
+    ran: Result<(), Fault>,
+    callers: &[Caller<A>],
+    is_legal: bool,
+) -> Lived
+    ensures { result ≡ lived_of nodes ran callers.now is_legal }
+{
+    Lived {
+        nodes,
+        calls: answered_in(callers),
+        counter: counter_after(ran, callers),
+        is_legal,
     }
 }
 
@@ -170,16 +205,6 @@ where
         callers.as_mut_slice(),
         calls,
     );
-    let counter = match ran {
-        Ok(()) => counter_in(callers.as_slice()),
-        Err(fault) => Err(fault),
-    };
-    let calls = answered_in(callers.as_slice());
     let is_legal = is_legal(rt, alloc, &host)?;
-    Ok(Lived {
-        nodes,
-        calls,
-        counter,
-        is_legal,
-    })
+    Ok(lived_of(nodes, ran, callers.as_slice(), is_legal))
 }

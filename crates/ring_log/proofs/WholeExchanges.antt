@@ -1,11 +1,12 @@
 -- An exchange that is whole changes no more, so what a member keeps of it hands out the base at one message: that with which the exchange ends.
 use Rattle.std.proofs.Common.{◌≡◌, ℕ, ◌+◌, ◌-◌, ◌≤◌, nat_le, ◌==◌, ◌&&◌, Bool, true, false, List, [], ◌∷◌, ◌++◌, length}
 use Rattle.std.specs.Prelude.{◌||◌, nat_lt, take}
-use Rattle.std.proofs.Common.{Option, Some, None, refl, ap, sym, ◌∙◌, arith, add-zero, if◌then◌else◌}
-use Rattle.std.proofs.lemmas.Bool.{and_parts, cond-true, cond-false, eqb-true, leb-true, ltb-true, ne_eqb}
+use Rattle.std.proofs.Common.{Option, Some, None, refl, ap, sym, ◌∙◌, subst, arith, add-zero, if◌then◌else◌}
+use Rattle.std.proofs.lemmas.Bool.{and_parts, cond_both, cond-true, cond-false, eqb-true, leb-true, ltb-true, ne_eqb}
 use Rattle.std.proofs.lemmas.List.{append-nil}
 use Rattle.std.proofs.lemmas.Nat.Bits.{bit_at-zero}
-use Rattle.ring_base.specs.Processors.{has, nobody}
+use Rattle.ring_base.specs.Processors.{IsMember, has, nobody}
+use Rattle.ring_base.specs.Members.{nobody_member}
 use Rattle.ring_base.specs.Group.{Group, is_primary}
 use Rattle.ring_wire.specs.Payloads.{Call as OneCall, Part as OnePart, Head as OneHead, Snap as OneSnap, Payload}
 use Rattle.ring_wire.specs.PayloadVariants.{Call, Wrapped, End, Head, Part, Pack, Snap}
@@ -26,6 +27,12 @@ stated-by false o got total places whole = absurd (cc whole)
 -- every member's Head was heard
 pub stated : {A : Type 0} (e : Exchange A) → is_whole e ≡ true → e.unheard ≡ nobody
 stated e whole = eqb-true e.unheard nobody (stated-by (e.unheard == nobody) (wanted_by e.heads) e.got e.total e.places whole)
+
+-- while a member's Head is missing nothing is wanted
+pub wants_nothing : {A : Type 0} (e : Exchange A) (p : ℕ) → IsMember e.unheard p → wanted e ≡ None
+wants_nothing e p m = cond_both (e.unheard == nobody) (wanted_by e.heads) None (λ (o : Option Wanted). o ≡ None)
+    (λ t. absurd (nobody_member p (subst (λ u. IsMember u p) (eqb-true e.unheard nobody t) m)))
+    (λ f. refl)
 
 pub has-nobody : (i : ℕ) → has nobody i ≡ false
 has-nobody i = ap (λ k. k == 1) (bit_at-zero (i - 1))

@@ -22,6 +22,7 @@ use Rattle.ring_log.specs.Heads.{chosen_head, least_committed}
 use Rattle.ring_log.specs.Exchanges.{Exchange, opened, wanted_of, wanted_by, wanted, hear_head, is_snapped, is_next_piece, hear_snap, is_next, is_wanted}
 use Rattle.ring_log.specs.Exchanges.{hear_part, heard, is_brought, is_whole}
 use Rattle.ring_log.specs.Lives.{heard_by, after_all}
+use Rattle.ring_log.proofs.WholeExchanges.{wants_nothing}
 use Rattle.ring_log_proof.proofs.ChosenHead.{IsNoLess, chosen-is, chosen-greatest, least-first, least-each}
 
 module _ {A : Type 0} (Says : ℕ → OneHead → Type 0) (logs : ℕ → List (OneCall A)) where
@@ -74,12 +75,6 @@ module _ {A : Type 0} (Says : ℕ → OneHead → Type 0) (logs : ℕ → List (
 
   -- A Head
 
-  -- while a Head is missing nothing is wanted
-  wants-nothing : (e : Exchange A) (p : ℕ) → IsMember e.unheard p → wanted e ≡ None
-  wants-nothing e p m = cond_both (e.unheard == nobody) (wanted_by e.heads) None (λ o. o ≡ None)
-      (λ t. absurd (nobody_member p (subst (λ u. IsMember u p) (eqb-true e.unheard nobody t) m)))
-      (λ f. refl)
-
   brings-before : (o : Option Wanted) (places : ℕ) (brought : List (OneCall A)) → o ≡ None → Brings Says logs o places brought → (brought ≡ []) × (places ≡ 0)
   brings-before None places brought e b = b
   brings-before (Some w) places brought e b = absurd (cc e)
@@ -108,7 +103,7 @@ module _ {A : Type 0} (Says : ℕ → OneHead → Type 0) (logs : ℕ → List (
       let new : Exchange A = record e { unheard = less e.unheard (only p); heads = e.heads ++ s ∷ [] } in
       cond_both (has e.unheard p) new e Hears
       (λ t.
-      let none = wants-nothing e p (member_had e.unheard p low t) in
+      let none = wants_nothing e p (member_had e.unheard p low t) in
       record {
         heads = each-push (λ (x : Stated). Says x.sender x.head) e.heads s k.heads says;
         missing = missing-head e p h low k.missing;

@@ -280,11 +280,7 @@ fn done_or_refused(heap: &Refusing, work: Work) -> Result<(), AllocError> {
         (Err(Fault::Memory), true) => refused == 0,
         _ => false,
     };
-    if is_right == heap.has_refused() {
-        Err(AllocError)
-    } else {
-        Ok(())
-    }
+    heap.answer(is_right)
 }
 
 /// How often the work asks for memory, each time refused once.

@@ -52,7 +52,7 @@ pub type Seen = (State, u64, usize, u64, u64);
 /// A node, how many frames, answers, committed calls and dropped calls its steps gave, and the token that it sent last. What the node
 /// has no hand in lies in memory of its own, which is ample.
 #[derive(Drop)]
-pub struct Driven<O: Object> {
+pub struct DrivenNode<O: Object> {
     ample: O::Alloc,
     pub node: Node<O>,
     pub sends: usize,
@@ -65,11 +65,11 @@ pub struct Driven<O: Object> {
     lent: Outs<O::Alloc>,
 }
 
-impl<O: Object> Driven<O> {
+impl<O: Object> DrivenNode<O> {
     /// A node at its opening, with its memory in `heap`.
-    pub fn new(heap: O::Alloc, ample: O::Alloc) -> Result<Driven<O>, Fault> {
+    pub fn new(heap: O::Alloc, ample: O::Alloc) -> Result<DrivenNode<O>, Fault> {
         let fixed = Fixed::new(1)?;
-        Ok(Driven {
+        Ok(DrivenNode {
             ample,
             node: Node::new(heap, fixed, fixed.proc(1)?)?,
             sends: 0,

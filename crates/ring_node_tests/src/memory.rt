@@ -1,6 +1,6 @@
 //! Each request for memory of one run refused in turn.
 
-use crate::driven::Driven;
+use crate::driven::DrivenNode;
 use refusing_alloc::{Refusing, refuse_in_turn};
 use ring_base::{Fault, State};
 use ring_object::Object;
@@ -12,7 +12,7 @@ const WRONG: Fault = Fault::Conflict;
 
 /// How often the submit of the call of this number was refused memory before it was done. A refusal leaves the node as it
 /// was.
-fn refused_submits<O: Object>(driven: &mut Driven<O>, number: u64) -> Result<u64, Fault> {
+fn refused_submits<O: Object>(driven: &mut DrivenNode<O>, number: u64) -> Result<u64, Fault> {
     let before = driven.seen();
     match driven.submit(number) {
         Ok(_) => Ok(0),
@@ -26,7 +26,7 @@ fn refused_submits<O: Object>(driven: &mut Driven<O>, number: u64) -> Result<u64
 
 /// How often the step at this place was refused memory. If it was, the node is stopped for good, and tells the log as
 /// before the step.
-fn refused_steps<O: Object>(driven: &mut Driven<O>, place: u8) -> Result<u64, Fault> {
+fn refused_steps<O: Object>(driven: &mut DrivenNode<O>, place: u8) -> Result<u64, Fault> {
     let (_, ring, committed, places, effects) = driven.seen();
     let stopped = (State::Stopped, ring, committed, places, effects);
     match driven.step(place) {
@@ -40,7 +40,7 @@ fn refused_steps<O: Object>(driven: &mut Driven<O>, place: u8) -> Result<u64, Fa
 
 /// How often memory was refused in the whole run, which ends where the node stops, after so many refusals. Two calls are submitted,
 /// of which one waits for the ring, and one goes out at once.
-fn refused_in_run<O: Object>(driven: &mut Driven<O>, before: u64) -> Result<u64, Fault> {
+fn refused_in_run<O: Object>(driven: &mut DrivenNode<O>, before: u64) -> Result<u64, Fault> {
     let mut all = before;
     for place in 0..7u8 {
         if driven.is_stopped() {
@@ -59,7 +59,7 @@ fn refused_in_run<O: Object>(driven: &mut Driven<O>, before: u64) -> Result<u64,
 
 /// How often a node is refused memory that forms its ring and answers two calls, or stops before, after so many refusals.
 /// One that still runs at the end has committed and answered both calls.
-fn refused_then<O: Object>(driven: &mut Driven<O>, before: u64) -> Result<u64, Fault> {
+fn refused_then<O: Object>(driven: &mut DrivenNode<O>, before: u64) -> Result<u64, Fault> {
     let refused = refused_in_run(driven, before)?;
     if driven.is_stopped() || driven.told() == (2, 2) {
         Ok(refused)
@@ -70,8 +70,8 @@ fn refused_then<O: Object>(driven: &mut Driven<O>, before: u64) -> Result<u64, F
 
 /// The same of a node with its opening, which is tried again if it is refused memory.
 fn refusals<O: Object>(heap: O::Alloc, ample: O::Alloc) -> Result<u64, Fault> {
-    let (made, before) = match Driven::<O>::new(heap, ample) {
-        Err(Fault::Memory) => (Driven::<O>::new(heap, ample), 1),
+    let (made, before) = match DrivenNode::<O>::new(heap, ample) {
+        Err(Fault::Memory) => (DrivenNode::<O>::new(heap, ample), 1),
         made => (made, 0),
     };
     let mut driven = made?;
@@ -80,15 +80,9 @@ fn refusals<O: Object>(heap: O::Alloc, ample: O::Alloc) -> Result<u64, Fault> {
     refused
 }
 
-/// What `refuse_in_turn` asks of a run: an error where a request was refused, and the run tells one refusal. Where it is not as
-/// it should be, the other answer.
+/// What `refuse_in_turn` asks of a run, which is right where it tells one refusal if a request was refused, else none.
 fn told(heap: &Refusing, refusals: Result<u64, Fault>) -> Result<(), AllocError> {
-    let is_right = refusals == Ok(u64::from(heap.has_refused()));
-    if is_right == heap.has_refused() {
-        Err(AllocError)
-    } else {
-        Ok(())
-    }
+    heap.answer(refusals == Ok(u64::from(heap.has_refused())))
 }
 
 #[test]

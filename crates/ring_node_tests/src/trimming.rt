@@ -1,6 +1,6 @@
 //! A node that trims its log. Expected values are those of `docs/PROTOCOL.md`.
 
-use crate::driven::Driven;
+use crate::driven::DrivenNode;
 use refusing_alloc::Refusing;
 use ring_base::{Fault, State};
 use ring_object::Object;
@@ -17,7 +17,7 @@ type Shown = (State, u64, u64, u64, u64, u64);
 type Counts = ((usize, usize), usize, usize);
 
 /// What is shown of a node, and what its steps come to.
-fn shown<O: Object>(driven: &Driven<O>) -> (Shown, Counts) {
+fn shown<O: Object>(driven: &DrivenNode<O>) -> (Shown, Counts) {
     let node = &driven.node;
     let shown = (
         node.state(),
@@ -34,7 +34,7 @@ fn shown<O: Object>(driven: &Driven<O>) -> (Shown, Counts) {
 }
 
 /// The next 64 calls are submitted, from this number on.
-fn calls<O: Object>(driven: &mut Driven<O>, first: u64) -> Result<(), Fault> {
+fn calls<O: Object>(driven: &mut DrivenNode<O>, first: u64) -> Result<(), Fault> {
     for more in 0..64u64 {
         driven.add(first.saturating_add(more))?;
     }
@@ -42,14 +42,14 @@ fn calls<O: Object>(driven: &mut Driven<O>, first: u64) -> Result<(), Fault> {
 }
 
 /// The next 64 calls are done.
-fn round<O: Object>(driven: &mut Driven<O>, first: u64) -> Result<(), Fault> {
+fn round<O: Object>(driven: &mut DrivenNode<O>, first: u64) -> Result<(), Fault> {
     calls(driven, first)?;
     driven.turn()?;
     driven.turn()
 }
 
 /// A node alone forms its ring, and does 192 calls; 64 more are in its log, and one turn of the token commits them.
-fn nearly<O: Object>(driven: &mut Driven<O>) -> Result<(), Fault> {
+fn nearly<O: Object>(driven: &mut DrivenNode<O>) -> Result<(), Fault> {
     for place in 0..5u8 {
         driven.step(place)?;
     }
@@ -65,7 +65,7 @@ fn nearly<O: Object>(driven: &mut Driven<O>) -> Result<(), Fault> {
 type Seen = ([(Shown, Counts); 2], Option<Answer>);
 
 /// What is seen of this node.
-fn seen<O: Object>(driven: &mut Driven<O>) -> Result<Seen, Fault> {
+fn seen<O: Object>(driven: &mut DrivenNode<O>) -> Result<Seen, Fault> {
     nearly(driven)?;
     let before = shown(driven);
     driven.turn()?;
@@ -75,7 +75,7 @@ fn seen<O: Object>(driven: &mut Driven<O>) -> Result<Seen, Fault> {
 
 /// What is seen of a new node.
 fn seen_anew<O: Object>(alloc: O::Alloc) -> Result<Seen, Fault> {
-    let mut driven = Driven::<O>::new(alloc, alloc)?;
+    let mut driven = DrivenNode::<O>::new(alloc, alloc)?;
     let seen = seen(&mut driven);
     drop(driven);
     seen
@@ -98,7 +98,10 @@ fn lone_node_trims(rt: HostRuntime) -> Result<(), Fail> {
 
 /// The requests for memory before the step in which a node alone trims its log, and with it, and whether that is as it should be: where
 /// one of them was refused in that step the node has stopped, and has given nothing of it.
-fn trims<O: Object>(driven: &mut Driven<O>, heap: &Refusing) -> Result<(u64, u64, bool), Fault> {
+fn trims<O: Object>(
+    driven: &mut DrivenNode<O>,
+    heap: &Refusing,
+) -> Result<(u64, u64, bool), Fault> {
     nearly(driven)?;
     let before = heap.requests();
     let is_right = match driven.turn() {
@@ -118,7 +121,7 @@ fn trims_in<O: Object>(
     ample: O::Alloc,
     refusing: &Refusing,
 ) -> Result<(u64, u64, bool), Fault> {
-    let mut driven = Driven::<O>::new(heap, ample)?;
+    let mut driven = DrivenNode::<O>::new(heap, ample)?;
     let trims = trims(&mut driven, refusing);
     drop(driven);
     trims

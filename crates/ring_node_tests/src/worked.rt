@@ -1,6 +1,6 @@
 //! A worked run. Expected values are those of `docs/FORMATS.md` and `docs/PROTOCOL.md`.
 
-use crate::driven::{Driven, Seen};
+use crate::driven::{DrivenNode, Seen};
 use ring_base::{Fault, State};
 use ring_object::Object;
 use ring_session::Answer;
@@ -31,7 +31,7 @@ type Told = ((usize, usize), [Option<Answer>; 2]);
 
 /// Two calls that wait for the ring are answered as they are safe. Nothing was committed nor answered before a step, which gives one
 /// frame, and leaves what is to be seen then. What is told at the end of the run.
-fn told<O: Object>(rt: &impl Abort, driven: &mut Driven<O>) -> Result<Told, Fault> {
+fn told<O: Object>(rt: &impl Abort, driven: &mut DrivenNode<O>) -> Result<Told, Fault> {
     let tickets = [driven.submit(1)?, driven.submit(2)?];
     let mut place = 0u8;
     for want in &SEEN {
@@ -47,7 +47,7 @@ fn told<O: Object>(rt: &impl Abort, driven: &mut Driven<O>) -> Result<Told, Faul
 
 /// The same of a new node.
 fn told_anew<O: Object>(rt: &impl Abort, alloc: O::Alloc) -> Result<Told, Fault> {
-    let mut driven = Driven::<O>::new(alloc, alloc)?;
+    let mut driven = DrivenNode::<O>::new(alloc, alloc)?;
     let told = told(rt, &mut driven);
     drop(driven);
     told
@@ -64,7 +64,7 @@ fn the_first_replies(rt: HostRuntime) -> Result<(), Fail> {
 /// be used by several, for the calls that it keeps share their bytes with copies elsewhere.
 fn stepped_there<O: Object + Send, R: Threads>(
     rt: &R,
-    driven: &mut Driven<O>,
+    driven: &mut DrivenNode<O>,
 ) -> Result<Seen, Fault>
 where
     O::Alloc: Send + Sync,
@@ -80,7 +80,7 @@ fn seen_there<O: Object + Send, R: Threads>(rt: &R, alloc: O::Alloc) -> Result<S
 where
     O::Alloc: Send + Sync,
 {
-    let mut driven = Driven::<O>::new(alloc, alloc)?;
+    let mut driven = DrivenNode::<O>::new(alloc, alloc)?;
     let seen = stepped_there(rt, &mut driven);
     drop(driven);
     seen

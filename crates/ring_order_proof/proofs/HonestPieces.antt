@@ -5,8 +5,8 @@ use Rattle.std.specs.List.{AllByRecursion as Each}
 use Rattle.std.specs.Prelude.{nat_le}
 use Rattle.std.proofs.lemmas.Bool.{cond_both, and_parts, eqb-true, leb-true}
 use Rattle.ring_base.specs.Fronts.{IsFront, front_whole}
-use Rattle.ring_base.specs.Processors.{IsMember, has, nobody, only, less}
-use Rattle.ring_base.specs.Members.{member_had, nobody_member}
+use Rattle.ring_base.specs.Processors.{has, only, less}
+use Rattle.ring_base.specs.Members.{member_had}
 use Rattle.ring_base.proofs.ListFronts.{front-on}
 use Rattle.ring_payload.specs.Limits.{most_snapshot}
 use Rattle.ring_payload.specs.declared.calls.Part.{Part as OnePart}
@@ -16,10 +16,11 @@ use Rattle.ring_payload.specs.declared.content.Payload.{Payload}
 use Rattle.ring_payload.specs.declared.content.Payload.TheVariants.{Call, Wrapped, End, Head, Part, Pack, Snap}
 use Rattle.ring_wire.specs.declared.message.Message.{Message}
 use Rattle.ring_log.specs.declared.wanted.Wanted.{Wanted}
-use Rattle.ring_log.specs.Exchanges.{Exchange, opened, wanted_by, wanted, hear_head, is_snapped, is_piece_of}
+use Rattle.ring_log.specs.Exchanges.{Exchange, opened, wanted, hear_head, is_snapped, is_piece_of}
 use Rattle.ring_log.specs.Exchanges.{is_next_piece, hear_snap, is_wanted, hear_part, heard}
 use Rattle.ring_log.specs.Exchanges.{is_brought, is_whole}
 use Rattle.ring_log.specs.Lives.{heard_by, after_all}
+use Rattle.ring_log.proofs.WholeExchanges.{wants_nothing}
 
 -- a piece has these bytes as they stand, and tells how many there are
 pub record IsPiece {A : Type 0} (bytes : List ℕ) (snap : OneSnap A) : Type 0 where
@@ -39,27 +40,27 @@ IsPieceOf bytes End = Unit {0}
 
 module _ (bytes : ℕ → List ℕ) where
   -- nothing came before something was wanted; what came are the owner's first bytes
-  abbrev pub Brings : Option Wanted → ℕ → ℕ → List ℕ → Type 0
-  Brings None got total came = (came ≡ []) × (got ≡ 0) × (total ≡ 0)
-  Brings (Some w) got total came =
+  abbrev pub BringsBytes : Option Wanted → ℕ → ℕ → List ℕ → Type 0
+  BringsBytes None got total came = (came ≡ []) × (got ≡ 0) × (total ≡ 0)
+  BringsBytes (Some w) got total came =
       IsFront came (bytes w.owner) × (got ≡ length came)
       × ((total ≡ 0) ⊎ ((total ≡ length (bytes w.owner)) × (length (bytes w.owner) ≤ most_snapshot)))
 
-  brings-nothing : (o : Option Wanted) → Brings o 0 0 []
-  brings-nothing None = (refl, refl, refl)
-  brings-nothing (Some w) = ((bytes w.owner, refl), refl, inl refl)
+  bytes-nothing : (o : Option Wanted) → BringsBytes o 0 0 []
+  bytes-nothing None = (refl, refl, refl)
+  bytes-nothing (Some w) = ((bytes w.owner, refl), refl, inl refl)
 
-  brings-before : (o : Option Wanted) (got total : ℕ) (came : List ℕ) → o ≡ None → Brings o got total came → Brings None got total came
-  brings-before None got total came e b = b
-  brings-before (Some w) got total came e b = absurd (cc e)
+  bytes-before : (o : Option Wanted) (got total : ℕ) (came : List ℕ) → o ≡ None → BringsBytes o got total came → BringsBytes None got total came
+  bytes-before None got total came e b = b
+  bytes-before (Some w) got total came e b = absurd (cc e)
 
-  brings-still : (o : Option Wanted) (got total : ℕ) (came : List ℕ) → Brings None got total came → Brings o got total came
-  brings-still o got total came b =
-      subst (λ l. Brings o got total l) (sym b.0)
-      (subst (λ n. Brings o n total []) (sym b.1) (subst (λ n. Brings o 0 n []) (sym b.2) (brings-nothing o)))
+  bytes-still : (o : Option Wanted) (got total : ℕ) (came : List ℕ) → BringsBytes None got total came → BringsBytes o got total came
+  bytes-still o got total came b =
+      subst (λ l. BringsBytes o got total l) (sym b.0)
+      (subst (λ n. BringsBytes o n total []) (sym b.1) (subst (λ n. BringsBytes o 0 n []) (sym b.2) (bytes-nothing o)))
 
-  pub hears-opened : (A : Type 0) (members : ℕ) → Brings (wanted (opened {A = A} members)) 0 0 []
-  hears-opened A members = brings-nothing (wanted (opened {A = A} members))
+  pub hears-opened : (A : Type 0) (members : ℕ) → BringsBytes (wanted (opened {A = A} members)) 0 0 []
+  hears-opened A members = bytes-nothing (wanted (opened {A = A} members))
 
   -- a whole exchange has all bytes
 
@@ -70,7 +71,7 @@ module _ (bytes : ℕ → List ℕ) where
       (leb-true 1 total parts.0, eqb-true got total parts.1)
 
   whole-by : (o : Option Wanted) (got total places : ℕ) (came : List ℕ) (w : Wanted) (at : ℕ) → o ≡ Some w → w.snapshot ≡ Some at
-      → is_brought o got total places ≡ true → Brings o got total came → (came ≡ bytes w.owner) × (length (bytes w.owner) ≤ most_snapshot)
+      → is_brought o got total places ≡ true → BringsBytes o got total came → (came ≡ bytes w.owner) × (length (bytes w.owner) ≤ most_snapshot)
   whole-by None got total places came w at e snap t b = absurd (cc e)
   whole-by (Some v) got total places came w at e snap t b =
       let same : v ≡ w = cc e in
@@ -85,33 +86,27 @@ module _ (bytes : ℕ → List ℕ) where
 
 module _ {A : Type 0} (bytes : ℕ → List ℕ) where
   -- of each processor its own
-  abbrev pub IsHonest : ℕ → Payload A → Type 0
-  IsHonest p (Snap snap) = IsPiece (bytes p) snap
-  IsHonest p (Head h) = 1 ≤ p
-  IsHonest p (Part part) = Unit {0}
-  IsHonest p (Call call) = Unit {0}
-  IsHonest p (Pack pack) = Unit {0}
-  IsHonest p (Wrapped old) = Unit {0}
-  IsHonest p End = Unit {0}
+  abbrev pub IsHonestPiece : ℕ → Payload A → Type 0
+  IsHonestPiece p (Snap snap) = IsPiece (bytes p) snap
+  IsHonestPiece p (Head h) = 1 ≤ p
+  IsHonestPiece p (Part part) = Unit {0}
+  IsHonestPiece p (Call call) = Unit {0}
+  IsHonestPiece p (Pack pack) = Unit {0}
+  IsHonestPiece p (Wrapped old) = Unit {0}
+  IsHonestPiece p End = Unit {0}
 
-  abbrev pub Hears : Exchange A → Type 0
-  Hears e = Brings bytes (wanted e) e.got e.total e.bytes
+  abbrev pub HearsPieces : Exchange A → Type 0
+  HearsPieces e = BringsBytes bytes (wanted e) e.got e.total e.bytes
 
   -- A Head
 
-  -- while a Head is missing nothing is wanted
-  wants-nothing : (e : Exchange A) (p : ℕ) → IsMember e.unheard p → wanted e ≡ None
-  wants-nothing e p m = cond_both (e.unheard == nobody) (wanted_by e.heads) None (λ (o : Option Wanted). o ≡ None)
-      (λ t. absurd (nobody_member p (subst (λ u. IsMember u p) (eqb-true e.unheard nobody t) m)))
-      (λ f. refl)
-
-  hears-head : (e : Exchange A) (p : ℕ) (h : OneHead) → 1 ≤ p → Hears e → Hears (hear_head e p h)
+  hears-head : (e : Exchange A) (p : ℕ) (h : OneHead) → 1 ≤ p → HearsPieces e → HearsPieces (hear_head e p h)
   hears-head e p h low k =
       let new : Exchange A = record e { unheard = less e.unheard (only p); heads = e.heads ++ record { sender = p; head = h } ∷ [] } in
-      cond_both (has e.unheard p) new e Hears
+      cond_both (has e.unheard p) new e HearsPieces
       (λ t.
-      let none = wants-nothing e p (member_had e.unheard p low t) in
-      brings-still bytes (wanted new) e.got e.total e.bytes (brings-before bytes (wanted e) e.got e.total e.bytes none k))
+      let none = wants_nothing e p (member_had e.unheard p low t) in
+      bytes-still bytes (wanted new) e.got e.total e.bytes (bytes-before bytes (wanted e) e.got e.total e.bytes none k))
       (λ f. k)
 
   -- A piece
@@ -121,10 +116,10 @@ module _ {A : Type 0} (bytes : ℕ → List ℕ) where
   next-offset (Some at) got total snap t =
       eqb-true snap.offset got (and_parts _ _ (and_parts _ _ (and_parts _ _ t).0).0).1
 
-  brings-more : (o : Option Wanted) (got total : ℕ) (came : List ℕ) (p : ℕ) (snap : OneSnap A) → is_next_piece o got total p snap ≡ true
-      → IsPiece (bytes p) snap → Brings bytes o got total came → Brings bytes o (got + length snap.bytes) snap.total (came ++ snap.bytes)
-  brings-more None got total came p snap t f b = absurd (cc t)
-  brings-more (Some w) got total came p snap t f b =
+  bytes-more : (o : Option Wanted) (got total : ℕ) (came : List ℕ) (p : ℕ) (snap : OneSnap A) → is_next_piece o got total p snap ≡ true
+      → IsPiece (bytes p) snap → BringsBytes bytes o got total came → BringsBytes bytes o (got + length snap.bytes) snap.total (came ++ snap.bytes)
+  bytes-more None got total came p snap t f b = absurd (cc t)
+  bytes-more (Some w) got total came p snap t f b =
       let parts = and_parts (p == w.owner) (is_piece_of w.snapshot got total snap) t in
       let owner : p ≡ w.owner = eqb-true p w.owner parts.0 in
       let offset : snap.offset ≡ length came = next-offset w.snapshot got total snap parts.1 ∙ b.1 in
@@ -135,19 +130,19 @@ module _ {A : Type 0} (bytes : ℕ → List ℕ) where
         inr (f.total ∙ ap (λ q. length (bytes q)) owner, subst (λ q. length (bytes q) ≤ most_snapshot) owner f.short),
       )
 
-  hears-snap : (e : Exchange A) (p : ℕ) (snap : OneSnap A) → IsPiece (bytes p) snap → Hears e → Hears (hear_snap e p snap)
+  hears-snap : (e : Exchange A) (p : ℕ) (snap : OneSnap A) → IsPiece (bytes p) snap → HearsPieces e → HearsPieces (hear_snap e p snap)
   hears-snap e p snap f k =
       let new : Exchange A = record e { got = e.got + length snap.bytes; total = snap.total; bytes = e.bytes ++ snap.bytes } in
-      cond_both (is_next_piece (wanted e) e.got e.total p snap) new e Hears
-      (λ t. brings-more (wanted e) e.got e.total e.bytes p snap t f k) (λ f. k)
+      cond_both (is_next_piece (wanted e) e.got e.total p snap) new e HearsPieces
+      (λ t. bytes-more (wanted e) e.got e.total e.bytes p snap t f k) (λ f. k)
 
   -- a Part brings no byte
-  hears-part : (e : Exchange A) (p : ℕ) (part : OnePart A) → Hears e → Hears (hear_part e p part)
+  hears-part : (e : Exchange A) (p : ℕ) (part : OnePart A) → HearsPieces e → HearsPieces (hear_part e p part)
   hears-part e p part k =
       let new : Exchange A = record e { places = e.places + length part.calls; brought = e.brought ++ part.calls } in
-      cond_both (is_wanted (wanted e) e.got e.total e.places p part) new e Hears (λ t. k) (λ f. k)
+      cond_both (is_wanted (wanted e) e.got e.total e.places p part) new e HearsPieces (λ t. k) (λ f. k)
 
-  hears-payload : (e : Exchange A) (p : ℕ) (payload : Payload A) → IsHonest p payload → Hears e → Hears (heard e p payload)
+  hears-payload : (e : Exchange A) (p : ℕ) (payload : Payload A) → IsHonestPiece p payload → HearsPieces e → HearsPieces (heard e p payload)
   hears-payload e p (Head h) honest k = hears-head e p h honest k
   hears-payload e p (Snap snap) honest k = hears-snap e p snap honest k
   hears-payload e p (Part part) honest k = hears-part e p part k
@@ -156,12 +151,13 @@ module _ {A : Type 0} (bytes : ℕ → List ℕ) where
   hears-payload e p (Wrapped old) honest k = k
   hears-payload e p End honest k = k
 
-  pub hears-all : (e : Exchange A) (xs : List (Message A)) → Each (λ (x : Message A). IsHonest x.sender x.payload) xs → Hears e → Hears (after_all e xs)
+  pub hears-all : (e : Exchange A) (xs : List (Message A)) → Each (λ (x : Message A). IsHonestPiece x.sender x.payload) xs → HearsPieces e
+      → HearsPieces (after_all e xs)
   hears-all e [] honest k = k
   hears-all e (x ∷ xs) honest k = hears-all (heard_by e x) xs honest.1 (hears-payload e x.sender x.payload honest.0 k)
 
   -- A whole exchange has all bytes of the snapshot that was wanted
 
-  pub whole-bytes : (e : Exchange A) (w : Wanted) (at : ℕ) → Hears e → is_whole e ≡ true → wanted e ≡ Some w → w.snapshot ≡ Some at
+  pub whole-bytes : (e : Exchange A) (w : Wanted) (at : ℕ) → HearsPieces e → is_whole e ≡ true → wanted e ≡ Some w → w.snapshot ≡ Some at
       → (e.bytes ≡ bytes w.owner) × (length (bytes w.owner) ≤ most_snapshot)
   whole-bytes e w at k t wants snap = whole-by bytes (wanted e) e.got e.total e.places e.bytes w at wants snap t k

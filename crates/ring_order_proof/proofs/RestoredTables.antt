@@ -36,7 +36,7 @@ use Rattle.ring_log_proof.proofs.Adopted.{kept-all}
 use Rattle.ring_log_proof.proofs.Begins.{front_begins}
 use Rattle.ring_log_proof.proofs.Hard.{by-ring, heard-in}
 use Rattle.ring_log_proof.proofs.Heads.{Says, log_before, said-each, text-honest, outcome, base-owner}
-use Rattle.ring_log_proof.proofs.HonestExchanges.{Outcome, IsHonest as IsHonestLog}
+use Rattle.ring_log_proof.proofs.HonestExchanges.{Outcome, IsHonest}
 use Rattle.ring_log_proof.proofs.Issued.{logs-before}
 use Rattle.ring_log_proof.proofs.Moment.{adopted-base, keeps-all, views-all}
 use Rattle.ring_log_proof.proofs.Stays.{IsLifeBelow, life-behind, life-lower, older-in, top-above, below-above}
@@ -44,7 +44,7 @@ use Rattle.ring_log_proof.proofs.Wholes.{exchanged-whole}
 use Rattle.ring_session.specs.Snapshots.{KeepsLimits, table_snapshot, restored_table}
 use Rattle.ring_session.specs.Table.{opening, table_next, table_after}
 use Rattle.ring_rules.specs.Nodes.{table_or, table_before, table_at, snapshot_at, snapshot_kept, is_restored}
-use Rattle.ring_order_proof.proofs.HonestPieces.{IsPieceOf, IsHonest, Hears, hears-opened, hears-all, whole-bytes}
+use Rattle.ring_order_proof.proofs.HonestPieces.{IsPieceOf, IsHonestPiece, HearsPieces, hears-opened, hears-all, whole-bytes}
 
 -- the snapshot of each table after calls that keep the limits is restored to it, if it isn't too long
 abbrev pub ComesBack : {O : Type 0} (object : Sequential O) (A : Type 0) → Type 0
@@ -152,8 +152,8 @@ module _ {O A : Type 0} (object : Sequential O) (back : ComesBack object A) (gro
         ]
 
     both-honest : (r : RingId) (p : ℕ) (payload : Payload A)
-        → IsHonestLog (Says group lives r) (log_before group lives r) p payload × Each (IsPieceOf (bytes_before r p)) (units payload)
-        → IsHonest (bytes_before r) p payload
+        → IsHonest (Says group lives r) (log_before group lives r) p payload × Each (IsPieceOf (bytes_before r p)) (units payload)
+        → IsHonestPiece (bytes_before r) p payload
     both-honest r p (Snap snap) f = f.1.0
     both-honest r p (Head h) f = f.0.0
     both-honest r p (Part part) f = tt
@@ -162,7 +162,7 @@ module _ {O A : Type 0} (object : Sequential O) (back : ComesBack object A) (gro
     both-honest r p (Wrapped old) f = tt
     both-honest r p End f = tt
 
-    text-pieces : (r : RingId) → Each (λ (x : Message A). IsHonest (bytes_before r) x.sender x.payload) (text r)
+    text-pieces : (r : RingId) → Each (λ (x : Message A). IsHonestPiece (bytes_before r) x.sender x.payload) (text r)
     text-pieces r =
         each-weaker _ _ (λ (x : Message A) f. both-honest r x.sender x.payload f) (text r)
         (each-both _ _ (text r) (text-honest group lives members text facts disc r (views-all group lives members text facts disc r.seq))
@@ -174,10 +174,10 @@ module _ {O A : Type 0} (object : Sequential O) (back : ComesBack object A) (gro
         → (w.exchange.bytes ≡ bytes_before r v.owner) × (length (bytes_before r v.owner) ≤ most_snapshot)
     bytes-heard r xs w v at front exch wants snap =
         let by = exchanged-whole group (members r) xs w exch in
-        let honest = each-front (λ (x : Message A). IsHonest (bytes_before r) x.sender x.payload) by.front (text r)
+        let honest = each-front (λ (x : Message A). IsHonestPiece (bytes_before r) x.sender x.payload) by.front (text r)
         (front_trans by.front xs (text r) (w.rest, by.parts) front) (text-pieces r) in
         let hears = hears-all (bytes_before r) (opened (members r)) by.front honest (hears-opened (bytes_before r) A (members r)) in
-        whole-bytes (bytes_before r) w.exchange v at (subst (Hears (bytes_before r)) (sym by.after) hears) by.whole wants snap
+        whole-bytes (bytes_before r) w.exchange v at (subst (HearsPieces (bytes_before r)) (sym by.after) hears) by.whole wants snap
 
     -- Of one life
 

@@ -3,7 +3,7 @@
 ghost use Rattle.std.specs.Prelude.{◌≡◌, ℕ, ◌+◌, ◌^◌, ◌<◌, ◌≤◌, List, [], ◌∷◌, ◌++◌, length};
 ghost use Rattle.ring_layout.specs.Reading.{Appends, Gives};
 
-use crate::operation::{MOST_OPERATION, Operation};
+use crate::operation::{CallOperation, MOST_OPERATION};
 use bytes::BytesMut;
 use ring_layout::{Decode, Encode, Fault, Reader};
 use std::alloc::{Allocator, Global};
@@ -13,7 +13,7 @@ use std::alloc::{Allocator, Global};
 pub struct Call<A: Allocator + Copy = Global> {
     pub client: u32,
     pub number: u64,
-    pub op: Operation<A>,
+    pub op: CallOperation<A>,
 }
 
 impl<A: Allocator + Copy> Call<A> {
@@ -33,7 +33,7 @@ impl<A: Allocator + Copy> Call<A> {
         Ok(Call {
             client,
             number,
-            op: Operation::from_slice(alloc, op)?,
+            op: CallOperation::from_slice(alloc, op)?,
         })
     }
 

@@ -7,7 +7,8 @@ use crate::call::Call;
 use crate::calls::{Pack, Part};
 use crate::head::Head;
 use crate::snap::Snap;
-use crate::{tags, versions};
+use crate::tags;
+use crate::versions::{FIRST_VERSION, PACK_VERSION, TRIM_VERSION};
 use bytes::BytesMut;
 use ring_layout::{Decode, Encode, Fault, MAX, Proc, Reader, RingId};
 use std::alloc::{Allocator, Global};
@@ -114,10 +115,10 @@ impl<A: Allocator + Copy> Content<A> {
         ensures { result ≡ content_version self.now }
     {
         match self {
-            Content::Call(_) | Content::Part(_) => versions::FIRST,
+            Content::Call(_) | Content::Part(_) => FIRST_VERSION,
             Content::Head(head) => head.version(),
-            Content::Pack(_) => versions::PACK,
-            Content::Snap(_) => versions::TRIM,
+            Content::Pack(_) => PACK_VERSION,
+            Content::Snap(_) => TRIM_VERSION,
         }
     }
 }
@@ -131,11 +132,11 @@ impl<A: Allocator + Copy> Payload<A> {
         ensures { result ≡ payload_version self.now }
     {
         match self {
-            Payload::Call(_) | Payload::End | Payload::Part(_) => versions::FIRST,
+            Payload::Call(_) | Payload::End | Payload::Part(_) => FIRST_VERSION,
             Payload::Wrapped(wrapped) => wrapped.payload.version(),
             Payload::Head(head) => head.version(),
-            Payload::Pack(_) => versions::PACK,
-            Payload::Snap(_) => versions::TRIM,
+            Payload::Pack(_) => PACK_VERSION,
+            Payload::Snap(_) => TRIM_VERSION,
         }
     }
 }

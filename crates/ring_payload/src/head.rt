@@ -3,7 +3,8 @@
 ghost use Rattle.std.specs.Prelude.{◌≡◌, ℕ, ◌+◌, ◌^◌, ◌<◌, ◌≤◌, List, [], ◌∷◌, ◌++◌, length};
 ghost use Rattle.ring_layout.specs.Reading.{Appends, Gives};
 
-use crate::{tags, versions};
+use crate::tags;
+use crate::versions::{FIRST_VERSION, TRIM_VERSION};
 use bytes::BytesMut;
 use ring_layout::{Decode, Encode, Fault, MAX, Reader, RingId};
 use std::alloc::Allocator;
@@ -38,9 +39,9 @@ impl Head {
         ensures { result ≡ head_version self.now }
     {
         if self.trimmed == 0 {
-            versions::FIRST
+            FIRST_VERSION
         } else {
-            versions::TRIM
+            TRIM_VERSION
         }
     }
 

@@ -18,10 +18,11 @@ pub use call::Call;
 pub use calls::{Calls, MOST_PACK_BYTES, MOST_PACK_CALLS, MOST_PART_CALLS, Pack, Part};
 pub use content::{Content, Payload, Wrapped};
 pub use head::Head;
-pub use operation::{MOST_OPERATION, Operation};
+pub use operation::{CallOperation, MOST_OPERATION};
 pub use piece::Piece;
 pub use ring_layout::{
     Decode, Encode, Fault, MAX, Past, Proc, ProcSet, Reader, RingId, WINDOW, Wire, Words, past_of,
     read_in_place, read_sized, write_many, write_sized,
 };
 pub use snap::{MOST_SNAPSHOT, Snap, WHOLE_PIECE};
+pub use versions::FIRST_VERSION;

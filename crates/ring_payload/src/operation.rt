@@ -15,11 +15,11 @@ pub const MOST_OPERATION: usize = 1024;
 
 /// An operation, on the heap. Its copies share its bytes: to copy it takes no memory. Contracts see its bytes.
 #[derive(Drop)]
-pub struct Operation<A: Allocator + Copy = Global> {
+pub struct CallOperation<A: Allocator + Copy = Global> {
     bytes: ArcSlice<u8, A>,
 }
 
-impl<A: Allocator + Copy> Model for Operation<A> {
+impl<A: Allocator + Copy> Model for CallOperation<A> {
     ghost use Rattle.std.specs.Prelude.{ℕ, List};
     ghost use Rattle.std.specs.Arc.{arc_slice_items};
 
@@ -28,13 +28,13 @@ impl<A: Allocator + Copy> Model for Operation<A> {
     ghost view = { λ op. arc_slice_items op.bytes };
 }
 
-impl<A: Allocator + Copy> Operation<A> {
+impl<A: Allocator + Copy> CallOperation<A> {
     /// The operation of these bytes, or `Memory`.
-    pub fn from_slice(alloc: A, bytes: &[u8]) -> Result<Operation<A>, Fault>
+    pub fn from_slice(alloc: A, bytes: &[u8]) -> Result<CallOperation<A>, Fault>
         ensures ok { IfOk result (λ op. op ≡ bytes.now) }
         ensures refused { IfErr result (λ fault. fault ≡ Memory) }
     {
-        Ok(Operation {
+        Ok(CallOperation {
             bytes: ArcSlice::from_slice(alloc, bytes)?,
         })
     }
@@ -47,17 +47,17 @@ impl<A: Allocator + Copy> Operation<A> {
     }
 }
 
-impl<A: Allocator + Copy> Clone for Operation<A> {
+impl<A: Allocator + Copy> Clone for CallOperation<A> {
     ghost is_clone = { λ op copy. copy ≡ op };
 
-    fn clone(&self) -> Result<Operation<A>, AllocError> {
-        Ok(Operation {
+    fn clone(&self) -> Result<CallOperation<A>, AllocError> {
+        Ok(CallOperation {
             bytes: self.bytes.clone()?,
         })
     }
 }
 
-impl<A: Allocator + Copy> Encode for Operation<A> {
+impl<A: Allocator + Copy> Encode for CallOperation<A> {
     ghost use Rattle.ring_payload.specs.Operations.{op_spelling, OpFits, op_at, op_format};
 
     ghost spelling = { op_spelling };
@@ -81,14 +81,14 @@ impl<A: Allocator + Copy> Encode for Operation<A> {
     }
 }
 
-impl<A: Allocator + Copy> Decode<A> for Operation<A> {
+impl<A: Allocator + Copy> Decode<A> for CallOperation<A> {
     #[tactic(auto, unfolding(crate::specs::Operations::op_at))]
-    fn read(alloc: A, from: &mut Reader<'_>) -> Result<Operation<A>, Fault> {
+    fn read(alloc: A, from: &mut Reader<'_>) -> Result<CallOperation<A>, Fault> {
         let len: u16 = Decode::read(alloc, from)?;
         if len as usize > MOST_OPERATION {
             return Err(Fault::BadFrame);
         }
         let bytes = from.take(len as usize)?;
-        Operation::from_slice(alloc, bytes)
+        CallOperation::from_slice(alloc, bytes)
     }
 }

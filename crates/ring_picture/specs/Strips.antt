@@ -3,7 +3,7 @@
 use Rattle.std.specs.Prelude.{ℕ, ◌+◌, nat_lt, if◌then◌else◌, List, [], ◌∷◌, ◌++◌, Option, Some, None, unwrap_or}
 use Rattle.ring_base.specs.Group.{Group}
 use Rattle.ring_picture.specs.declared.mark.Mark.{Mark}
-use Rattle.ring_picture.specs.declared.mark.Placed.{Placed}
+use Rattle.ring_picture.specs.declared.mark.PlacedMark.{PlacedMark}
 
 -- what contracts see of a picture: its nodes, the one that alone has a lane, if there is one, how many columns were begun, the marks in these, and
 -- the first event that has none
@@ -11,7 +11,7 @@ pub record Strip : Type 0 where
   pub nodes : Group
   pub only : Option ℕ
   pub columns : ℕ
-  pub placed : List Placed
+  pub placed : List PlacedMark
   pub rest : Option ℕ
 
 -- the nodes at their opening

@@ -1,7 +1,7 @@
 //! A run as a picture: SVG that stands by itself. A lane for each node, coloured by its state; rings, cuts, stops and calls along it.
 #![tactic(auto)]
 
-mod frame;
+mod canvas;
 mod mark;
 mod picture;
 mod shapes;

@@ -63,7 +63,7 @@ pub enum Mark {
 
 /// A mark, and its column.
 #[derive(Clone, Copy)]
-pub(crate) struct Placed {
+pub(crate) struct PlacedMark {
     pub column: u64,
     pub mark: Mark,
 }

@@ -4,8 +4,8 @@ ghost use Rattle.std.specs.Prelude.{◌≡◌, OnOk, OnErr, IfErr};
 ghost use Rattle.ring_base.specs.declared.fault.Fault.TheVariants.{Memory};
 ghost use Rattle.ring_picture.specs.Strips.{strip_opening, begun, marked};
 
-use crate::frame::Frame;
-use crate::mark::{Mark, Placed, Shade};
+use crate::canvas::Canvas;
+use crate::mark::{Mark, PlacedMark, Shade};
 use crate::shapes::{
     write_bar, write_call, write_called, write_committed, write_end, write_event, write_fold,
     write_head, write_heal, write_legend, write_lost, write_name, write_rest, write_ring,
@@ -26,7 +26,7 @@ pub struct Picture<A: Allocator> {
     /// The node whose lane is the only one, if there is one.
     only: Option<Proc>,
     columns: u64,
-    placed: Vec<Placed, A>,
+    placed: Vec<PlacedMark, A>,
     /// The first event that has no column, if there is one.
     rest: Option<u64>,
 }
@@ -75,7 +75,7 @@ impl<A: Allocator + Copy> Picture<A> {
     {
         if self.rest.is_none() {
             let column = self.columns;
-            self.placed.push(Placed { column, mark })?;
+            self.placed.push(PlacedMark { column, mark })?;
         }
         Ok(())
     }
@@ -83,25 +83,25 @@ impl<A: Allocator + Copy> Picture<A> {
     /// Writes the picture. Where not all events have room, it says from which to which there is more: this is the last. An error is
     /// the writer's: what it has then isn't told.
     pub fn write<W: Write>(&self, out: &mut W, last: u64) -> io::Result<()> {
-        let frame = self.frame();
-        write_head(out, frame)?;
-        self.write_strip(out, frame)?;
-        for band in 0..frame.bands() {
-            self.write_band(out, frame, band)?;
+        let canvas = self.canvas();
+        write_head(out, canvas)?;
+        self.write_strip(out, canvas)?;
+        for band in 0..canvas.bands() {
+            self.write_band(out, canvas, band)?;
         }
-        self.write_foot(out, frame, last)
+        self.write_foot(out, canvas, last)
     }
 
     /// The picture's size.
-    fn frame(&self) -> Frame {
+    fn canvas(&self) -> Canvas {
         let columns = self.columns.saturating_add(1);
         match self.only {
-            Some(only) => Frame {
+            Some(only) => Canvas {
                 columns,
                 lanes: 1,
                 first: only.number(),
             },
-            None => Frame {
+            None => Canvas {
                 columns,
                 lanes: self.nodes.count(),
                 first: 1,
@@ -118,66 +118,66 @@ impl<A: Allocator + Copy> Picture<A> {
     }
 
     /// Writes the strip: all lanes, with what stands in them.
-    fn write_strip<W: Write>(&self, out: &mut W, frame: Frame) -> io::Result<()> {
+    fn write_strip<W: Write>(&self, out: &mut W, canvas: Canvas) -> io::Result<()> {
         for placed in &self.placed {
             if let Mark::Rounds(_) = &placed.mark {
-                write_fold(out, frame, placed.column)?;
+                write_fold(out, canvas, placed.column)?;
             }
         }
         for before in 0..self.nodes.count() {
             let node = Proc::new(before + 1);
             if self.has_lane(node) {
-                self.write_lane(out, frame, node)?;
+                self.write_lane(out, canvas, node)?;
             }
         }
-        self.write_calls(out, frame)?;
+        self.write_calls(out, canvas)?;
         for placed in &self.placed {
-            write_mark(out, frame, placed)?;
+            write_mark(out, canvas, placed)?;
         }
         write_strip_end(out)
     }
 
     /// Writes a band: the nodes' names, and what it shows of the strip.
-    fn write_band<W: Write>(&self, out: &mut W, frame: Frame, band: u64) -> io::Result<()> {
+    fn write_band<W: Write>(&self, out: &mut W, canvas: Canvas, band: u64) -> io::Result<()> {
         for before in 0..self.nodes.count() {
             let node = Proc::new(before + 1);
             if self.has_lane(node) {
-                write_name(out, frame, band, node)?;
+                write_name(out, canvas, band, node)?;
             }
         }
-        write_window(out, frame, band)
+        write_window(out, canvas, band)
     }
 
     /// Writes what stands below all bands: the legend, and which events have no room, up to the last.
-    fn write_foot<W: Write>(&self, out: &mut W, frame: Frame, last: u64) -> io::Result<()> {
-        write_legend(out, frame)?;
+    fn write_foot<W: Write>(&self, out: &mut W, canvas: Canvas, last: u64) -> io::Result<()> {
+        write_legend(out, canvas)?;
         if let Some(event) = self.rest {
-            write_rest(out, frame, event, last)?;
+            write_rest(out, canvas, event, last)?;
         }
         write_end(out)
     }
 
     /// Writes a node's lane.
-    fn write_lane<W: Write>(&self, out: &mut W, frame: Frame, lane: Proc) -> io::Result<()> {
+    fn write_lane<W: Write>(&self, out: &mut W, canvas: Canvas, lane: Proc) -> io::Result<()> {
         let mut shade = Shade::State(State::Gather);
         let mut from = 0;
         for placed in &self.placed {
             if let Mark::Shade { node, shade: next } = &placed.mark
                 && *node == lane
             {
-                write_bar(out, frame, lane, shade, from, placed.column)?;
+                write_bar(out, canvas, lane, shade, from, placed.column)?;
                 shade = *next;
                 from = placed.column;
             }
         }
         if shade == Shade::State(State::Stopped) {
-            return write_stop(out, frame, lane, from);
+            return write_stop(out, canvas, lane, from);
         }
-        write_bar(out, frame, lane, shade, from, frame.columns)
+        write_bar(out, canvas, lane, shade, from, canvas.columns)
     }
 
     /// Writes all calls: to their answers, or to the end where they wait.
-    fn write_calls<W: Write>(&self, out: &mut W, frame: Frame) -> io::Result<()> {
+    fn write_calls<W: Write>(&self, out: &mut W, canvas: Canvas) -> io::Result<()> {
         for (place, placed) in self.placed.iter().enumerate() {
             if let Mark::Submit {
                 node,
@@ -186,7 +186,7 @@ impl<A: Allocator + Copy> Picture<A> {
             } = &placed.mark
             {
                 let answered = self.answer_after(place, *node, *client, *number);
-                write_call(out, frame, *node, placed.column, answered)?;
+                write_call(out, canvas, *node, placed.column, answered)?;
             }
         }
         Ok(())
@@ -212,30 +212,30 @@ impl<A: Allocator + Copy> Picture<A> {
 }
 
 /// Writes a mark that is no part of a lane or a call.
-fn write_mark<W: Write>(out: &mut W, frame: Frame, placed: &Placed) -> io::Result<()> {
+fn write_mark<W: Write>(out: &mut W, canvas: Canvas, placed: &PlacedMark) -> io::Result<()> {
     let column = placed.column;
     match &placed.mark {
         Mark::Ring {
             node,
             ring,
             members,
-        } => write_ring(out, frame, *node, *ring, *members, column),
-        Mark::Committed { node, length } => write_committed(out, frame, *node, *length, column),
-        Mark::Trimmed(node) => write_trimmed(out, frame, *node, column),
+        } => write_ring(out, canvas, *node, *ring, *members, column),
+        Mark::Committed { node, length } => write_committed(out, canvas, *node, *length, column),
+        Mark::Trimmed(node) => write_trimmed(out, canvas, *node, column),
         Mark::Submit {
             node,
             client,
             number,
-        } => write_called(out, frame, *node, *client, *number, column),
-        Mark::Cut => write_wall(out, frame, column, "#cc0000"),
-        Mark::Side { members, before } => write_side(out, frame, column, *members, *before),
+        } => write_called(out, canvas, *node, *client, *number, column),
+        Mark::Cut => write_wall(out, canvas, column, "#cc0000"),
+        Mark::Side { members, before } => write_side(out, canvas, column, *members, *before),
         Mark::Heal => {
-            write_wall(out, frame, column, "#38761d")?;
-            write_heal(out, frame, column)
+            write_wall(out, canvas, column, "#38761d")?;
+            write_heal(out, canvas, column)
         }
-        Mark::Rounds(rounds) => write_rounds(out, frame, column, *rounds),
-        Mark::Lost(lost) => write_lost(out, frame, column, *lost),
-        Mark::Event(event) => write_event(out, frame, column, *event),
+        Mark::Rounds(rounds) => write_rounds(out, canvas, column, *rounds),
+        Mark::Lost(lost) => write_lost(out, canvas, column, *lost),
+        Mark::Event(event) => write_event(out, canvas, column, *event),
         Mark::Shade { .. } | Mark::Answer { .. } => Ok(()),
     }
 }

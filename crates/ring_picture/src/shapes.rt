@@ -1,6 +1,6 @@
 //! The shapes of a picture, as SVG.
 
-use crate::frame::Frame;
+use crate::canvas::Canvas;
 use crate::mark::Shade;
 use ring_base::{Proc, ProcSet, RingId, State};
 use std::fmt::Display;
@@ -16,8 +16,8 @@ const BASE: u64 = 12;
 const LETTER: u64 = 6;
 
 /// Opens the picture, and in it the strip, with the hatching of rings that are not primary.
-pub(crate) fn write_head<W: Write>(out: &mut W, frame: Frame) -> io::Result<()> {
-    let (width, height) = (frame.width(), frame.height());
+pub(crate) fn write_head<W: Write>(out: &mut W, canvas: Canvas) -> io::Result<()> {
+    let (width, height) = (canvas.width(), canvas.height());
     writeln!(
         out,
         "<svg xmlns=\"http://www.w3.org/2000/svg\" viewBox=\"0 0 {width} {height}\" width=\"{width}\" height=\"{height}\" \
@@ -38,9 +38,9 @@ pub(crate) fn write_strip_end<W: Write>(out: &mut W) -> io::Result<()> {
 }
 
 /// What a band shows of the strip.
-pub(crate) fn write_window<W: Write>(out: &mut W, frame: Frame, band: u64) -> io::Result<()> {
-    let (left, top, begin) = (frame.left(), frame.top(band), frame.begin(band));
-    let (width, height) = (frame.shown(), frame.bottom());
+pub(crate) fn write_window<W: Write>(out: &mut W, canvas: Canvas, band: u64) -> io::Result<()> {
+    let (left, top, begin) = (canvas.left(), canvas.top(band), canvas.begin(band));
+    let (width, height) = (canvas.shown(), canvas.bottom());
     writeln!(
         out,
         "<svg x=\"{left}\" y=\"{top}\" width=\"{width}\" height=\"{height}\" viewBox=\"{begin} 0 {width} {height}\">\
@@ -78,11 +78,11 @@ fn write_text<W: Write, D: Display + Drop>(
 /// A node's name, left of its lane in a band.
 pub(crate) fn write_name<W: Write>(
     out: &mut W,
-    frame: Frame,
+    canvas: Canvas,
     band: u64,
     node: Proc,
 ) -> io::Result<()> {
-    let lane = frame.top(band).saturating_add(frame.y(node));
+    let lane = canvas.top(band).saturating_add(canvas.y(node));
     let y = lane.saturating_add(BASE);
     write_text(
         out,
@@ -95,15 +95,15 @@ pub(crate) fn write_name<W: Write>(
 /// A bar of a lane, from a column to another.
 pub(crate) fn write_bar<W: Write>(
     out: &mut W,
-    frame: Frame,
+    canvas: Canvas,
     node: Proc,
     shade: Shade,
     from: u64,
     to: u64,
 ) -> io::Result<()> {
-    let x = frame.x(from);
-    let width = frame.x(to).saturating_sub(x);
-    write_box(out, (x, frame.y(node)), width, shade)?;
+    let x = canvas.x(from);
+    let width = canvas.x(to).saturating_sub(x);
+    write_box(out, (x, canvas.y(node)), width, shade)?;
     writeln!(out)
 }
 
@@ -124,11 +124,11 @@ fn write_box<W: Write>(
 /// The end of a lane: its node stopped.
 pub(crate) fn write_stop<W: Write>(
     out: &mut W,
-    frame: Frame,
+    canvas: Canvas,
     node: Proc,
     column: u64,
 ) -> io::Result<()> {
-    let (x, y) = (frame.x(column), frame.y(node));
+    let (x, y) = (canvas.x(column), canvas.y(node));
     let (top, height) = (y.saturating_sub(4), BAR + 8);
     let beside = (x.saturating_add(8), y.saturating_add(BASE));
     write!(
@@ -141,14 +141,14 @@ pub(crate) fn write_stop<W: Write>(
 /// The name and the members of a ring, in its box.
 pub(crate) fn write_ring<W: Write>(
     out: &mut W,
-    frame: Frame,
+    canvas: Canvas,
     node: Proc,
     ring: RingId,
     members: ProcSet,
     column: u64,
 ) -> io::Result<()> {
-    let x = frame.x(column).saturating_add(3);
-    let y = frame.y(node).saturating_add(BASE);
+    let x = canvas.x(column).saturating_add(3);
+    let y = canvas.y(node).saturating_add(BASE);
     write_text(
         out,
         (x, y),
@@ -160,25 +160,25 @@ pub(crate) fn write_ring<W: Write>(
 /// How much is committed, below a bar.
 pub(crate) fn write_committed<W: Write>(
     out: &mut W,
-    frame: Frame,
+    canvas: Canvas,
     node: Proc,
     length: u64,
     column: u64,
 ) -> io::Result<()> {
-    let y = frame.y(node).saturating_add(BAR + BASE - 1);
-    write_text(out, (frame.x(column), y), " fill=\"#674ea7\"", length)
+    let y = canvas.y(node).saturating_add(BAR + BASE - 1);
+    write_text(out, (canvas.x(column), y), " fill=\"#674ea7\"", length)
 }
 
 /// A line under how much is committed: a snapshot stands for the first places.
 pub(crate) fn write_trimmed<W: Write>(
     out: &mut W,
-    frame: Frame,
+    canvas: Canvas,
     node: Proc,
     column: u64,
 ) -> io::Result<()> {
     let (x, y) = (
-        frame.x(column),
-        frame.y(node).saturating_add(BAR + BASE + 1),
+        canvas.x(column),
+        canvas.y(node).saturating_add(BAR + BASE + 1),
     );
     writeln!(
         out,
@@ -189,17 +189,17 @@ pub(crate) fn write_trimmed<W: Write>(
 /// The name of a call, where it is submitted: higher in every other column, so that long names have room.
 pub(crate) fn write_called<W: Write>(
     out: &mut W,
-    frame: Frame,
+    canvas: Canvas,
     node: Proc,
     client: u32,
     number: u64,
     column: u64,
 ) -> io::Result<()> {
     let above = if column % 2 == 1 { 21 } else { 13 };
-    let y = frame.y(node).saturating_sub(above);
+    let y = canvas.y(node).saturating_sub(above);
     write_text(
         out,
-        (frame.x(column), y),
+        (canvas.x(column), y),
         " font-size=\"9\" fill=\"#1155cc\"",
         format_args!("{client}.{number}"),
     )
@@ -209,7 +209,7 @@ pub(crate) fn write_called<W: Write>(
 /// it was not.
 pub(crate) fn write_call<W: Write>(
     out: &mut W,
-    frame: Frame,
+    canvas: Canvas,
     node: Proc,
     from: u64,
     answered: Option<u64>,
@@ -218,8 +218,8 @@ pub(crate) fn write_call<W: Write>(
         Some(_) => "stroke=\"#1155cc\"",
         None => "stroke=\"#cc0000\" stroke-dasharray=\"3 2\"",
     };
-    let to = answered.unwrap_or(frame.columns);
-    let (x, end, y) = (frame.x(from), frame.x(to), frame.y(node));
+    let to = answered.unwrap_or(canvas.columns);
+    let (x, end, y) = (canvas.x(from), canvas.x(to), canvas.y(node));
     let (top, middle) = (y.saturating_sub(20), x.saturating_add(end) / 2);
     writeln!(
         out,
@@ -230,11 +230,11 @@ pub(crate) fn write_call<W: Write>(
 /// A wall through all lanes: a cut, or where it heals.
 pub(crate) fn write_wall<W: Write>(
     out: &mut W,
-    frame: Frame,
+    canvas: Canvas,
     column: u64,
     stroke: &str,
 ) -> io::Result<()> {
-    let (x, foot) = (frame.x(column), frame.foot());
+    let (x, foot) = (canvas.x(column), canvas.foot());
     writeln!(
         out,
         "<line x1=\"{x}\" y1=\"4\" x2=\"{x}\" y2=\"{foot}\" stroke=\"{stroke}\" stroke-width=\"2\"/>"
@@ -244,13 +244,13 @@ pub(crate) fn write_wall<W: Write>(
 /// A side of a cut, at the top of its wall, behind so many letters.
 pub(crate) fn write_side<W: Write>(
     out: &mut W,
-    frame: Frame,
+    canvas: Canvas,
     column: u64,
     side: ProcSet,
     before: u64,
 ) -> io::Result<()> {
     let behind = before.saturating_mul(LETTER).saturating_add(4);
-    let x = frame.x(column).saturating_add(behind);
+    let x = canvas.x(column).saturating_add(behind);
     write_text(
         out,
         (x, 13),
@@ -260,14 +260,14 @@ pub(crate) fn write_side<W: Write>(
 }
 
 /// That a cut heals, at the top of its wall.
-pub(crate) fn write_heal<W: Write>(out: &mut W, frame: Frame, column: u64) -> io::Result<()> {
-    let x = frame.x(column).saturating_add(4);
+pub(crate) fn write_heal<W: Write>(out: &mut W, canvas: Canvas, column: u64) -> io::Result<()> {
+    let x = canvas.x(column).saturating_add(4);
     write_text(out, (x, 13), " fill=\"#38761d\"", "heals")
 }
 
 /// The ground of a column of rounds in which nothing changed.
-pub(crate) fn write_fold<W: Write>(out: &mut W, frame: Frame, column: u64) -> io::Result<()> {
-    let (x, width, foot) = (frame.x(column), frame.x(1), frame.foot());
+pub(crate) fn write_fold<W: Write>(out: &mut W, canvas: Canvas, column: u64) -> io::Result<()> {
+    let (x, width, foot) = (canvas.x(column), canvas.x(1), canvas.foot());
     let height = foot.saturating_sub(20);
     writeln!(
         out,
@@ -278,47 +278,47 @@ pub(crate) fn write_fold<W: Write>(out: &mut W, frame: Frame, column: u64) -> io
 /// Rounds in which nothing changed, below all lanes.
 pub(crate) fn write_rounds<W: Write>(
     out: &mut W,
-    frame: Frame,
+    canvas: Canvas,
     column: u64,
     rounds: u64,
 ) -> io::Result<()> {
     if rounds == 0 {
         return Ok(());
     }
-    let below = (frame.x(column), frame.foot().saturating_add(11));
+    let below = (canvas.x(column), canvas.foot().saturating_add(11));
     write_text(out, below, " fill=\"#666666\"", format_args!("x{rounds}"))
 }
 
 /// Copies that were lost, below the rounds.
 pub(crate) fn write_lost<W: Write>(
     out: &mut W,
-    frame: Frame,
+    canvas: Canvas,
     column: u64,
     lost: u64,
 ) -> io::Result<()> {
     if lost == 0 {
         return Ok(());
     }
-    let below = (frame.x(column), frame.foot().saturating_add(22));
+    let below = (canvas.x(column), canvas.foot().saturating_add(22));
     write_text(out, below, " fill=\"#cc0000\"", format_args!("-{lost}"))
 }
 
 /// The number of an event, below all that. Long numbers have room in every other column.
 pub(crate) fn write_event<W: Write>(
     out: &mut W,
-    frame: Frame,
+    canvas: Canvas,
     column: u64,
     event: u64,
 ) -> io::Result<()> {
     if event >= 1_000 && column % 2 == 1 {
         return Ok(());
     }
-    let below = (frame.x(column), frame.foot().saturating_add(33));
+    let below = (canvas.x(column), canvas.foot().saturating_add(33));
     write_text(out, below, " font-size=\"7\" fill=\"#666666\"", event)
 }
 
 /// What the colours say.
-pub(crate) fn write_legend<W: Write>(out: &mut W, frame: Frame) -> io::Result<()> {
+pub(crate) fn write_legend<W: Write>(out: &mut W, canvas: Canvas) -> io::Result<()> {
     let mut x = 8u64;
     for (shade, name) in [
         (Shade::State(State::Gather), "gather"),
@@ -327,19 +327,19 @@ pub(crate) fn write_legend<W: Write>(out: &mut W, frame: Frame) -> io::Result<()
         (Shade::State(State::Operational), "operational"),
         (Shade::Minority, "operational, not primary"),
     ] {
-        write_colour(out, frame, shade, name, x)?;
+        write_colour(out, canvas, shade, name, x)?;
         x = x.saturating_add(110);
     }
     write_words(
         out,
-        frame,
+        canvas,
         42,
         "In a box: the ring and its members. Arcs: calls to their answers, dashed red where there is none. Below a lane: how much its \
          node has committed, underlined where a snapshot stands for its first places.",
     )?;
     write_words(
         out,
-        frame,
+        canvas,
         56,
         "Red wall: a cut, and its sides; green wall: it heals. Grey: rounds in which nothing changes (x20), and copies that are \
          lost (-3). Small: the events' numbers.",
@@ -347,19 +347,19 @@ pub(crate) fn write_legend<W: Write>(out: &mut W, frame: Frame) -> io::Result<()
 }
 
 /// A line of the legend, so far below its begin.
-fn write_words<W: Write>(out: &mut W, frame: Frame, below: u64, words: &str) -> io::Result<()> {
-    write_text(out, (8, frame.legend().saturating_add(below)), "", words)
+fn write_words<W: Write>(out: &mut W, canvas: Canvas, below: u64, words: &str) -> io::Result<()> {
+    write_text(out, (8, canvas.legend().saturating_add(below)), "", words)
 }
 
 /// A colour, and what it says.
 fn write_colour<W: Write>(
     out: &mut W,
-    frame: Frame,
+    canvas: Canvas,
     shade: Shade,
     name: &str,
     x: u64,
 ) -> io::Result<()> {
-    let y = frame.legend().saturating_add(8);
+    let y = canvas.legend().saturating_add(8);
     write_box(out, (x, y), 24, shade)?;
     let beside = (x.saturating_add(28), y.saturating_add(BASE));
     write_text(out, beside, "", name)
@@ -368,11 +368,11 @@ fn write_colour<W: Write>(
 /// What is said where not all events have room.
 pub(crate) fn write_rest<W: Write>(
     out: &mut W,
-    frame: Frame,
+    canvas: Canvas,
     from: u64,
     to: u64,
 ) -> io::Result<()> {
-    let y = frame.legend().saturating_add(72);
+    let y = canvas.legend().saturating_add(72);
     write_text(
         out,
         (8, y),

@@ -71,17 +71,17 @@ module _ {O A : Type 0} (object : Sequential O) where
       )
 
   -- there is no next record
-  pub served_cut : (at : ℕ) (group : Group) (me : ℕ) (new : Node A) (input left out told out' : Option (List ℕ)) (failure : Failure)
+  pub served_cut : (at : ℕ) (group : Group) (me : ℕ) (new : Node A) (input left rest out told out' : Option (List ℕ)) (failure : Failure)
       → IsInGroup group me → ServesTo at (node_opening group me) new input left out told → ((failure ≡ Output → ⊥) → out' ≡ told)
-      → IsStop at failure → IsCutOff object A group me input out out' failure
-  served_cut at group me new input left out told out' (Refused fault) among to same stop =
+      → IsStop at failure → IsCutOff object A group me input rest out out' failure
+  served_cut at group me new input left rest out told out' (Refused fault) among to same stop =
       let cut = cut_here at (node_opening group me) new input left out told out' (Refused fault) to (same (λ e. absurd (cc e))) stop in
       inr (among, cut.0, cut.1, cut.2, cut.3)
-  served_cut at group me new input left out told out' (BadFrame byte) among to same stop =
+  served_cut at group me new input left rest out told out' (BadFrame byte) among to same stop =
       let cut = cut_here at (node_opening group me) new input left out told out' (BadFrame byte) to (same (λ e. absurd (cc e))) stop in
       inr (among, cut.0, cut.1, cut.2, cut.3)
-  served_cut at group me new input left out told out' (BadScript line) among to same stop = absurd stop
-  served_cut at group me new input left out told out' Output among to same stop = among
+  served_cut at group me new input left rest out told out' (BadScript line) among to same stop = absurd stop
+  served_cut at group me new input left rest out told out' Output among to same stop = among
 
   -- no record is left: those before are the whole input
   pub served_end : (at : ℕ) (group : Group) (me : ℕ) (new last : Node A) (input left rest out told out' : Option (List ℕ)) → IsInGroup group me
@@ -104,15 +104,15 @@ module _ {O A : Type 0} (object : Sequential O) where
 module _ {O : Type 0} (object : Sequential O) (A : Type 0) where
   -- a node can't begin, for want of memory or since its group has none of this number
   cut_first : (group : Group) (me : ℕ) (fault : Fault) (input out : Option (List ℕ)) → IsUnmade (IsInGroup group me) fault
-      → IsCutOff object A group me input out out (Refused fault)
+      → IsCutOff object A group me input input out out (Refused fault)
   cut_first group me fault input out (inl both) =
-      served_cut object 0 group me (node_opening {A = A} group me) input input out out out (Refused fault) both.1
+      served_cut object 0 group me (node_opening {A = A} group me) input input input out out out (Refused fault) both.1
       (served_none object (node_opening group me) input out) (λ other. refl) both.0
-  cut_first group me fault input out (inr both) = inl (subst (λ (f : Fault). Refused fault ≡ Refused f) both.0 refl, both.1, refl)
+  cut_first group me fault input out (inr both) = inl (subst (λ (f : Fault). Refused fault ≡ Refused f) both.0 refl, both.1, refl, refl)
 
   -- nothing was read
   pub cut_at_once : {T : Type 0} (r : Result T Failure) (group : Group) (me : ℕ) (fault : Fault) (input out : Option (List ℕ))
-      → IsErrAnd r (λ (f : Failure). f ≡ Refused fault) → IsUnmade (IsInGroup group me) fault → IfErr r (IsCutOff object A group me input out out)
+      → IsErrAnd r (λ (f : Failure). f ≡ Refused fault) → IsUnmade (IsInGroup group me) fault → IfErr r (IsCutOff object A group me input input out out)
   cut_at_once (Ok x) group me fault input out is why = tt
   cut_at_once (Err failure) group me fault input out is why =
-      subst (λ (f : Failure). IsCutOff object A group me input out out f) (sym is) (cut_first group me fault input out why)
+      subst (λ (f : Failure). IsCutOff object A group me input input out out f) (sym is) (cut_first group me fault input out why)

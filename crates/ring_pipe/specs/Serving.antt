@@ -64,16 +64,17 @@ module _ {O : Type 0} (object : Sequential O) (A : Type 0) where
   IsServed group me input rest out out' =
       IsInGroup group me × (new : Node A) × Serves object (node_opening group me) new input rest out out' × IsAtEnd rest
 
-  -- There is no such processor, and nothing is told; or there is, its node, at its opening, took each of the records before, the output has no
-  -- more than it told of these, and the failure is why there are no more. Of an output that failed it isn't said what it has.
-  abbrev pub IsCutOff : Group → ℕ → Option (List ℕ) → Option (List ℕ) → Option (List ℕ) → Failure → Type 0
-  IsCutOff group me input out out' Output = IsInGroup group me
-  IsCutOff group me input out out' failure =
-      ((failure ≡ Refused NotMember) × (¬ IsInGroup group me) × (out' ≡ out))
-      ⊎ (IsInGroup group me × (new : Node A) × (rest : Option (List ℕ)) × (so : Serves object (node_opening group me) new input rest out out')
+  -- There is no such processor, and nothing of the input is taken, and nothing told; or there is, its node, at its opening, took each of the
+  -- records before, the output has no more than it told of these, and the failure is why there are no more. Of an output that failed it isn't said
+  -- what it has, nor what is left of the input behind these records.
+  abbrev pub IsCutOff : Group → ℕ → Option (List ℕ) → Option (List ℕ) → Option (List ℕ) → Option (List ℕ) → Failure → Type 0
+  IsCutOff group me input rest out out' Output = IsInGroup group me
+  IsCutOff group me input rest out out' failure =
+      ((failure ≡ Refused NotMember) × (¬ IsInGroup group me) × (rest ≡ input) × (out' ≡ out))
+      ⊎ (IsInGroup group me × (new : Node A) × (left : Option (List ℕ)) × (so : Serves object (node_opening group me) new input left out out')
       × IsStop (u64_saturate (length (records_text so.records))) failure)
 
   -- so the input was cut off; and where it is the output that failed, nothing is told elsewhere
-  abbrev pub IsCutShort : {E : Type 0} → Group → ℕ → Option (List ℕ) → Option (List ℕ) → Option (List ℕ) → E → E → Type 0
-  IsCutShort group me input out out' err err' =
-      (failure : Failure) × IsCutOff group me input out out' failure × (failure ≡ Output → err' ≡ err)
+  abbrev pub IsCutShort : {E : Type 0} → Group → ℕ → Option (List ℕ) → Option (List ℕ) → Option (List ℕ) → Option (List ℕ) → E → E → Type 0
+  IsCutShort group me input rest out out' err err' =
+      (failure : Failure) × IsCutOff group me input rest out out' failure × (failure ≡ Output → err' ≡ err)

@@ -36,7 +36,7 @@ pub fn serve<O: Object, R: Read, W: Write, E: Write>(
     ensures quiet { result ≡ 0 → err.new ≡ err.old }
     ensures served { result ≡ 0 → IsServed O.sequential O.Alloc fixed me (R.remaining input.old) (R.remaining input.new)
         (W.contents out.old) (W.contents out.new) }
-    ensures cut { result ≡ 1 → IsCutShort O.sequential O.Alloc fixed me (R.remaining input.old)
+    ensures cut { result ≡ 1 → IsCutShort O.sequential O.Alloc fixed me (R.remaining input.old) (R.remaining input.new)
         (W.contents out.old) (W.contents out.new) err.old err.new }
 {
     match serve_all::<O, R, W>(alloc, fixed, me, input, out) {
@@ -56,7 +56,7 @@ fn serve_all<O: Object, R: Read, W: Write>(
 ) -> Result<(), Failure>
     ensures served { OnOk result (IsServed O.sequential O.Alloc fixed me (R.remaining input.old) (R.remaining input.new)
         (W.contents out.old) (W.contents out.new)) }
-    ensures cut { IfErr result (IsCutOff O.sequential O.Alloc fixed me (R.remaining input.old)
+    ensures cut { IfErr result (IsCutOff O.sequential O.Alloc fixed me (R.remaining input.old) (R.remaining input.new)
         (W.contents out.old) (W.contents out.new)) }
 {
     // That there is no such processor is told before memory is asked for.

@@ -4,7 +4,6 @@
 use Rattle.std.specs.Prelude.{ℕ, zero, suc, ◌+◌, ◌*◌, ◌-◌, nat_lt, Bool, if◌then◌else◌, List, [], ◌∷◌, ◌++◌, length, map, drop, replicate, Option, Some}
 use Rattle.std.specs.declared.alloc.Global.{Global}
 use Rattle.ring_base.specs.Numbers.{numbers_from}
-use Rattle.ring_base.specs.Processors.{elements}
 use Rattle.ring_base.specs.declared.kind.Kind.TheVariants.{Join, Consensus}
 use Rattle.ring_object.specs.Operations.{Sequential}
 use Rattle.ring_payload.specs.declared.call.Call.{Call}
@@ -15,7 +14,7 @@ use Rattle.ring_rules.specs.declared.event.Event.{Event}
 use Rattle.ring_rules.specs.declared.event.Event.TheVariants.{Issue, Deliver, Timeout, Stop}
 use Rattle.ring_rules.specs.declared.told.Told.{Told}
 use Rattle.ring_rules.specs.declared.told.Told.TheVariants.{Answer as ToldAnswer, Refused as ToldRefused}
-use Rattle.ring_core.specs.State.{Carried}
+use Rattle.ring_core.specs.State.{receiver_pairs}
 use Rattle.ring_rules.specs.Worlds.{World, world_opening, happens, run}
 
 -- a count as a list of so many ones, and back
@@ -81,12 +80,8 @@ nine_answers = map (λ k. (k, Done (k ∷ []))) (numbers_from 0 9)
 
 -- Frames handed over in the order in which they were sent, a receiver after the other
 
-abbrev pub pairs_of : ℕ → List (Carried Global) → List (ℕ × ℕ)
-pairs_of k [] = []
-pairs_of k (f ∷ rest) = map (λ i. (k, i)) (elements f.to) ++ pairs_of (suc k) rest
-
 abbrev pub pairs_after : ℕ → World Global → List (ℕ × ℕ)
-pairs_after count w = pairs_of (suc count) (drop count w.frames)
+pairs_after count w = receiver_pairs (suc count) (drop count w.frames)
 
 -- a world with what wasn't handed over yet: pairs of frame and receiver, oldest first
 pub record Pumped : Type 0 where

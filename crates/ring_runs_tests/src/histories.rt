@@ -53,11 +53,7 @@ fn told(heap: &Refusing) -> Result<(), AllocError> {
     } else {
         explains == Ok(true)
     };
-    if is_right == heap.has_refused() {
-        Err(AllocError)
-    } else {
-        Ok(())
-    }
+    heap.answer(is_right)
 }
 
 #[test]

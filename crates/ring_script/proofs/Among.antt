@@ -6,7 +6,7 @@ use Rattle.std.proofs.lemmas.Grind.{common_steps}
 use Rattle.std.proofs.lemmas.Result.{IfOk-at_ok}
 use Rattle.ring_base.specs.Group.{Group}
 use Rattle.ring_script.specs.declared.scripts.Numbered.{Numbered}
-use Rattle.ring_script.specs.Lines.{Asked, IsAmong, call_at, deliver_at, timeout_at, noise_at, stop_at, cut_line_at, pump_at, form_at, asked_of}
+use Rattle.ring_script.specs.Lines.{LineRequest, IsAmong, call_at, deliver_at, timeout_at, noise_at, stop_at, cut_line_at, pump_at, form_at, asked_of}
 use Rattle.ring_script.specs.Numbers.{word_at, node_at}
 use Rattle.ring_script.specs.Operations.{Form}
 use Rattle.ring_script.specs.Reading.{◌>>=◌}
@@ -19,7 +19,7 @@ node_low : (nodes : Group) (words : List (List ℕ)) → IfSome (node_at nodes w
 node_low nodes words = grind (arith, common_steps)
 
 -- what a form reads, and the words after it: it is asked at one of so many nodes, or at none
-abbrev ReadAmong : ℕ → Option (Asked × List (List ℕ)) → Type 0
+abbrev ReadAmong : ℕ → Option (LineRequest × List (List ℕ)) → Type 0
 ReadAmong count read = IfSome read (λ asked. IsAmong count asked.0)
 
 call_among : (forms : List Form) (nodes : Group) (words : List (List ℕ)) → ReadAmong nodes.count (call_at forms nodes words)
@@ -56,7 +56,7 @@ form_among forms nodes word words = grind (arith, call_among, deliver_among, tim
 
 -- ---- one line
 
-whole_among : (count : ℕ) (read : Option (Asked × List (List ℕ))) → ReadAmong count read → IfSome (read >>= whole) (IsAmong count)
+whole_among : (count : ℕ) (read : Option (LineRequest × List (List ℕ))) → ReadAmong count read → IfSome (read >>= whole) (IsAmong count)
 whole_among count read among = grind arith
 
 words_among : (forms : List Form) (nodes : Group) (words : List (List ℕ))
@@ -71,14 +71,14 @@ asked_among forms nodes line = words_among forms nodes (words_of line)
 -- ---- all lines
 
 -- what is asked for, with its number: each is asked at one of so many nodes, or at none
-abbrev AllAmong : ℕ → List (ℕ × Asked) → Type 0
-AllAmong count asked = AllByRecursion (λ (a : ℕ × Asked). IsAmong count a.1) asked
+abbrev AllAmong : ℕ → List (ℕ × LineRequest) → Type 0
+AllAmong count asked = AllByRecursion (λ (a : ℕ × LineRequest). IsAmong count a.1) asked
 
 told_among : (forms : List Form) (nodes : Group) (line : List ℕ)
     → IfSome (unless_skipped (asked_of forms nodes) line) (λ told. IfSome told (IsAmong nodes.count))
 told_among forms nodes line = grind (arith, asked_among forms nodes line)
 
-then_among : (count number : ℕ) (told : Option (Option Asked)) (others : Result (List (ℕ × Asked)) ℕ)
+then_among : (count number : ℕ) (told : Option (Option LineRequest)) (others : Result (List (ℕ × LineRequest)) ℕ)
     → IfSome told (λ asked. IfSome asked (IsAmong count)) → IfOk others (AllAmong count)
     → IfOk (then_asked number told others) (AllAmong count)
 then_among count number told others first later = grind arith

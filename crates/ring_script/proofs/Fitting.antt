@@ -9,7 +9,7 @@ use Rattle.ring_script.specs.declared.line.Line.{Line}
 use Rattle.ring_script.specs.declared.line.Line.TheVariants as lines
 use Rattle.ring_script.specs.declared.scripts.Numbered.{Numbered}
 use Rattle.ring_script.specs.Fits.{IsFit, AreFit}
-use Rattle.ring_script.specs.Lines.{Asked, Call, Deliver, Timeout, Noise, Stop, Cut, Heal, Pump, Show, asked_by}
+use Rattle.ring_script.specs.Lines.{LineRequest, Call, Deliver, Timeout, Noise, Stop, Cut, Heal, Pump, Show, asked_by}
 use Rattle.ring_script.specs.Lines.{call_at, deliver_at, timeout_at, noise_at, stop_at, cut_line_at, pump_at, form_at}
 use Rattle.ring_script.specs.Lines.{asked_of}
 use Rattle.ring_script.specs.Numbers.{word_at, number_at, node_at}
@@ -20,7 +20,7 @@ use Rattle.ring_script.specs.Words.{words_of, whole}
 use Rattle.ring_script.proofs.Lengths.{operation_short}
 
 -- what is asked for keeps the limits
-abbrev FitsAsked : Asked → Type 0
+abbrev FitsAsked : LineRequest → Type 0
 FitsAsked (Call node client number operation) = (client < 2 ^ 32) × (1 ≤ number) × (number < 2 ^ 64) × (length operation ≤ 1024)
 FitsAsked (Deliver node frame) = Unit {0}
 FitsAsked (Timeout node kind) = Unit {0}
@@ -48,7 +48,7 @@ operation_low forms words are = at_some (operation_at forms words) refl
     at_some (Some x) e = operation_short forms words x are e
 
 -- what a form reads, and the words after it
-abbrev ReadFits : Option (Asked × List (List ℕ)) → Type 0
+abbrev ReadFits : Option (LineRequest × List (List ℕ)) → Type 0
 ReadFits read = IfSome read (λ asked. FitsAsked asked.0)
 
 call_fits : (forms : List Form) (nodes : Group) (words : List (List ℕ)) → are_short forms ≡ true → ReadFits (call_at forms nodes words)
@@ -115,7 +115,7 @@ form_fits forms nodes word words are = grind (arith, call_fits forms nodes words
 
 -- ---- one line
 
-whole_fits : (read : Option (Asked × List (List ℕ))) → ReadFits read → IfSome (read >>= whole) FitsAsked
+whole_fits : (read : Option (LineRequest × List (List ℕ))) → ReadFits read → IfSome (read >>= whole) FitsAsked
 whole_fits read fits = grind arith
 
 words_fit : (forms : List Form) (nodes : Group) (words : List (List ℕ)) → are_short forms ≡ true
@@ -130,14 +130,14 @@ asked_fits forms nodes line are = words_fit forms nodes (words_of line) are
 -- ---- all lines
 
 -- what is asked for, with its number, keeps the limits
-abbrev AllFit : List (ℕ × Asked) → Type 0
-AllFit asked = AllByRecursion (λ (a : ℕ × Asked). FitsAsked a.1) asked
+abbrev AllFit : List (ℕ × LineRequest) → Type 0
+AllFit asked = AllByRecursion (λ (a : ℕ × LineRequest). FitsAsked a.1) asked
 
 told_fits : (forms : List Form) (nodes : Group) (line : List ℕ) → are_short forms ≡ true
     → IfSome (unless_skipped (asked_of forms nodes) line) (λ told. IfSome told FitsAsked)
 told_fits forms nodes line are = grind (arith, asked_fits forms nodes line are)
 
-then_fits : (number : ℕ) (told : Option (Option Asked)) (others : Result (List (ℕ × Asked)) ℕ)
+then_fits : (number : ℕ) (told : Option (Option LineRequest)) (others : Result (List (ℕ × LineRequest)) ℕ)
     → IfSome told (λ asked. IfSome asked FitsAsked) → IfOk others AllFit → IfOk (then_asked number told others) AllFit
 then_fits number told others first later = grind arith
 

@@ -9,7 +9,7 @@ use Rattle.ring_script.specs.declared.scripts.Numbered.{Numbered}
 use Rattle.ring_script.specs.declared.scripts.ScriptFault.{ScriptFault}
 use Rattle.ring_script.specs.declared.scripts.ScriptFault.TheVariants.{Memory, AtLine}
 use Rattle.ring_script.specs.Faults.{IsOfText}
-use Rattle.ring_script.specs.Lines.{Asked, asked_by, asked_of}
+use Rattle.ring_script.specs.Lines.{LineRequest, asked_by, asked_of}
 use Rattle.ring_script.specs.Operations.{Form}
 use Rattle.ring_script.specs.Scripts.{unless_skipped, nodes_of, then_asked, asked_in, then_nodes, nodes_in, numbered_by, Faults}
 use Rattle.ring_script.specs.Votes.{votes_of, is_votes, then_votes, votes_in}
@@ -21,14 +21,14 @@ behind front (Ok others) = Ok (front ++ others)
 behind front (Err line) = Err line
 
 -- what was read before and a line's, and what is read after it
-then-behind : (front : List (ℕ × Asked)) (number : ℕ) (asked : Asked) (others : Result (List (ℕ × Asked)) ℕ)
+then-behind : (front : List (ℕ × LineRequest)) (number : ℕ) (asked : LineRequest) (others : Result (List (ℕ × LineRequest)) ℕ)
     → behind (front ++ (number, asked) ∷ []) others ≡ behind front (then_asked number (Some (Some asked)) others)
 then-behind front number asked (Ok rest) = ap Ok (append_assoc front ((number, asked) ∷ []) rest)
 then-behind front number asked (Err line) = refl
 
 -- one line more was read
 pub next_asked : {A : Type 0} (forms : List Form) (nodes : Group) (items : List (Numbered A)) (numbered : Numbered A) (line : List ℕ)
-    (old left : LinesLeft) (whole : Result (List (ℕ × Asked)) ℕ)
+    (old left : LinesLeft) (whole : Result (List (ℕ × LineRequest)) ℕ)
     → behind (map numbered_by items) (asked_in forms nodes old.before old.lines) ≡ whole
     → old.lines ≡ line ∷ left.lines → numbered.number ≡ old.before + 1 → left.before ≡ old.before + 1
     → unless_skipped (asked_of forms nodes) line ≡ Some (Some (asked_by numbered.line))
@@ -45,7 +45,7 @@ next_asked forms nodes items numbered line old left whole before lines_are numbe
 
 -- ---- the line at fault is one that the text has or could have
 
-told_low : (number line : ℕ) (read : Option (Option Asked)) (others : Result (List (ℕ × Asked)) ℕ) → 1 ≤ number
+told_low : (number line : ℕ) (read : Option (Option LineRequest)) (others : Result (List (ℕ × LineRequest)) ℕ) → 1 ≤ number
     → (others ≡ Err line → 1 ≤ line) → then_asked number read others ≡ Err line → 1 ≤ line
 told_low number line None others low later e = let same : number ≡ line = cc in omega arith
 told_low number line (Some None) others low later e = later e

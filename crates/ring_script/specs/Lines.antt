@@ -16,23 +16,23 @@ use Rattle.ring_base.specs.Numbers.{most_frame}
 
 -- ---- what a line asks for
 
-pub data Asked : Type 0 where
+pub data LineRequest : Type 0 where
   -- a client's call is submitted at the node
-  Call : (node client number : ℕ) → (operation : List ℕ) → Asked
+  Call : (node client number : ℕ) → (operation : List ℕ) → LineRequest
   -- the frame of this number is delivered at the node; None is a number that no u64 holds
-  Deliver : (node : ℕ) → (frame : Option ℕ) → Asked
-  Timeout : (node : ℕ) → (kind : Kind) → Asked
+  Deliver : (node : ℕ) → (frame : Option ℕ) → LineRequest
+  Timeout : (node : ℕ) → (kind : Kind) → LineRequest
   -- bytes that no node sent come at the node
-  Noise : (node : ℕ) → (bytes : List ℕ) → Asked
-  Stop : (node : ℕ) → Asked
+  Noise : (node : ℕ) → (bytes : List ℕ) → LineRequest
+  Stop : (node : ℕ) → LineRequest
   -- the group of each processor
-  Cut : (groups : List ℕ) → Asked
-  Heal : Asked
-  Pump : (turns : ℕ) → Asked
-  Show : Asked
+  Cut : (groups : List ℕ) → LineRequest
+  Heal : LineRequest
+  Pump : (turns : ℕ) → LineRequest
+  Show : LineRequest
 
 -- what a line of the program asks for
-abbrev pub asked_by : {A : Type 0} → Line A → Asked
+abbrev pub asked_by : {A : Type 0} → Line A → LineRequest
 asked_by (lines.Call node call) = Call node call.client call.number call.op
 asked_by (lines.Deliver node frame) = Deliver node frame
 asked_by (lines.Timeout node kind) = Timeout node kind
@@ -44,7 +44,7 @@ asked_by (lines.Pump turns) = Pump turns
 asked_by lines.Show = Show
 
 -- the node at which something is asked for, where it is asked at one
-abbrev pub asked_at : Asked → Option ℕ
+abbrev pub asked_at : LineRequest → Option ℕ
 asked_at (Call node client number operation) = Some node
 asked_at (Deliver node frame) = Some node
 asked_at (Timeout node kind) = Some node
@@ -53,7 +53,7 @@ asked_at (Stop node) = Some node
 asked_at _ = None
 
 -- what is asked for is asked at one of so many nodes, or at none
-abbrev pub IsAmong : ℕ → Asked → Type 0
+abbrev pub IsAmong : ℕ → LineRequest → Type 0
 IsAmong count asked = IfSome (asked_at asked) (λ node. node ≤ count)
 
 -- ---- what single words stand for
@@ -88,7 +88,7 @@ frame_at words = do
 -- ---- the forms of lines, by the words behind the first, and the words after each
 
 -- `call NODE CLIENT NUMBER OP..`
-unfoldable pub call_at : List Form → Group → List (List ℕ) → Option (Asked × List (List ℕ))
+unfoldable pub call_at : List Form → Group → List (List ℕ) → Option (LineRequest × List (List ℕ))
 call_at forms nodes words = do
   node ← node_at nodes words
   client ← number_at 0 (2 ^ 32 - 1) node.1
@@ -97,7 +97,7 @@ call_at forms nodes words = do
   Some (Call node.0 client.0 number.0 operation.0, operation.1)
 
 -- `deliver NODE FRAME`
-unfoldable pub deliver_at : Group → List (List ℕ) → Option (Asked × List (List ℕ))
+unfoldable pub deliver_at : Group → List (List ℕ) → Option (LineRequest × List (List ℕ))
 deliver_at nodes words = do
   node ← node_at nodes words
   word ← word_at node.1
@@ -105,7 +105,7 @@ deliver_at nodes words = do
   Some (Deliver node.0 frame, word.1)
 
 -- `timeout NODE KIND`
-unfoldable pub timeout_at : Group → List (List ℕ) → Option (Asked × List (List ℕ))
+unfoldable pub timeout_at : Group → List (List ℕ) → Option (LineRequest × List (List ℕ))
 timeout_at nodes words = do
   node ← node_at nodes words
   word ← word_at node.1
@@ -113,7 +113,7 @@ timeout_at nodes words = do
   Some (Timeout node.0 kind, word.1)
 
 -- `noise NODE HEX`
-unfoldable pub noise_at : Group → List (List ℕ) → Option (Asked × List (List ℕ))
+unfoldable pub noise_at : Group → List (List ℕ) → Option (LineRequest × List (List ℕ))
 noise_at nodes words = do
   node ← node_at nodes words
   word ← word_at node.1
@@ -121,25 +121,25 @@ noise_at nodes words = do
   Some (Noise node.0 bytes, word.1)
 
 -- `stop NODE`
-unfoldable pub stop_at : Group → List (List ℕ) → Option (Asked × List (List ℕ))
+unfoldable pub stop_at : Group → List (List ℕ) → Option (LineRequest × List (List ℕ))
 stop_at nodes words = do
   node ← node_at nodes words
   Some (Stop node.0, node.1)
 
 -- `cut GROUP GROUP..`
-unfoldable pub cut_line_at : Group → List (List ℕ) → Option (Asked × List (List ℕ))
+unfoldable pub cut_line_at : Group → List (List ℕ) → Option (LineRequest × List (List ℕ))
 cut_line_at nodes words = do
   groups ← cut_at nodes words
   Some (Cut groups.0, groups.1)
 
 -- `pump K`
-unfoldable pub pump_at : List (List ℕ) → Option (Asked × List (List ℕ))
+unfoldable pub pump_at : List (List ℕ) → Option (LineRequest × List (List ℕ))
 pump_at words = do
   turns ← number_at 1 100000 words
   Some (Pump turns.0, turns.1)
 
 -- the form that has this first word
-unfoldable pub form_at : List Form → Group → List ℕ → List (List ℕ) → Option (Asked × List (List ℕ))
+unfoldable pub form_at : List Form → Group → List ℕ → List (List ℕ) → Option (LineRequest × List (List ℕ))
 form_at forms nodes word words =
     if is (codes "call") word then call_at forms nodes words
     else if is (codes "deliver") word then deliver_at nodes words
@@ -153,7 +153,7 @@ form_at forms nodes word words =
     else None
 
 -- what the line asks for, of an object with these words
-unfoldable pub asked_of : List Form → Group → List ℕ → Option Asked
+unfoldable pub asked_of : List Form → Group → List ℕ → Option LineRequest
 asked_of forms nodes line = do
   word ← word_at (words_of line)
   read ← form_at forms nodes word.0 word.1

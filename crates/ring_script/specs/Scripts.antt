@@ -10,7 +10,7 @@ use Rattle.ring_script.specs.declared.scripts.Numbered.{Numbered}
 use Rattle.ring_script.specs.declared.scripts.Script.{Script}
 use Rattle.ring_script.specs.declared.scripts.ScriptFault.{ScriptFault}
 use Rattle.ring_script.specs.declared.scripts.ScriptFault.TheVariants.{Memory, AtLine}
-use Rattle.ring_script.specs.Lines.{Asked, asked_by, asked_of, IsAmong}
+use Rattle.ring_script.specs.Lines.{LineRequest, asked_by, asked_of, IsAmong}
 use Rattle.ring_script.specs.Numbers.{is, word_at, number_at}
 use Rattle.ring_script.specs.Operations.{Form}
 use Rattle.ring_script.specs.Reading.{◌>>=◌}
@@ -37,21 +37,21 @@ unless_skipped read line = if are_ascii line then (if is_skipped line then Some 
 -- the nodes with their votes, and what the lines ask for, each with its number
 pub record Schedule : Type 0 where
   pub nodes : Group
-  pub asked : List (ℕ × Asked)
+  pub asked : List (ℕ × LineRequest)
 
 -- what a line asks for, and then what the others do, if they can be read
-abbrev pub with_asked : ℕ × Asked → Result (List (ℕ × Asked)) ℕ → Result (List (ℕ × Asked)) ℕ
+abbrev pub with_asked : ℕ × LineRequest → Result (List (ℕ × LineRequest)) ℕ → Result (List (ℕ × LineRequest)) ℕ
 with_asked asked (Ok others) = Ok (asked ∷ others)
 with_asked asked (Err line) = Err line
 
 -- what a line is, before the others: the number of a fault, nothing, or what it asks for
-abbrev pub then_asked : ℕ → Option (Option Asked) → Result (List (ℕ × Asked)) ℕ → Result (List (ℕ × Asked)) ℕ
+abbrev pub then_asked : ℕ → Option (Option LineRequest) → Result (List (ℕ × LineRequest)) ℕ → Result (List (ℕ × LineRequest)) ℕ
 then_asked number None others = Err number
 then_asked number (Some None) others = others
 then_asked number (Some (Some asked)) others = with_asked (number, asked) others
 
 -- what the lines ask for, each with its number, or the number of the first line at fault; so many lines stand before them
-unfoldable pub asked_in : List Form → Group → ℕ → List (List ℕ) → Result (List (ℕ × Asked)) ℕ
+unfoldable pub asked_in : List Form → Group → ℕ → List (List ℕ) → Result (List (ℕ × LineRequest)) ℕ
 asked_in forms nodes before [] = Ok []
 asked_in forms nodes before (line ∷ lines) =
     then_asked (before + 1) (unless_skipped (asked_of forms nodes) line) (asked_in forms nodes (before + 1) lines)
@@ -68,7 +68,7 @@ nodes_in before [] = Err (before + 1)
 nodes_in before (line ∷ lines) = then_nodes (before + 1) (unless_skipped (nodes_of) line) lines (nodes_in (before + 1) lines)
 
 -- a schedule of these nodes, if the lines can be read
-abbrev pub with_nodes : Group → Result (List (ℕ × Asked)) ℕ → Result Schedule ℕ
+abbrev pub with_nodes : Group → Result (List (ℕ × LineRequest)) ℕ → Result Schedule ℕ
 with_nodes nodes (Ok asked) = Ok (record { nodes = nodes; asked = asked })
 with_nodes nodes (Err line) = Err line
 
@@ -94,7 +94,7 @@ script_of text = script_by shelf_forms text
 -- ---- what the program's calls answer
 
 -- a numbered line of the program
-abbrev pub numbered_by : {A : Type 0} → Numbered A → ℕ × Asked
+abbrev pub numbered_by : {A : Type 0} → Numbered A → ℕ × LineRequest
 numbered_by numbered = (numbered.number, asked_by numbered.line)
 
 -- the schedule that a script of the program is

@@ -1,40 +1,62 @@
 -- What was read back of a script that was made, as its schedule has it.
-use Rattle.std.proofs.Common.{◌≡◌, ◌≤◌, ℕ, zero, suc, ◌+◌, ◌<◌, min, List, [], ◌∷◌, map, length, Some, Result, Ok, Err, slice_get, get_or, ap, sym, ◌∙◌, arith}
+use Rattle.std.proofs.Common.{◌≡◌, ◌≤◌, ℕ, zero, suc, ◌+◌, ◌<◌, min, List, [], ◌∷◌, map, length, Some, Result, Ok, Err, refl, ap, ◌∙◌, arith}
 use Rattle.std.proofs.lemmas.List.{length-map}
-use Rattle.std.specs.Prelude.{OnOk, IsSomeAnd}
-use Rattle.ring_script.specs.Lines.{Asked, asked_by}
+use Rattle.std.proofs.lemmas.Option.{same_Some}
+use Rattle.std.specs.Prelude.{◌≢◌, OnOk, slice_get, slice_index_or}
+use Rattle.ring_base.specs.Group.{Group, AreVotes, filled}
+use Rattle.ring_script.specs.Lines.{LineRequest, asked_by}
 use Rattle.ring_script.specs.Operations.{Form}
 use Rattle.ring_script.specs.Scripts.{script_by, schedule_by, numbered_by, longest_text}
+use Rattle.ring_script.specs.declared.line.Line.{Line}
 use Rattle.ring_script.specs.declared.line.Line.TheVariants as line
 use Rattle.ring_script.specs.declared.scripts.Numbered.{Numbered}
 use Rattle.ring_script.specs.declared.scripts.Script.{Script}
 use Rattle.ring_script_maker.specs.Made.{IsMadeBy}
+use Rattle.ring_script_maker.proofs.ReadVotes.{script_whole, same_nodes}
+
+-- a line that does not show the state asks for something else
+other_asked : {A : Type 0} (l : Line A) → l ≢ line.Show → asked_by l ≢ LineRequest.Show
+other_asked (line.Call node call) other = λ same. absurd (cc same)
+other_asked (line.Deliver node frame) other = λ same. absurd (cc same)
+other_asked (line.Timeout node kind) other = λ same. absurd (cc same)
+other_asked (line.Noise node bytes) other = λ same. absurd (cc same)
+other_asked (line.Stop node) other = λ same. absurd (cc same)
+other_asked (line.Cut groups) other = λ same. absurd (cc same)
+other_asked line.Heal other = λ same. absurd (cc same)
+other_asked (line.Pump turns) other = λ same. absurd (cc same)
+other_asked line.Show other = λ same. other refl
 
 -- the line at a place shows the state, so its schedule asks for that there
-shown_at : {A : Type 0} (lines : List (Numbered A)) (k : ℕ) → IsSomeAnd (slice_get lines k) (λ last. last.line ≡ line.Show)
-    → (number : ℕ) × (slice_get (map numbered_by lines) k ≡ Some (number, Asked.Show))
-shown_at [] k shows = absurd shows
-shown_at (x ∷ xs) zero shows = (x.number, ap (λ l. Some (x.number, asked_by l)) shows)
-shown_at (x ∷ xs) (suc k) shows = shown_at xs k shows
+shown_at : {A : Type 0} (lines : List (Numbered A)) (k : ℕ) → k < length lines → ((d : Numbered A) → (slice_index_or lines k d).line ≡ line.Show)
+    → (number : ℕ) × (slice_get (map numbered_by lines) k ≡ Some (number, LineRequest.Show))
+shown_at [] k within shows = absurd (omega (arith, within))
+shown_at (x ∷ xs) zero within shows = (x.number, ap (λ l. Some (x.number, asked_by l)) (shows x))
+shown_at (x ∷ xs) (suc k) within shows = shown_at xs k (omega (arith, within)) shows
+
+-- it does not, so the schedule asks for something else there
+other_at : {A : Type 0} (lines : List (Numbered A)) (k number : ℕ) → ((d : Numbered A) → (slice_index_or lines k d).line ≢ line.Show)
+    → ¬ (slice_get (map numbered_by lines) k ≡ Some (number, LineRequest.Show))
+other_at [] k number others = λ same. absurd (cc same)
+other_at (x ∷ xs) zero number others =
+    λ same. other_asked x.line (others x) (ap (λ (a : ℕ × LineRequest). a.1) (same_Some (numbered_by x) (number, LineRequest.Show) same))
+other_at (x ∷ xs) (suc k) number others = other_at xs k number others
 
 -- a script that is as it was asked for
-pub read_made : {A T E : Type 0} (forms : List Form) (script : Script A) (r : Result T E) (nodes lines : ℕ) (text : List ℕ)
-    → length text ≤ longest_text → script_by forms text ≡ Ok (schedule_by script) → OnOk r (script.nodes.count ≡ nodes)
-    → OnOk r (length script.lines.items ≡ min lines 10000 + 1) → OnOk r (IsSomeAnd (slice_get script.lines.items (min lines 10000)) (λ last. last.line ≡ line.Show))
-    → OnOk r (IsMadeBy forms nodes lines text)
-read_made forms script (Ok x) nodes lines text short is are count shows = record {
+pub read_made : {A T E : Type 0} (forms : List Form) (script : Script A) (r : Result T E) (nodes : Group) (lines : ℕ) (text : List ℕ)
+    → AreVotes nodes.votes → nodes.count ≡ length nodes.votes → length text ≤ longest_text → script_by forms text ≡ Ok (schedule_by script)
+    → OnOk r ((script.nodes.count ≡ nodes.count) × (filled script.nodes.votes ≡ filled nodes.votes))
+    → OnOk r (length script.lines.items ≡ min lines 10000 + 1)
+    → OnOk r ((k : ℕ) (d : Numbered A) → k < min lines 10000 → (slice_index_or script.lines.items k d).line ≢ line.Show)
+    → OnOk r ((d : Numbered A) → (slice_index_or script.lines.items (min lines 10000) d).line ≡ line.Show)
+    → OnOk r (IsMadeBy forms nodes.votes lines text)
+read_made forms script (Ok x) nodes lines text votes count short is same many others shows = record {
+  are_votes = votes;
   short = short;
   schedule = schedule_by script;
   is_script = is;
-  nodes_are = are;
-  lines_are = length-map script.lines.items numbered_by ∙ count;
-  shows = shown_at script.lines.items (min lines 10000) shows;
+  nodes_are = same_nodes script.nodes nodes (script_whole forms text (schedule_by script) is) count same.0 same.1;
+  lines_are = length-map script.lines.items numbered_by ∙ many;
+  asks = λ k number before. other_at script.lines.items k number (λ d. others k d before);
+  shows = shown_at script.lines.items (min lines 10000) (omega (arith, many)) shows;
 }
-read_made forms script (Err e) nodes lines text short is are count shows = tt
-
--- the one that is got at a place of a list stands there
-pub got_there : {A : Type 0} (lines : List (Numbered A)) (k : ℕ) (x : Numbered A) → k < length lines → x ≡ get_or lines k x → x.line ≡ line.Show
-    → IsSomeAnd (slice_get lines k) (λ last. last.line ≡ line.Show)
-got_there [] k x within is shows = absurd (omega arith)
-got_there (y ∷ ys) zero x within is shows = ap (λ n. n.line) (sym is) ∙ shows
-got_there (y ∷ ys) (suc k) x within is shows = got_there ys k x (omega arith) is shows
+read_made forms script (Err e) nodes lines text votes count short is same many others shows = tt

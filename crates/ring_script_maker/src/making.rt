@@ -1,7 +1,9 @@
 //! The making of a script.
 
-ghost use Rattle.std.specs.Prelude.{◌≡◌, ◌≤◌, ◌+◌, ◌⊎◌, ℕ, min, length, slice_get, List, IfOk, IfErr, OnOk, IsSomeAnd, string_bytes};
-ghost use Rattle.std.specs.Io.KnownBytes.{Appends, Keeps};
+ghost use Rattle.std.specs.Prelude.{◌≡◌, ◌≢◌, ◌≤◌, ◌<◌, ◌+◌, ◌⊎◌, ◌↔◌, ℕ, min, length, slice_index_or, List};
+ghost use Rattle.std.specs.Prelude.{IsTrue, IfOk, IfErr, OnOk, string_bytes};
+ghost use Rattle.std.specs.Io.KnownBytes.{Appends};
+ghost use Rattle.ring_base.specs.Group.{AreVotes, filled};
 ghost use Rattle.ring_base.specs.declared.fault.Fault.TheVariants.{BadScript, Memory};
 ghost use Rattle.ring_script.specs.declared.line.Line.TheVariants.{Show};
 ghost use Rattle.ring_script_maker.specs.Made.{IsMadeBy, IsMade, IsNotMade};
@@ -16,15 +18,15 @@ use std::io::Write;
 
 /// The script of this seed, over the program's object: of as many nodes as there are votes, each with its own, and of as many lines
 /// that call, deliver, time out, make noise, stop, cut, heal and pump as are asked for, or 10,000 where more are. Comments say what
-/// these tell, and `show` stands last. `NotMember` unless there are 1 to 16 votes, each at least 1; or `Memory`. What was made is read
-/// back before it is given: where it were no such script, that would be `BadScript`.
+/// these tell, and `show` stands last, and there alone. `NotMember` unless there are 1 to 16 votes, each at least 1; or `Memory`. What
+/// was made is read back before it is given: where it were no such script, that would be `BadScript`.
 pub fn made_script<A: Allocator + Copy + Drop>(
     alloc: A,
     votes: &[u8],
     seed: u64,
     lines: u32,
 ) -> Result<String<A>, Fault>
-    ensures made { IfOk result (λ text. IsMade (length votes.now) lines (string_bytes text)) }
+    ensures made { IfOk result (λ text. IsMade votes.now lines (string_bytes text)) }
     ensures refused { IfErr result (IsNotMade votes.now) }
 {
     made_script_by::<ShelfWords, A>(alloc, votes, seed, lines)
@@ -37,12 +39,12 @@ pub fn made_script_by<V: Vocabulary, A: Allocator + Copy + Drop>(
     seed: u64,
     lines: u32,
 ) -> Result<String<A>, Fault>
-    ensures made { IfOk result (λ text. IsMadeBy V.forms (length votes.now) lines (string_bytes text)) }
+    ensures made { IfOk result (λ text. IsMadeBy V.forms votes.now lines (string_bytes text)) }
     ensures refused { IfErr result (IsNotMade votes.now) }
 {
     let nodes = Fixed::with_votes(votes)?;
     let text = told_script::<V, A>(alloc, nodes, votes, seed, lines).map_err(|_| Fault::Memory)?;
-    read_back::<V, A>(alloc, votes.len(), lines, text.as_bytes())?;
+    read_back::<V, A>(alloc, nodes, lines, text.as_bytes())?;
     Ok(text)
 }
 
@@ -61,15 +63,17 @@ fn told_script<V: Vocabulary, A: Allocator>(
     Ok(maker.into_text())
 }
 
-/// Reads a text as a script of so many nodes and lines, with one line more that shows the state. `BadScript` where it is none; or
+/// Reads a text as a script of these nodes and so many lines, with one line more that shows the state. `BadScript` where it is none; or
 /// `Memory`.
 fn read_back<V: Vocabulary, A: Allocator + Copy + Drop>(
     alloc: A,
-    nodes: usize,
+    nodes: Fixed,
     lines: u32,
     text: &[u8],
 ) -> Result<(), Fault>
-    ensures made { OnOk result (IsMadeBy V.forms nodes lines text.now) }
+    requires votes { AreVotes nodes.votes }
+    requires count { nodes.count ≡ length nodes.votes }
+    ensures made { OnOk result (IsMadeBy V.forms nodes.votes lines text.now) }
     ensures refused { IfErr result (λ fault. (fault ≡ BadScript) ⊎ (fault ≡ Memory)) }
 {
     if text.len() as u64 > LONGEST_TEXT {
@@ -82,29 +86,54 @@ fn read_back<V: Vocabulary, A: Allocator + Copy + Drop>(
     }
 }
 
-/// `BadScript` unless the script has so many nodes, so many lines, and one more that shows the state.
+/// `BadScript` unless the script has these nodes, so many lines that show nothing, and one more that shows the state.
 fn is_as_asked<A: Allocator + Copy + Drop>(
-    nodes: usize,
+    nodes: Fixed,
     lines: u32,
     script: &Script<A>,
 ) -> Result<(), Fault>
-    ensures nodes { OnOk result (script.now.nodes.count ≡ nodes) }
+    ensures nodes { OnOk result ((script.now.nodes.count ≡ nodes.count) × (filled script.now.nodes.votes ≡ filled nodes.votes)) }
     ensures lines { OnOk result (length script.now.lines.items ≡ min lines 10000 + 1) }
-    ensures shows { OnOk result (IsSomeAnd (slice_get script.now.lines.items (min lines 10000)) (λ last. last.line ≡ Show)) }
+    ensures asks { OnOk result ((k : ℕ) (line : _) → k < min lines 10000 → (slice_index_or script.now.lines.items k line).line ≢ Show) }
+    ensures shows { OnOk result ((line : _) → (slice_index_or script.now.lines.items (min lines 10000) line).line ≡ Show) }
     ensures refused { IfErr result (λ fault. fault ≡ BadScript) }
 {
     let many = lines.min(MOST_LINES) as usize;
-    if usize::from(script.nodes.count()) != nodes || script.lines.len() != many + 1 {
+    let asked = script.lines.as_slice();
+    if !are_same(script.nodes, nodes) || asked.len() != many + 1 || first_show(asked) != many {
         return Err(Fault::BadScript);
     }
-    match script.lines.get(many) {
-        Some(
-            Numbered {
-                line: Line::Show,
-                ..
-            },
-        ) => Ok(()),
-        _ => Err(Fault::BadScript),
+    Ok(())
+}
+
+/// Whether these are the same nodes: as many, with the same votes.
+fn are_same(one: Fixed, other: Fixed) -> bool
+    ensures { IsTrue result → (one.count ≡ other.count) × (filled one.votes ≡ filled other.votes) }
+{
+    one == other
+}
+
+/// The place of the first line that shows the state, or how many lines there are, where none does.
+fn first_show<A: Allocator + Copy>(lines: &[Numbered<A>]) -> usize
+    ensures within { result ≤ length lines.now }
+    ensures before { (k : ℕ) (line : _) → k < result → (slice_index_or lines.now k line).line ≢ Show }
+    ensures found { (line : _) → result < length lines.now → (slice_index_or lines.now result line).line ≡ Show }
+{
+    for (place, numbered) in lines.iter().enumerate() {
+        if is_show(&numbered.line) {
+            return place;
+        }
+    }
+    lines.len()
+}
+
+/// Whether the line shows the state.
+fn is_show<A: Allocator + Copy>(line: &Line<A>) -> bool
+    ensures { IsTrue result ↔ (line.now ≡ Show) }
+{
+    match line {
+        Line::Show => true,
+        _ => false,
     }
 }
 
@@ -133,8 +162,9 @@ fn write_head<A: Allocator>(
     Ok(head.push_str("\n")?)
 }
 
-/// Prints the script of this seed, as [`made_script`] makes it. The exit status is 0, or else 1: where memory is refused or there
-/// are no such nodes `err` is told so, and nothing is printed; where `out` fails, nothing is told.
+/// Prints the script of this seed, as [`made_script`] makes it. The exit status is 0, or else 1: where memory is refused, where there
+/// are no such nodes, or where what was made were no such script, `err` is told so, and nothing is printed; where `out` fails, nothing
+/// is told.
 pub fn generate<A: Allocator + Copy + Drop, O: Write, E: Write>(
     alloc: A,
     votes: &[u8],
@@ -144,9 +174,10 @@ pub fn generate<A: Allocator + Copy + Drop, O: Write, E: Write>(
     err: &mut E,
 ) -> u8
     ensures status { result ≤ 1 }
-    ensures quiet { result ≡ 0 → Keeps (E.contents err.old) (E.contents err.new) }
-    ensures printed { result ≡ 0 → (text : List ℕ) × IsMade (length votes.now) lines text × Appends (O.contents out.old) (O.contents out.new) text }
+    ensures quiet { result ≡ 0 → err.new ≡ err.old }
+    ensures printed { result ≡ 0 → (text : List ℕ) × IsMade votes.now lines text × Appends (O.contents out.old) (O.contents out.new) text }
     ensures kept { result ≡ 1 → (out.new ≡ out.old) ⊎ (err.new ≡ err.old) }
+    ensures stranger { ¬ AreVotes votes.now → (result ≡ 1) × (out.new ≡ out.old) }
 {
     generate_by::<ShelfWords, A, O, E>(alloc, votes, seed, lines, out, err)
 }
@@ -161,9 +192,10 @@ pub fn generate_by<V: Vocabulary, A: Allocator + Copy + Drop, O: Write, E: Write
     err: &mut E,
 ) -> u8
     ensures status { result ≤ 1 }
-    ensures quiet { result ≡ 0 → Keeps (E.contents err.old) (E.contents err.new) }
-    ensures printed { result ≡ 0 → (text : List ℕ) × IsMadeBy V.forms (length votes.now) lines text × Appends (O.contents out.old) (O.contents out.new) text }
+    ensures quiet { result ≡ 0 → err.new ≡ err.old }
+    ensures printed { result ≡ 0 → (text : List ℕ) × IsMadeBy V.forms votes.now lines text × Appends (O.contents out.old) (O.contents out.new) text }
     ensures kept { result ≡ 1 → (out.new ≡ out.old) ⊎ (err.new ≡ err.old) }
+    ensures stranger { ¬ AreVotes votes.now → (result ≡ 1) × (out.new ≡ out.old) }
 {
     match made_script_by::<V, A>(alloc, votes, seed, lines) {
         Ok(text) => match out.write_all(text.as_bytes()) {

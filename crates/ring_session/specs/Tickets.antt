@@ -1,11 +1,12 @@
 -- Tickets and their answers: a ticket is answered by the first call that is its own of those that its node does after
 -- it was submitted, and the answer is that of the session table before that call. The calls that a node did are counted,
 -- and not places of its log. The replicated log, rules 13 to 15 of docs/PROTOCOL.md.
-use Rattle.std.specs.Prelude.{ℕ, ◌+◌, ◌-◌, ◌==◌, ◌&&◌, nat_le, Bool, false, List, [], ◌∷◌, ◌++◌, length, drop, Option, Some, None, is_none, map, if◌then◌else◌}
+use Rattle.std.specs.Prelude.{ℕ, ◌+◌, ◌==◌, ◌&&◌, nat_le, Bool, false, List, [], ◌∷◌, ◌++◌, length, Option, Some, None, is_none, map, if◌then◌else◌}
 use Rattle.std.specs.List.{filter}
 use Rattle.ring_object.specs.Operations.{Sequential}
 use Rattle.ring_payload.specs.declared.call.Call.{Call}
 use Rattle.ring_session.specs.declared.answer.Answer.{Answer}
+use Rattle.ring_session.specs.Recent.{last_kept}
 use Rattle.ring_session.specs.SessionAnswer.{is_same}
 use Rattle.ring_session.specs.Table.{Table, table_answer, table_next}
 use Rattle.ring_session.specs.declared.answered.Answered.{Answered}
@@ -53,7 +54,7 @@ answers_after object table tickets done (c ∷ more) =
 
 -- the last answers, so many as are kept
 abbrev pub kept_answers : {A : Type 0} → List (Answered A) → List (Answered A)
-kept_answers answers = drop (length answers - 64) answers
+kept_answers answers = last_kept answers
 
 -- the answer to the ticket among these
 abbrev pub answer_to : {A : Type 0} → ℕ → List (Answered A) → Option Answer

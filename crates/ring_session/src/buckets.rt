@@ -11,6 +11,9 @@ use std::alloc::Allocator;
 /// How many buckets there are.
 const BUCKETS: usize = 256;
 
+/// The same, by which numbers are counted off.
+const MODULUS: u64 = BUCKETS as u64;
+
 /// Where the calls of at most 64 tickets stand, by bucket: the first place of each bucket, and behind each place the next
 /// of the same bucket. Where there is none, it is the number of the tickets. A committed call is compared with the calls of
 /// its bucket alone, which are few.
@@ -70,7 +73,7 @@ fn bucket_of<A: Allocator + Copy>(call: &Call<A>) -> usize
     ensures bucket { result ≡ bucket_of call.now }
     ensures within { result < 256 }
 {
-    ((u64::from(call.client) % 256 * 157 + call.number % 256) % 256) as usize
+    ((u64::from(call.client) % MODULUS * 157 + call.number % MODULUS) % MODULUS) as usize
 }
 
 /// At which of 64 places a ticket stands whose call was committed.

@@ -41,11 +41,7 @@ fn answered(heap: &Refusing, ample: &Refusing, work: Work) -> Result<(), AllocEr
         Work::Shelf => has_ended(heap, change_and_come_back_anew::<Things<&Refusing>>(heap)),
         Work::Tickets => has_ended(heap, answer_three::<Counters<&Refusing>>(heap)),
     };
-    if is_right == heap.has_refused() {
-        Err(AllocError)
-    } else {
-        Ok(())
-    }
+    heap.answer(is_right)
 }
 
 /// How often the work asks for memory, each time refused once.

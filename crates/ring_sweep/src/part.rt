@@ -20,14 +20,14 @@ use ring_shares::share_begin;
 
 /// Some of the variants, by their places, counted from 0.
 #[derive(Clone, Copy)]
-pub(crate) struct Part {
+pub(crate) struct VariantSpan {
     /// The first of them.
     pub from: u64,
     /// The one behind the last of them.
     pub upto: u64,
 }
 
-impl Part {
+impl VariantSpan {
     /// How many they are.
     fn many(&self) -> u64
         ensures { result ≡ self.now.upto - self.now.from }
@@ -41,7 +41,7 @@ impl Part {
 pub(crate) fn try_share<O: Object>(
     alloc: O::Alloc,
     script: &Script<O::Alloc>,
-    part: Part,
+    part: VariantSpan,
     shares: u16,
     share: u64,
 ) -> Result<Option<Upset>, Fault>
@@ -61,7 +61,7 @@ fn try_ahead<O: Object>(
     alloc: O::Alloc,
     ahead: &mut Forerunner<O>,
     script: &Script<O::Alloc>,
-    part: Part,
+    part: VariantSpan,
     shares: u16,
     share: u64,
 ) -> Result<Option<Upset>, Fault>

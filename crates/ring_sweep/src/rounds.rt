@@ -6,7 +6,7 @@ ghost use Rattle.ring_script.specs.Fits.{AreFit};
 ghost use Rattle.ring_shares.specs.Shares.{share_begin, first_of};
 ghost use Rattle.ring_sweep.specs.Variants.{AreTried, AreTriedIn};
 
-use crate::part::{Part, try_share};
+use crate::part::{VariantSpan, try_share};
 use crate::upset::Upset;
 use ring_base::Fault;
 use ring_console::Script;
@@ -34,7 +34,7 @@ pub(crate) fn try_by_threads<O: Object<Alloc = Global> + Send, R: Threads + Cloc
     ensures ok { IfOk result (AreTried O.sequential script.now.nodes script.now.lines.items variants) }
     ensures refused { IfErr result (λ fault. fault ≡ Memory) }
 {
-    let all = Part {
+    let all = VariantSpan {
         from: 0,
         upto: variants,
     };
@@ -55,7 +55,7 @@ fn try_rounds<O: Object<Alloc = Global> + Send, R: Threads + Clock + Sync, P: Wr
     rt: &R,
     alloc: Global,
     script: &Script<Global>,
-    part: Part,
+    part: VariantSpan,
     threads: u16,
     meter: &mut Meter,
     out: &mut P,
@@ -70,13 +70,13 @@ fn try_rounds<O: Object<Alloc = Global> + Send, R: Threads + Clock + Sync, P: Wr
         return Ok(None);
     }
     let end = round_end(begin, meter.size(), last);
-    let round = Part {
+    let round = VariantSpan {
         from: begin,
         upto: end,
     };
     let found = try_part::<O, R>(rt, alloc, script, round, threads)?;
     meter.pass(rt, out, end);
-    let rest = Part {
+    let rest = VariantSpan {
         from: end,
         upto: last,
     };
@@ -89,7 +89,7 @@ fn try_part<O: Object<Alloc = Global> + Send, R: Threads + Sync>(
     rt: &R,
     alloc: Global,
     script: &Script<Global>,
-    part: Part,
+    part: VariantSpan,
     threads: u16,
 ) -> Result<Option<Upset>, Fault>
     requires { AreFit script.now.lines.items }
@@ -106,7 +106,7 @@ fn try_shares<O: Object<Alloc = Global> + Send, R: Threads + Sync>(
     rt: &R,
     alloc: Global,
     script: &Script<Global>,
-    part: Part,
+    part: VariantSpan,
     shares: u16,
 ) -> Result<Vec<Result<Option<Upset>, Fault>>, AllocError>
     requires { AreFit script.now.lines.items }
@@ -129,7 +129,7 @@ fn try_shares<O: Object<Alloc = Global> + Send, R: Threads + Sync>(
 /// The first variant of all shares that is not legal, where these are the first of each.
 fn first_in<O: Object<Alloc = Global>>(
     script: &Script<Global>,
-    part: Part,
+    part: VariantSpan,
     shares: u16,
     parts: Vec<Result<Option<Upset>, Fault>>,
 ) -> Result<Option<Upset>, Fault>

@@ -4,7 +4,7 @@ ghost use Rattle.std.specs.Prelude.{◌≡◌, ◌≤◌};
 ghost use Rattle.ring_script.specs.Fits.{AreFit};
 
 use crate::gap::{Gap, gap_of};
-use crate::upset::{Blow, Told, Upset};
+use crate::upset::{Blow, ToldUpset, Upset};
 use ring_base::Proc;
 use ring_console::{Failure, Line, Numbered, Script, ShelfWords, Things, Vocabulary, report};
 use ring_object::Object;
@@ -200,7 +200,7 @@ impl PutIn {
 
 impl fmt::Display for PutIn {
     fn fmt<W: fmt::Write>(&self, f: &mut fmt::Formatter<W>) -> fmt::Result {
-        let told = Told {
+        let told = ToldUpset {
             upset: &self.upset,
             events: self.events,
         };

@@ -14,9 +14,9 @@ ghost use Rattle.ring_report.specs.Texts.{line_of};
 ghost use Rattle.ring_sweep.specs.Swept.{swept_text, upset_text, AllLegal, IsSwept, IsSweptText};
 ghost use Rattle.ring_sweep.specs.Variants.{HasEvents, AreTried};
 
-use crate::part::{Part, try_share};
+use crate::part::{VariantSpan, try_share};
 use crate::rounds::try_by_threads;
-use crate::upset::{Told, Upset};
+use crate::upset::{ToldUpset, Upset};
 use crate::walk::Walk;
 use ring_base::Fault;
 use ring_console::{Failure, Script, ShelfWords, Things, Vocabulary, report};
@@ -204,7 +204,7 @@ fn swept_status<E: Write>(err: &mut E, swept: &Swept) -> u8
 fn tell_illegal<E: Write>(err: &mut E, upset: &Upset, events: u64) -> io::Result<()>
     ensures { OnOk result (Appends (E.contents err.old) (E.contents err.new) (line_of (upset_text events upset.now))) }
 {
-    let told = Told { upset, events };
+    let told = ToldUpset { upset, events };
     writeln!(err, "{told}")
 }
 
@@ -300,7 +300,7 @@ fn try_alone<O: Object>(
     ensures ok { IfOk result (AreTried O.sequential script.now.nodes script.now.lines.items variants) }
     ensures refused { IfErr result (λ fault. fault ≡ Memory) }
 {
-    let all = Part {
+    let all = VariantSpan {
         from: 0,
         upto: variants,
     };

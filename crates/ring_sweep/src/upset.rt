@@ -75,12 +75,12 @@ impl fmt::Display for Blow {
 
 /// What is put into a run of so many events. It is told with its event counted from 1.
 #[derive(Clone, Copy)]
-pub(crate) struct Told<'a> {
+pub(crate) struct ToldUpset<'a> {
     pub upset: &'a Upset,
     pub events: u64,
 }
 
-impl fmt::Display for Told<'_> {
+impl fmt::Display for ToldUpset<'_> {
     ghost use Rattle.std.specs.Prelude.{Some};
     ghost use Rattle.ring_sweep.specs.Swept.{upset_text};
 

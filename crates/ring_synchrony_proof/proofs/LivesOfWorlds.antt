@@ -39,13 +39,13 @@ pub record IsTold {A : Type 0} (i : ℕ) (c : Core A) (outs : List (Out A)) : Ty
   pub ordered : Ordered c
   pub tells : Tells (begun i) outs (tale c)
 
-abbrev pub AllTold : {A : Type 0} → World A → Type 0
-AllTold w = (i : ℕ) → IsTold i (w.cores i) (outs_of w i)
+abbrev pub AllLivesTold : {A : Type 0} → World A → Type 0
+AllLivesTold w = (i : ℕ) → IsTold i (w.cores i) (outs_of w i)
 
 told_same : {A : Type 0} → (i : ℕ) (c : Core A) (outs more : List (Out A)) → more ≡ outs → IsTold i c outs → IsTold i c more
 told_same {A} i c outs more e t = subst (λ (xs : List (Out A)). IsTold i c xs) (sym e) t
 
-stepped_told : {A : Type 0} → (b : Bool) (w : World A) (i : ℕ) (input : Input A) → AllTold w → AllTold (stepped_if b w i input)
+stepped_told : {A : Type 0} → (b : Bool) (w : World A) (i : ℕ) (input : Input A) → AllLivesTold w → AllLivesTold (stepped_if b w i input)
 stepped_told false w i input h j = h j
 stepped_told {A} true w i input h j =
     let s = ring_step (w.cores i) input in
@@ -69,7 +69,7 @@ stepped_told {A} true w i input h j =
           tells = tells_then (begun i) (tale (w.cores i)) (tale s.core) (outs_of w i) s.outs (h i).tells (step_tells (w.cores i) input (h i).ordered);
         })
 
-stopped_told : {A : Type 0} → (b : Bool) (w : World A) (i : ℕ) → AllTold w → AllTold (stopped_if b w i)
+stopped_told : {A : Type 0} → (b : Bool) (w : World A) (i : ℕ) → AllLivesTold w → AllLivesTold (stopped_if b w i)
 stopped_told false w i h j = h j
 stopped_told {A} true w i h j =
     cond_both (j == i) (halted (w.cores i)) (w.cores j) (λ (c : Core A). IsTold j c (outs_of w j))
@@ -80,29 +80,29 @@ stopped_told {A} true w i h j =
     }))
     (λ e. h j)
 
-if_told : {A : Type 0} → (b : Bool) (w : World A) (i : ℕ) (frame : Frame A) → AllTold w → AllTold (handed_if b w i frame)
+if_told : {A : Type 0} → (b : Bool) (w : World A) (i : ℕ) (frame : Frame A) → AllLivesTold w → AllLivesTold (handed_if b w i frame)
 if_told false w i frame h = h
 if_told true w i frame h = stepped_told (is_node w i) w i (FrameInput frame) h
 
-handed_told : {A : Type 0} → (w : World A) (i : ℕ) (o : Option (Carried A)) → AllTold w → AllTold (handed w i o)
+handed_told : {A : Type 0} → (w : World A) (i : ℕ) (o : Option (Carried A)) → AllLivesTold w → AllLivesTold (handed w i o)
 handed_told w i None h = h
 handed_told w i (Some f) h = if_told (has f.to i) w i f.frame h
 
-pub event_told : {A : Type 0} → (w : World A) (e : RingEvent A) → AllTold w → AllTold (happens w e)
+pub event_told : {A : Type 0} → (w : World A) (e : RingEvent A) → AllLivesTold w → AllLivesTold (happens w e)
 event_told w (Send i payload) h = stepped_told (is_node w i) w i (SendInput payload) h
 event_told w (Deliver i n) h = handed_told w i (frame_at w.frames n) h
 event_told w (Timeout i kind) h = stepped_told (is_node w i) w i (TimeInput kind) h
 event_told w (Stop i) h = stopped_told (is_node w i) w i h
 
-run_told : {A : Type 0} → (w : World A) (events : List (RingEvent A)) → AllTold w → AllTold (run w events)
-run_told w [] h = h
-run_told w (e ∷ events) h = run_told (happens w e) events (event_told w e h)
+run_told_lives : {A : Type 0} → (w : World A) (events : List (RingEvent A)) → AllLivesTold w → AllLivesTold (run w events)
+run_told_lives w [] h = h
+run_told_lives w (e ∷ events) h = run_told_lives (happens w e) events (event_told w e h)
 
-opening_told : {A : Type 0} → (n : ℕ) → AllTold (unformed {A = A} n)
+opening_told : {A : Type 0} → (n : ℕ) → AllLivesTold (unformed {A = A} n)
 opening_told {A} n i = record { ordered = opening_ordered A n i; tells = record { after = refl; belong = refl } }
 
-pub all_told : {A : Type 0} → (n : ℕ) (events : List (RingEvent A)) → AllTold (run (unformed n) events)
-all_told {A} n events = run_told (unformed n) events (opening_told {A = A} n)
+pub all_told : {A : Type 0} → (n : ℕ) (events : List (RingEvent A)) → AllLivesTold (run (unformed n) events)
+all_told {A} n events = run_told_lives (unformed n) events (opening_told {A = A} n)
 
 pub lives_are : {A : Type 0} → (n : ℕ) (events : List (RingEvent A)) (i : ℕ) → life_of (run (unformed n) events) i ≡ tale ((run (unformed n) events).cores i)
 lives_are n events i = ((all_told n events i).tells).after

@@ -1,7 +1,7 @@
 //! How nodes stand.
 
 use ring_base::{Proc, ProcSet, RingId, State};
-use ring_trace_forms::{Change, Votes, Why};
+use ring_trace_forms::{Change, NodeVotes, Why};
 
 /// What was last seen of a node.
 #[derive(Clone, Copy)]
@@ -31,7 +31,7 @@ impl Standing {
     }
 
     /// How the node stands, as changes since its opening.
-    pub fn changes(&self, votes: &Votes) -> [Change; 3] {
+    pub fn changes(&self, votes: &NodeVotes) -> [Change; 3] {
         let first = match self.state {
             State::Operational => Change::Ring {
                 ring: self.ring,
@@ -48,7 +48,7 @@ impl Standing {
     }
 
     /// Why a call waits at the node, which has sent it or not.
-    pub fn reason(&self, votes: &Votes, is_sent: bool) -> Why {
+    pub fn reason(&self, votes: &NodeVotes, is_sent: bool) -> Why {
         let members = self.members;
         let share = votes.share(members);
         match self.state {

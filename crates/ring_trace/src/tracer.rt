@@ -15,7 +15,7 @@ use ring_base::{Fault, MOST_PROCESSORS, Proc, ProcSet, State};
 use ring_console::{Failure, Groups, Line, Pair, Run, Script};
 use ring_object::Object;
 use ring_trace_forms::{
-    Change, Counts, Drawing, Fold, Format, Happening, Told, TraceForm, Votes, Waiting,
+    Change, Counts, Drawing, Fold, Format, Happening, NodeVotes, Told, TraceForm, Waiting,
     WaitingCalls, Why, Wording,
 };
 use std::alloc::Allocator;
@@ -29,7 +29,7 @@ pub(crate) struct Tracer<O: Object> {
     form: TraceForm,
     wording: Wording,
     drawing: Drawing<O::Alloc>,
-    votes: Votes,
+    votes: NodeVotes,
     /// The sides of the cut, if there is one.
     sides: Vec<ProcSet, O::Alloc>,
     selection: Selection,
@@ -54,7 +54,7 @@ impl<O: Object> Tracer<O> {
         form: TraceForm,
         wording: Wording,
         script: &Script<O::Alloc>,
-        votes: Votes,
+        votes: NodeVotes,
         selection: Selection,
     ) -> Result<Tracer<O>, Fault>
         ensures { IfOk result (λ tracer. tracer.run ≡ run_opening script.now.nodes) }

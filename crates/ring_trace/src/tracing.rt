@@ -13,7 +13,7 @@ use ring_base::Fault;
 use ring_console::{Failure, Script, ShelfWords, Things, Vocabulary, report};
 use ring_object::Object;
 use ring_report::{Lent, exit_status};
-use ring_trace_forms::{Format, Replies, TraceForm, Votes, Wording};
+use ring_trace_forms::{Format, NodeVotes, Replies, TraceForm, Wording};
 use std::alloc::Global;
 use std::io::{BufWriter, Write};
 
@@ -86,7 +86,7 @@ fn trace_text<T: Object<Alloc = Global>, V: Vocabulary + Replies, W: Write, F: W
     let mut rest = text;
     let script = Script::read_by::<V, &[u8]>(alloc, &mut rest)?;
     let words = str::from_utf8(text).unwrap_or("");
-    let votes = Votes::told(script.nodes, words);
+    let votes = NodeVotes::told(script.nodes, words);
     trace_script::<T, V, W, F>(alloc, script, votes, asked, out, frames)?;
     Ok(())
 }
@@ -95,7 +95,7 @@ fn trace_text<T: Object<Alloc = Global>, V: Vocabulary + Replies, W: Write, F: W
 fn trace_script<O: Object<Alloc = Global>, V: Vocabulary + Replies, W: Write, F: Write>(
     alloc: Global,
     script: Script,
-    votes: Votes,
+    votes: NodeVotes,
     asked: TraceOptions,
     out: &mut W,
     frames: &mut F,

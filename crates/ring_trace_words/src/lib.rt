@@ -26,7 +26,7 @@ pub use reason_words::ReasonWords;
 pub use reply_words::ReplyWords;
 pub use ring_rules::Told;
 pub use told_words::ToldWords;
-pub use votes::{Share, Votes};
+pub use votes::{NodeVotes, Share};
 pub use waiting::{Waiting, WaitingCalls};
 pub use why::Why;
 pub use wording::{Replies, ReplyForm, Wording};

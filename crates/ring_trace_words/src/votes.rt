@@ -8,17 +8,17 @@ use std::fmt;
 
 /// The votes of each node.
 #[derive(Clone, Copy)]
-pub struct Votes {
+pub struct NodeVotes {
     nodes: Fixed,
     votes: [u8; 16],
 }
 
-impl Votes {
+impl NodeVotes {
     /// The votes of these nodes: those that the line `votes` of the script's text tells, and else one each.
-    pub fn told(nodes: Fixed, text: &str) -> Votes
+    pub fn told(nodes: Fixed, text: &str) -> NodeVotes
         ensures { result.nodes ≡ nodes }
     {
-        let mut told = Votes {
+        let mut told = NodeVotes {
             nodes,
             votes: [1; 16],
         };

@@ -16,15 +16,12 @@ use crate::join::Join;
 use crate::message::Message;
 use crate::token::{LaidToken, Token};
 use bytes::BytesMut;
-use ring_payload::{Decode, Encode, Fault, Reader, Wire, read_sized, write_sized};
+use ring_payload::{Decode, Encode, FIRST_VERSION, Fault, Reader, Wire, read_sized, write_sized};
 use std::alloc::{Allocator, Global};
 use std::mem::size_of;
 
 /// The bytes that each frame begins with.
 const START: [u8; 2] = [0x54, 0x52];
-
-/// The version of every frame that carries neither packed calls nor anything of a trimmed log.
-const VERSION: u8 = 1;
 
 /// The kinds of frames.
 const MESSAGE: u8 = 1;
@@ -54,7 +51,7 @@ impl<A: Allocator + Copy> Frame<A> {
     {
         match self {
             Frame::Message(message) => message.payload.version(),
-            _ => VERSION,
+            _ => FIRST_VERSION,
         }
     }
 }
@@ -158,7 +155,7 @@ fn read_token<A: Allocator + Copy>(
     ensures { Puts result place.old place.new from.new (body_at version token_kind from.old) }
 {
     let token = LaidToken::read_sized(alloc, from)?;
-    if version != VERSION {
+    if version != FIRST_VERSION {
         return Err(Fault::BadFrame);
     }
     match place {
@@ -192,7 +189,7 @@ fn read_join<A: Allocator + Copy>(
     ensures { Puts result place.old place.new from.new (body_at version join_kind from.old) }
 {
     let join = read_sized(alloc, from)?;
-    if version != VERSION {
+    if version != FIRST_VERSION {
         return Err(Fault::BadFrame);
     }
     match place {
@@ -215,7 +212,7 @@ fn read_commit<A: Allocator + Copy>(
     ensures { Puts result place.old place.new from.new (body_at version commit_kind from.old) }
 {
     let commit = read_sized(alloc, from)?;
-    if version != VERSION {
+    if version != FIRST_VERSION {
         return Err(Fault::BadFrame);
     }
     put(Some(Frame::Commit(commit)), place);

@@ -18,12 +18,13 @@ module _ {O A : Type 0} (object : Sequential O) (pairs : Pairs) where
     grown : Goes object e p q → IsFront (frames_of object p) (frames_of object q)
     grown goes = plays_frames object (e ∷ []) p q (q, goes, (refl, refl, refl))
 
-    pub happened : {T E : Type 0} (r : Result T E) → OnOk r (Goes object e p q) → OnOk r (Happens object e (pumped p) (pumped q))
-    happened (Ok x) goes = record {
+    pub happened : {T E : Type 0} (r : Result T E) → q.done ≡ p.done → OnOk r (Goes object e p q) → OnOk r (Happens object e (pumped p) (pumped q))
+    happened (Ok x) done goes = record {
       goes = goes;
+      done = done;
       open_pairs = open_later pairs (frames_of object p) (frames_of object q) (grown goes) reached;
     }
-    happened (Err x) goes = tt
+    happened (Err x) done goes = tt
 
     pub rested : {T E : Type 0} (r : Result T E) → OnErr r (q ≡ p) → OnErr r (Rests (pumped p) (pumped q))
     rested (Ok x) same = tt
@@ -31,6 +32,7 @@ module _ {O A : Type 0} (object : Sequential O) (pairs : Pairs) where
       group = ap (λ (r : Played A). r.group) same;
       events = ap (λ (r : Played A). r.events) same;
       told = ap (λ (r : Played A). r.told) same;
+      done = ap (λ (r : Played A). r.done) same;
       open_pairs = ap (λ (r : Played A). pairs_from pairs (frames_of object r)) same;
     }
 

@@ -1,5 +1,5 @@
 -- What the code keeps goes on telling the world, event by event.
-use Rattle.std.proofs.Common.{◌≡◌, ℕ, ◌-◌, ◌≤◌, ◌==◌, true, List, [], ◌∷◌, ◌++◌, length, drop, arith}
+use Rattle.std.proofs.Common.{◌≡◌, ◌⊎◌, ℕ, ◌-◌, ◌≤◌, ◌==◌, Bool, true, false, List, [], ◌∷◌, ◌++◌, length, drop, arith}
 use Rattle.std.proofs.Common.{Option, Some, None, Ok, get_or, refl, ap, ◌∙◌, sym, subst, inl, inr, append-nil}
 use Rattle.std.specs.Prelude.{not, slice_set, MatchOption, if◌then◌else◌}
 use Rattle.std.specs.List.{AllByRecursion}
@@ -255,6 +255,35 @@ module _ {O A : Type 0} {object : Sequential O} {p old : Played A} {nodes : List
           events = es_is;
           told = refl;
         })))
+
+    -- whichever it was
+    module _ (d x : Event A) (input : Input A) (copy : d ≡ e) (stays : fault ≡ StoppedFault → x ≡ d) (stops : (fault ≡ StoppedFault → ⊥) → x ≡ Stop i)
+        (same : happens object (world_of object old) e ≡ stepped object (world_of object old) i input)
+        (steps : step_in (world_of object old) e ≡ Some i) where
+      why : (b : Bool) → fault ≡ (if b then StoppedFault else Memory) → (fault ≡ StoppedFault) ⊎ (fault ≡ StoppedFault → ⊥)
+      why true h = inl h
+      why false h = inr (λ is. absurd (cc (h, is)))
+
+      one_more : {y : Event A} {es : List (Event A)} → x ≡ y → es ≡ p.events ++ x ∷ [] → es ≡ p.events ++ y ∷ []
+      one_more same h = rw (← same) h
+
+      world_by : {after : Node A} {es : List (Event A)} → (fault ≡ StoppedFault) ⊎ (fault ≡ StoppedFault → ⊥) → after ≡ node_stopped n
+          → es ≡ p.events ++ x ∷ [] → IsWorld object p.group es (slice_set nodes m after) spares frames history p.told longest
+      world_by (inl is) halted es_is = silent_world d input is copy same halted steps (one_more (stays is) es_is)
+      world_by (inr runs) halted es_is = stop_world found halted (one_more (stops runs) es_is)
+
+      goes_by : {es : List (Event A)} {done : ℕ} → (fault ≡ StoppedFault) ⊎ (fault ≡ StoppedFault → ⊥) → es ≡ p.events ++ x ∷ []
+          → Goes object e old (record { group = p.group; events = es; told = p.told; done = done })
+      goes_by (inl is) es_is = silent_goes d input is copy same (one_more (stays is) es_is)
+      goes_by (inr runs) es_is = refused_goes runs steps (one_more (stops runs) es_is)
+
+      pub standing_world : {after : Node A} {es : List (Event A)} → after ≡ node_stopped n → es ≡ p.events ++ x ∷ []
+          → IsWorld object p.group es (slice_set nodes m after) spares frames history p.told longest
+      standing_world halted es_is = world_by (why (is_stopped n.core.state) refused) halted es_is
+
+      pub standing_goes : {es : List (Event A)} {done : ℕ} → es ≡ p.events ++ x ∷ []
+          → Goes object e old (record { group = p.group; events = es; told = p.told; done = done })
+      standing_goes es_is = goes_by (why (is_stopped n.core.state) refused) es_is
 
   -- A call is submitted
 

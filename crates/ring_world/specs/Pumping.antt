@@ -18,9 +18,11 @@ pub record Rests {A : Type 0} (old new : Pumped A) : Type 0 where
   pub group : new.played.group ≡ old.played.group
   pub events : new.played.events ≡ old.played.events
   pub told : new.played.told ≡ old.played.told
+  pub done : new.played.done ≡ old.played.done
   pub open_pairs : new.open_pairs ≡ old.open_pairs
 
--- The world runs an event, and each frame that it sends opens its copies.
+-- The world runs an event, each frame that it sends opens its copies, and what the last run of many events had done stays.
 pub record Happens {O A : Type 0} (object : Sequential O) (e : Event A) (old new : Pumped A) : Type 0 where
   pub goes : Goes object e old.played new.played
+  pub done : new.played.done ≡ old.played.done
   pub open_pairs : new.open_pairs ≡ old.open_pairs ++ opened_since (frames_of object old.played) (frames_of object new.played)

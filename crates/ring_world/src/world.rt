@@ -6,7 +6,7 @@ ghost use Rattle.std.specs.List.{AllByRecursion};
 ghost use Rattle.ring_base.specs.Fronts.{IsFront};
 ghost use Rattle.ring_base.specs.Numbers.{numbers_from};
 ghost use Rattle.ring_base.specs.Fault.{fault_number};
-ghost use Rattle.ring_base.specs.declared.fault.Fault.TheVariants.{Memory};
+ghost use Rattle.ring_base.specs.declared.fault.Fault.TheVariants.{Memory, Stopped as StoppedFault};
 ghost use Rattle.ring_wire.specs.Frames.{FrameFits};
 ghost use Rattle.ring_core.specs.State.{Sent as OneSent, Carried, frame_at};
 ghost use Rattle.ring_log.specs.Lives.{committed_of};
@@ -400,13 +400,7 @@ impl<O: Object> World<O> {
                     .add(self.alloc, many, &mut self.rooms.outs.committed);
                 self.events.push_reserved(kept);
             }
-            Err(fault) => match fault {
-                Fault::Stopped => self.events.push_reserved(kept),
-                _ => {
-                    let_go(kept);
-                    self.events.push_reserved(Event::Stop(node));
-                }
-            },
+            Err(fault) => self.events.push_reserved(standing(fault, kept, node)),
         }
         Ok(())
     }
@@ -604,6 +598,21 @@ fn refuse<A: Allocator + Copy>(
 
 /// The event is left out.
 fn let_go<A: Allocator + Copy>(_event: Event<A>) {}
+
+/// What stands for an event whose step a node refused: of a stopped node the event itself, which changes nothing; where memory was
+/// refused to it, its stop.
+fn standing<A: Allocator + Copy>(fault: Fault, event: Event<A>, node: Proc) -> Event<A>
+    ensures stopped { fault ≡ StoppedFault → result ≡ event }
+    ensures memory { ¬ (fault ≡ StoppedFault) → result ≡ Stop node }
+{
+    match fault {
+        Fault::Stopped => event,
+        _ => {
+            let_go(event);
+            Event::Stop(node)
+        }
+    }
+}
 
 /// Makes the room for all that an event adds, or answers `Memory`. Most often there is room.
 fn make_room<A: Allocator + Copy>(

@@ -1,5 +1,5 @@
 -- What a node told of a call. Clients, rule 8, of docs/PROTOCOL.md.
-use Rattle.std.specs.Prelude.{◌≡◌, ℕ, ◌==◌, ◌&&◌, Bool, if◌then◌else◌, List, [], ◌∷◌, drop, Option, Some, None}
+use Rattle.std.specs.Prelude.{◌≡◌, ℕ, ◌≤◌, ◌==◌, ◌&&◌, Bool, if◌then◌else◌, List, [], ◌∷◌, drop, Option, Some, None}
 use Rattle.std.specs.Str.{bytes_eq}
 use Rattle.ring_client.specs.Asking.{tellable}
 use Rattle.ring_client.specs.declared.asked.Asked.{Asked}
@@ -31,12 +31,22 @@ answer_in q [] = None
 answer_in q (t ∷ ts) = first_of (answer_of q t) (answer_in q ts)
 
 -- the call that was submitted last, at this node
-abbrev pub question_of : ℕ → Asked → SubmittedCall
-question_of i asked = record { node = i; client = asked.client; number = asked.number; op = asked.op }
+abbrev pub submitted_call_of : ℕ → Asked → SubmittedCall
+submitted_call_of i asked = record { node = i; client = asked.client; number = asked.number; op = asked.op }
 
--- The node has told the call this answer in a run of some world: it is the first one behind some of those told.
-pub record HasTold (A : Type 0) {O : Type 0} (object : Sequential O) (q : SubmittedCall) (answer : OneAnswer) : Type 0 where
+-- what contracts see of a ticket: its call, and how much the world had told when the call was submitted
+pub record TicketView : Type 0 where
+  pub call : SubmittedCall
+  pub since : ℕ
+
+-- The answer is the first one to the ticket's call behind some of those told, and those behind all that was told before the submit.
+pub record IsToldSince {A : Type 0} (ticket : TicketView) (told : List (Told A)) (answer : OneAnswer) : Type 0 where
+  pub looked : ℕ
+  pub later : ticket.since ≤ looked
+  pub answered : answer_in ticket.call (drop looked told) ≡ Some answer
+
+-- The node has told the call this answer since the submit, in a run of some world.
+pub record HasTold (A : Type 0) {O : Type 0} (object : Sequential O) (ticket : TicketView) (answer : OneAnswer) : Type 0 where
   pub world : Played A
   pub run : told_of_events world.told ≡ (world_of object world).told
-  pub looked : ℕ
-  pub answered : answer_in q (drop looked world.told) ≡ Some answer
+  pub told : IsToldSince ticket world.told answer

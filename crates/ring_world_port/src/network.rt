@@ -1,6 +1,6 @@
 //! A network over a world.
 
-ghost use Rattle.std.specs.Prelude.{◌≡◌, ◌<◌, ◌≤◌, ◌⊎◌, drop, Some, None, IfOk, IfErr, IfSome, IfNone, OnOk, OnErr, slice_get};
+ghost use Rattle.std.specs.Prelude.{◌≡◌, ◌<◌, ◌≤◌, ◌⊎◌, drop, Some, None, IfOk, IfErr, IfSome, IfNone, OnOk, OnErr, length, slice_get};
 ghost use Rattle.ring_base.specs.Processors.{everybody, common};
 ghost use Rattle.ring_base.specs.declared.fault.Fault.TheVariants.{Memory};
 ghost use Rattle.ring_client.specs.Asking.{submitted, IsTold};
@@ -8,7 +8,7 @@ ghost use Rattle.ring_rules.specs.WorldLimits.{EventFits};
 ghost use Rattle.ring_world.specs.Pairs.{frames_of, all_pairs};
 ghost use Rattle.ring_world.specs.Pumping.{Happens, Rests};
 ghost use Rattle.ring_world.specs.Played.{world_of};
-ghost use Rattle.ring_world_port.specs.Answers.{answer_in, question_of, HasTold};
+ghost use Rattle.ring_world_port.specs.Answers.{answer_in, submitted_call_of, IsToldSince, HasTold};
 ghost use Rattle.ring_world_port.specs.Network.{Stays, IsIssuable, IsIssued, IsNotIssued, HappensIf, HasTurned, LosesTurn};
 ghost use Rattle.ring_world_port.specs.Network.{following, fault_of, hears, arrival, kind_in, timeout_in, refusal_in};
 
@@ -51,20 +51,23 @@ impl<O: Object> Model for Network<O> {
     ghost invariant = { λ n. within n.group (everybody n.pump.played.group.count) ≡ true };
 }
 
-/// What is polled for the answer to a call that was submitted at a node. Contracts see the call with its node.
+/// What is polled for the answer to a call that was submitted at a node. Contracts see the call with its node, and how much the
+/// world had told by then.
 #[derive(Drop)]
 pub struct WorldTicket {
-    question: SubmittedCall,
-    /// How many of those that the world told were looked at in vain.
+    call: SubmittedCall,
+    /// How much the world had told when the call was submitted.
+    since: usize,
+    /// How much of what the world told was looked at in vain.
     looked: Cell<usize>,
 }
 
 impl Model for WorldTicket {
-    ghost use Rattle.ring_world_port.specs.declared.answers.SubmittedCall.{SubmittedCall};
+    ghost use Rattle.ring_world_port.specs.Answers.{TicketView};
 
-    ghost Value = { SubmittedCall };
+    ghost Value = { TicketView };
 
-    ghost view = { λ ticket. ticket.question };
+    ghost view = { λ ticket. record { call = ticket.call; since = ticket.since } };
 }
 
 impl<O: Object> Network<O> {
@@ -148,35 +151,39 @@ impl<O: Object> Network<O> {
 
     /// Submits a call at a node as `submit` does, and gives what is polled for its answer.
     pub(crate) fn ask(&mut self, node: Proc, call: &Call<O::Alloc>) -> Result<WorldTicket, Fault>
-        ensures ticket { IfOk result (λ ticket. ticket ≡ question_of node (submitted call.now)) }
+        ensures ticket { IfOk result (λ ticket. ticket.call ≡ submitted_call_of node (submitted call.now)) }
+        ensures since { IfOk result (λ ticket. ticket.since ≡ length self.new.pump.played.told) }
         ensures fits { OnOk result (IsIssuable node call.now self.old) }
         ensures issued { OnOk result (IsIssued O.sequential node call.now self.old self.new) }
         ensures refused { IfErr result (IsNotIssued O.sequential node call.now self.old self.new) }
     {
         self.submit(node, call)?;
         let op = call.op.as_slice();
+        let since = self.world().told().len();
         Ok(WorldTicket {
-            question: SubmittedCall {
+            call: SubmittedCall {
                 node,
                 client: call.client,
                 number: call.number,
                 op: Op::from_slice(&op[..op.len().min(MOST_OPERATION)]),
             },
-            looked: Cell::new(self.world().told().len()),
+            since,
+            looked: Cell::new(since),
         })
     }
 
-    /// The answer to the ticket's call, if the world has told it since the last look. Where it has not, a turn is taken; one
-    /// that memory was refused to is left out.
+    /// The answer to the ticket's call, if the world has told it since the last look, and since the submit. Where it has not, a turn
+    /// is taken; one that memory was refused to is left out.
     pub(crate) fn answer_to(&mut self, ticket: &WorldTicket) -> Option<Answer>
         ensures told { IfSome result IsTold }
+        ensures here { IfSome result (IsToldSince ticket.now self.old.pump.played.told) }
         ensures given { IfSome result (HasTold O.Alloc O.sequential ticket.now) }
         ensures same { IfSome result (λ _. self.new ≡ self.old) }
         ensures turn { IfNone result (HasTurned O.sequential self.old self.new ⊎ LosesTurn self.old self.new) }
     {
         let told = self.world().told().len();
-        let looked = ticket.looked.get();
-        let answer = self.poll(&ticket.question, looked);
+        let looked = ticket.looked.get().max(ticket.since);
+        let answer = self.poll(&ticket.call, looked);
         if answer.is_none() {
             ticket.looked.set(told);
         }
@@ -185,13 +192,13 @@ impl<O: Object> Network<O> {
 
     /// The first answer to the call behind so many of those that the world told. Where there is none, a turn is taken; one
     /// that memory was refused to is left out.
-    fn poll(&mut self, question: &SubmittedCall, looked: usize) -> Option<Answer>
-        ensures answer { result ≡ answer_in question.now (drop looked self.old.pump.played.told) }
+    fn poll(&mut self, call: &SubmittedCall, looked: usize) -> Option<Answer>
+        ensures answer { result ≡ answer_in call.now (drop looked self.old.pump.played.told) }
         ensures told { IfSome result IsTold }
         ensures same { IfSome result (λ _. self.new ≡ self.old) }
         ensures turn { IfNone result (HasTurned O.sequential self.old self.new ⊎ LosesTurn self.old self.new) }
     {
-        let answer = question.answer_in(behind(self.world().told(), looked));
+        let answer = call.answer_in(behind(self.world().told(), looked));
         if answer.is_none() {
             let _ = self.turn();
         }

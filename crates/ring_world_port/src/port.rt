@@ -2,7 +2,7 @@
 
 ghost use Rattle.std.specs.Prelude.{◌≡◌, IfOk, IfErr, IfSome, OnOk};
 ghost use Rattle.ring_client.specs.Asking.{unasked, submitted, refused_with, polled, IsTold, IsSubmittable};
-ghost use Rattle.ring_world_port.specs.Answers.{question_of, HasTold};
+ghost use Rattle.ring_world_port.specs.Answers.{submitted_call_of, HasTold};
 ghost use Rattle.ring_world_port.specs.Network.{IsNotAsked};
 
 use crate::network::{Network, WorldTicket};
@@ -44,7 +44,7 @@ impl<O: Object> WorldPort<O> {
     /// Submits the call at the port's node, in the network.
     fn try_submit(&mut self, call: &Call<O::Alloc>) -> Result<WorldTicket, Fault>
         ensures same { self.new ≡ self.old }
-        ensures ticket { IfOk result (λ ticket. ticket ≡ question_of self.old.node (submitted call.now)) }
+        ensures ticket { IfOk result (λ ticket. ticket.call ≡ submitted_call_of self.old.node (submitted call.now)) }
         ensures fits { OnOk result (IsSubmittable call.now) }
         ensures why { IfErr result (IsNotAsked O.sequential self.old.node call.now) }
     {
@@ -81,7 +81,7 @@ impl<O: Object> Port for WorldPort<O> {
         ensures refused { IfErr result (λ fault. self.new.asked ≡ refused_with fault (submitted call.now)) }
         ensures fits { OnOk result (IsSubmittable call.now) }
         ensures why { IfErr result (IsNotAsked O.sequential self.old.node call.now) }
-        ensures ticket { IfOk result (λ ticket. ticket ≡ question_of self.old.node (submitted call.now)) }
+        ensures ticket { IfOk result (λ ticket. ticket.call ≡ submitted_call_of self.old.node (submitted call.now)) }
         ensures node { self.new.node ≡ self.old.node }
     {
         self.asked.note_submit(call);

@@ -5,7 +5,7 @@ use refusing_alloc::Refusing;
 use ring_base::{Fault, Proc};
 use ring_client::Port;
 use ring_object::Object;
-use ring_payload::{Call, Operation};
+use ring_payload::{Call, CallOperation};
 use ring_session::Answer;
 use ring_things::Counters;
 use ring_world_port::{Event, Shared, WorldPort};
@@ -54,7 +54,7 @@ fn numbered_0<A: Allocator + Copy>(alloc: A, op: &[u8]) -> Result<Call<A>, Fault
     Ok(Call {
         client: 7,
         number: 0,
-        op: Operation::from_slice(alloc, op)?,
+        op: CallOperation::from_slice(alloc, op)?,
     })
 }
 

@@ -20,18 +20,18 @@ pub fn run_lines<O: Object>(
 /// A world of nodes, and the copies of its frames that were not handed over yet: of one frame those to some receivers,
 /// and of each frame after it all.
 #[derive(Drop)]
-pub struct Driven<O: Object> {
+pub struct DrivenWorld<O: Object> {
     alloc: O::Alloc,
     pub world: World<O>,
     frame: u64,
     receivers: ProcSet,
 }
 
-impl<O: Object> Driven<O> {
+impl<O: Object> DrivenWorld<O> {
     /// So many nodes at their opening.
-    pub fn new(alloc: O::Alloc, count: u8) -> Result<Driven<O>, Fault> {
+    pub fn new(alloc: O::Alloc, count: u8) -> Result<DrivenWorld<O>, Fault> {
         let world = World::new(alloc, Fixed::new(count)?)?;
-        Ok(Driven {
+        Ok(DrivenWorld {
             alloc,
             world,
             frame: 0,
@@ -116,7 +116,7 @@ pub fn played<O: Object>(
     count: u8,
     lines: &[Line],
 ) -> Result<String<O::Alloc>, Fault> {
-    let mut driven = Driven::<O>::new(alloc, count)?;
+    let mut driven = DrivenWorld::<O>::new(alloc, count)?;
     let played = driven.play_all(lines);
     drop(driven);
     played

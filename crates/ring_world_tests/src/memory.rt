@@ -138,15 +138,9 @@ fn refusals<O: Object>(heap: O::Alloc, ample: O::Alloc) -> Result<u64, Fault> {
     refused
 }
 
-/// What `refuse_in_turn` asks of a run: an error where a request was refused, and the run tells one refusal. Where it is not as
-/// it should be, the other answer.
+/// What `refuse_in_turn` asks of a run, which is right where it tells one refusal if a request was refused, else none.
 fn told(heap: &Refusing, refusals: Result<u64, Fault>) -> Result<(), AllocError> {
-    let is_right = refusals == Ok(u64::from(heap.has_refused()));
-    if is_right == heap.has_refused() {
-        Err(AllocError)
-    } else {
-        Ok(())
-    }
+    heap.answer(refusals == Ok(u64::from(heap.has_refused())))
 }
 
 #[test]

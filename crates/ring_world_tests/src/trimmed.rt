@@ -1,7 +1,7 @@
 //! A lone node that drops what it has committed: the world has it still. Expected values are those of `docs/PROTOCOL.md` (*The
 //! replicated log*, rule 20).
 
-use crate::driven::Driven;
+use crate::driven::DrivenWorld;
 use crate::events::Line;
 use refusing_alloc::Refusing;
 use ring_base::Fault;
@@ -47,7 +47,7 @@ fn seen<O: Object>(world: &World<O>) -> Result<Seen, Fault> {
 }
 
 /// What is seen of a world after those lines, and some more.
-fn seen_after<O: Object>(driven: &mut Driven<O>, more: &[Line]) -> Result<Seen, Fault> {
+fn seen_after<O: Object>(driven: &mut DrivenWorld<O>, more: &[Line]) -> Result<Seen, Fault> {
     driven.play_all(&TRIMMED)?;
     driven.play_all(more)?;
     seen(&driven.world)
@@ -55,7 +55,7 @@ fn seen_after<O: Object>(driven: &mut Driven<O>, more: &[Line]) -> Result<Seen, 
 
 /// The same of a new world.
 fn seen_anew<O: Object>(alloc: O::Alloc, more: &[Line]) -> Result<Seen, Fault> {
-    let mut driven = Driven::<O>::new(alloc, 1)?;
+    let mut driven = DrivenWorld::<O>::new(alloc, 1)?;
     let seen = seen_after(&mut driven, more);
     drop(driven);
     seen

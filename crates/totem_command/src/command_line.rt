@@ -3,7 +3,7 @@
 use crate::forms::command_of;
 use crate::seeds::seeds_of;
 use crate::traces::{Traced, traced_in};
-use crate::votes::{Votes, votes_of};
+use crate::votes::{VoteList, votes_of};
 use clap::error::ErrorKind;
 use clap::{ArgMatches, Command, Error};
 use std::alloc::{AllocError, Global};
@@ -11,7 +11,7 @@ use std::io;
 
 /// What the command line asks for.
 #[derive(Drop)]
-pub(crate) enum Task<'a> {
+pub(crate) enum CommandTask<'a> {
     /// To list the frames of a file.
     Frames {
         file: &'a str,
@@ -27,7 +27,7 @@ pub(crate) enum Task<'a> {
     Trace(Traced<'a>),
     /// To make the script of a seed, of nodes with these votes, and of so many lines.
     Generate {
-        votes: Votes,
+        votes: VoteList,
         seed: u64,
         events: u32,
     },
@@ -36,7 +36,7 @@ pub(crate) enum Task<'a> {
     /// To run this node of a group with these votes, as records drive it.
     Node {
         me: u8,
-        votes: Votes,
+        votes: VoteList,
     },
 }
 
@@ -65,7 +65,7 @@ pub(crate) enum Way {
 /// threads work, where that is said.
 #[derive(Drop)]
 pub(crate) struct Explored {
-    pub votes: Votes,
+    pub votes: VoteList,
     pub first: u64,
     pub last: u64,
     pub events: u32,
@@ -87,7 +87,7 @@ const BAD_SEEDS: &str = "--seeds takes A..B, two numbers of which A is not the g
 pub(crate) fn task_of<'a>(
     alloc: Global,
     words: &'a io::Result<Vec<String>>,
-) -> Result<Task<'a>, Error> {
+) -> Result<CommandTask<'a>, Error> {
     match command_of(alloc) {
         Ok(mut command) => task_for(&mut command, words),
         Err(error) => Err(Error::from(error)),
@@ -98,7 +98,7 @@ pub(crate) fn task_of<'a>(
 fn task_for<'a>(
     command: &mut Command<'a>,
     words: &'a io::Result<Vec<String>>,
-) -> Result<Task<'a>, Error> {
+) -> Result<CommandTask<'a>, Error> {
     match words {
         Ok(words) => task_among(command, words.as_slice()),
         Err(error) => Err(unread(command, error)),
@@ -106,7 +106,10 @@ fn task_for<'a>(
 }
 
 /// The same of words that could be read.
-fn task_among<'a>(command: &mut Command<'a>, words: &'a [String]) -> Result<Task<'a>, Error> {
+fn task_among<'a>(
+    command: &mut Command<'a>,
+    words: &'a [String],
+) -> Result<CommandTask<'a>, Error> {
     let matches = command.try_get_matches_from_mut(words)?;
     match task_by(&matches) {
         Ok(task) => Ok(task),
@@ -131,7 +134,7 @@ fn told(command: &mut Command<'_>, wrong: &str) -> Error {
 }
 
 /// What the words ask for, or what is wrong with them.
-fn task_by<'a>(matches: &ArgMatches<'a>) -> Result<Task<'a>, &'static str> {
+fn task_by<'a>(matches: &ArgMatches<'a>) -> Result<CommandTask<'a>, &'static str> {
     match matches.subcommand() {
         Some((name, of)) => task_in(name, of),
         None => Err(NO_COMMAND),
@@ -139,7 +142,7 @@ fn task_by<'a>(matches: &ArgMatches<'a>) -> Result<Task<'a>, &'static str> {
 }
 
 /// What the words of this command ask for, or what is wrong with them.
-fn task_in<'a>(name: &str, of: &ArgMatches<'a>) -> Result<Task<'a>, &'static str> {
+fn task_in<'a>(name: &str, of: &ArgMatches<'a>) -> Result<CommandTask<'a>, &'static str> {
     match name {
         "gen" => generate_in(of),
         "explore" => explore_in(of),
@@ -150,21 +153,21 @@ fn task_in<'a>(name: &str, of: &ArgMatches<'a>) -> Result<Task<'a>, &'static str
 }
 
 /// The task of a command that reads a file.
-fn file_in<'a>(name: &str, of: &ArgMatches<'a>) -> Option<Task<'a>> {
+fn file_in<'a>(name: &str, of: &ArgMatches<'a>) -> Option<CommandTask<'a>> {
     let file = of.get_str("FILE")?;
     match name {
-        "frames" => Some(Task::Frames { file }),
+        "frames" => Some(CommandTask::Frames { file }),
         "script" if of.get_flag("check") => Some(script_in(file, Way::Checked, of)),
         "script" => Some(script_in(file, Way::Plain, of)),
         "sweep" => Some(script_in(file, sweep_in(of), of)),
-        "trace" => Some(Task::Trace(traced_in(file, of))),
+        "trace" => Some(CommandTask::Trace(traced_in(file, of))),
         _ => None,
     }
 }
 
 /// The task of a command that runs a script in this way.
-fn script_in<'a>(file: &'a str, way: Way, of: &ArgMatches<'a>) -> Task<'a> {
-    Task::Script(AskedScript {
+fn script_in<'a>(file: &'a str, way: Way, of: &ArgMatches<'a>) -> CommandTask<'a> {
+    CommandTask::Script(AskedScript {
         file,
         way,
         is_explained: of.get_flag("explain"),
@@ -180,19 +183,19 @@ fn sweep_in<'a>(of: &ArgMatches<'a>) -> Way {
 }
 
 /// The task of `live`.
-fn live_in<'a>(of: &ArgMatches<'a>) -> Option<Task<'a>> {
+fn live_in<'a>(of: &ArgMatches<'a>) -> Option<CommandTask<'a>> {
     let nodes = of.get_one::<u8>("nodes")?;
     let calls = of.get_one::<u8>("calls")?;
-    Some(Task::Live { nodes, calls })
+    Some(CommandTask::Live { nodes, calls })
 }
 
 /// The task of `gen`, or what is wrong with its words.
-fn generate_in<'a>(of: &ArgMatches<'a>) -> Result<Task<'a>, &'static str> {
+fn generate_in<'a>(of: &ArgMatches<'a>) -> Result<CommandTask<'a>, &'static str> {
     let (Some(seed), Some(events)) = (of.get_one::<u64>("seed"), of.get_one::<u32>("events")) else {
         return Err(NO_COMMAND);
     };
     let votes = votes_in(of, "nodes")?;
-    Ok(Task::Generate {
+    Ok(CommandTask::Generate {
         votes,
         seed,
         events,
@@ -200,14 +203,14 @@ fn generate_in<'a>(of: &ArgMatches<'a>) -> Result<Task<'a>, &'static str> {
 }
 
 /// The task of `explore`, or what is wrong with its words.
-fn explore_in<'a>(of: &ArgMatches<'a>) -> Result<Task<'a>, &'static str> {
+fn explore_in<'a>(of: &ArgMatches<'a>) -> Result<CommandTask<'a>, &'static str> {
     let (Some(seeds), Some(events)) = (of.get_str("seeds"), of.get_one::<u32>("events")) else {
         return Err(NO_COMMAND);
     };
     let threads = of.get_one::<u16>("threads");
     let votes = votes_in(of, "nodes")?;
     match seeds_of(seeds) {
-        Some((first, last)) => Ok(Task::Explore(Explored {
+        Some((first, last)) => Ok(CommandTask::Explore(Explored {
             votes,
             first,
             last,
@@ -219,16 +222,16 @@ fn explore_in<'a>(of: &ArgMatches<'a>) -> Result<Task<'a>, &'static str> {
 }
 
 /// The task of `node`, or what is wrong with its words.
-fn node_in<'a>(of: &ArgMatches<'a>) -> Result<Task<'a>, &'static str> {
+fn node_in<'a>(of: &ArgMatches<'a>) -> Result<CommandTask<'a>, &'static str> {
     let Some(me) = of.get_one::<u8>("me") else {
         return Err(NO_COMMAND);
     };
     let votes = votes_in(of, "of")?;
-    Ok(Task::Node { me, votes })
+    Ok(CommandTask::Node { me, votes })
 }
 
 /// The votes of as many nodes as this word says, or what is wrong with them.
-fn votes_in<'a>(of: &ArgMatches<'a>, count: &str) -> Result<Votes, &'static str> {
+fn votes_in<'a>(of: &ArgMatches<'a>, count: &str) -> Result<VoteList, &'static str> {
     match of.get_one::<u8>(count) {
         Some(nodes) => votes_of(nodes, of.get_str("votes")).ok_or(BAD_VOTES),
         None => Err(NO_COMMAND),

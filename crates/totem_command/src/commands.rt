@@ -1,6 +1,6 @@
 //! What each command does: it has `ring_sweep`, `ring_trace`, `ring_live`, `ring_script_maker`, `ring_explore` or `ring_pipe` do the work.
 
-use crate::command_line::{Explored, Task, task_of};
+use crate::command_line::{CommandTask, Explored, task_of};
 use crate::node::node;
 use crate::scripts::run_script;
 use crate::traces::trace_file;
@@ -71,20 +71,20 @@ pub fn run_of<
     progress: Option<&mut P>,
 ) -> u8 {
     match task_of(rt.alloc(), words) {
-        Ok(Task::Frames { file }) => frames_of(rt, file, input, out, err),
-        Ok(Task::Script(asked)) => run_script::<T, V, _, _, _, _, _>(
+        Ok(CommandTask::Frames { file }) => frames_of(rt, file, input, out, err),
+        Ok(CommandTask::Script(asked)) => run_script::<T, V, _, _, _, _, _>(
             rt, asked, input, out, err, progress,
         ),
-        Ok(Task::Trace(asked)) => trace_file::<T, V, _, _, _, _>(rt, asked, input, out, err),
-        Ok(Task::Live { nodes, calls }) => live(rt, rt.alloc(), nodes, calls, out, err),
+        Ok(CommandTask::Trace(asked)) => trace_file::<T, V, _, _, _, _>(rt, asked, input, out, err),
+        Ok(CommandTask::Live { nodes, calls }) => live(rt, rt.alloc(), nodes, calls, out, err),
         Ok(
-            Task::Generate {
+            CommandTask::Generate {
                 votes,
                 seed,
                 events,
             },
         ) => generate_by::<V, _, _, _>(rt.alloc(), votes.as_slice(), seed, events, out, err),
-        Ok(Task::Node { me, votes }) => node::<T, _, _, _>(
+        Ok(CommandTask::Node { me, votes }) => node::<T, _, _, _>(
             rt.alloc(),
             me,
             votes.as_slice(),
@@ -92,7 +92,7 @@ pub fn run_of<
             out,
             err,
         ),
-        Ok(Task::Explore(asked)) => explore_seeds::<T, V, _, _, _, _>(
+        Ok(CommandTask::Explore(asked)) => explore_seeds::<T, V, _, _, _, _>(
             rt, &asked, out, err, progress,
         ),
         Err(error) => tell(&error, out, err),

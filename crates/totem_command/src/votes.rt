@@ -3,11 +3,11 @@
 use arrayvec::ArrayVec;
 
 /// The votes of all nodes, in order: as many as there are nodes.
-pub(crate) type Votes = ArrayVec<u8, 16>;
+pub(crate) type VoteList = ArrayVec<u8, 16>;
 
 /// The votes that a word names, parted by commas, or one each where there is no word. None unless there are as many as nodes, each
 /// 1 to 255.
-pub(crate) fn votes_of(nodes: u8, word: Option<&str>) -> Option<Votes> {
+pub(crate) fn votes_of(nodes: u8, word: Option<&str>) -> Option<VoteList> {
     let votes = match word {
         Some(word) => named_votes(word),
         None => even_votes(nodes),
@@ -20,8 +20,8 @@ pub(crate) fn votes_of(nodes: u8, word: Option<&str>) -> Option<Votes> {
 }
 
 /// One vote for each node.
-fn even_votes(nodes: u8) -> Option<Votes> {
-    let mut votes = Votes::new();
+fn even_votes(nodes: u8) -> Option<VoteList> {
+    let mut votes = VoteList::new();
     for _ in 0..nodes {
         votes.try_push(1).ok()?;
     }
@@ -29,8 +29,8 @@ fn even_votes(nodes: u8) -> Option<Votes> {
 }
 
 /// The votes that a word names.
-fn named_votes(word: &str) -> Option<Votes> {
-    let mut votes = Votes::new();
+fn named_votes(word: &str) -> Option<VoteList> {
+    let mut votes = VoteList::new();
     for part in word.split(',') {
         votes.try_push(vote_of(part)?).ok()?;
     }

@@ -21,7 +21,8 @@ const SCRIPT: &str = "nodes 3\n\
     call 2 7 2 raw 01070000000000000016\n\
     pump 100\n";
 
-/// Does what the words of a command line ask for, the program's own name being the first, and answers the exit status.
+/// Does what the words of a command line ask for, the program's own name being the first, and answers the exit status. Reader and
+/// writers come as `dyn`, so that all commands are compiled for one of each.
 pub fn run<R: Files + AllocGlobal + Threads + Wait + Clock + Sync>(
     rt: &R,
     words: &io::Result<Vec<String>>,

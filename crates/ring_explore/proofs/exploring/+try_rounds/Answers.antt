@@ -7,8 +7,8 @@ use Rattle.ring_explore.proofs.TriedScripts.{same_scripts}
 use Rattle.ring_explore.proofs.SeedsInShares.{tried_none, tried_more, tried_append, tried_part}
 use Rattle.ring_explore.proofs.exploring.+try_rounds.Goals as goal
 
-pub returns-then-from-many : goal.returns-then-from-many
-returns-then-from-many g t c =
+pub returns-then-from-many-clause-ok : goal.returns-then-from-many-clause-ok
+returns-then-from-many-clause-ok g t c =
     let IsT = IsTriedIn g.O.Object.sequential g.V.Vocabulary.forms c.args.plan.now in
     let first = c.args.plan.now.first in
     let many = seeds_in first c.args.plan.now.last in
@@ -19,8 +19,8 @@ returns-then-from-many g t c =
     subst (λ (f : Option ℕ). AreTried IsT (first + c.args.from) (first + many) f) (sym c.new.ensures.illegal)
     (subst (λ (n : ℕ). AreTried IsT (first + c.args.from) n None) ends (tried_none IsT (first + c.args.from)))
 
-pub returns-then-is_some : goal.returns-then-is_some
-returns-then-is_some g t c =
+pub returns-then-is_some-clause-ok : goal.returns-then-is_some-clause-ok
+returns-then-is_some-clause-ok g t c =
     let IsT = IsTriedIn g.O.Object.sequential g.V.Vocabulary.forms c.args.plan.now in
     let first = c.args.plan.now.first in
     let many = seeds_in first c.args.plan.now.last in
@@ -35,13 +35,13 @@ returns-then-is_some g t c =
     let round = c.part-round.result in
     let found = c.in_ok-found.found.illegal in
     let tried = same_scripts g.O.Object.sequential g.V.Vocabulary.forms round c.args.plan.now round.first (round.first + seeds_in round.first round.last) found
-    c.part-round.ensures.votes c.part-round.ensures.lines c.in_ok-found.ensures in
+    c.part-round.ensures.votes c.part-round.ensures.lines c.in_ok-found.ensures.ok in
     λ order. tried_more IsT (first + from) (first + upto) (first + many) found (sym c.is_some.ensures ∙ c.if-is_some.true) (omega (arith, most))
     (tried_part IsT first from upto round.first round.last found less (omega (arith, most)) c.part-round.ensures.first c.part-round.ensures.last
     tried)
 
-pub returns : goal.returns
-returns g t c =
+pub returns-clause-ok : goal.returns-clause-ok
+returns-clause-ok g t c =
     let IsT = IsTriedIn g.O.Object.sequential g.V.Vocabulary.forms c.args.plan.now in
     let first = c.args.plan.now.first in
     let many = seeds_in first c.args.plan.now.last in
@@ -56,9 +56,9 @@ returns g t c =
     let round = c.part-round.result in
     let found = c.in_ok-found.found.illegal in
     let tried = same_scripts g.O.Object.sequential g.V.Vocabulary.forms round c.args.plan.now round.first (round.first + seeds_in round.first round.last) found
-    c.part-round.ensures.votes c.part-round.ensures.lines c.in_ok-found.ensures in
+    c.part-round.ensures.votes c.part-round.ensures.lines c.in_ok-found.ensures.ok in
     let others = c.in_ok-others.others.illegal in
     λ order. subst (λ (f : Option ℕ). AreTried IsT (first + from) (first + many) f) (sym c.add.ensures.illegal)
     (tried_append IsT (first + from) (first + upto) (first + many) found others (omega (arith, less)) (omega (arith, most))
     (tried_part IsT first from upto round.first round.last found less (omega (arith, most)) c.part-round.ensures.first c.part-round.ensures.last
-    tried) (c.in_ok-others.ensures most))
+    tried) (c.in_ok-others.ensures.ok most))

@@ -31,8 +31,8 @@ loop-part-preserved g c =
     subst (λ (n : ℕ). AreTried IsT first (first + share_begin many shares n) c.add.new.self.illegal) next
     (subst (λ (f : Option ℕ). AreTried IsT first (first + share_begin many shares (k + 1)) f) (sym c.add.ensures.illegal) more)
 
-pub returns : goal.returns
-returns g c =
+pub returns-clause-ok : goal.returns-clause-ok
+returns-clause-ok g c =
     let IsT = IsTriedIn g.O.Object.sequential g.V.Vocabulary.forms c.args.plan.now in
     let begun = c.into_iter-part-iterator.ensures.into_iter_gives in
     let parts = c.args.parts in

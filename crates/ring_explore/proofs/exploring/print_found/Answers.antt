@@ -7,3 +7,11 @@ pub returns-in_ok-print_totals-in-None-clause-legal : goal.returns-in_ok-print_t
 returns-in_ok-print_totals-in-None-clause-legal g c =
     let plan = c.args.plan.now in
     λ is. subst (AreTried (IsTriedIn g.T.Object.sequential g.V.Vocabulary.forms plan) plan.first (plan.first + seeds_in plan.first plan.last)) c.in-None.is c.requires
+
+pub returns-in_ok-print_illegal-in-Some-clause-illegal : goal.returns-in_ok-print_illegal-in-Some-clause-illegal
+returns-in_ok-print_illegal-in-Some-clause-illegal g c =
+    let plan = c.args.plan.now in
+    λ not. (
+      c.in-Some.seed,
+      subst (AreTried (IsTriedIn g.T.Object.sequential g.V.Vocabulary.forms plan) plan.first (plan.first + seeds_in plan.first plan.last)) c.in-Some.is c.requires,
+    )

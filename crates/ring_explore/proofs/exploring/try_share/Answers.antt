@@ -6,8 +6,8 @@ use Rattle.ring_explore.specs.Tried.{IsTriedIn}
 use Rattle.ring_explore.proofs.SeedsInShares.{tried_next, tried_more}
 use Rattle.ring_explore.proofs.exploring.try_share.Goals as goal
 
-pub returns-then-is_some : goal.returns-then-is_some
-returns-then-is_some g c =
+pub returns-then-is_some-clause-ok : goal.returns-then-is_some-clause-ok
+returns-then-is_some-clause-ok g c =
     let IsT = IsTriedIn g.O.Object.sequential g.V.Vocabulary.forms c.args.plan.now in
     let plan = c.args.plan.now in
     let first = plan.first in
@@ -23,7 +23,7 @@ returns-then-is_some g c =
     let place = c.loop-place.place in
     let passed = c.loop-place.auto.place in
     let behind = tried_next IsT first (share_begin many shares share) place c.loop-place.found.illegal c.in_ok-one.one.illegal
-    (omega (arith, begin, passed)) c.loop-place.invariant c.in_ok-one.ensures in
+    (omega (arith, begin, passed)) c.loop-place.invariant c.in_ok-one.ensures.ok in
     let added = subst (λ (f : Option ℕ). AreTried IsT (first + share_begin many shares share) (first + (place + 1)) f) (sym c.add.ensures.illegal) behind in
     let less = c.loop-place-test.true in
     tried_more IsT (first + share_begin many shares share) (first + (place + 1)) (first + share_begin many shares (share + 1))
@@ -42,12 +42,12 @@ loop-place-preserved g c =
     let place = c.loop-place.place in
     let passed = c.loop-place.auto.place in
     let behind = tried_next IsT first (share_begin many shares share) place c.loop-place.found.illegal c.in_ok-one.one.illegal
-    (omega (arith, begin, passed)) c.loop-place.invariant c.in_ok-one.ensures in
+    (omega (arith, begin, passed)) c.loop-place.invariant c.in_ok-one.ensures.ok in
     let added = subst (λ (f : Option ℕ). AreTried IsT (first + share_begin many shares share) (first + (place + 1)) f) (sym c.add.ensures.illegal) behind in
     added
 
-pub returns : goal.returns
-returns g c =
+pub returns-clause-ok : goal.returns-clause-ok
+returns-clause-ok g c =
     let IsT = IsTriedIn g.O.Object.sequential g.V.Vocabulary.forms c.args.plan.now in
     let plan = c.args.plan.now in
     let first = plan.first in

@@ -1,4 +1,6 @@
 use Rattle.std.proofs.Common.{rules, ◌≡◌, ◌∷◌, ◌++◌, [], ℕ, ◌+◌, ◌<◌, length, refl, arith, subst}
+use Rattle.ring_client.specs.Asking.{unasked}
+use Rattle.ring_client.specs.declared.asked.Asked.{Asked}
 use Rattle.ring_host_port.specs.Clients.{node_after}
 use Rattle.ring_host_port.proofs.Ports.{node_after-le, AreAsWanted, AreAsWanted-push}
 use Rattle.ring_host_port.proofs.Taken.{one_left}
@@ -23,7 +25,13 @@ loop-passed-preserved g c =
     let long : length c.push.new.self.items ≡ l.passed + 1 = search rules in
     let left : length c.to.new.seats.items + (l.passed + 1) ≡ c.args.host.now.words = search rules in
     let to : c.in_ok-port.port.node ≡ wanted l.passed = search rules in
-    (c.to.ensures.seats, left, long, AreAsWanted-push (λ port. port.node) wanted l.ports.items put l.invariant.2 to l.invariant.3)
+    let none : ℕ → Asked = λ k. unasked in (
+      c.to.ensures.seats,
+      left,
+      long,
+      AreAsWanted-push (λ port. port.node) wanted l.ports.items put l.invariant.2 to l.invariant.3,
+      AreAsWanted-push (λ port. port.asked) none l.ports.items put l.invariant.2 c.in_ok-port.ensures.port.1 l.invariant.4,
+    )
 
 pub returns-clause-client : goal.returns-clause-client
 returns-clause-client g c =
@@ -38,4 +46,5 @@ returns-clause-client g c =
       polls = refl;
       count = long;
       order = subst (λ n. AreAsWanted (λ port. port.node) (node_after n c.args.first) l.ports.items) nodes l.invariant.3;
+      fresh = l.invariant.4;
     })

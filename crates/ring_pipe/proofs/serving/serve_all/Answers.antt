@@ -31,7 +31,7 @@ pub returns-in_err-behind-clause-cut : goal.returns-in_err-behind-clause-cut
 returns-in_err-behind-clause-cut g c =
     let failure = c.in_err-behind.field-0.0 in
     value_at_err c.from_residual-in_err-behind.result failure _ c.from_residual-in_err-behind.ensures.1
-    (served_cut g.O.Object.sequential _ _ _ _ _ _ _ _ _ failure c.loop.invariant.0 c.loop.invariant.1 (λ other. rw (c.in_err-behind.ensures.left other) refl)
+    (served_cut g.O.Object.sequential _ _ _ _ _ _ _ _ _ _ failure c.loop.invariant.0 c.loop.invariant.1 (λ other. rw (c.in_err-behind.ensures.left other) refl)
     c.in_err-behind.ensures.stop)
 
 pub returns-in-None-clause-served : goal.returns-in-None-clause-served

@@ -1,4 +1,4 @@
-use Rattle.std.proofs.Common.{◌≡◌, ◌+◌, refl, subst, sym, ap, Bool, ◌∙◌, length}
+use Rattle.std.proofs.Common.{◌≡◌, ◌+◌, refl, subst, sym, ap, ◌∙◌, length}
 use Rattle.rtrb.specs.Ring.{sent}
 use Rattle.ring_book_lines.specs.Limits.{NodeFits}
 use Rattle.ring_rules.specs.declared.input.Input.TheVariants.{Stop}
@@ -26,9 +26,6 @@ push_reserved-requires g c = (c.self.invariant.free c.if-self.false, tt)
 pub invariant_of-self : goal.invariant_of-self
 invariant_of-self g c =
     let m = node_machine g.O.Object.sequential g.K.BookName.name.group in
-    let k = subst (λ (b : Bool). IsCell m NodeFits g.K.BookName.name c.self.inside.me b c.self.inside.node
-    c.self.inside.journal (length c.self.inside.text.items + c.self.inside.text.spare))
-    c.if-self.false c.self.invariant in
     let e = c.in-Ok.ensures in
     let l = c.step_of.result in
     let stepped : IsStep m c.self.inside.node l c.step_into.new.self = rw c.step_of.ensures.step record {
@@ -36,8 +33,8 @@ invariant_of-self g c =
       makes = (e.runs, e.ok, e.sends, e.answers, e.committed);
       committed = c.committed_len-places.ensures;
     } in
-    cell_adds m NodeFits g.K.BookName.name c.self.inside.me c.self.inside.node c.step_into.new.self
-    c.self.inside.journal c.push_reserved.new.self _ _ l k (ap (λ x. x.node) c.step_of.ensures.step) stepped
+    cell_adds m NodeFits g.K.BookName.name c.self.inside.me _ c.self.inside.node c.step_into.new.self
+    c.self.inside.journal c.push_reserved.new.self _ _ l c.self.invariant (ap (λ x. x.node) c.step_of.ensures.step) stepped
     (node_sound g.O.Object.sequential g.K.BookName.name.group c.node_fits_law.ensures.step c.node_fits_law.ensures.submit
     c.self.inside.node l c.step_into.new.self c.self.invariant.sound stepped) c.step_of.ensures.room c.push_reserved.ensures.ring
     c.push_reserved.ensures.sent.0
@@ -66,9 +63,6 @@ returns-in-Ok g c =
 pub invariant_of-self-in-Memory : goal.invariant_of-self-in-Memory
 invariant_of-self-in-Memory g c =
     let m = node_machine g.O.Object.sequential g.K.BookName.name.group in
-    let k = subst (λ (b : Bool). IsCell m NodeFits g.K.BookName.name c.self.inside.me b c.self.inside.node
-    c.self.inside.journal (length c.self.inside.text.items + c.self.inside.text.spare))
-    c.if-self.false c.self.invariant in
     let l = c.stop-stop.result in
     let e = c.in-Err.ensures in
     let stepped : IsStep m c.self.inside.node l c.step_into.new.self = rw c.stop-stop.ensures record {
@@ -76,8 +70,8 @@ invariant_of-self-in-Memory g c =
       makes = (memory_runs _ (sym c.in-Memory.is ∙ e.refused), e.err, refl, refl, refl);
       committed = c.committed_len-committed.ensures;
     } in
-    cell_adds m NodeFits g.K.BookName.name c.self.inside.me c.self.inside.node c.step_into.new.self
-    c.self.inside.journal c.push_reserved-in-Memory.new.self _ _ l k (ap (λ x. x.node) c.stop-stop.ensures) stepped
+    cell_adds m NodeFits g.K.BookName.name c.self.inside.me _ c.self.inside.node c.step_into.new.self
+    c.self.inside.journal c.push_reserved-in-Memory.new.self _ _ l c.self.invariant (ap (λ x. x.node) c.stop-stop.ensures) stepped
     (node_sound g.O.Object.sequential g.K.BookName.name.group c.node_fits_law.ensures.step c.node_fits_law.ensures.submit
     c.self.inside.node l c.step_into.new.self c.self.invariant.sound stepped) c.self.invariant.text c.push_reserved-in-Memory.ensures.ring
     c.push_reserved-in-Memory.ensures.sent.0

@@ -1,7 +1,6 @@
-use Rattle.std.proofs.Common.{◌+◌, refl, subst, ap, Bool, length}
+use Rattle.std.proofs.Common.{refl, ap}
 use Rattle.std.proofs.lemmas.Result.{err_from_is_err_and}
 use Rattle.ring_book_lines.specs.Limits.{NodeFits}
-use Rattle.ring_book.specs.Cells.{IsCell}
 use Rattle.ring_book_lines.specs.Machines.{node_machine}
 use Rattle.ring_book_lines.specs.Runs.{IsStep}
 use Rattle.ring_book.proofs.Journaling.{cell_adds}
@@ -15,9 +14,6 @@ push_reserved-requires g c = (c.self.invariant.free c.if-self.false, tt)
 pub invariant_of-self-2 : goal.invariant_of-self-2
 invariant_of-self-2 g c =
     let m = node_machine g.O.Object.sequential g.K.BookName.name.group in
-    let k = subst (λ (b : Bool). IsCell m NodeFits g.K.BookName.name c.self.inside.me b c.self.inside.node
-    c.self.inside.journal (length c.self.inside.text.items + c.self.inside.text.spare))
-    c.if-self.false c.self.invariant in
     let e = c.in_ok-ticket.ensures in
     let l = c.called.result in
     let stepped : IsStep m c.self.inside.node l c.submit_on.new.self = rw c.called.ensures record {
@@ -25,8 +21,8 @@ invariant_of-self-2 g c =
       makes = (e.taken, e.ok, refl, refl, refl);
       committed = c.committed_len-places.ensures;
     } in
-    cell_adds m NodeFits g.K.BookName.name c.self.inside.me c.self.inside.node c.submit_on.new.self
-    c.self.inside.journal c.push_reserved.new.self _ _ l k (ap (λ x. x.node) c.called.ensures) stepped
+    cell_adds m NodeFits g.K.BookName.name c.self.inside.me _ c.self.inside.node c.submit_on.new.self
+    c.self.inside.journal c.push_reserved.new.self _ _ l c.self.invariant (ap (λ x. x.node) c.called.ensures) stepped
     (node_sound g.O.Object.sequential g.K.BookName.name.group c.node_fits_law.ensures.step c.node_fits_law.ensures.submit
     c.self.inside.node l c.submit_on.new.self c.self.invariant.sound stepped) c.self.invariant.text c.push_reserved.ensures.ring c.push_reserved.ensures.sent.0
 

@@ -7,15 +7,15 @@ pub loop-preserved : goal.loop-preserved
 loop-preserved g c =
     one_more g.O.Object.sequential c.loop.counter c.args.self.now.run c.loop.self.run c.come.new.self.run c.loop.invariant
     (turned g.O.Object.sequential c.in-Some.pair c.loop.self.run c.close_first.new.self c.come.new.self.run
-    c.in-Some.ensures.takes c.close_first.ensures.same c.in_ok-come.ensures)
+    c.in-Some.ensures.takes c.close_first.ensures.same c.in_ok-come.ensures.ok)
 
-pub returns : goal.returns
-returns g c =
+pub returns-clause-ok : goal.returns-clause-ok
+returns-clause-ok g c =
     pumped g.O.Object.sequential c.args.turns c.loop.counter c.args.self.now.run c.loop.self.run c.loop.auto.counter-end
     (λ less. absurd (omega (arith, c.loop-test.false, less))) c.loop.invariant
 
-pub returns-in_default : goal.returns-in_default
-returns-in_default g c =
+pub returns-in_default-clause-ok : goal.returns-in_default-clause-ok
+returns-in_default-clause-ok g c =
     let none = c.in_default.ensures.takes in
     let same = none_left g.O.Object.sequential c.loop.self.run c.close_first.new.self c.close_first.ensures.same none.1 in
     pumped g.O.Object.sequential c.args.turns c.loop.counter c.args.self.now.run c.close_first.new.self c.loop.auto.counter-end (λ less. none.1 ∙ none.0)

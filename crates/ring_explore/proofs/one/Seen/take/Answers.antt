@@ -24,11 +24,11 @@ loop-numbered-preserved g c =
     let so_far = c.loop-numbered.invariant in (
       so_far.0 ++ text_of g.O.Object.sequential c.in-Some.numbered.line c.loop-numbered.self.run.played c.take_line.new.self.run.played,
       Runs-snoc g.O.Object.sequential c.loop-numbered.yielded c.in-Some.numbered c.args.self.now.run
-          c.loop-numbered.self.run c.take_line.new.self.run so_far.0 so_far.1 c.in_ok-take_line.ensures,
+          c.loop-numbered.self.run c.take_line.new.self.run so_far.0 so_far.1 c.in_ok-take_line.ensures.ok,
     )
 
-pub returns : goal.returns
-returns g c =
+pub returns-clause-ok : goal.returns-clause-ok
+returns-clause-ok g c =
     let begun = c.into_iter-numbered-iterator.ensures.into_iter_gives in
     let ended = YieldsList-end (YieldsList-from_vec c.args.script.lines.items begun.0
     (begun.1 ∙ c.args.script.lines.ok.0)) c.loop-numbered.yielded c.loop-numbered.numbered-iterator

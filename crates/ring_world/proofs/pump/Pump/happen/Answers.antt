@@ -9,7 +9,7 @@ invariant_of-self g c =
 pub returns-clause-done : goal.returns-clause-done
 returns-clause-done g c =
     rw (← c.self.view_is) (happened g.O.Object.sequential c.self.inside.pairs c.args.event c.self.inside.world c.run_one.new.self
-    c.self.invariant c.run_one.result c.run_one.ensures.ok)
+    c.self.invariant c.run_one.result c.run_one.ensures.done c.run_one.ensures.ok)
 
 pub returns-clause-rests : goal.returns-clause-rests
 returns-clause-rests g c =

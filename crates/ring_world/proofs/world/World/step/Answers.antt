@@ -13,7 +13,7 @@ use Rattle.ring_world.specs.Steps.{HasStepped}
 use Rattle.ring_world.proofs.FrameHanded.{IsStepBy, read, not_read, unknown_step, step_fits}
 use Rattle.ring_world.proofs.NodePlaces.{Stands, stands, unknown, roomy, spare_there, node_put, high}
 use Rattle.ring_world.proofs.WorldOfNodes.{IsStep, stepped_so, sends_fit, answers_few, answers_left, step_world, step_goes}
-use Rattle.ring_world.proofs.WorldOfNodes.{silent_world, silent_goes, stop_world, refused_goes}
+use Rattle.ring_world.proofs.WorldOfNodes.{standing_world, standing_goes}
 use Rattle.ring_world.proofs.EventLimits.{all_fit}
 use Rattle.ring_world.proofs.SubmitRefused.{room_less}
 use Rattle.ring_world.proofs.world.World.step.Given.{Over}
@@ -135,37 +135,22 @@ returns-in-Ok g c =
       refused = tt;
     }
 
-pub invariant_of-self-in-Stopped : goal.invariant_of-self-in-Stopped
-invariant_of-self-in-Stopped g c =
-    let at = goal.at.invariant_of-self-in-Stopped g c in
+pub invariant_of-self-in-Err : goal.invariant_of-self-in-Err
+invariant_of-self-in-Err g c =
+    let at = goal.at.invariant_of-self-in-Err g c in
     let step = by g at.In_ok-make_room in
     let none = given step.there c.in-Err.ensures in
-    silent_world (place g at.In_ok-make_room) c.args.event.now c.index_mut.ensures.value none.refused c.in_ok-kept.kept step.input c.in-Stopped.is
-    c.in_ok-kept.ensures.ok step.same none.err step.steps c.push_reserved-in-Stopped.ensures.items
+    standing_world (place g at.In_ok-make_room) c.args.event.now c.index_mut.ensures.value none.refused c.in_ok-kept.kept c.standing.result step.input
+    c.in_ok-kept.ensures.ok c.standing.ensures.stopped c.standing.ensures.memory step.same step.steps none.err c.push_reserved-in-Err.ensures.items
 
-pub returns-in-Stopped : goal.returns-in-Stopped
-returns-in-Stopped g c =
-    let at = goal.at.returns-in-Stopped g c in
+pub returns-in-Err : goal.returns-in-Err
+returns-in-Err g c =
+    let at = goal.at.returns-in-Err g c in
     let step = by g at.In_ok-make_room in
     record {
-      ok = silent_goes (place g at.In_ok-make_room) c.args.event.now c.index_mut.ensures.value (given (by g at.In_ok-make_room).there c.in-Err.ensures).refused
-          c.in_ok-kept.kept step.input c.in-Stopped.is c.in_ok-kept.ensures.ok step.same c.push_reserved-in-Stopped.ensures.items;
-      err = tt;
-      done = ap (λ (r : Played g.row.O-Alloc.Denot). r.done) c.self.view_is;
-      refused = tt;
-    }
-
-pub invariant_of-self-in_default : goal.invariant_of-self-in_default
-invariant_of-self-in_default g c =
-    let at = goal.at.invariant_of-self-in_default g c in
-    stop_world (place g at.In_ok-make_room) c.index_mut.ensures.value (given (by g at.In_ok-make_room).there c.in-Err.ensures).err c.push_reserved-in_default.ensures.items
-
-pub returns-in_default : goal.returns-in_default
-returns-in_default g c =
-    let at = goal.at.returns-in_default g c in
-    record {
-      ok = refused_goes (place g at.In_ok-make_room) c.args.event.now c.index_mut.ensures.value (given (by g at.In_ok-make_room).there c.in-Err.ensures).refused c.in_default.not-Stopped
-          (by g at.In_ok-make_room).steps c.push_reserved-in_default.ensures.items;
+      ok = standing_goes (place g at.In_ok-make_room) c.args.event.now c.index_mut.ensures.value (given step.there c.in-Err.ensures).refused
+          c.in_ok-kept.kept c.standing.result step.input c.in_ok-kept.ensures.ok c.standing.ensures.stopped c.standing.ensures.memory step.same
+          step.steps c.push_reserved-in-Err.ensures.items;
       err = tt;
       done = ap (λ (r : Played g.row.O-Alloc.Denot). r.done) c.self.view_is;
       refused = tt;

@@ -6,7 +6,7 @@ use std::fmt;
 
 /// What a word stands for.
 #[derive(Clone, Copy, Debug, PartialEq, Eq)]
-pub(crate) enum Part {
+pub(crate) enum WordMeaning {
     /// How many nodes there are.
     Count,
     /// The votes of one node.
@@ -40,19 +40,23 @@ pub(crate) fn timeouts() -> [&'static str; 4] {
     ]
 }
 
-impl Part {
+impl WordMeaning {
     /// The least and the greatest number that such a word may be, among so many nodes. None where it isn't a number within bounds.
     fn bounds(self, nodes: u8) -> Option<(u64, u64)> {
         match self {
-            Part::Count => Some((1, u64::from(MOST_PROCESSORS))),
-            Part::Vote => Some((1, 255)),
-            Part::Node => Some((1, u64::from(nodes))),
-            Part::Client => Some((0, u64::from(u32::MAX))),
-            Part::Number => Some((1, u64::MAX)),
-            Part::Turns => Some((1, MOST_TURNS)),
-            Part::Key => Some((0, 255)),
-            Part::Value => Some((0, u64::MAX)),
-            Part::Frame | Part::Timeout | Part::Bytes | Part::Operation | Part::Name => None,
+            WordMeaning::Count => Some((1, u64::from(MOST_PROCESSORS))),
+            WordMeaning::Vote => Some((1, 255)),
+            WordMeaning::Node => Some((1, u64::from(nodes))),
+            WordMeaning::Client => Some((0, u64::from(u32::MAX))),
+            WordMeaning::Number => Some((1, u64::MAX)),
+            WordMeaning::Turns => Some((1, MOST_TURNS)),
+            WordMeaning::Key => Some((0, 255)),
+            WordMeaning::Value => Some((0, u64::MAX)),
+            WordMeaning::Frame
+            | WordMeaning::Timeout
+            | WordMeaning::Bytes
+            | WordMeaning::Operation
+            | WordMeaning::Name => None,
         }
     }
 
@@ -63,10 +67,10 @@ impl Part {
                 && matches!(word.parse::<u64>(), Ok(number) if least <= number && number <= most);
         }
         match self {
-            Part::Frame => is_decimal(word) && word != "0",
-            Part::Timeout => timeouts().iter().any(|kind| *kind == word),
-            Part::Bytes => are_bytes(word, FRAME_BYTES),
-            Part::Operation => are_bytes(word, MOST_OPERATION),
+            WordMeaning::Frame => is_decimal(word) && word != "0",
+            WordMeaning::Timeout => timeouts().iter().any(|kind| *kind == word),
+            WordMeaning::Bytes => are_bytes(word, FRAME_BYTES),
+            WordMeaning::Operation => are_bytes(word, MOST_OPERATION),
             _ => is_name(word.as_bytes()),
         }
     }
@@ -89,27 +93,27 @@ fn are_bytes(word: &str, most: usize) -> bool {
 
 /// What must stand for a part, among so many nodes.
 #[derive(Clone, Copy)]
-pub(crate) struct Wanted {
-    pub(crate) part: Part,
+pub(crate) struct WantedWord {
+    pub(crate) part: WordMeaning,
     pub(crate) nodes: u8,
 }
 
-impl fmt::Display for Wanted {
+impl fmt::Display for WantedWord {
     fn fmt<W: fmt::Write>(&self, f: &mut fmt::Formatter<W>) -> fmt::Result {
         let words = match self.part {
-            Part::Count => "a number of nodes",
-            Part::Vote => "a number of votes",
-            Part::Node => "a node",
-            Part::Client => "a client",
-            Part::Number => "the number of a call",
-            Part::Turns => "a number of turns",
-            Part::Key => "a key",
-            Part::Value => "a number",
-            Part::Frame => "the number of a frame, 1 or more",
-            Part::Timeout => "`retransmit`, `join`, `consensus` or `loss`",
-            Part::Bytes => return write_bytes(f, FRAME_BYTES),
-            Part::Operation => return write_bytes(f, MOST_OPERATION),
-            Part::Name => return write!(f, "a name of 1 to {LONGEST_NAME} bytes"),
+            WordMeaning::Count => "a number of nodes",
+            WordMeaning::Vote => "a number of votes",
+            WordMeaning::Node => "a node",
+            WordMeaning::Client => "a client",
+            WordMeaning::Number => "the number of a call",
+            WordMeaning::Turns => "a number of turns",
+            WordMeaning::Key => "a key",
+            WordMeaning::Value => "a number",
+            WordMeaning::Frame => "the number of a frame, 1 or more",
+            WordMeaning::Timeout => "`retransmit`, `join`, `consensus` or `loss`",
+            WordMeaning::Bytes => return write_bytes(f, FRAME_BYTES),
+            WordMeaning::Operation => return write_bytes(f, MOST_OPERATION),
+            WordMeaning::Name => return write!(f, "a name of 1 to {LONGEST_NAME} bytes"),
         };
         match self.part.bounds(self.nodes) {
             Some((least, most)) => write!(f, "{words}, {least} to {most}"),

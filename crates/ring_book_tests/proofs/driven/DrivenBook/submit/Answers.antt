@@ -1,6 +1,6 @@
 use Rattle.std.proofs.Common.{arith}
 use Rattle.ring_payload.proofs.CallMade.{made_fits}
-use Rattle.ring_book_tests.proofs.driven.Driven.submit.Goals as goal
+use Rattle.ring_book_tests.proofs.driven.DrivenBook.submit.Goals as goal
 
 pub entered_submit-requires : goal.entered_submit-requires
 entered_submit-requires g c =

@@ -31,14 +31,14 @@ const LEGEND: u64 = 78;
 
 /// The size of a picture of so many columns and lanes.
 #[derive(Clone, Copy)]
-pub(crate) struct Frame {
+pub(crate) struct Canvas {
     pub columns: u64,
     pub lanes: u8,
     /// The number of the node whose lane is the first.
     pub first: u8,
 }
 
-impl Frame {
+impl Canvas {
     /// Where a column begins in the strip.
     pub fn x(self, column: u64) -> u64 {
         column.saturating_mul(COLUMN)

@@ -1,5 +1,5 @@
 use Rattle.std.proofs.Common.{◌≡◌}
-use Rattle.ring_trace_words.proofs.votes.Votes.told.Given as goal
+use Rattle.ring_trace_words.proofs.votes.NodeVotes.told.Given as goal
 
 -- the nodes stay
 abbrev pub invariant-loop-line : goal.invariant-loop-line
