@@ -31,7 +31,7 @@ IsPlaceFault stands book Memory = stands × (IsFull book → ⊥)
 IsPlaceFault stands book _ = ⊥
 
 module _ {S A : Type 0} where
-  -- the lines have a step of the cell's node that its journal has not: so it is of no cell of the same opening
+  -- the lines have a step of the cell's node that the cell's journal has not
   abbrev pub IsPast : CellView S A → List (LineView A) → Type 0
   IsPast cell lines = (s : StepView A) × (steps_of cell.me lines ≡ cell.journal ++ s ∷ [])
 
@@ -54,7 +54,7 @@ module _ {S A : Type 0} (m : Machine S A) where
     pub me : cell'.me ≡ cell.me
     pub line : lines' ≡ lines ++ record { number = length lines; step = step } ∷ []
 
-  -- Why a call is not entered in a reserved place: the cell refuses it, and is as it was; or the cell is of another opening.
+  -- Why a call is not entered in a reserved place: the cell refuses it, and is as it was; or the lines are past the cell.
   abbrev pub IsCallRefused : CellView S A → CellView S A → List (LineView A) → Fault → Type 0
   IsCallRefused cell cell' lines fault = (SubmitRefused m cell fault × (cell' ≡ cell)) ⊎ ((fault ≡ Stranger) × IsPast cell lines)
 

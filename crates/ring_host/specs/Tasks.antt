@@ -34,10 +34,10 @@ IsTokenRead (Some (Token token)) = ⊤
 IsTokenRead (Some (Join join)) = ⊥
 IsTokenRead (Some (Commit commit)) = ⊤
 
--- it is a token or a commit token that came
-abbrev pub IsTokenTask : {A : Type 0} → Option (OneFrame A) → Task A → Type 0
-IsTokenTask place (Timeout kind) = ⊥
-IsTokenTask place (Came bytes at) = IsTokenRead place
+-- It is a token or a commit token that came.
+pub record IsTokenTask {A : Type 0} (place : Option (OneFrame A)) (task : Task A) : Type 0 where
+  pub came : IsFrame task
+  pub token : IsTokenRead place
 
 -- of a frame that came the bytes stand in these lines where it says, and go to the node
 abbrev pub TaskStands : {A : Type 0} → List (LineView A) → ℕ → Task A → Type 0

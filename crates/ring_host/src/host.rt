@@ -1,6 +1,7 @@
 //! The host, and what its callers ask of it.
 
-ghost use Rattle.std.specs.Prelude.{◌≡◌, ◌<◌, ◌≤◌, ◌⊎◌, [], ◌++◌, All, IfOk, IfErr, IfSome, IfNone, OnErr, Ok, Some, None, option_to_list};
+ghost use Rattle.std.specs.Prelude.{◌≡◌, ◌<◌, ◌≤◌, ◌⊎◌, [], ◌++◌, All, IfOk, IfErr, IfSome, IfNone, OnErr};
+ghost use Rattle.std.specs.Prelude.{Ok, Some, None, option_to_list};
 ghost use Rattle.ring_base.specs.declared.fault.Fault.TheVariants.{NotMember, Memory, Stranger};
 ghost use Rattle.std.specs.Fn.{FnOnceReturnsAt};
 ghost use Rattle.ring_payload.specs.Calls.{CallFits};
