@@ -4,7 +4,6 @@ use ring_base::{Fault, Fixed};
 use ring_object::Object;
 use ring_pipe::serve;
 use std::alloc::Allocator;
-use std::io::Write;
 
 /// What a node wrote on standard output and on standard error, and the exit status.
 #[derive(Drop)]
@@ -12,18 +11,6 @@ pub(crate) struct Written<A: Allocator + Copy + Drop> {
     pub(crate) out: Vec<u8, A>,
     pub(crate) err: Vec<u8, A>,
     pub(crate) status: u8,
-}
-
-/// The exit status of the processor of this number. All tests serve by this, so that a node is compiled for one writer.
-fn status_of<O: Object>(
-    heap: O::Alloc,
-    fixed: Fixed,
-    me: u8,
-    mut input: &[u8],
-    mut out: &mut dyn Write,
-    mut err: &mut dyn Write,
-) -> u8 {
-    serve::<O, _, _, _>(heap, fixed, me, &mut input, &mut out, &mut err)
 }
 
 /// What the processor of this number writes where its memory comes from `heap`. What it writes on takes none of it.
@@ -34,9 +21,10 @@ pub(crate) fn served_on<O: Object, A: Allocator + Copy + Drop>(
     me: u8,
     input: &[u8],
 ) -> Written<A> {
+    let mut input = input;
     let mut out = Vec::new(ample);
     let mut err = Vec::new(ample);
-    let status = status_of::<O>(heap, fixed, me, input, &mut out, &mut err);
+    let status = serve::<O, _, _, _>(heap, fixed, me, &mut input, &mut out, &mut err);
     Written { out, err, status }
 }
 
