@@ -1,13 +1,14 @@
 #!/usr/bin/env python3
 """Tries wrong bodies: those in wrong_bodies/, and those in each crate's must-fail/, which the gate tries too.
 
-    bench/wrong_bodies.py [CRATE ..] [--jobs N]     of all crates, where none is named
-    bench/wrong_bodies.py [CRATE ..] --list         tries none; tells whether each can be applied
+    bench/wrong_bodies.py [CRATE ..] [--jobs N] [--crates N]     of all crates, where none is named
+    bench/wrong_bodies.py [CRATE ..] --list                      tries none; tells whether each can be applied
 
 A wrong body is an edit of one crate that turns the meaning of a function, so the crate's check must refuse it by a
 contract. All is tried on a copy of the repository that is removed at the end: each crate is checked there, and then
 `rt must-fail` tries its wrong bodies and tells, once it did all, what each came to. Checks that this machine has kept,
-of this or another copy, make the first part short. --jobs says how many are tried at a time; else `rt` chooses.
+of this or another copy, make the first part short. --jobs says how many of a crate are tried at a time; else `rt`
+chooses. --crates says how many crates are tried at a time, each on a copy of its own; else one is.
 
 It ends with a table of the crates and with a line `N refused, M let through`. The status is 1 if any was let through,
 couldn't be applied or read, or wasn't tried.
@@ -21,8 +22,10 @@ import sys
 import tempfile
 import time
 from collections import Counter
+from concurrent.futures import ThreadPoolExecutor
 from dataclasses import dataclass
 from pathlib import Path
+from queue import SimpleQueue
 
 ROOT = Path(__file__).resolve().parent.parent
 REFUSED, LET_THROUGH, BAD, NOT_TRIED = "refused", "let through", "bad edit", "not tried"
@@ -107,10 +110,11 @@ def show_list(bodies):
 
 
 def copy_to(folder):
-    """Copies what `rt` reads of the repository, without what it made there and without must-fail/."""
+    """Copies what `rt` reads of the repository, without what it made there and without must-fail/. Gives the folder."""
     shutil.copytree(ROOT / "crates", folder / "crates", ignore=shutil.ignore_patterns("out", "must-fail"))
     for name in ("crates.txt", "HANDLES"):
         shutil.copy(ROOT / name, folder)
+    return folder
 
 
 def run_rt(words, folder, jobs):
@@ -143,17 +147,24 @@ def try_crate(crate, bodies, copy, jobs):
     return {body.name: found.get(body.name, (NOT_TRIED, said[-200:])) for body in bodies}
 
 
-def try_all(bodies, copy, jobs):
-    """Tries the wrong bodies crate by crate, and prints each. Gives a row for each crate: its name, what its wrong bodies
-    came to, and the seconds."""
-    rows = []
-    for crate in dict.fromkeys(body.crate for body in bodies):
+def try_all(bodies, copies, jobs):
+    """Tries the wrong bodies, a crate on each copy at a time, and prints each. Gives a row for each crate: its name, what its
+    wrong bodies came to, and the seconds."""
+    free = SimpleQueue()
+    for copy in copies:
+        free.put(copy)
+
+    def row_of(crate):
+        copy = free.get()
         began = time.monotonic()
         results = try_crate(crate, [body for body in bodies if body.crate == crate], copy, jobs)
+        free.put(copy)
         for name, (kind, words) in results.items():
             print(f"{crate} {name}: {kind}" + ("" if kind == REFUSED else f" ({words})"), flush=True)
-        rows.append((crate, Counter(kind for kind, _ in results.values()), time.monotonic() - began))
-    return rows
+        return crate, Counter(kind for kind, _ in results.values()), time.monotonic() - began
+
+    with ThreadPoolExecutor(len(copies)) as pool:
+        return list(pool.map(row_of, dict.fromkeys(body.crate for body in bodies)))
 
 
 def show_table(rows):
@@ -172,7 +183,8 @@ def main():
     parser = argparse.ArgumentParser(description=head, epilog=rest, formatter_class=argparse.RawDescriptionHelpFormatter)
     parser.add_argument("crates", metavar="CRATE", nargs="*", help="a crate whose wrong bodies are tried")
     parser.add_argument("--list", action="store_true", help="try none; tell whether each can be applied")
-    parser.add_argument("--jobs", metavar="N", type=int, help="how many are tried at a time")
+    parser.add_argument("--jobs", metavar="N", type=int, help="how many of a crate are tried at a time")
+    parser.add_argument("--crates", metavar="N", type=int, default=1, dest="at_once", help="how many crates are tried at a time")
     asked = parser.parse_args()
     unknown = [name for name in asked.crates if name not in crates()] or strays()
     if unknown:
@@ -181,8 +193,8 @@ def main():
     if asked.list:
         return show_list(bodies)
     with tempfile.TemporaryDirectory(prefix="wrong-bodies-") as room:
-        copy_to(Path(room))
-        return show_table(try_all(bodies, Path(room), asked.jobs))
+        copies = [copy_to(Path(room) / str(number)) for number in range(max(asked.at_once, 1))]
+        return show_table(try_all(bodies, copies, asked.jobs))
 
 
 if __name__ == "__main__":
