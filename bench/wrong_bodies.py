@@ -5,10 +5,12 @@
     bench/wrong_bodies.py [CRATE ..] --list                      tries none; tells whether each can be applied
 
 A wrong body is an edit of one crate that turns the meaning of a function, so the crate's check must refuse it by a
-contract. All is tried on a copy of the repository that is removed at the end: each crate is checked there, and then
-`rt must-fail` tries its wrong bodies and tells, once it did all, what each came to. Checks that this machine has kept,
-of this or another copy, make the first part short. --jobs says how many of a crate are tried at a time; else `rt`
-chooses. --crates says how many crates are tried at a time, each on a copy of its own; else one is.
+contract. All is tried on a copy of the repository that is removed at the end. Each crate is checked there as it stands;
+checks that this machine has kept, of this or another copy, make that short. Then its wrong bodies are tried together, as
+many as change different functions in one check: a function's proof stands on the contracts of what it calls and on no
+body of these, so the check tells of each function apart whether it is refused. What is not refused so, what a check can't
+read, and what changes more than functions `rt must-fail` tries alone. --jobs says by how many processes a crate is
+checked; else `rt` chooses. --crates says how many crates are tried at a time, each on a copy of its own; else one is.
 
 It ends with a table of the crates and with a line `N refused, M let through`. The status is 1 if any was let through,
 couldn't be applied or read, or wasn't tried.
@@ -133,18 +135,121 @@ def read_results(said):
     return found
 
 
-def try_crate(crate, bodies, copy, jobs):
-    """Tries the wrong bodies of a crate in the copy, and gives what each came to, by its name, with rt's words."""
-    folder = copy / "crates" / crate
-    status, said = run_rt(["check", *(["--jobs", str(jobs)] if jobs else [])], folder, jobs)
-    if status:
-        return {body.name: (NOT_TRIED, f"{crate} itself isn't proved: {said[-200:]}") for body in bodies}
-    (folder / "must-fail").mkdir()
+def functions(text):
+    """The functions of a file, each as where it begins, where it ends, and its name."""
+    found = []
+    for head in re.finditer(r"^( *)(?:pub(?:\([a-z]+\))? )?(?:const )?(?:unsafe )?fn (\w+)", text, re.M):
+        end = re.compile(rf"^{head[1]}(?:\}}|.*\{{\}})$", re.M).search(text, head.end())
+        found.append((head.start(), end.end() if end else len(text), head[2]))
+    return found
+
+
+def changed_functions(body):
+    """The functions that a wrong body changes, as (file, name), or none where it changes something else too."""
+    found = set()
+    for file, old, _ in pairs(body.path.read_text(encoding="utf-8")):
+        text = (ROOT / "crates" / body.crate / file).read_text(encoding="utf-8")
+        at = text.find(old)
+        around = [name for start, end, name in functions(text) if start <= at and at + len(old) <= end]
+        if not file.startswith("src/") or not around:
+            return set()
+        found.add((file, around[-1]))
+    return found
+
+
+def batch_of(bodies):
+    """The first of these wrong bodies, and each further one that changes no function which another one changes."""
+    batch, changed = [], set()
     for body in bodies:
-        shutil.copy(body.path, folder / "must-fail")
+        more = changed_functions(body)
+        if not changed & more:
+            batch.append(body)
+            changed |= more
+    return batch
+
+
+def what_was_told(said, crate, file, name):
+    """What a check tells of the functions of this name in the file: `refused`, `waits` where it waits for another one's proof
+    alone, `stale` where all that it tells is that a proof names what isn't there, and else nothing."""
+    module = [part for part in file.removeprefix("src/").removesuffix(".rt").split("/") if part != "lib"]
+    path = "::".join([crate, *module])
+    told = set()
+    for function, words in re.findall(rf"^fn ({re.escape(path)}(?:::\w+)*::{name}): (.*)", said, re.M):
+        place = "/".join(function.split("::")[1:])
+        errors = re.findall(rf"^(?:\./)?proofs/{place}/\S+: error: (.*)", said, re.M)
+        gone = [it for it in errors if re.search(r"has no field|is not in scope|has no `|was not admitted|was rejected", it)]
+        if "did not prove" in words or len(gone) < len(errors):
+            told.add("refused")
+        elif errors:
+            told.add("stale")
+        elif words.startswith("no proof: it calls"):
+            told.add("waits")
+    return next((it for it in ("refused", "waits", "stale") if it in told), "")
+
+
+def linked(folder, to):
+    """Copies kept work by links: a check replaces such a file and changes none."""
+    copy = lambda one, other: os.link(one, other) if one.endswith(".oantt") else shutil.copy2(one, other)
+    shutil.copytree(folder, to, symlinks=True, copy_function=copy)
+
+
+def try_together(bodies, copy, jobs):
+    """Checks a crate with all these wrong bodies in it, and tells what is told of each, or nothing where the check did not come so far."""
+    folder = copy / "crates" / bodies[0].crate
+    were, kept, aside = {}, folder / "out/incremental", folder / "out/aside"
+    for body in bodies:
+        for file, old, new in pairs(body.path.read_text(encoding="utf-8")):
+            text = (folder / file).read_text(encoding="utf-8")
+            were.setdefault(file, text)
+            (folder / file).write_text(text.replace(old, new), encoding="utf-8")
+    linked(kept, aside)
+    _, said = run_rt(["check", *(["--jobs", str(jobs)] if jobs else [])], folder, jobs)
+    shutil.rmtree(kept)
+    aside.rename(kept)
+    for file, text in were.items():
+        (folder / file).write_text(text, encoding="utf-8")
+    if not re.search(r"^logic=", said, re.M):
+        return {}
+    told = {body: {what_was_told(said, body.crate, *it) for it in changed_functions(body)} for body in bodies}
+    return {body: next((it for it in ("refused", "waits") if it in words), "unclear") for body, words in told.items()}
+
+
+def refused_together(bodies, copy, jobs):
+    """Of these wrong bodies of one crate those that are refused by checks of several together."""
+    refused, left = set(), [body for body in bodies if changed_functions(body)]
+    while batch := batch_of(left):
+        told = try_together(batch, copy, jobs)
+        if not told and len(batch) > 1:
+            half = len(batch) // 2
+            refused |= refused_together(batch[:half], copy, jobs) | refused_together(batch[half:], copy, jobs)
+        refused |= {body for body in batch if told.get(body) == "refused"}
+        waits = [body for body in batch if told.get(body) == "waits"]
+        left = [body for body in left if body not in batch] + (waits if len(waits) < len(batch) else [])
+    return refused
+
+
+def try_alone(crate, bodies, copy, jobs):
+    """Tries the wrong bodies of a crate one by one, and gives what each came to, by its name, with rt's words."""
+    if not bodies:
+        return {}
+    folder = copy / "crates" / crate / "must-fail"
+    folder.mkdir()
+    for body in bodies:
+        shutil.copy(body.path, folder)
     _, said = run_rt(["must-fail", crate], copy, jobs)
+    shutil.rmtree(folder)
     found = read_results(said)
     return {body.name: found.get(body.name, (NOT_TRIED, said[-200:])) for body in bodies}
+
+
+def try_crate(crate, bodies, copy, jobs):
+    """Tries the wrong bodies of a crate in the copy, and gives what each came to, by its name, with rt's words."""
+    status, said = run_rt(["check", *(["--jobs", str(jobs)] if jobs else [])], copy / "crates" / crate, jobs)
+    if status:
+        return {body.name: (NOT_TRIED, f"{crate} itself isn't proved: {said[-200:]}") for body in bodies}
+    refused = refused_together(bodies, copy, jobs)
+    alone = try_alone(crate, [body for body in bodies if body not in refused], copy, jobs)
+    return {body.name: alone.get(body.name, (REFUSED, "")) for body in bodies}
 
 
 def try_all(bodies, copies, jobs):
