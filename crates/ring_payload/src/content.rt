@@ -251,14 +251,14 @@ impl<A: Allocator + Copy> Decode<A> for Payload<A> {
     fn read(alloc: A, from: &mut Reader<'_>) -> Result<Payload<A>, Fault> {
         let tag: u8 = Decode::read(alloc, from)?;
         match tag {
-            tags::CALL => Ok(Payload::Call(Decode::read(alloc, from)?)),
-            tags::WRAPPED => Ok(Payload::Wrapped(Decode::read(alloc, from)?)),
+            tags::CALL => Decode::read(alloc, from).map(|call| Payload::Call(call)),
+            tags::WRAPPED => Decode::read(alloc, from).map(|wrapped| Payload::Wrapped(wrapped)),
             tags::END => Ok(Payload::End),
-            tags::HEAD => Ok(Payload::Head(Head::read_whole(alloc, from)?)),
-            tags::PART => Ok(Payload::Part(Decode::read(alloc, from)?)),
-            tags::PACK => Ok(Payload::Pack(Decode::read(alloc, from)?)),
-            tags::TRIMMED_HEAD => Ok(Payload::Head(Head::read_trimmed(alloc, from)?)),
-            tags::SNAP => Ok(Payload::Snap(Decode::read(alloc, from)?)),
+            tags::HEAD => Head::read_whole(alloc, from).map(|head| Payload::Head(head)),
+            tags::PART => Decode::read(alloc, from).map(|part| Payload::Part(part)),
+            tags::PACK => Decode::read(alloc, from).map(|pack| Payload::Pack(pack)),
+            tags::TRIMMED_HEAD => Head::read_trimmed(alloc, from).map(|head| Payload::Head(head)),
+            tags::SNAP => Decode::read(alloc, from).map(|snap| Payload::Snap(snap)),
             _ => Err(Fault::BadFrame),
         }
     }

@@ -105,11 +105,11 @@ impl<
     }
 
     fn apply(&mut self, op: &[u8]) -> Result<Reply, Fault> {
-        match op {
-            [0, rest @ ..] => self.first.apply(rest),
-            [1, rest @ ..] => self.second.apply(rest),
-            [2, rest @ ..] => self.third.apply(rest),
-            [3, rest @ ..] => self.fourth.apply(rest),
+        match op.split_first() {
+            Some((0, rest)) => self.first.apply(rest),
+            Some((1, rest)) => self.second.apply(rest),
+            Some((2, rest)) => self.third.apply(rest),
+            Some((3, rest)) => self.fourth.apply(rest),
             _ => Ok(reply(Outcome::Unreadable)),
         }
     }
