@@ -1,8 +1,8 @@
 //! A turn, step by step: what is done under which lock.
 
-ghost use Rattle.std.specs.Prelude.{◌≡◌, ◌<◌, ◌≤◌, ◌↔◌, None, IsTrue, IfErr, IfOk, OnErr};
+ghost use Rattle.std.specs.Prelude.{◌≡◌, ◌<◌, ◌≤◌, ◌↔◌, ◌⊎◌, None, IsSome, IsTrue, IfErr, IfOk, OnErr, OnOk};
 ghost use Rattle.ring_rules.specs.Nodes.{node_kept};
-ghost use Rattle.ring_seat.specs.Clocks.{counted};
+ghost use Rattle.ring_seat.specs.Clocks.{counted, taken};
 ghost use Rattle.ring_seat.specs.Seats.{IsOwn};
 ghost use Rattle.ring_host.specs.Refusing.{IsTurnFault};
 ghost use Rattle.ring_host.specs.Tasks.{TaskFits, IsTokenTask};
@@ -47,6 +47,19 @@ fn done_of<O: Object>(node: &Node<O>, found: Found, sent: usize) -> Done
             Found::Timeout if is_quiet => Stir::Timeout,
             _ => Stir::Busy,
         },
+    }
+}
+
+/// A turn finds nothing: its thread lets others run.
+fn find_nothing<G: Gate>(node: Proc, gate: &G) -> Turn
+    ensures length { result.length ≡ None }
+    ensures dropped { result.dropped ≡ 0 }
+{
+    thread::yield_now();
+    gate.over(node, Stir::Nothing);
+    Turn {
+        dropped: 0,
+        length: None,
     }
 }
 
@@ -106,16 +119,39 @@ impl<O: Object, K: BookName<O::Alloc>> HostOf<Cell<O, K>, Book<O, K>, O::Alloc> 
         };
         let due = seat.tick();
         let mut came = None;
-        let Some(task) = self.task(rt, node, due, &mut came)? else {
-            thread::yield_now();
-            gate.over(node, Stir::Nothing);
-            return Ok(Turn {
-                dropped: 0,
-                length: None,
-            });
+        let turn = match self.task(rt, node, due, &mut came) {
+            Ok(Some(task)) => self.do_task(rt, seat, task, &came, gate),
+            Ok(None) => Ok(find_nothing(node, gate)),
+            Err(fault) => Err(fault),
+        };
+        // By name, so that the frame is let go in a function of any type, and lives at no exit.
+        drop(came);
+        turn
+    }
+
+    /// The task of a turn: the step's frames go out, and the length is published.
+    fn do_task<W: Wait, G: Gate>(
+        &self,
+        rt: &W,
+        seat: &mut Seat<O::Alloc>,
+        task: Task<O::Alloc>,
+        came: &Option<Frame<O::Alloc>>,
+        gate: &G,
+    ) -> Result<Turn, Fault>
+        requires own { IsOwn self.now seat.old }
+        requires fits { TaskFits came.now task }
+        ensures seat { IsOwn self.now seat.new × (seat.new.node ≡ seat.old.node) × (seat.new.seen ≡ seat.old.seen) }
+        ensures length { IfOk result (λ turn. IsSome turn.length) }
+        ensures ok { IfOk result (λ turn. seat.new.published ≡ published_by turn.length seat.old.published) }
+        ensures clock { OnOk result ((seat.new.clock ≡ seat.old.clock) ⊎ (IsTokenTask came.now task × (seat.new.clock ≡ taken seat.old.clock))) }
+        ensures err { OnErr result ((seat.new.published ≡ seat.old.published) × (seat.new.clock ≡ seat.old.clock)) }
+        ensures refused { IfErr result IsTurnFault }
+    {
+        let Some(node) = seat.node() else {
+            unreachable!()
         };
         let mut outbox = seat.take_outbox();
-        let stepped = self.step(rt, node, task, &came, gate, &mut outbox);
+        let stepped = self.step(rt, node, task, came, gate, &mut outbox);
         let dropped = match stepped {
             Ok(_) => self.send(rt, &outbox),
             Err(_) => 0,

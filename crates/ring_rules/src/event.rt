@@ -1,12 +1,14 @@
 //! What happens to a world of nodes.
 
+ghost use Rattle.std.specs.Prelude.{◌≡◌};
+
 use crate::noise::Noise;
 use ring_base::{Kind, Proc};
 use ring_core::Call;
-use std::alloc::{Allocator, Global};
+use std::alloc::{AllocError, Allocator, Global};
 
 /// What happens next in a world of nodes. An event of a processor that is none of the group's changes nothing.
-#[derive(Clone, Drop)]
+#[derive(Drop)]
 pub enum Event<A: Allocator + Copy = Global> {
     /// A call is submitted at the node.
     Issue(Proc, Call<A>),
@@ -20,4 +22,18 @@ pub enum Event<A: Allocator + Copy = Global> {
     Timeout(Proc, Kind),
     /// The node stops for good.
     Stop(Proc),
+}
+
+impl<A: Allocator + Copy> Clone for Event<A> {
+    ghost is_clone = { λ event copy. copy ≡ event };
+
+    fn clone(&self) -> Result<Event<A>, AllocError> {
+        match self {
+            Event::Issue(node, call) => Ok(Event::Issue(*node, call.clone()?)),
+            Event::Deliver(node, number) => Ok(Event::Deliver(*node, *number)),
+            Event::Noise(node, noise) => Ok(Event::Noise(*node, noise.clone()?)),
+            Event::Timeout(node, kind) => Ok(Event::Timeout(*node, *kind)),
+            Event::Stop(node) => Ok(Event::Stop(*node)),
+        }
+    }
 }

@@ -1,15 +1,16 @@
 //! A token is visited.
 
-ghost use Rattle.std.specs.Prelude.{◌≡◌, ◌≤◌, ◌++◌, [], true, length, IfOk, IfErr, OnOk};
+ghost use Rattle.std.specs.Prelude.{◌≡◌, ◌≤◌, ◌++◌, ◌∷◌, [], true, length, IfOk, IfErr, OnOk};
 ghost use Rattle.ring_base.specs.declared.fault.Fault.TheVariants.{Memory};
 ghost use Rattle.ring_base.specs.Processors.{only, less};
 ghost use Rattle.ring_token.specs.Visits.{room, left};
 ghost use Rattle.ring_window.specs.Held.{holds};
+ghost use Rattle.ring_wire.specs.declared.frame.Frame.TheVariants.{Message as MessageFrame};
 ghost use Rattle.ring_srp_acts.specs.Allowing.{VisitAllowed};
 ghost use Rattle.ring_core.specs.Giving.{addressed};
-ghost use Rattle.ring_srp_acts.specs.Machines.{is_running};
+ghost use Rattle.ring_srp_acts.specs.Machines.{is_running, ring_in_use};
 ghost use Rattle.ring_srp_acts.specs.Sending.{news, holding};
-ghost use Rattle.ring_core.specs.Views.{mark};
+ghost use Rattle.ring_core.specs.Views.{mark, takes_number};
 ghost use Rattle.ring_core.specs.Visiting.{accepts, repeated, room_at, new_payloads, queue_after, to_others, visited};
 
 use crate::machine::Machine;
@@ -193,10 +194,27 @@ impl<A: Allocator + Copy> Machine<A> {
                 sender: me,
                 payload,
             };
-            send_message(sends, others, &message)?;
-            self.hold(message);
+            self.send_and_hold(others, message, sends)?;
         }
         Ok(fresh)
+    }
+
+    /// A message of the ring in use whose number is new there goes out, unless it is to nobody, and is held.
+    fn send_and_hold(
+        &mut self,
+        to: ProcSet,
+        message: Message<A>,
+        sends: &mut Vec<Sent<A>, A>,
+    ) -> Result<(), Fault>
+        requires ring { message.ring ≡ ring_in_use self.old.state self.old }
+        requires new { takes_number self.old message.ring message.number ≡ true }
+        ensures core { OnOk result (self.new ≡ record self.old { held = message ∷ self.old.held }) }
+        ensures sends { OnOk result (sends.new.items ≡ sends.old.items ++ addressed (record { to = to; frame = MessageFrame message } ∷ [])) }
+        ensures refused { IfErr result (λ fault. fault ≡ Memory) }
+    {
+        send_message(sends, to, &message)?;
+        self.hold(message);
+        Ok(())
     }
 }
 

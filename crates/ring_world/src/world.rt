@@ -12,9 +12,10 @@ ghost use Rattle.ring_core.specs.State.{Sent as OneSent, Carried, frame_at};
 ghost use Rattle.ring_log.specs.Lives.{committed_of};
 ghost use Rattle.ring_session.specs.Deduplicated.{deduplicated};
 ghost use Rattle.ring_rules.specs.NodeLimits.{InputFits};
-ghost use Rattle.ring_rules.specs.Nodes.{node_opening};
+ghost use Rattle.ring_rules.specs.Nodes.{node_opening, node_stopped};
 ghost use Rattle.ring_rules.specs.declared.event.Event.TheVariants.{Issue, Stop};
 ghost use Rattle.ring_rules.specs.declared.input.Input.TheVariants.{Timeout as TimeInput};
+ghost use Rattle.ring_rules.specs.declared.item.Item.TheVariants.{Issue as IssuedItem};
 ghost use Rattle.ring_rules.specs.declared.told.Told.TheVariants.{Refused as ToldRefused};
 ghost use Rattle.ring_rules.specs.Histories.{IsLinearization};
 ghost use Rattle.ring_rules.specs.WorldLimits.{EventFits};
@@ -418,8 +419,7 @@ impl<O: Object> World<O> {
             return self.idle(event);
         }
         self.events.reserve(1)?;
-        // A stop takes no memory and gives nothing. A stopped node refuses it, and stays as it is.
-        let _ = self.nodes[place].step(Input::Stop);
+        halt(&mut self.nodes[place], &mut self.rooms.outs);
         self.events.push_reserved(Event::Stop(node));
         Ok(())
     }
@@ -450,19 +450,28 @@ impl<O: Object> World<O> {
             &mut self.longest,
         )?;
         self.spares[place].make_room()?;
-        let kept = copied_event(event)?;
-        let copy = copy_of(call)?;
-        let spare = copy_of(call)?;
+        let copies = issue_copies(event, call)?;
         match self.nodes[place].submit_on(call) {
-            Ok(_) => {
-                self.history.push_reserved(Item::Issue(copy));
-                self.spares[place].add(spare);
-                self.events.push_reserved(kept);
-            }
-            Err(fault) => refuse(&mut self.events, &mut self.told, node, copy, kept, fault),
+            Ok(_) => keep_issue(
+                &mut self.events,
+                &mut self.history,
+                &mut self.spares[place],
+                copies,
+            ),
+            Err(fault) => refuse(&mut self.events, &mut self.told, node, copies, fault),
         }
         Ok(())
     }
+}
+
+/// What is kept of a call that is issued.
+#[derive(Drop)]
+struct IssueCopies<A: Allocator + Copy> {
+    event: Event<A>,
+    /// For what is told of it.
+    call: Call<A>,
+    /// For its answer.
+    spare: Call<A>,
 }
 
 /// Nothing yet to be used again. It takes no memory.
@@ -574,25 +583,68 @@ fn time_out<O: Object>(
     node.step_into(&Input::Timeout(kind), outs)
 }
 
+/// The copies of an event that issues this call, or `Memory`.
+fn issue_copies<A: Allocator + Copy>(
+    event: &Event<A>,
+    call: &Call<A>,
+) -> Result<IssueCopies<A>, Fault>
+    ensures event { IfOk result (λ copies. copies.event ≡ event.now) }
+    ensures call { IfOk result (λ copies. copies.call ≡ call.now) }
+    ensures spare { IfOk result (λ copies. copies.spare ≡ call.now) }
+    ensures keeps { IfOk result (λ _. EventFits event.now → EventKeeps event.now) }
+    ensures refused { IfErr result (λ fault. fault ≡ Memory) }
+{
+    let event = copied_event(event)?;
+    let call = copy_of(call)?;
+    let spare = copy_of(&call)?;
+    Ok(IssueCopies { event, call, spare })
+}
+
+/// A submit was taken: its event and its call are kept. There is room.
+fn keep_issue<A: Allocator + Copy>(
+    events: &mut Vec<Event<A>, A>,
+    history: &mut Vec<Item<A>, A>,
+    spares: &mut Spares<A>,
+    copies: IssueCopies<A>,
+)
+    requires events_room { vec_len events.old + 1 ≤ vec_capacity events.old }
+    requires history_room { vec_len history.old + 1 ≤ vec_capacity history.old }
+    requires spares_room { 0 < spares.old.places }
+    ensures events { events.new.items ≡ events.old.items ++ copies.event ∷ [] }
+    ensures history { history.new.items ≡ history.old.items ++ IssuedItem copies.call ∷ [] }
+    ensures spares { spares.new.calls ≡ spares.old.calls ++ Some copies.spare ∷ [] }
+{
+    events.push_reserved(copies.event);
+    history.push_reserved(Item::Issue(copies.call));
+    spares.add(copies.spare);
+}
+
+/// A node stops. It takes no memory and gives nothing; a stopped node stays as it is.
+#[inline(never)]
+fn halt<O: Object>(node: &mut Node<O>, outs: &mut Outs<O::Alloc>)
+    ensures { node.new ≡ node_stopped node.old }
+{
+    let _ = node.step_into(&Input::Stop, outs);
+}
+
 /// A submit was refused: that is told, and its event is kept unless for want of memory. There is room.
 fn refuse<A: Allocator + Copy>(
     events: &mut Vec<Event<A>, A>,
     told: &mut Vec<Told<A>, A>,
     node: Proc,
-    call: Call<A>,
-    kept: Event<A>,
+    copies: IssueCopies<A>,
     fault: Fault,
 )
     requires events_room { vec_len events.old + 1 ≤ vec_capacity events.old }
     requires told_room { vec_len told.old + 64 ≤ vec_capacity told.old }
-    ensures told { told.new.items ≡ told.old.items ++ ToldRefused node call (fault_number fault) ∷ [] }
+    ensures told { told.new.items ≡ told.old.items ++ ToldRefused node copies.call (fault_number fault) ∷ [] }
     ensures left_out { fault ≡ Memory → events.new.items ≡ events.old.items }
-    ensures kept { (fault ≡ Memory → ⊥) → events.new.items ≡ events.old.items ++ kept ∷ [] }
+    ensures kept { (fault ≡ Memory → ⊥) → events.new.items ≡ events.old.items ++ copies.event ∷ [] }
 {
-    told.push_reserved(Told::Refused(node, call, fault.number()));
+    told.push_reserved(Told::Refused(node, copies.call, fault.number()));
     match fault {
-        Fault::Memory => let_go(kept),
-        _ => events.push_reserved(kept),
+        Fault::Memory => let_go(copies.event),
+        _ => events.push_reserved(copies.event),
     }
 }
 

@@ -27,8 +27,8 @@ overflow_add-number g c =
           c.loop-payload.number (length c.args.payloads.items) c.loop-payload.invariant.number turn.0 c.requires.count,
     )
 
-pub hold-requires-clause-ring : goal.hold-requires-clause-ring
-hold-requires-clause-ring g c =
+pub send_and_hold-requires-clause-ring : goal.send_and_hold-requires-clause-ring
+send_and_hold-requires-clause-ring g c =
     let now = c.args.self.now in
     let inside = c.self.inside in
     let m = subst (λ (x : Core g.row.A.Denot). IsMachine x inside.gather inside.kept.window inside.kept.visit
@@ -38,8 +38,8 @@ hold-requires-clause-ring g c =
     c.requires.runs c.requires.passes
     ∙ ap (λ (x : Core g.row.A.Denot). ring_in_use x.state x) (sym c.loop-payload.invariant.held)
 
-pub hold-requires-clause-new : goal.hold-requires-clause-new
-hold-requires-clause-new g c =
+pub send_and_hold-requires-clause-new : goal.send_and_hold-requires-clause-new
+send_and_hold-requires-clause-new g c =
     let now = c.args.self.now in
     let t = c.args.token.now in
     let inside = c.self.inside in
@@ -67,15 +67,15 @@ loop-payload-preserved g c =
     let x : Message g.row.A.Denot = record { ring = t.ring; number = n + 1; sender = c.self.inside.me; payload = p } in
     let same : x ≡ record { ring = t.ring; number = n + 1; sender = now.me; payload = p } =
     ap (λ m. record { ring = t.ring; number = n + 1; sender = m; payload = p }) me in
-    let goes = c.in_ok-send_message.ensures.ok
+    let goes = c.in_ok-send_and_hold.ensures.sends
     ∙ ap (λ o. c.loop-payload.sends.items ++ addressed (record { to = o; frame = MessageFrame x } ∷ []))
     c.others-others.ensures in
     record {
       number = omega (arith, length_push ps p, e);
       told = c.one_last-fresh.ensures ∙ ap (λ xs. xs ++ p ∷ []) c.loop-payload.invariant.told;
-      held = c.hold.ensures ∙ holding_more now t ps p n count x c.loop-payload.self e same c.loop-payload.invariant.held;
+      held = c.in_ok-send_and_hold.ensures.core ∙ holding_more now t ps p n count x c.loop-payload.self e same c.loop-payload.invariant.held;
       out = sends_more now t ps p n count x c.args.sends.now.items c.loop-payload.sends.items
-          c.send_message.new.sends.items e same c.loop-payload.invariant.out goes;
+          c.send_and_hold.new.sends.items e same c.loop-payload.invariant.out goes;
     }
 
 pub returns : goal.returns

@@ -33,56 +33,48 @@ invariant_of-self-in_err-make_room-2 g c =
     let here = place g (goal.at.invariant_of-self-in_err-make_room-2 g c).In_ok-make_room in
     (spared here c.make_room-2.new.self c.index_mut.ensures.value c.in_err-make_room-2.ensures.calls).world
 
-pub invariant_of-self-in_err-kept : goal.invariant_of-self-in_err-kept
-invariant_of-self-in_err-kept g c =
-    let here = place g (goal.at.invariant_of-self-in_err-kept g c).In_ok-make_room in
+pub invariant_of-self-in_err-copies : goal.invariant_of-self-in_err-copies
+invariant_of-self-in_err-copies g c =
+    let here = place g (goal.at.invariant_of-self-in_err-copies g c).In_ok-make_room in
     (spared here c.make_room-2.new.self c.index_mut.ensures.value c.in_ok-make_room-2.ensures.calls).world
 
-pub invariant_of-self-in_err-copy : goal.invariant_of-self-in_err-copy
-invariant_of-self-in_err-copy g c =
-    let here = place g (goal.at.invariant_of-self-in_err-copy g c).In_ok-make_room in
-    (spared here c.make_room-2.new.self c.index_mut.ensures.value c.in_ok-make_room-2.ensures.calls).world
-
-pub invariant_of-self-in_err-spare : goal.invariant_of-self-in_err-spare
-invariant_of-self-in_err-spare g c =
-    let here = place g (goal.at.invariant_of-self-in_err-spare g c).In_ok-make_room in
-    (spared here c.make_room-2.new.self c.index_mut.ensures.value c.in_ok-make_room-2.ensures.calls).world
-
-pub add-requires : goal.add-requires
-add-requires g c =
-    let same = spare_put (place g (goal.at.add-requires g c).In_ok-make_room) c.make_room-2.new.self c.index_mut-in-Ok.ensures.value in
+pub keep_issue-requires-clause-spares_room : goal.keep_issue-requires-clause-spares_room
+keep_issue-requires-clause-spares_room g c =
+    let same = spare_put (place g (goal.at.keep_issue-requires-clause-spares_room g c).In_ok-make_room) c.make_room-2.new.self c.index_mut-in-Ok.ensures.value in
     subst (λ (x : Spares g.row.O-Alloc.Denot). 0 < x.places) (sym same) c.in_ok-make_room-2.ensures.room
 
 pub invariant_of-self-in-Ok : goal.invariant_of-self-in-Ok
 invariant_of-self-in-Ok g c =
     let here = place g (goal.at.invariant_of-self-in-Ok g c).In_ok-make_room in
     let spare = spared here c.make_room-2.new.self c.index_mut.ensures.value c.in_ok-make_room-2.ensures.calls in
-    issue_world spare c.in_ok-kept.kept c.requires.event c.in_ok-kept.ensures.ok c.index_mut-2.ensures.value c.add.new.self
-    (c.in_ok-kept.ensures.keeps c.requires.fits) c.in-Ok.ensures.taken c.in-Ok.ensures.ok c.index_mut-in-Ok.ensures.value c.in_ok-spare.ensures c.add.ensures
-    c.in_ok-copy.ensures c.push_reserved.ensures.items c.push_reserved-in-Ok.ensures.items
+    let copies = c.in_ok-copies.ensures in
+    issue_world spare c.in_ok-copies.copies.event c.requires.event copies.event c.index_mut-2.ensures.value c.keep_issue.new.spares
+    (copies.keeps c.requires.fits) c.in-Ok.ensures.taken c.in-Ok.ensures.ok c.index_mut-in-Ok.ensures.value copies.spare c.keep_issue.ensures.spares
+    copies.call c.keep_issue.ensures.history c.keep_issue.ensures.events
 
 pub returns-in-Ok-clause-ok : goal.returns-in-Ok-clause-ok
 returns-in-Ok-clause-ok g c =
     let here = place g (goal.at.returns-in-Ok-clause-ok g c).In_ok-make_room in
     let spare = spared here c.make_room-2.new.self c.index_mut.ensures.value c.in_ok-make_room-2.ensures.calls in
-    issue_goes spare c.in_ok-kept.kept c.requires.event c.in_ok-kept.ensures.ok c.index_mut-2.ensures.value c.in-Ok.ensures.taken
-    c.push_reserved-in-Ok.ensures.items
+    issue_goes spare c.in_ok-copies.copies.event c.requires.event c.in_ok-copies.ensures.event c.index_mut-2.ensures.value c.in-Ok.ensures.taken
+    c.keep_issue.ensures.events
 
 pub invariant_of-self-in-Err-1 : goal.invariant_of-self-in-Err-1
 invariant_of-self-in-Err-1 g c =
     let here = place g (goal.at.invariant_of-self-in-Err-1 g c).In_ok-make_room in
     let spare = spared here c.make_room-2.new.self c.index_mut.ensures.value c.in_ok-make_room-2.ensures.calls in
-    refusal_world spare c.in_ok-kept.kept c.requires.event c.in_ok-kept.ensures.ok c.index_mut-2.ensures.value c.in-Err.ensures.refused
-    c.in_ok-copy.ensures c.refuse.ensures.left_out c.refuse.ensures.kept c.refuse.ensures.told c.in-Err.ensures.err
-    (c.in_ok-kept.ensures.keeps c.requires.fits)
+    let copies = c.in_ok-copies.ensures in
+    refusal_world spare c.in_ok-copies.copies.event c.requires.event copies.event c.index_mut-2.ensures.value c.in-Err.ensures.refused
+    copies.call c.refuse.ensures.left_out c.refuse.ensures.kept c.refuse.ensures.told c.in-Err.ensures.err (copies.keeps c.requires.fits)
 
 pub returns-in-Err : goal.returns-in-Err
 returns-in-Err g c =
     let here = place g (goal.at.returns-in-Err g c).In_ok-make_room in
     let spare = spared here c.make_room-2.new.self c.index_mut.ensures.value c.in_ok-make_room-2.ensures.calls in
+    let copies = c.in_ok-copies.ensures in
     record {
-      ok = refusal_goes spare c.in_ok-kept.kept c.requires.event c.in_ok-kept.ensures.ok c.index_mut-2.ensures.value c.in-Err.ensures.refused
-          c.in_ok-copy.ensures c.refuse.ensures.left_out c.refuse.ensures.kept c.refuse.ensures.told;
+      ok = refusal_goes spare c.in_ok-copies.copies.event c.requires.event copies.event c.index_mut-2.ensures.value c.in-Err.ensures.refused
+          copies.call c.refuse.ensures.left_out c.refuse.ensures.kept c.refuse.ensures.told;
       err = tt;
       done = ap (λ (r : Played g.row.O-Alloc.Denot). r.done) c.self.view_is;
       refused = tt;

@@ -1,13 +1,11 @@
 -- The node has stopped, whatever memory does.
-use Rattle.std.proofs.Common.{◌≡◌, ◌-◌, refl, ap, ◌∙◌}
-use Rattle.ring_rules.specs.Nodes.{node_stopped}
+use Rattle.std.proofs.Common.{◌-◌, refl, ap, ◌∙◌}
 use Rattle.ring_rules.specs.Worlds.{happens, stopped_if}
 use Rattle.ring_world.specs.Played.{world_of}
 use Rattle.ring_world.proofs.NodePlaces.{Stands, stands, unknown, roomy}
 use Rattle.ring_world.proofs.WorldOfNodes.{stop_world, stop_goes}
 use Rattle.ring_world.proofs.world.World.stop.Given.{Over}
 use Rattle.ring_world.proofs.world.World.stop.Goals.{After-reserve}
-use Rattle.ring_base.proofs.Results.{either}
 use Rattle.ring_world.proofs.world.World.stop.Goals as goal
 
 -- where the node stands, once there is room
@@ -29,8 +27,7 @@ idle-requires-clause-same g c =
 
 pub invariant_of-self-2 : goal.invariant_of-self-2
 invariant_of-self-2 g c =
-    let halted = either c.step.result (c.step.new.self ≡ node_stopped c.index_mut.result.now) c.step.ensures.ok c.step.ensures.err in
-    stop_world (place g (goal.at.invariant_of-self-2 g c).After-reserve) c.index_mut.ensures.value halted c.push_reserved.ensures.items
+    stop_world (place g (goal.at.invariant_of-self-2 g c).After-reserve) c.index_mut.ensures.value c.halt.ensures c.push_reserved.ensures.items
 
 pub returns-clause-ok : goal.returns-clause-ok
 returns-clause-ok g c = stop_goes (place g (goal.at.returns-clause-ok g c).After-reserve) c.requires c.push_reserved.ensures.items
