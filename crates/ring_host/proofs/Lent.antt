@@ -40,6 +40,7 @@ module _ {S A : Type 0} (m : Machine S A) where
         journal = ap (λ (c : CellView S A). c.journal) e.cell_is ∙ j.journal;
         ahead = ap (λ (c : CellView S A). c.ahead) e.cell_is;
         me = ap (λ (c : CellView S A). c.me) e.cell_is ∙ j.me;
+        same = subst (λ (n : ℕ). new.journal ≡ steps_of n book'.lines) j.me e.journal;
         line = subst (λ (s : StepView A). book'.lines ≡ book.lines ++ record { number = length book.lines; step = s } ∷ []) one e.lines;
       }
 

@@ -43,7 +43,8 @@ module _ {S A : Type 0} where
       ⊎ ((((stepped ≡ Err fault) × (fault ≡ Memory → ⊥)) ⊎ ((fault ≡ Stranger) × IsStrange old cell)) × IsReleased old new × (cell' ≡ cell))
 
 module _ {S A : Type 0} (m : Machine S A) where
-  -- The cell's node did one step, on this input, which is its line at the end of the lines; the cell is not ahead of them.
+  -- The cell's node did one step, on this input, which is its line at the end of the lines; its journal is their lines of that node, and the cell
+  -- is not ahead of them.
   pub record IsEntered (cell cell' : CellView S A) (lines lines' : List (LineView A)) (input : LineInput A) : Type 0 where
     pub step : StepView A
     pub step_node : step.node ≡ cell.me
@@ -52,6 +53,7 @@ module _ {S A : Type 0} (m : Machine S A) where
     pub journal : cell'.journal ≡ cell.journal ++ step ∷ []
     pub ahead : cell'.ahead ≡ false
     pub me : cell'.me ≡ cell.me
+    pub same : cell'.journal ≡ steps_of cell.me lines'
     pub line : lines' ≡ lines ++ record { number = length lines; step = step } ∷ []
 
   -- Why a call is not entered in a reserved place: the cell refuses it, and is as it was; or the lines are past the cell.

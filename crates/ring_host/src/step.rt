@@ -1,12 +1,12 @@
 //! A turn, step by step: what is done under which lock.
 
-ghost use Rattle.std.specs.Prelude.{◌≡◌, ◌<◌, ◌≤◌, ◌↔◌, ◌⊎◌, None, IsSome, IsTrue, IfErr, IfOk, OnErr, OnOk};
+ghost use Rattle.std.specs.Prelude.{◌≡◌, ◌≤◌, ◌↔◌, ◌++◌, ◌∷◌, [], None, IfErr, IfOk, OnErr};
 ghost use Rattle.ring_rules.specs.Nodes.{node_kept};
-ghost use Rattle.ring_seat.specs.Clocks.{counted, taken};
+ghost use Rattle.ring_seat.specs.Clocks.{counted};
 ghost use Rattle.ring_seat.specs.Seats.{IsOwn};
 ghost use Rattle.ring_host.specs.Refusing.{IsTurnFault};
 ghost use Rattle.ring_host.specs.Tasks.{TaskFits, IsTokenTask};
-ghost use Rattle.ring_host.specs.Turns.{published_by, IsCounted};
+ghost use Rattle.ring_host.specs.Turns.{published_by, IsCounted, IsNoted};
 ghost use Rattle.ring_host.specs.declared.item.Found.TheVariants.{Token};
 
 use crate::gate::{Gate, GatePlace, Stir};
@@ -24,29 +24,47 @@ use std::alloc::Allocator;
 use std::sync::Wait;
 use std::thread;
 
-/// What a step made: how many places the node has committed, whether it took a token, and whether there is anything to do.
+/// What a step made.
 #[derive(Clone, Copy)]
 struct Done {
+    /// How many places the node has committed.
     length: u64,
-    has_taken: bool,
+    found: Found,
+    /// How many frames its line sent. A token that the node ignores sends none.
+    sent: usize,
+    /// How many copies of these were dropped.
+    dropped: u32,
     stir: Stir,
 }
 
-/// What a step made that found this and sent so many frames, of the node after it. A token that the node ignores sends nothing.
+/// What a step made that found this and sent so many frames, of the node after it, before any of these goes out.
 fn done_of<O: Object>(node: &Node<O>, found: Found, sent: usize) -> Done
-    ensures taken { IsTrue result.has_taken ↔ ((found ≡ Token) × (0 < sent)) }
+    ensures found { result.found ≡ found }
+    ensures sent { result.sent ≡ sent }
     ensures length { result.length ≡ (node_kept node.now).committed }
 {
     let length = node.committed_len();
     let is_quiet = sent <= 1 && node.state() == State::Operational && node.log_len() == length;
     Done {
         length,
-        has_taken: found == Found::Token && sent > 0,
+        found,
+        sent,
+        dropped: 0,
         stir: match found {
             Found::Token if is_quiet => Stir::Quiet,
             Found::Timeout if is_quiet => Stir::Timeout,
             _ => Stir::Busy,
         },
+    }
+}
+
+/// The seat's clock after a step: the turn has taken the item where that was a token which the node did not ignore.
+fn note_step<A: Allocator + Copy + Drop>(seat: &mut Seat<A>, done: &Done)
+    ensures clock { IsNoted done.now.found done.now.sent seat.old.clock seat.new.clock }
+    ensures seat { seat.new ≡ record (seat.old) { clock = seat.new.clock } }
+{
+    if done.found == Found::Token && done.sent > 0 {
+        seat.take();
     }
 }
 
@@ -120,7 +138,13 @@ impl<O: Object, K: BookName<O::Alloc>> HostOf<Cell<O, K>, Book<O, K>, O::Alloc> 
         let due = seat.tick();
         let mut came = None;
         let turn = match self.task(rt, node, due, &mut came) {
-            Ok(Some(task)) => self.do_task(rt, seat, task, &came, gate),
+            Ok(Some(task)) => match self.do_task(rt, seat, task, &came, gate) {
+                Ok(done) => Ok(Turn {
+                    dropped: done.dropped,
+                    length: Some(done.length),
+                }),
+                Err(fault) => Err(fault),
+            },
             Ok(None) => Ok(find_nothing(node, gate)),
             Err(fault) => Err(fault),
         };
@@ -137,13 +161,13 @@ impl<O: Object, K: BookName<O::Alloc>> HostOf<Cell<O, K>, Book<O, K>, O::Alloc> 
         task: Task<O::Alloc>,
         came: &Option<Frame<O::Alloc>>,
         gate: &G,
-    ) -> Result<Turn, Fault>
+    ) -> Result<Done, Fault>
         requires own { IsOwn self.now seat.old }
         requires fits { TaskFits came.now task }
         ensures seat { IsOwn self.now seat.new × (seat.new.node ≡ seat.old.node) × (seat.new.seen ≡ seat.old.seen) }
-        ensures length { IfOk result (λ turn. IsSome turn.length) }
-        ensures ok { IfOk result (λ turn. seat.new.published ≡ published_by turn.length seat.old.published) }
-        ensures clock { OnOk result ((seat.new.clock ≡ seat.old.clock) ⊎ (IsTokenTask came.now task × (seat.new.clock ≡ taken seat.old.clock))) }
+        ensures ok { IfOk result (λ done. seat.new.published ≡ seat.old.published ++ done.length ∷ []) }
+        ensures found { IfOk result (λ done. (done.found ≡ Token) ↔ IsTokenTask came.now task) }
+        ensures clock { IfOk result (λ done. IsNoted done.found done.sent seat.old.clock seat.new.clock) }
         ensures err { OnErr result ((seat.new.published ≡ seat.old.published) × (seat.new.clock ≡ seat.old.clock)) }
         ensures refused { IfErr result IsTurnFault }
     {
@@ -151,23 +175,17 @@ impl<O: Object, K: BookName<O::Alloc>> HostOf<Cell<O, K>, Book<O, K>, O::Alloc> 
             unreachable!()
         };
         let mut outbox = seat.take_outbox();
-        let stepped = self.step(rt, node, task, came, gate, &mut outbox);
-        let dropped = match stepped {
-            Ok(_) => self.send(rt, &outbox),
-            Err(_) => 0,
-        };
+        let mut stepped = self.step(rt, node, task, came, gate, &mut outbox);
+        if let Ok(done) = &mut stepped {
+            done.dropped = self.send(rt, &outbox);
+        }
         seat.put_outbox(outbox);
         let done = stepped?;
-        if done.has_taken {
-            seat.take();
-        }
+        note_step(seat, &done);
         self.gauge.publish(seat, done.length);
         gate.at(node, GatePlace::Entered);
         gate.over(node, done.stir);
-        Ok(Turn {
-            dropped,
-            length: Some(done.length),
-        })
+        Ok(done)
     }
 
     /// The task under the node's lock: its place, the step, and the line, whose frames come into the outbox. The book's lock is
@@ -183,7 +201,7 @@ impl<O: Object, K: BookName<O::Alloc>> HostOf<Cell<O, K>, Book<O, K>, O::Alloc> 
     ) -> Result<Done, Fault>
         requires member { node ≤ self.now.words }
         requires fits { TaskFits came.now task }
-        ensures taken { IfOk result (λ done. IsTrue done.has_taken → IsTokenTask came.now task) }
+        ensures found { IfOk result (λ done. (done.found ≡ Token) ↔ IsTokenTask came.now task) }
         ensures refused { IfErr result IsTurnFault }
     {
         let mut cell = take(rt, &self.cells[node.number() as usize - 1]);

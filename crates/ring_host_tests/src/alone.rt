@@ -7,6 +7,7 @@ use crate::driven::{DrivenHost, done};
 use ring_base::{Fault, Fixed};
 use ring_host::{BookName, HostTicket, INBOX, Opening, Turn};
 use ring_object::Object;
+use ring_seat::Clock;
 use ring_session::Answer;
 use ring_things::Counters;
 use std::alloc::Global;
@@ -29,15 +30,15 @@ fn row<O: Object, K: BookName<O::Alloc>, W: Wait>(
     Ok((turn, length, driven.polled(rt, ticket)))
 }
 
-/// What is seen after turn 505 and after turn 506, where a call was submitted before the first one.
+/// What is seen after turn 505 and after turn 506, where a call was submitted before the first one; and the node's clock then.
 fn both_rows<O: Object, K: BookName<O::Alloc>, W: Wait>(
     rt: &W,
     driven: &mut DrivenHost<O, K>,
-) -> Result<(Row, Row), Fault> {
+) -> Result<(Row, Row, Clock), Fault> {
     let ticket = driven.submit(rt, 1, 7, 1)?;
     let before = row(rt, driven, &ticket, 505)?;
     let after = row(rt, driven, &ticket, 1)?;
-    Ok((before, after))
+    Ok((before, after, driven.clock()))
 }
 
 /// The same at an opening.
@@ -45,7 +46,7 @@ fn opened<O: Object, K: BookName<O::Alloc>, W: Wait>(
     rt: &W,
     alloc: O::Alloc,
     opening: Opening<O>,
-) -> Result<(Row, Row), Fault>
+) -> Result<(Row, Row, Clock), Fault>
     requires { opening ≡ K.name }
 {
     let mut driven = DrivenHost::<O, K>::new(alloc, opening, 1, INBOX)?;
@@ -55,7 +56,7 @@ fn opened<O: Object, K: BookName<O::Alloc>, W: Wait>(
 }
 
 /// The same of counters.
-fn counted<W: Wait>(rt: &W, alloc: Global) -> Result<(Row, Row), Fault> {
+fn counted<W: Wait>(rt: &W, alloc: Global) -> Result<(Row, Row, Clock), Fault> {
     let opening = Opening::<Counters>::new(alloc, Fixed::new(1)?)?;
     opened::<Counters, Brand, W>(rt, alloc, opening)
 }
@@ -114,11 +115,18 @@ fn told(length: u64) -> Turn {
     }
 }
 
+/// The turn that answers it has taken a token: so all but the join timeout, which was due at turn 500, begin to count anew.
 #[test]
 fn a_call_is_answered_at_turn_506(rt: HostRuntime) {
     let before = (told(0), 0, (None, true));
     let after = (told(1), 1, (Some(done(5)), true));
-    assert!(rt; counted(&rt, rt.alloc()) == Ok((before, after)));
+    let clock = Clock {
+        join: 494,
+        retransmit: 1000,
+        consensus: 8000,
+        loss: 32000,
+    };
+    assert!(rt; counted(&rt, rt.alloc()) == Ok((before, after, clock)));
 }
 
 #[test]

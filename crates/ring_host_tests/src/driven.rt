@@ -67,6 +67,11 @@ impl<O: Object, K: BookName<O::Alloc>> DrivenHost<O, K> {
         })
     }
 
+    /// The first node's clock.
+    pub fn clock(&self) -> Clock {
+        self.first.clock()
+    }
+
     /// One turn of the node.
     pub fn turn<W: Wait>(&mut self, rt: &W, node: u8) -> Result<Turn, Fault> {
         match node {

@@ -17,7 +17,7 @@ ghost use Rattle.ring_replica.specs.Replicas.{replica_step, replica_done, Rests}
 
 use crate::given::Given;
 use crate::story::{ReplicaStory, done, given, opened};
-use ring_base::{Fault, Fixed, Past, Proc, RingId};
+use ring_base::{Fault, Fixed, Past, Proc, RingId, paired};
 use ring_core::Out;
 use ring_course::{Course, Holding};
 use ring_log::{Log, Snapshot};
@@ -91,13 +91,16 @@ impl<O: Object> Replica<O> {
         ensures ok { IfOk result (λ copy. copy ≡ self.now) }
         ensures refused { IfErr result (λ fault. fault ≡ Memory) }
     {
+        let story = self.story.clone()?;
+        let (tickets, leaving) = copied_tickets(&self.tickets, &self.leaving)?;
+        let (course, sessions) = copied_course(&self.course, &self.sessions)?;
         Ok(Replica {
             alloc: self.alloc,
-            story: self.story.clone()?,
-            leaving: copied(&self.leaving)?,
-            tickets: self.tickets.clone()?,
-            course: self.course.clone()?,
-            sessions: self.sessions.copy()?,
+            story,
+            leaving,
+            tickets,
+            course,
+            sessions,
             places: self.places,
             committed: self.committed,
             trimmed: self.trimmed,
@@ -339,11 +342,27 @@ fn is_running(running: &Option<RingId>, last: Option<RingId>) -> bool
     }
 }
 
-/// A copy of a log, if there is one.
-fn copied<A: Allocator + Copy>(log: &Option<Log<A>>) -> Result<Option<Log<A>>, AllocError>
-    ensures { IfOk result (λ copy. copy ≡ log.now) }
+/// Copies of the tickets, and of the log of what a step drops.
+fn copied_tickets<A: Allocator + Copy>(
+    tickets: &Tickets<A>,
+    leaving: &Option<Log<A>>,
+) -> Result<(Tickets<A>, Option<Log<A>>), AllocError>
+    ensures tickets { IfOk result (λ copies. copies.0 ≡ tickets.now) }
+    ensures leaving { IfOk result (λ copies. copies.1 ≡ leaving.now) }
 {
-    log.clone()
+    paired(tickets.clone()?, leaving.clone())
+}
+
+/// Copies of the course, and of the sessions; or `Memory`.
+fn copied_course<O: Object>(
+    course: &Course<O::Alloc>,
+    sessions: &Sessions<O>,
+) -> Result<(Course<O::Alloc>, Sessions<O>), Fault>
+    ensures course { IfOk result (λ copies. copies.0 ≡ course.now) }
+    ensures sessions { IfOk result (λ copies. copies.1 ≡ sessions.now) }
+    ensures refused { IfErr result (λ fault. fault ≡ Memory) }
+{
+    paired(course.clone()?, sessions.copy())
 }
 
 /// Takes out the calls of the places that a step drops, if it drops some.

@@ -1,7 +1,10 @@
 -- What the code keeps goes on telling the world: after a step, a stop, and where nothing happens.
 use Rattle.std.proofs.Common.{◌≡◌, ℕ, suc, ◌-◌, ◌<◌, ◌≤◌, Bool, true, false, ◌==◌, if◌then◌else◌, List, [], ◌∷◌, ◌++◌, map, length}
 use Rattle.std.proofs.Common.{Option, Some, None, slice_get, get_or, refl, ap, ◌∙◌, sym, subst, arith, inl, inr, append_assoc, length-set}
-use Rattle.std.specs.Prelude.{filter_map, slice_set}
+use Rattle.std.specs.Prelude.{filter_map, slice_set, Result, Ok, Err, Vec, OnOk, OnErr, IfOk, IfErr}
+use Rattle.ring_base.specs.declared.fault.Fault.{Fault}
+use Rattle.ring_base.specs.declared.fault.Fault.TheVariants.{Memory, Stopped as StoppedFault}
+use Rattle.ring_base.proofs.Faults.{was_stopped}
 use Rattle.std.proofs.lemmas.Bool.{cond-true, cond-false, le-leb, eqb-true, eqb-false, cases_Bool}
 use Rattle.std.proofs.lemmas.Bool.Decides.{nat_tests}
 use Rattle.std.proofs.lemmas.List.{append-nil, get_or-set_other}
@@ -24,7 +27,7 @@ use Rattle.ring_core_proof.specs.Limits.{InputFits, WorldFits}
 use Rattle.ring_core_proof.proofs.RunLimits.{stepped_fits, stopped_fits}
 use Rattle.ring_core.proofs.Carrying.{at_fits, one_fits}
 use Rattle.ring_srp.specs.Inputs.{InputFits as CoreInputFits}
-use Rattle.ring_runs.specs.Running.{Ran, ran_from, world_of, more, opening_frames, carried_of, frames_of, places_from, IsWorld}
+use Rattle.ring_runs.specs.Running.{Ran, ran_from, world_of, more, opening_frames, carried_of, frames_of, places_from, given_of, IsWorld}
 use Rattle.ring_srp.proofs.StoppedCore.{stopped_step, stopped_halts}
 use Rattle.ring_runs.proofs.FramePlaces.{frames_by}
 
@@ -173,6 +176,23 @@ tells r s e w cores first outs places a b h = subst (λ v. IsWorld v cores first
 pub frame_fits : {A : Type 0} (w : World A) (i k : ℕ) (frame : Frame A) → WorldFits w → frame_for i (frame_at w.frames k) ≡ Some frame → FrameFits frame
 frame_fits w i k frame h e = one_fits (frame_at w.frames k) i frame (λ f. at_fits w.frames k f h.frames) e
 
+-- What a core's step comes to, also where it has stopped
+
+-- the core that a step leaves, and what it gave, are those of the definition
+pub record IsStepped {A : Type 0} (old now : Core A) (input : Input A) (outs : List (Out A)) : Type 0 where
+  pub core : now ≡ (ring_step old input).core
+  pub given : outs ≡ (ring_step old input).outs
+
+pub stepped_by : {A : Type 0} (old core : Core A) (input : Input A) (stepped : Result (Vec (Out A) A) Fault)
+    → IfOk stepped (λ outs. outs.items ≡ (ring_step old input).outs) → OnOk stepped (core ≡ (ring_step old input).core)
+    → OnErr stepped (core ≡ halted old) → IfErr stepped (λ fault. fault ≡ (if is_stopped old.state then StoppedFault else Memory))
+    → IfErr stepped (λ fault. fault ≡ StoppedFault) → IsStepped old core input (given_of stepped)
+stepped_by old core input (Ok outs) gives ok err why stopped = record { core = ok; given = gives }
+stepped_by old core input (Err fault) gives ok err why stopped =
+    let t = was_stopped (is_stopped old.state) fault why stopped in
+    let nothing = stopped_step old input t in
+    record { core = err ∙ stopped_halts old t ∙ sym nothing.core; given = sym nothing.outs }
+
 -- What the code does
 
 module _ {A : Type 0} (r s : Ran A) (e : RingEvent A) (cores : List (Core A)) (first : Option (Sent A)) (outs : List (ℕ × Out A)) (places : List ℕ)
@@ -190,13 +210,6 @@ module _ {A : Type 0} (r s : Ran A) (e : RingEvent A) (cores : List (Core A)) (f
       let gave = o ∙ ap (λ xs. outs ++ map (λ o. (i, o)) xs) (g ∙ ap (λ (d : Core A). (ring_step d input).outs) old_is) in
       tells r s e (stepped (world_of r) i input) (slice_set cores (m - 1) core) first outs' places' one w
       (steps (world_of r) cores first outs places h i input (slice_set cores (m - 1) core) outs' places' low l fits set gave p)
-
-  -- a core that has stopped
-  pub stopped_tells : (input : Input A) (core : Core A) → happens (world_of r) e ≡ stepped (world_of r) i input → InputFits input →
-      core ≡ halted old → is_stopped old.state ≡ true → IsWorld (world_of s) (slice_set cores (m - 1) core) first outs places
-  stopped_tells input core w fits c t =
-      let nothing = stopped_step old input t in
-      stepped_tells input core [] outs places w fits (c ∙ stopped_halts old t ∙ sym nothing.core) (sym nothing.outs) (sym (append-nil outs)) h.places_are
 
   -- a core stops
   pub halted_tells : (core : Core A) → happens (world_of r) e ≡ stopped_if (is_node (world_of r) i) (world_of r) i → core ≡ halted old →

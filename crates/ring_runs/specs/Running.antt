@@ -1,6 +1,7 @@
 -- What the code of a world of ring cores keeps, and how that tells the world: Rings and states, rule 14 of docs/PROTOCOL.md.
 use Rattle.std.specs.Prelude.{◌≡◌, ℕ, Bool, true, false, not, ◌||◌, suc, ◌<◌, List, [], ◌∷◌, ◌++◌, filter_map, length, if◌then◌else◌}
-use Rattle.std.specs.Prelude.{Option, Some, None, slice_get}
+use Rattle.std.specs.Prelude.{Option, Some, None, slice_get, Result, Ok, Err, Vec}
+use Rattle.ring_base.specs.declared.fault.Fault.{Fault}
 use Rattle.ring_base.specs.Processors.{has}
 use Rattle.ring_wire.specs.declared.frame.Frame.{Frame}
 use Rattle.ring_core.specs.declared.out.Out.{Out}
@@ -72,6 +73,11 @@ places_with at (Some f) places = at ∷ places
 abbrev pub places_from : {A : Type 0} → ℕ → List (ℕ × Out A) → List ℕ
 places_from at [] = []
 places_from at (given ∷ outs) = places_with at (carried_of given) (places_from (suc at) outs)
+
+-- what a step gave: nothing where it was refused
+abbrev pub given_of : {A : Type 0} → Result (Vec (Out A) A) Fault → List (Out A)
+given_of (Ok outs) = outs.items
+given_of (Err fault) = []
 
 -- the place of the frame that an output sends
 abbrev pub places_of : {A : Type 0} → ℕ → Out A → List ℕ

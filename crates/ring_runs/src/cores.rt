@@ -1,13 +1,13 @@
 //! The ring cores of all processors, and what happens to them.
 
 ghost use Rattle.std.specs.Prelude.{◌≡◌, [], ◌∷◌, ◌++◌, ◌≤◌, ◌-◌, length, map, filter_map, IfOk, IfErr, OnOk, option_copied};
-ghost use Rattle.ring_base.specs.declared.fault.Fault.TheVariants.{Memory};
+ghost use Rattle.ring_base.specs.declared.fault.Fault.TheVariants.{Memory, Stopped as StoppedFault};
 ghost use Rattle.ring_base.specs.Numbers.{numbers_from};
 ghost use Rattle.ring_core.specs.State.{formed, opening, frame_at, frame_for};
 ghost use Rattle.ring_core_proof.specs.Limits.{EventFits, InputFits};
 ghost use Rattle.ring_core_proof.specs.declared.event.RingEvent.TheVariants.{Deliver, Stop};
 ghost use Rattle.ring_core_proof.specs.Worlds.{carried_by, stepped, happens};
-ghost use Rattle.ring_runs.specs.Running.{places_from, places_of, world_of, more, none_ran, none_ran_formed, opening_frames};
+ghost use Rattle.ring_runs.specs.Running.{places_from, places_of, given_of, world_of, more, none_ran, none_ran_formed, opening_frames};
 
 use crate::history::{WorldStory, more, ring_formed, unformed};
 use crate::sent::{copied, copied_payload, later_frame, numbered_frame};
@@ -140,17 +140,13 @@ impl<A: Allocator + Copy> Cores<A> {
         if place >= self.cores.len() {
             return Ok(self.idle(event));
         }
-        match self.cores[place].step(input) {
-            Ok(outs) => {
-                note(&mut self.outs, &mut self.places, node, outs)?;
+        let stepped = self.cores[place].step(input);
+        match note_step(&mut self.outs, &mut self.places, node, stepped) {
+            Ok(()) => {
                 self.past = more(&self.past, event);
                 Ok(self)
             }
-            Err(Fault::Stopped) => {
-                self.past = more(&self.past, event);
-                Ok(self)
-            }
-            Err(_) => Err(Fault::Memory),
+            Err(fault) => Err(fault),
         }
     }
 
@@ -252,6 +248,26 @@ fn sent_by<A: Allocator + Copy>(out: Out<A>) -> Option<Sent<A>>
     }
 }
 
+/// Notes what came of a processor's step: a stopped core gives nothing.
+fn note_step<A: Allocator + Copy>(
+    outs: &mut Vec<(Proc, Out<A>), A>,
+    places: &mut Vec<usize, A>,
+    node: Proc,
+    stepped: Result<Vec<Out<A>, A>, Fault>,
+) -> Result<(), Fault>
+    requires { places.old.items ≡ places_from 0 outs.old.items }
+    ensures outs { OnOk result (outs.new.items ≡ outs.old.items ++ map (λ o. (node, o)) (given_of stepped)) }
+    ensures places { OnOk result (places.new.items ≡ places_from 0 outs.new.items) }
+    ensures stopped { OnOk result (IfErr stepped (λ fault. fault ≡ StoppedFault)) }
+    ensures refused { IfErr result (λ fault. fault ≡ Memory) }
+{
+    match stepped {
+        Ok(given) => note(outs, places, node, given),
+        Err(Fault::Stopped) => Ok(()),
+        Err(_) => Err(Fault::Memory),
+    }
+}
+
 /// Notes what a processor gave, and where the frames stand among it.
 fn note<A: Allocator + Copy>(
     outs: &mut Vec<(Proc, Out<A>), A>,
@@ -282,9 +298,9 @@ fn note_one<A: Allocator + Copy>(
     ensures places { OnOk result (places.new.items ≡ places_from 0 outs.new.items) }
     ensures refused { IfErr result (λ fault. fault ≡ Memory) }
 {
-    note_place(places, outs.len(), &out)?;
+    let noted = note_place(places, outs.len(), &out);
     outs.push((node, out))?;
-    Ok(())
+    noted
 }
 
 /// Notes the place of a frame that is sent.

@@ -19,6 +19,7 @@ use ring_token::Visit;
 use ring_window::Window;
 use ring_wire::{CommitBox, CommitToken, Frame};
 use std::alloc::Allocator;
+use std::mem;
 
 impl<A: Allocator + Copy> Machine<A> {
     /// The second round: recovery begins, and the old ring is safe up to the greatest mark that was reported of it. `Memory` where
@@ -60,14 +61,16 @@ impl<A: Allocator + Copy> Machine<A> {
         self.kept.visit.raise(safe);
         self.kept.window.forget(safe);
         self.state = State::Recovery;
-        self.shown = Some(shown);
         self.past = past;
-        self.recovery = Some(Recovering {
+        let recovering = Recovering {
             part: RingPart { window, visit },
             plan,
             ends: Ends::new(),
             most: 0,
             aside: Vec::new(self.alloc),
-        });
+        };
+        // What stood there is let go by functions of any type.
+        drop(mem::replace(&mut self.shown, Some(shown)));
+        drop(mem::replace(&mut self.recovery, Some(recovering)));
     }
 }

@@ -19,7 +19,7 @@ ghost use Rattle.ring_rules.specs.declared.item.Item.TheVariants.{Issue as Issue
 ghost use Rattle.ring_rules.specs.declared.told.Told.TheVariants.{Refused as ToldRefused};
 ghost use Rattle.ring_rules.specs.Histories.{IsLinearization};
 ghost use Rattle.ring_rules.specs.WorldLimits.{EventFits};
-ghost use Rattle.ring_rules.specs.Worlds.{carried, happens, order, lives_of, world_opening};
+ghost use Rattle.ring_rules.specs.Worlds.{carried, happens, items_of, told_by, order, lives_of, world_opening};
 ghost use Rattle.ring_order_proof.specs.Linear.{EventKeeps, Follows, FollowsOrder};
 ghost use Rattle.ring_order_proof.specs.Projection.{share_of};
 ghost use Rattle.ring_order_proof.specs.Synchronous.{IsSynchronous};
@@ -27,7 +27,7 @@ ghost use Rattle.ring_world.specs.Played.{Played, played_opening, told_of_events
 ghost use Rattle.ring_world.specs.Shown.{GoesOn};
 ghost use Rattle.ring_world.specs.Steps.{stepping, input_by, handed_by, HasStepped};
 ghost use Rattle.ring_world.specs.Stored.{HasRoom, text_of};
-ghost use Rattle.ring_world.specs.Spares.{Spares as ToldSpares};
+ghost use Rattle.ring_world.specs.Spares.{Spares as ToldSpares, AllLeft, after_answers};
 
 use crate::copies::{copied_event, copied_events, copied_history, copied_told};
 use crate::frames::Frames;
@@ -387,14 +387,14 @@ impl<O: Object> World<O> {
             &mut self.rooms.outs,
         ) {
             Ok(()) => {
-                keep_all(&mut self.frames, node, &self.rooms.outs.sends);
-                tell(
+                keep_step(
                     self.alloc,
+                    node,
+                    &mut self.rooms.outs,
+                    &mut self.frames,
                     &mut self.told,
                     &mut self.history,
                     &mut self.spares[place],
-                    node,
-                    &mut self.rooms.outs.answers,
                 );
                 let many = self.nodes[place].committed_len();
                 self.longest
@@ -699,6 +699,31 @@ fn make_room<A: Allocator + Copy>(
     history.reserve(MAX_UNANSWERED)?;
     frames.make_room()?;
     longest.make_room()
+}
+
+/// Keeps what a node's step gave: its frames, which keep their limits, and its answers, which are told. There is room.
+fn keep_step<A: Allocator + Copy>(
+    alloc: A,
+    node: Proc,
+    outs: &mut Outs<A>,
+    frames: &mut Frames<A>,
+    told: &mut Vec<Told<A>, A>,
+    history: &mut Vec<Item<A>, A>,
+    spares: &mut Spares<A>,
+)
+    requires fit { AllByRecursion (λ (s : OneSent A). FrameFits s.frame) outs.old.sends.items }
+    requires room { HasRoom (length outs.old.sends.items) frames.old }
+    requires left { AllLeft spares.old.calls outs.old.answers.items }
+    requires told_room { vec_len told.old + length outs.old.answers.items ≤ vec_capacity told.old }
+    requires history_room { vec_len history.old + length outs.old.answers.items ≤ vec_capacity history.old }
+    ensures frames { frames.new.frames ≡ frames.old.frames ++ carried node outs.old.sends.items }
+    ensures told { told.new.items ≡ told.old.items ++ told_by node outs.old.answers.items }
+    ensures history { history.new.items ≡ history.old.items ++ items_of outs.old.answers.items }
+    ensures spares { spares.new.calls ≡ after_answers spares.old.calls outs.old.answers.items }
+    ensures committed { outs.new.committed.items ≡ outs.old.committed.items }
+{
+    keep_all(frames, node, &outs.sends);
+    tell(alloc, told, history, spares, node, &mut outs.answers);
 }
 
 /// Keeps the frames that a node sent. They keep their limits, and there is room.

@@ -5,4 +5,4 @@ use Rattle.ring_rules.specs.Nodes.{node_stopped}
 use Rattle.ring_world.proofs.world.halt.Goals as goal
 
 pub returns : goal.returns
-returns g c = either c.step_into.result (c.step_into.new.self ≡ node_stopped c.args.node.old) c.step_into.ensures.ok c.step_into.ensures.err
+returns g c = either c.step_into.result (c.step_into.new.self ≡ node_stopped c.args.node.now) c.step_into.ensures.ok c.step_into.ensures.err

@@ -2,9 +2,7 @@
 use Rattle.std.proofs.Common.{sym, subst, ◌<◌, ◌≡◌, ◌≤◌, ◌-◌, length, ap, ◌∙◌, arith}
 use Rattle.ring_runs.specs.Running.{Ran, world_of}
 use Rattle.ring_core_proof.specs.Worlds.{happens, stepped}
-use Rattle.ring_core.specs.State.{is_stopped}
-use Rattle.ring_runs.proofs.WorldOfCores.{stepped_tells, stopped_tells, input_fits, stepped_not}
-use Rattle.ring_base.proofs.Faults.{was_stopped}
+use Rattle.ring_runs.proofs.WorldOfCores.{stepped_tells, stepped_by, input_fits, stepped_not}
 use Rattle.ring_runs.proofs.cores.Cores.step.Goals as goal
 
 pub idle-requires : goal.idle-requires
@@ -16,8 +14,8 @@ idle-requires g c =
     (omega (arith, c.number.ensures.value, c.number.ensures.in_range.0))
     (omega (arith, t, k, c.len.ensures, c.from-place.ensures, c.number.ensures.value, c.if-place-len.true))
 
-pub step-requires : goal.step-requires
-step-requires g c = record { fits = input_fits c.args.input c.requires.fits }
+pub step-stepped-requires : goal.step-stepped-requires
+step-stepped-requires g c = record { fits = input_fits c.args.input c.requires.fits }
 
 pub invariant_of-self : goal.invariant_of-self
 invariant_of-self g c =
@@ -30,23 +28,8 @@ invariant_of-self g c =
     let n = k.cores.ok.0 in
     let inside : i - 1 < length k.cores.items = omega (arith, n, same, c.len.ensures, c.if-place-len.false) in
     let w = subst (λ (r : Ran g.row.A.Denot). happens (world_of r) e ≡ stepped (world_of r) i c.args.input) (sym c.self.view_is) c.requires.same in
+    let by = stepped_by c.index_mut.result.now c.step-stepped.new.self c.args.input c.step-stepped.result c.step-stepped.ensures.outs c.step-stepped.ensures.ok
+    c.step-stepped.ensures.err c.step-stepped.ensures.refused c.in-Ok.ensures.stopped in
     stepped_tells k.past.value c.more.result.value e k.cores.items k.first k.outs.items k.places.items c.self.invariant c.more.ensures i m same low inside
-    c.index_mut.result.now c.index_mut.ensures.value c.args.input c.step.new.self c.in-Ok.outs.items c.note.new.outs.items c.note.new.places.items w
-    c.requires.fits
-    c.in-Ok.ensures.ok c.in-Ok.ensures.outs c.in_ok-note-in-Ok.ensures.outs c.in_ok-note-in-Ok.ensures.places
-
-pub invariant_of-self-in-Err-Stopped : goal.invariant_of-self-in-Err-Stopped
-invariant_of-self-in-Err-Stopped g c =
-    let k = c.self.inside in
-    let i = c.args.node in
-    let e = c.args.event.now in
-    let m = c.from-place.result in
-    let same : m ≡ i = c.from-place.ensures ∙ c.number.ensures.value in
-    let low : 1 ≤ i = omega (arith, c.number.ensures.value, c.number.ensures.in_range.0) in
-    let n = k.cores.ok.0 in
-    let inside : i - 1 < length k.cores.items = omega (arith, n, same, c.len.ensures, c.if-place-len.false) in
-    let w = subst (λ (r : Ran g.row.A.Denot). happens (world_of r) e ≡ stepped (world_of r) i c.args.input) (sym c.self.view_is) c.requires.same in
-    let t = was_stopped (is_stopped c.index_mut.result.now.state) c.in-Err-Stopped.field-0 c.in-Err-Stopped.ensures.refused c.in-Err-Stopped.field-0-is in
-    stopped_tells k.past.value c.more-in-Err-Stopped.result.value e k.cores.items k.first k.outs.items k.places.items c.self.invariant
-    c.more-in-Err-Stopped.ensures i m same low inside
-    c.index_mut.result.now c.index_mut.ensures.value c.args.input c.step.new.self w c.requires.fits c.in-Err-Stopped.ensures.err t
+    c.index_mut.result.now c.index_mut.ensures.value c.args.input c.step-stepped.new.self _ c.note_step.new.outs.items c.note_step.new.places.items w
+    c.requires.fits by.core by.given c.in-Ok.ensures.outs c.in-Ok.ensures.places

@@ -59,9 +59,9 @@ returns-in-Ok-clause-ok g c =
     issue_goes spare c.in_ok-copies.copies.event c.requires.event c.in_ok-copies.ensures.event c.index_mut-2.ensures.value c.in-Ok.ensures.taken
     c.keep_issue.ensures.events
 
-pub invariant_of-self-in-Err-1 : goal.invariant_of-self-in-Err-1
-invariant_of-self-in-Err-1 g c =
-    let here = place g (goal.at.invariant_of-self-in-Err-1 g c).In_ok-make_room in
+pub invariant_of-self-in-Err : goal.invariant_of-self-in-Err
+invariant_of-self-in-Err g c =
+    let here = place g (goal.at.invariant_of-self-in-Err g c).In_ok-make_room in
     let spare = spared here c.make_room-2.new.self c.index_mut.ensures.value c.in_ok-make_room-2.ensures.calls in
     let copies = c.in_ok-copies.ensures in
     refusal_world spare c.in_ok-copies.copies.event c.requires.event copies.event c.index_mut-2.ensures.value c.in-Err.ensures.refused

@@ -76,38 +76,28 @@ step_by-requires g c =
       fits = rw b.there b.fits;
     }
 
-pub keep_all-requires-clause-fit : goal.keep_all-requires-clause-fit
-keep_all-requires-clause-fit g c =
-    let at = goal.at.keep_all-requires-clause-fit g c in
-    let here = place g at.In_ok-make_room in
-    let step = by g at.In_ok-make_room in
-    rw c.deref.ensures.value (sends_fit here c.index_mut.ensures.value (stepped_so (given step.there c.in-Ok.ensures))
-    (c.frames_law.ensures.steps c.self.inside.fixed c.make_room.new.events.items c.args.node step.input
-    here.world.few (all_fit c.make_room.new.events.items here.world.fit) here.low (high here) step.fits))
-
-pub keep_all-requires-clause-room : goal.keep_all-requires-clause-room
-keep_all-requires-clause-room g c =
-    let at = goal.at.keep_all-requires-clause-room g c in
-    let step = by g at.In_ok-make_room in
-    let few = c.few_law.ensures.sends c.index_mut.result.now step.input step.fits in
-    let same = ap length (c.deref.ensures.value ∙ (stepped_so (given step.there c.in-Ok.ensures)).sends) in
-    room_less 64 (length c.deref.result.now) c.make_room.new.frames (omega (arith, few, same)) c.in_ok-make_room.ensures.frames_room
-
 pub index_mut-requires-in-Ok : goal.index_mut-requires-in-Ok
 index_mut-requires-in-Ok g c =
     let there = spare_there (place g (goal.at.index_mut-requires-in-Ok g c).In_ok-make_room) in
     let many = c.self.inside.spares.ok.0 in
     omega (arith, there, many)
 
-pub tell-requires : goal.tell-requires
-tell-requires g c =
-    let at = goal.at.tell-requires g c in
+pub keep_step-requires : goal.keep_step-requires
+keep_step-requires g c =
+    let at = goal.at.keep_step-requires g c in
     let here = place g at.In_ok-make_room in
     let step = by g at.In_ok-make_room in
-    let few = answers_few here c.index_mut.ensures.value (stepped_so (given step.there c.in-Ok.ensures))
+    let so = stepped_so (given step.there c.in-Ok.ensures) in
+    let sends = c.few_law.ensures.sends c.index_mut.result.now step.input step.fits in
+    let same = ap length so.sends in
+    let few = answers_few here c.index_mut.ensures.value so
     (c.pending_law.ensures.answers c.self.inside.fixed c.make_room.new.events.items c.args.node step.input) in
     record {
-      left = answers_left here c.index_mut.ensures.value (stepped_so (given step.there c.in-Ok.ensures)) c.args.event.now c.index_mut-in-Ok.ensures.value step.same;
+      fit = sends_fit here c.index_mut.ensures.value so
+          (c.frames_law.ensures.steps c.self.inside.fixed c.make_room.new.events.items c.args.node step.input
+          here.world.few (all_fit c.make_room.new.events.items here.world.fit) here.low (high here) step.fits);
+      room = room_less 64 (length c.step_by.new.outs.sends.items) c.make_room.new.frames (omega (arith, sends, same)) c.in_ok-make_room.ensures.frames_room;
+      left = answers_left here c.index_mut.ensures.value so c.args.event.now c.index_mut-in-Ok.ensures.value step.same;
       told_room = omega (arith, few, c.in_ok-make_room.ensures.told_room);
       history_room = omega (arith, few, c.in_ok-make_room.ensures.history_room);
     }
@@ -117,9 +107,12 @@ invariant_of-self-in-Ok g c =
     let at = goal.at.invariant_of-self-in-Ok g c in
     let step = by g at.In_ok-make_room in
     step_world (place g at.In_ok-make_room) c.index_mut.ensures.value (stepped_so (given step.there c.in-Ok.ensures)) c.args.event.now c.index_mut-in-Ok.ensures.value step.same
-    c.in_ok-kept.kept c.tell.new.spares c.in_ok-kept.ensures.ok step.steps c.push_reserved.ensures.items c.tell.ensures.spares
-    (rw c.deref.ensures.value at c.keep_all.ensures) c.tell.ensures.history c.tell.ensures.told
-    (c.add.ensures ∙ ap (λ n. c.make_room.new.longest.calls ++ calls_past (length c.make_room.new.longest.calls) n c.step_by.new.outs.committed.items)
+    c.in_ok-kept.kept c.keep_step.new.spares c.in_ok-kept.ensures.ok step.steps c.push_reserved.ensures.items c.keep_step.ensures.spares
+    c.keep_step.ensures.frames c.keep_step.ensures.history c.keep_step.ensures.told
+    (c.add.ensures
+    ∙ ap (λ cs. c.make_room.new.longest.calls ++ calls_past (length c.make_room.new.longest.calls) c.committed_len-many.result cs)
+    c.keep_step.ensures.committed
+    ∙ ap (λ n. c.make_room.new.longest.calls ++ calls_past (length c.make_room.new.longest.calls) n c.step_by.new.outs.committed.items)
     (c.committed_len-many.ensures ∙ ap (λ (n : Node g.row.O-Alloc.Denot). (node_kept n).committed)
     (node_put (place g at.In_ok-make_room) c.step_by.new.node c.index.ensures)))
 
@@ -129,7 +122,7 @@ returns-in-Ok g c =
     let step = by g at.In_ok-make_room in
     record {
       ok = step_goes (place g at.In_ok-make_room) c.index_mut.ensures.value (stepped_so (given step.there c.in-Ok.ensures)) c.args.event.now c.index_mut-in-Ok.ensures.value
-          (by g at.In_ok-make_room).same c.in_ok-kept.kept c.in_ok-kept.ensures.ok c.push_reserved.ensures.items c.tell.ensures.told;
+          (by g at.In_ok-make_room).same c.in_ok-kept.kept c.in_ok-kept.ensures.ok c.push_reserved.ensures.items c.keep_step.ensures.told;
       err = tt;
       done = ap (λ (r : Played g.row.O-Alloc.Denot). r.done) c.self.view_is;
       refused = tt;

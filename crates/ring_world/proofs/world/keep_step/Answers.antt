@@ -1,0 +1,5 @@
+-- The frames that are lent are those that the step gave.
+use Rattle.ring_world.proofs.world.keep_step.Goals as goal
+
+pub keep_all-requires-clause-fit : goal.keep_all-requires-clause-fit
+keep_all-requires-clause-fit g c = rw c.deref.ensures.value c.requires.fit
