@@ -2,7 +2,7 @@
 use Rattle.std.proofs.Common.{◌≡◌, ℕ, ◌⊎◌, inl, inr, List, [], ◌∷◌, ◌++◌, length, Option, Some, None, Result, Ok, Err, refl, subst, sym, arith}
 use Rattle.std.specs.Prelude.{IfErr, IsErrAnd}
 use Rattle.std.specs.Io.Iter.{u64_saturate}
-use Rattle.std.specs.Io.KnownBytes.{Appends}
+use Rattle.std.specs.Io.KnownBytes.{Appends, IsAtEnd}
 use Rattle.std.proofs.KnownBytes.{Consumes-nil, Consumes-trans, Consumes-kept, Appends-nil, Appends-trans}
 use Rattle.std.proofs.lemmas.List.{length-append}
 use Rattle.ring_base.specs.Group.{Group, IsInGroup}
@@ -14,7 +14,7 @@ use Rattle.ring_report.specs.declared.failure.Failure.{Failure}
 use Rattle.ring_report.specs.declared.failure.Failure.TheVariants.{Refused, BadFrame, BadScript, Output}
 use Rattle.ring_rules.specs.Nodes.{Node, node_opening}
 use Rattle.ring_pipe.specs.Piping.{Writes, IsUnmade}
-use Rattle.ring_pipe.specs.Serving.{records_text, IsStop, ServesNext, Serves, IsServed, IsCutOff}
+use Rattle.ring_pipe.specs.Serving.{records_text, IsStop, TakesAll, ServesNext, Serves, IsCutFrom, IsCutOff}
 
 -- what was told into an empty room, and then written
 pub written_out : (told : List ℕ) (old new : Option (List ℕ)) (P : List ℕ → Type 0) → Writes (Some []) (Some told) P → Appends old new told → Writes old new P
@@ -53,9 +53,8 @@ module _ {O A : Type 0} (object : Sequential O) where
       }
 
   -- there is no next record, and the output is as it was
-  cut_here : (at : ℕ) (old new : Node A) (input left out told out' : Option (List ℕ)) (failure : Failure) → ServesTo at old new input left out told
-      → out' ≡ told → IsStop at failure
-      → (n : Node A) × (rest : Option (List ℕ)) × (so : Serves object old n input rest out out') × IsStop (u64_saturate (length (records_text so.records))) failure
+  pub cut_here : (at : ℕ) (old new : Node A) (input left out told out' : Option (List ℕ)) (failure : Failure) → ServesTo at old new input left out told
+      → out' ≡ told → IsStop at failure → IsCutFrom object old input out out' failure
   cut_here at old new input left out told out' failure to same stop =
       let so = to.so in (
         new,
@@ -70,32 +69,16 @@ module _ {O A : Type 0} (object : Sequential O) where
         subst (λ (n : ℕ). IsStop n failure) to.place stop,
       )
 
-  -- there is no next record
-  pub served_cut : (at : ℕ) (group : Group) (me : ℕ) (new : Node A) (input left rest out told out' : Option (List ℕ)) (failure : Failure)
-      → IsInGroup group me → ServesTo at (node_opening group me) new input left out told → ((failure ≡ Output → ⊥) → out' ≡ told)
-      → IsStop at failure → IsCutOff object A group me input rest out out' failure
-  served_cut at group me new input left rest out told out' (Refused fault) among to same stop =
-      let cut = cut_here at (node_opening group me) new input left out told out' (Refused fault) to (same (λ e. absurd (cc e))) stop in
-      inr (among, cut.0, cut.1, cut.2, cut.3)
-  served_cut at group me new input left rest out told out' (BadFrame byte) among to same stop =
-      let cut = cut_here at (node_opening group me) new input left out told out' (BadFrame byte) to (same (λ e. absurd (cc e))) stop in
-      inr (among, cut.0, cut.1, cut.2, cut.3)
-  served_cut at group me new input left rest out told out' (BadScript line) among to same stop = absurd stop
-  served_cut at group me new input left rest out told out' Output among to same stop = among
-
   -- no record is left: those before are the whole input
-  pub served_end : (at : ℕ) (group : Group) (me : ℕ) (new last : Node A) (input left rest out told out' : Option (List ℕ)) → IsInGroup group me
-      → ServesTo at (node_opening group me) new input left out told → ServesNext object at None new last left rest told out'
-      → IsServed object A group me input rest out out'
-  served_end at group me new last input left rest out told out' among to none =
+  pub served_end : (at : ℕ) (old new last : Node A) (input left rest out told out' : Option (List ℕ)) → ServesTo at old new input left out told
+      → ServesNext object at None new last left rest told out' → Serves object old last input rest out out' × IsAtEnd rest
+  served_end at old new last input left rest out told out' to none =
       let so = to.so in (
-        among,
-        new,
         record {
           records = so.records;
           text = so.text;
           read = Consumes-kept input left rest (records_text so.records) so.read none.1;
-          took = so.took;
+          took = subst (λ (n : Node A). TakesAll object old so.records n so.text) (sym none.0) so.took;
           told = subst (λ (o : Option (List ℕ)). Appends out o so.text) (sym none.3) so.told;
         },
         none.2,
@@ -106,8 +89,8 @@ module _ {O : Type 0} (object : Sequential O) (A : Type 0) where
   cut_first : (group : Group) (me : ℕ) (fault : Fault) (input out : Option (List ℕ)) → IsUnmade (IsInGroup group me) fault
       → IsCutOff object A group me input input out out (Refused fault)
   cut_first group me fault input out (inl both) =
-      served_cut object 0 group me (node_opening {A = A} group me) input input input out out out (Refused fault) both.1
-      (served_none object (node_opening group me) input out) (λ other. refl) both.0
+      let opening = node_opening {A = A} group me in
+      inr (both.1, cut_here object 0 opening opening input input out out out (Refused fault) (served_none object opening input out) refl both.0)
   cut_first group me fault input out (inr both) = inl (subst (λ (f : Fault). Refused fault ≡ Refused f) both.0 refl, both.1, refl, refl)
 
   -- nothing was read
@@ -116,3 +99,18 @@ module _ {O : Type 0} (object : Sequential O) (A : Type 0) where
   cut_at_once (Ok x) group me fault input out is why = tt
   cut_at_once (Err failure) group me fault input out is why =
       subst (λ (f : Failure). IsCutOff object A group me input input out out f) (sym is) (cut_first group me fault input out why)
+
+  -- a processor's node, from its opening, took no more records
+  cut_behind : (group : Group) (me : ℕ) (input rest out out' : Option (List ℕ)) (failure : Failure) → IsInGroup group me
+      → ((failure ≡ Output → ⊥) → IsCutFrom object (node_opening {A = A} group me) input out out' failure)
+      → IsCutOff object A group me input rest out out' failure
+  cut_behind group me input rest out out' (Refused fault) among cut = inr (among, cut (λ e. absurd (cc e)))
+  cut_behind group me input rest out out' (BadFrame byte) among cut = inr (among, cut (λ e. absurd (cc e)))
+  cut_behind group me input rest out out' (BadScript line) among cut = inr (among, cut (λ e. absurd (cc e)))
+  cut_behind group me input rest out out' Output among cut = among
+
+  pub cut_after : {T : Type 0} (r : Result T Failure) (group : Group) (me : ℕ) (input rest out out' : Option (List ℕ)) → IsInGroup group me
+      → IfErr r (λ failure. (failure ≡ Output → ⊥) → IsCutFrom object (node_opening {A = A} group me) input out out' failure)
+      → IfErr r (IsCutOff object A group me input rest out out')
+  cut_after (Ok x) group me input rest out out' among cut = tt
+  cut_after (Err failure) group me input rest out out' among cut = cut_behind group me input rest out out' failure among cut

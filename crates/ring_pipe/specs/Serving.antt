@@ -57,6 +57,11 @@ module _ {O A : Type 0} (object : Sequential O) where
     pub took : TakesAll old records new text
     pub told : Appends out out' text
 
+  -- the node took each of the records before, the output has just what it told of these, and the failure is why there are no more
+  abbrev pub IsCutFrom : Node A → Option (List ℕ) → Option (List ℕ) → Option (List ℕ) → Failure → Type 0
+  IsCutFrom old input out out' failure =
+      (new : Node A) × (left : Option (List ℕ)) × (so : Serves old new input left out out') × IsStop (u64_saturate (length (records_text so.records))) failure
+
 module _ {O : Type 0} (object : Sequential O) (A : Type 0) where
   -- the processor of this number is one of the group; the input was records, one after the other, nothing of it is left, and its node,
   -- at its opening, took each
@@ -71,8 +76,7 @@ module _ {O : Type 0} (object : Sequential O) (A : Type 0) where
   IsCutOff group me input rest out out' Output = IsInGroup group me
   IsCutOff group me input rest out out' failure =
       ((failure ≡ Refused NotMember) × (¬ IsInGroup group me) × (rest ≡ input) × (out' ≡ out))
-      ⊎ (IsInGroup group me × (new : Node A) × (left : Option (List ℕ)) × (so : Serves object (node_opening group me) new input left out out')
-      × IsStop (u64_saturate (length (records_text so.records))) failure)
+      ⊎ (IsInGroup group me × IsCutFrom object (node_opening {A = A} group me) input out out' failure)
 
   -- so the input was cut off; and where it is the output that failed, nothing is told elsewhere
   abbrev pub IsCutShort : {E : Type 0} → Group → ℕ → Option (List ℕ) → Option (List ℕ) → Option (List ℕ) → Option (List ℕ) → E → E → Type 0

@@ -59,7 +59,7 @@ impl<O: Object> Embedded<O> {
             Ok(true) => Ok(()),
             Ok(false) => Err(Fault::BadFrame),
             Err(_) => {
-                self.piped = None;
+                drop(self.piped.take());
                 self.told.clear();
                 Err(Fault::Memory)
             }

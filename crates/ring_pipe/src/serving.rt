@@ -1,10 +1,10 @@
 //! A node that takes the records of an input, one after the other, and writes what it tells.
 
 ghost use Rattle.std.specs.Prelude.{◌≡◌, ◌≤◌, OnOk, IfOk, IfErr};
-ghost use Rattle.std.specs.Io.KnownBytes.{Appends};
+ghost use Rattle.std.specs.Io.KnownBytes.{Appends, IsAtEnd};
 ghost use Rattle.ring_base.specs.declared.fault.Fault.TheVariants.{Memory};
 ghost use Rattle.ring_report.specs.declared.failure.Failure.TheVariants.{Output};
-ghost use Rattle.ring_pipe.specs.Serving.{ServesNext, IsServed, IsCutOff, IsCutShort, IsStop};
+ghost use Rattle.ring_pipe.specs.Serving.{ServesNext, Serves, IsServed, IsCutFrom, IsCutOff, IsCutShort, IsStop};
 
 use crate::piped::Piped;
 use ring_base::{Fault, Fixed};
@@ -64,9 +64,28 @@ fn serve_all<O: Object, R: Read, W: Write>(
     let mut bytes = room_for_bytes(alloc)?;
     let mut told = Vec::new(alloc);
     let mut node = Piped::<O>::new(alloc, fixed, me)?;
+    let served = serve_records(&mut node, input, &mut bytes, &mut told, out);
+    // By name, so that the node is let go in a function of any type, and lives at no exit.
+    drop(node);
+    served
+}
+
+/// Has the node that is lent take the records of the input, and writes what it tells, until none is left. Otherwise as `serve_all`.
+fn serve_records<O: Object, R: Read, W: Write>(
+    node: &mut Piped<O>,
+    input: &mut R,
+    bytes: &mut Vec<u8, O::Alloc>,
+    told: &mut Vec<u8, O::Alloc>,
+    out: &mut W,
+) -> Result<(), Failure>
+    ensures served { OnOk result (Serves O.sequential node.old node.new (R.remaining input.old) (R.remaining input.new)
+        (W.contents out.old) (W.contents out.new) × IsAtEnd (R.remaining input.new)) }
+    ensures cut { IfErr result (λ failure. (failure ≡ Output → ⊥) → IsCutFrom O.sequential node.old (R.remaining input.old)
+        (W.contents out.old) (W.contents out.new) failure) }
+{
     let mut at = 0u64;
     for _ in 0..u64::MAX {
-        match serve_next(&mut node, at, input, &mut bytes, &mut told, out)? {
+        match serve_next(node, at, input, bytes, told, out)? {
             Some(behind) => at = behind,
             None => return Ok(()),
         }
