@@ -145,7 +145,7 @@ def functions(text):
 
 
 def changed_functions(body):
-    """The functions that a wrong body changes, as (file, name), or none where it changes something else too."""
+    """The names of the functions that a wrong body changes, or none where it changes something else too."""
     found = set()
     for file, old, _ in pairs(body.path.read_text(encoding="utf-8")):
         text = (ROOT / "crates" / body.crate / file).read_text(encoding="utf-8")
@@ -153,12 +153,12 @@ def changed_functions(body):
         around = [name for start, end, name in functions(text) if start <= at and at + len(old) <= end]
         if not file.startswith("src/") or not around:
             return set()
-        found.add((file, around[-1]))
+        found.add(around[-1])
     return found
 
 
 def batch_of(bodies):
-    """The first of these wrong bodies, and each further one that changes no function which another one changes."""
+    """The first of these wrong bodies, and each further one that changes no function of a name that another one changes."""
     batch, changed = [], set()
     for body in bodies:
         more = changed_functions(body)
@@ -168,14 +168,12 @@ def batch_of(bodies):
     return batch
 
 
-def what_was_told(said, crate, file, name):
-    """What a check tells of the functions of this name in the file: `refused`, `waits` where it waits for another one's proof
-    alone, `stale` where all that it tells is that a proof names what isn't there, and else nothing."""
-    module = [part for part in file.removeprefix("src/").removesuffix(".rt").split("/") if part != "lib"]
-    path = "::".join([crate, *module])
+def what_was_told(said, crate, name):
+    """What a check tells of the functions of this name: `refused`, `waits` where one waits for another one's proof alone, `stale`
+    where all that it tells is that a proof names what isn't there, and else nothing."""
     told = set()
-    for function, words in re.findall(rf"^fn ({re.escape(path)}(?:::\w+)*::{name}): (.*)", said, re.M):
-        place = "/".join(function.split("::")[1:])
+    for function, words in re.findall(rf"^fn ({crate}::(?:\S+::)?{name}): (.*)", said, re.M):
+        place = re.escape("/".join(function.split("::")[1:]))
         errors = re.findall(rf"^(?:\./)?proofs/{place}/\S+: error: (.*)", said, re.M)
         gone = [it for it in errors if re.search(r"has no field|is not in scope|has no `|was not admitted|was rejected", it)]
         if "did not prove" in words or len(gone) < len(errors):
@@ -210,7 +208,7 @@ def try_together(bodies, copy, jobs):
         (folder / file).write_text(text, encoding="utf-8")
     if not re.search(r"^logic=", said, re.M):
         return {}
-    told = {body: {what_was_told(said, body.crate, *it) for it in changed_functions(body)} for body in bodies}
+    told = {body: {what_was_told(said, body.crate, it) for it in changed_functions(body)} for body in bodies}
     return {body: next((it for it in ("refused", "waits") if it in words), "unclear") for body, words in told.items()}
 
 

@@ -49,6 +49,25 @@ fn try_script<O: Object<Alloc = Global>, V: Vocabulary>(
     ensures refused { IfErr result (λ fault. fault ≡ Memory) }
 {
     let mut seen = Seen::<O>::new(alloc, script.nodes)?;
+    let found = found_by::<O, V>(alloc, &mut seen, script, seed);
+    // By name, so that the run is let go in a function of any type, and lives at no exit.
+    drop(seen);
+    found
+}
+
+/// The same, where the run is lent at its opening.
+fn found_by<O: Object<Alloc = Global>, V: Vocabulary>(
+    alloc: Global,
+    seen: &mut Seen<O>,
+    script: Script,
+    seed: u64,
+) -> Result<Found, Fault>
+    requires fit { AreFit script.lines.items }
+    requires opening { seen.old.run ≡ run_opening script.nodes }
+    ensures ok { IfOk result (λ found. (made votes : List ℕ) (lines : ℕ) → script_by V.forms made ≡ Ok (schedule_by script)
+        → IsMadeBy V.forms votes lines made → AreTried (IsTried O.sequential V.forms votes lines) seed (seed + 1) found.illegal) }
+    ensures refused { IfErr result (λ fault. fault ≡ Memory) }
+{
     seen.take(script)?;
     seen.found(alloc, seed)
 }

@@ -193,18 +193,33 @@ where
     ensures refused { IfErr result (λ fault. fault ≡ Memory) }
 {
     let guests = 16 * u16::from(nodes);
-    let (host, mut seats) = Host::<O, K>::new(alloc, opening, guests)?;
-    let mut callers = callers_of(alloc, &host, &mut seats, nodes)?;
+    let (host, seats) = Host::<O, K>::new(alloc, opening, guests)?;
+    let lived = live_on(rt, alloc, &host, seats, nodes, calls);
+    // By name, so that the host is let go in a function of any type, and lives at no exit.
+    drop(host);
+    lived
+}
+
+/// The same on a host that is lent, with its seats.
+fn live_on<O: Object + Send, K: BookName<O::Alloc> + Send + Sync, W: Threads + Wait + Sync>(
+    rt: &W,
+    alloc: O::Alloc,
+    host: &Host<O, K>,
+    seats: Vec<Seat<O::Alloc>, O::Alloc>,
+    nodes: u8,
+    calls: u8,
+) -> Result<Lived, Fault>
+where
+    O::Alloc: Send + Sync,
+    requires seats { AreSeats host.now nodes seats.items }
+    requires enough { 16 * nodes ≤ length seats.items }
+    ensures lived { IfOk result (λ lived. (lived.nodes ≡ nodes) × (lived.is_legal ≡ true)) }
+    ensures refused { IfErr result (λ fault. fault ≡ Memory) }
+{
+    let mut seats = seats;
+    let mut callers = callers_of(alloc, host, &mut seats, nodes)?;
     let gate = host.paced(rt)?;
-    let ran = run_all(
-        rt,
-        alloc,
-        &host,
-        &gate,
-        seats,
-        callers.as_mut_slice(),
-        calls,
-    );
-    let is_legal = is_legal(rt, alloc, &host)?;
+    let ran = run_all(rt, alloc, host, &gate, seats, callers.as_mut_slice(), calls);
+    let is_legal = is_legal(rt, alloc, host)?;
     Ok(lived_of(nodes, ran, callers.as_slice(), is_legal))
 }

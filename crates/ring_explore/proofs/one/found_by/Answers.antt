@@ -2,11 +2,11 @@ use Rattle.std.proofs.Common.{subst}
 use Rattle.std.specs.declared.alloc.Global.{Global}
 use Rattle.ring_console.specs.Running.{RunView, Runs}
 use Rattle.ring_explore.proofs.TriedScripts.{found_tried}
-use Rattle.ring_explore.proofs.one.try_script.Goals as goal
+use Rattle.ring_explore.proofs.one.found_by.Goals as goal
 
 pub returns-clause-ok : goal.returns-clause-ok
 returns-clause-ok g c =
     let done = c.in_ok-take.ensures.ok in
     found_tried g.O.Object.sequential g.V.Vocabulary.forms c.args.script c.args.seed c.take.new.self.run done.0 c.found.result
-    (subst (λ (r : RunView Global). Runs g.O.Object.sequential c.args.script.lines.items r c.take.new.self.run done.0) c.in_ok-seen.ensures.ok done.1)
+    (subst (λ (r : RunView Global). Runs g.O.Object.sequential c.args.script.lines.items r c.take.new.self.run done.0) c.requires.opening done.1)
     c.found.ensures.legal
