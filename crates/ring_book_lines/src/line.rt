@@ -5,6 +5,7 @@ ghost use Rattle.ring_rules.specs.NodeLimits.{InputFits};
 ghost use Rattle.ring_wire.specs.Frames.{FrameFits};
 ghost use Rattle.ring_book_lines.specs.Kept.{line_input};
 ghost use Rattle.ring_book_lines.specs.Lines.{cause_of, frame_to, IsFound, IsThere, Stands};
+ghost use Rattle.ring_book_lines.specs.declared.input.LineInput.TheVariants.{Came};
 ghost use Rattle.ring_base.specs.Numbers.{most_frame};
 
 use crate::cause::Cause;
@@ -68,10 +69,23 @@ fn told_cause<A: Allocator + Copy + Drop>(input: LineInput<A>) -> Cause<A>
 {
     match input {
         LineInput::Called(call) => Cause::Called(call),
-        LineInput::Came(Input::Frame(_), at) => Cause::Delivered(at),
-        LineInput::Came(Input::Noise, _) => Cause::Noise,
-        LineInput::Came(Input::Timeout(kind), _) => Cause::Timeout(kind),
-        LineInput::Came(Input::Stop, _) => Cause::Stopped,
+        LineInput::Came(input, at) => {
+            let cause = came_cause(&input, at);
+            drop(input);
+            cause
+        }
+    }
+}
+
+/// What the line tells of an input that came, where its frame stood there.
+fn came_cause<A: Allocator + Copy + Drop>(input: &Input<A>, at: FrameRef) -> Cause<A>
+    ensures { result ≡ cause_of (Came input.now at) }
+{
+    match input {
+        Input::Frame(_) => Cause::Delivered(at),
+        Input::Noise => Cause::Noise,
+        Input::Timeout(kind) => Cause::Timeout(*kind),
+        Input::Stop => Cause::Stopped,
     }
 }
 

@@ -48,23 +48,40 @@ pub(crate) fn sent_of<O: Object>(
     for _ in calls {
         are_sent.push(false)?;
     }
-    let mut rest = world.sent_text();
     let mut place = None;
+    let noted = note_frames(alloc, world, calls, &mut are_sent, &mut place);
+    // By name, so that the frame is let go in a function of any type, and lives at no exit.
+    drop(place);
+    match noted {
+        Ok(()) => Ok(are_sent),
+        Err(fault) => Err(fault),
+    }
+}
+
+/// Notes the calls that the frames of a world carry. Each frame is read over the one before it.
+fn note_frames<O: Object>(
+    alloc: O::Alloc,
+    world: &World<O>,
+    calls: &[Waiting],
+    are_sent: &mut [bool],
+    place: &mut Option<Frame<O::Alloc>>,
+) -> Result<(), Fault> {
+    let mut rest = world.sent_text();
     for number in 1..u64::MAX {
         let Some((from, _)) = world.frame(number) else {
-            return Ok(are_sent);
+            return Ok(());
         };
-        let Ok(length) = Frame::<O::Alloc>::get_into(alloc, rest, &mut place) else {
+        let Ok(length) = Frame::<O::Alloc>::get_into(alloc, rest, place) else {
             return Err(Fault::Memory);
         };
-        if let Some(Frame::Message(message)) = &place
+        if let Some(Frame::Message(message)) = &*place
             && message.sender == from
         {
-            note_payload(&message.payload, from, number, calls, &mut are_sent);
+            note_payload(&message.payload, from, number, calls, are_sent);
         }
         rest = rest.get(length..).unwrap_or(&[]);
     }
-    Ok(are_sent)
+    Ok(())
 }
 
 /// Notes the calls that a message carries, which this node sent as the frame of this number.

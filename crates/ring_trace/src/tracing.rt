@@ -109,6 +109,8 @@ fn trace_script<O: Object<Alloc = Global>, V: Vocabulary + Replies, W: Write, F:
     };
     let wording = Wording::of::<V>();
     let mut tracer = Tracer::<O>::new(alloc, form, wording, &script, votes, asked.selection)?;
-    tracer.tell(script, out, frames)?;
-    Ok(())
+    let told = tracer.tell(script, out, frames);
+    // By name, so that the run is let go in a function of any type, and lives at no exit.
+    drop(tracer);
+    told
 }
