@@ -1,5 +1,5 @@
 -- The seats of a gauge.
-use Rattle.std.specs.Prelude.{ℕ, suc, ◌≡◌, ◌<◌, true, false, List, [], Option, Some, None, MatchOption, nat_lt, if◌then◌else◌}
+use Rattle.std.specs.Prelude.{ℕ, suc, ◌≡◌, ◌<◌, true, false, List, [], Option, Some, None, MatchOption, slice_get, nat_lt, if◌then◌else◌}
 use Rattle.atomic_table.specs.Seated.{TableId}
 use Rattle.atomic_table.specs.declared.shared.Seat.{Seat as TableSeat}
 use Rattle.ring_seat.specs.Clocks.{new_clock}
@@ -35,3 +35,7 @@ node_at nodes i = if nat_lt i nodes then Some (suc i) else None
 -- nothing was published on the seat or seen from it
 abbrev pub new_seat : TableId → Option ℕ → SeatView
 new_seat gauge node = record { gauge = gauge; node = node; published = []; seen = []; clock = new_clock }
+
+-- New seats of a gauge: those of so many nodes, ascending, and then seats of none.
+abbrev pub AreNew : TableId → ℕ → List SeatView → Type 0
+AreNew gauge nodes seats = (i : ℕ) (s : SeatView) → slice_get seats i ≡ Some s → s ≡ new_seat gauge (node_at nodes i)

@@ -1,14 +1,14 @@
 //! The gauge.
 
-ghost use Rattle.std.specs.Prelude.{◌≡◌, ◌<◌, ◌≤◌, ◌+◌, ◌-◌, ◌++◌, ◌∷◌, [], Some, slice_get, length, All, IfOk, IfErr};
+ghost use Rattle.std.specs.Prelude.{◌≡◌, ◌<◌, ◌≤◌, ◌+◌, ◌-◌, ◌++◌, ◌∷◌, [], Some, length, All, IfOk, IfErr, OnOk};
 ghost use Rattle.ring_base.specs.declared.fault.Fault.TheVariants.{Memory};
 ghost use Rattle.ring_base.specs.Numbers.{greatest};
-ghost use Rattle.ring_seat.specs.Gauges.{seen_in};
-ghost use Rattle.ring_seat.specs.Seats.{SeatView, IsAt, IsOwn, node_at, new_seat};
+ghost use Rattle.ring_seat.specs.Gauges.{seen_in, maker_view};
+ghost use Rattle.ring_seat.specs.Seats.{IsAt, IsOwn, AreNew};
 
 use crate::rule::{Guest, Look, Owner, Publish, Rising, View};
 use crate::seat::Seat;
-use atomic_table::Table;
+use atomic_table::{Seat as TableSeat, Shared, Table};
 use ring_base::{Fault, Proc};
 use std::alloc::{Allocator, Global};
 use std::marker::Model;
@@ -36,7 +36,7 @@ impl<A: Allocator + Copy + Drop> Gauge<A> {
         requires { (1 ≤ nodes) × (nodes ≤ 16) }
         ensures words { IfOk result (λ r. r.0.words ≡ nodes) }
         ensures count { IfOk result (λ r. length r.1.items ≡ nodes + more) }
-        ensures seats { IfOk result (λ r. (i : _) (s : SeatView) → slice_get r.1.items i ≡ Some s → s ≡ new_seat r.0 (node_at nodes i)) }
+        ensures seats { IfOk result (λ r. AreNew r.0 nodes r.1.items) }
         ensures at { IfOk result (λ r. All (IsAt r.0) r.1.items) }
         ensures refused { IfErr result (λ fault. fault ≡ Memory) }
     {
@@ -47,15 +47,8 @@ impl<A: Allocator + Copy + Drop> Gauge<A> {
             words.as_slice(),
             &count,
         )?;
-        let mut seats = Vec::new(alloc);
-        for node in 0..nodes {
-            let seat = table.shared.split_seat::<Owner>(&mut maker);
-            seats.push(Seat::new(alloc, Some(Proc::new(node + 1)), seat))?;
-        }
-        for guest in 0..more {
-            let seat = table.shared.split_seat::<Guest>(&mut maker);
-            seats.push(Seat::new(alloc, None, seat))?;
-        }
+        let mut seats = seats_of_nodes(alloc, &table.shared, &mut maker, nodes)?;
+        add_guests(alloc, &table.shared, &mut maker, nodes, more, &mut seats)?;
         Ok((Gauge { table }, seats))
     }
 
@@ -87,4 +80,53 @@ impl<A: Allocator + Copy + Drop> Gauge<A> {
             .shared
             .load::<Look>(&mut seat.seat, node.number() as usize - 1)
     }
+}
+
+/// The seats of so many nodes, ascending, made by the first seat of the words, which has made none before. Or `Memory`.
+fn seats_of_nodes<A: Allocator + Copy + Drop>(
+    alloc: A,
+    words: &Shared<u8, View, u64, Rising>,
+    maker: &mut TableSeat<u8, View>,
+    nodes: u8,
+) -> Result<Vec<Seat<A>, A>, Fault>
+    requires table { maker.old.table_id ≡ words.now.table_id }
+    requires maker { maker.old.me.0 ≡ maker_view nodes 0 }
+    requires words { words.now.table_id.words ≡ nodes }
+    requires few { nodes ≤ 16 }
+    ensures table { OnOk result (maker.new.table_id ≡ words.now.table_id) }
+    ensures maker { OnOk result (maker.new.me.0 ≡ maker_view nodes nodes) }
+    ensures count { IfOk result (λ seats. length seats.items ≡ nodes) }
+    ensures seats { IfOk result (λ seats. AreNew words.now.table_id nodes seats.items) }
+    ensures refused { IfErr result (λ fault. fault ≡ Memory) }
+{
+    let mut seats = Vec::new(alloc);
+    for node in 0..nodes {
+        let seat = words.split_seat::<Owner>(maker);
+        seats.push(Seat::new(alloc, Some(Proc::new(node + 1)), seat))?;
+    }
+    Ok(seats)
+}
+
+/// Puts so many seats of no node behind those of the nodes, made by the first seat of the words. Or `Memory`.
+fn add_guests<A: Allocator + Copy + Drop>(
+    alloc: A,
+    words: &Shared<u8, View, u64, Rising>,
+    maker: &mut TableSeat<u8, View>,
+    nodes: u8,
+    more: u16,
+    seats: &mut Vec<Seat<A>, A>,
+) -> Result<(), Fault>
+    requires table { maker.old.table_id ≡ words.now.table_id }
+    requires words { 0 < words.now.table_id.words }
+    requires count { length seats.old.items ≡ nodes }
+    requires seats { AreNew words.now.table_id nodes seats.old.items }
+    ensures count { OnOk result (length seats.new.items ≡ nodes + more) }
+    ensures seats { OnOk result (AreNew words.now.table_id nodes seats.new.items) }
+    ensures refused { IfErr result (λ fault. fault ≡ Memory) }
+{
+    for guest in 0..more {
+        let seat = words.split_seat::<Guest>(maker);
+        seats.push(Seat::new(alloc, None, seat))?;
+    }
+    Ok(())
 }

@@ -1,0 +1,36 @@
+-- The maker makes the seat of the next node, which stands behind those that were made.
+use Rattle.std.proofs.Common.{◌≡◌, ◌<◌, ◌++◌, ◌∷◌, [], suc, ap, ◌∙◌, arith, length-append, rules}
+use Rattle.ring_seat.specs.Gauges.{made}
+use Rattle.ring_seat.specs.Seats.{new_seat, node_at}
+use Rattle.ring_seat.proofs.Rising.{owner_splits}
+use Rattle.ring_seat.proofs.Seating.{seats_add, new_of_node}
+use Rattle.ring_seat.proofs.gauge.seats_of_nodes.Goals as goal
+
+pub split_seat-seat-requires : goal.split_seat-seat-requires
+split_seat-seat-requires g c =
+    let i = c.loop-node.invariant in
+    let next = ap (λ v. v.next) i.maker in
+    let count = ap (λ v. v.count) i.maker in
+    (i.table_is, omega (arith, c.requires.words), owner_splits c.loop-node.maker.id c.loop-node.maker.me.0 (ap (λ v. v.makes) i.maker) (omega arith))
+
+pub loop-node-preserved : goal.loop-node-preserved
+loop-node-preserved g c =
+    let i = c.loop-node.invariant in
+    let e = c.split_seat-seat.ensures in
+    let gauge = c.args.words.now.table_id in
+    let lt : c.loop-node.node < c.args.nodes = omega arith in
+    let own = ap (λ m. m.0) e.4 in
+    let maker = ap (λ m. m.0) e.2 in
+    let seat = c.new-in-loop-node.result in
+    let p : c.push.new.self.items ≡ c.loop-node.seats.items ++ seat ∷ [] = search rules in
+    let table = e.3 ∙ i.table_is in
+    let number : c.new.result ≡ suc c.loop-node.node = omega (arith, c.new.ensures) in
+    let is : seat ≡ new_seat gauge (node_at c.args.nodes c.loop-node.node) = rw c.new-in-loop-node.ensures
+        (new_of_node gauge c.split_seat-seat.result.table_id c.args.nodes c.loop-node.node c.new.result c.split_seat-seat.result.me.0.published
+        c.split_seat-seat.result.me.0.seen table number lt (ap (λ v. v.published) own) (ap (λ v. v.seen) own)) in
+    record {
+      maker = maker ∙ ap made i.maker;
+      table_is = e.0 ∙ i.table_is;
+      count = rw p (omega (arith, length-append c.loop-node.seats.items, i.count));
+      each = rw p (seats_add gauge c.args.nodes c.loop-node.node c.loop-node.seats.items seat i.count is i.each);
+    }
