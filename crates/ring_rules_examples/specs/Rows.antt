@@ -157,7 +157,7 @@ two_formed =
 
 abbrev pub two_after : ℕ → Pumped
 two_after zero = two_formed
-two_after (suc k) = pump_near 60 (all_on (two_after k) (calls_of_lot 1 k))
+two_after (suc k) = pump_near 24 (all_on (two_after k) (calls_of_lot 1 k))
 
 -- node 3 says a join, and so many frames are handed over
 abbrev pub joined_after : ℕ → Pumped

@@ -1,24 +1,46 @@
-use Rattle.std.proofs.Common.{refl}
+-- The run is computed once: all that is said of it stands in one value, and each clause is a part of that.
+use Rattle.std.proofs.Common.{◌≡◌, ℕ, List, [], ◌∷◌, refl, ap}
+use Rattle.std.specs.declared.alloc.Global.{Global}
 use Rattle.ring_base.specs.Processors.{elements}
 use Rattle.ring_core.specs.Stepping.{ring_step}
+use Rattle.ring_payload.specs.declared.call.Call.{Call}
+use Rattle.ring_session.specs.declared.answered.Answered.{Answered}
+use Rattle.ring_rules.specs.Worlds.{World, order}
+use Rattle.ring_rules.specs.declared.told.Told.{Told}
+use Rattle.ring_rules_examples.specs.Rows.{shown, answered_three, done_at, call_of_seven}
 use Rattle.ring_rules_examples.proofs.ring_of_three.Goals as goal
 
-pub returns-clause-shown : goal.returns-clause-shown
+record Seen : Type 0 where
+  lengths : List (ℕ × ℕ)
+  told : List (Told Global)
+  done : List (Call Global)
+  answers : List (Answered Global)
+  ordered : List (Call Global)
+
+abbrev seen : World Global → Seen
+seen w = record { lengths = shown w 3; told = w.told; done = (w.nodes 3).done; answers = (w.nodes 3).answers; ordered = order w }
+
+computed : seen answered_three ≡ record {
+  lengths = (1, 1) ∷ (1, 1) ∷ (1, 1) ∷ [];
+  told = done_at 2 1 ∷ [];
+  done = call_of_seven 1 ∷ [];
+  answers = [];
+  ordered = call_of_seven 1 ∷ [];
+}
 unfolding ring_step elements
-returns-clause-shown c = refl
+computed = refl
+
+pub returns-clause-shown : goal.returns-clause-shown
+returns-clause-shown c = ap (λ s. s.lengths) computed
 
 pub returns-clause-told : goal.returns-clause-told
-unfolding ring_step elements
-returns-clause-told c = refl
+returns-clause-told c = ap (λ s. s.told) computed
 
 pub returns-clause-ordered : goal.returns-clause-ordered
-unfolding ring_step elements
-returns-clause-ordered c = refl
+returns-clause-ordered c = ap (λ s. s.ordered) computed
 
 pub returns-clause-done : goal.returns-clause-done
-unfolding ring_step elements
-returns-clause-done c = refl
+returns-clause-done c = ap (λ s. s.done) computed
 
 pub returns-clause-answers : goal.returns-clause-answers
-unfolding ring_step elements
-returns-clause-answers c = refl
+returns-clause-answers c = ap (λ s. s.answers) computed
