@@ -1,5 +1,5 @@
 -- The host has the node, and a seat is left for each port.
-use Rattle.std.proofs.Common.{rules, ◌≡◌, ◌∷◌, ◌++◌, [], ℕ, ◌+◌, ◌<◌, ◌≤◌, length, arith, subst, sym, ◌∙◌, ap}
+use Rattle.std.proofs.Common.{rules, ◌≡◌, ◌∷◌, ◌++◌, [], ℕ, ◌<◌, arith, ◌∙◌, ap}
 use Rattle.ring_client.specs.Asking.{unasked}
 use Rattle.ring_client.specs.declared.asked.Asked.{Asked}
 use Rattle.ring_host_port.specs.Clients.{node_after}
