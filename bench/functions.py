@@ -6,10 +6,11 @@
 
 A function's proof is several modules: what its body does (`Code`), what it borrows and lets go at each exit (`Lts`), the goals
 that are left (`Answers`, `Tie`), and all of it together (`Proof`). The check keeps each module in a file of `out/incremental`
-as it is done, so when the file was written tells what the module took. The script empties that folder, checks the crate by
-one job, and adds up the modules of each function and of each kind. It measures time by the clock, so nothing else should run beside it.
-It ends with the check's own status.
+as it is done. The script empties that folder, checks the crate by one job, and looks ten times a second at the processor time that the
+prover has used; so when a file was written tells what its module took. It adds up the modules of each function and of each kind.
+What else the machine does is not counted, but slows the prover all the same. It ends with the check's own status.
 """
+import bisect
 import collections
 import os
 import re
@@ -18,10 +19,37 @@ import subprocess
 import sys
 import time
 
+from gate import own_seconds, provers
+
 KINDS = ("Lts", "Proof", "Tie", "Answers", "Invariants", "Goals", "Code", "Mir", "Reads", "Met", "Statement", "TheLink", "Symbol")
 
 
-def modules(folder, began):
+def run_and_look(words, folder):
+    """Runs a command in a folder, and looks at its provers. Gives its status, and the seconds of processor time that these had used at
+    each of many moments."""
+    moments, seconds, used = [time.time()], [0.0], {}
+    run = subprocess.Popen(words, cwd=folder)
+    while run.poll() is None:
+        for process, began, *_ in provers(run.pid):
+            try:
+                used[process, began] = own_seconds(process)
+            except (OSError, IndexError):
+                continue  # it has ended
+        moments.append(time.time())
+        seconds.append(sum(used.values()))
+        time.sleep(0.1)
+    return run.returncode, moments, seconds
+
+
+def used_until(moment, moments, seconds):
+    """The seconds that had been used at a moment, by those before and after it."""
+    after = min(bisect.bisect_right(moments, moment), len(moments) - 1)
+    before = max(after - 1, 0)
+    part = (moment - moments[before]) / max(moments[after] - moments[before], 0.001)
+    return seconds[before] + min(max(part, 0.0), 1.0) * (seconds[after] - seconds[before])
+
+
+def modules(folder, moments, seconds):
     """Returns (seconds, name) of each module below the folder, in the order in which they were done."""
     files = sorted(
         (os.stat(f"{at}/{name}").st_mtime, name)
@@ -29,10 +57,11 @@ def modules(folder, began):
         for name in names
         if name.endswith(".oantt")
     )
-    found, last = [], began
+    found, last = [], 0.0
     for written, name in files:
-        found.append((written - last, re.sub(r"(\.decls)?\.oantt$", "", name)))
-        last = written
+        until = used_until(written, moments, seconds)
+        found.append((until - last, re.sub(r"(\.decls)?\.oantt$", "", name)))
+        last = until
     return found
 
 
@@ -43,21 +72,18 @@ def main():
         sys.exit(__doc__)
     crate, most = words[0], int(words[1]) if len(words) > 1 else 30
     shutil.rmtree(f"crates/{crate}/out/incremental", ignore_errors=True)
-    began = time.time()
-    status = subprocess.run(["rt", "check", *tests, "--jobs", "1"], cwd=f"crates/{crate}").returncode
+    status, moments, seconds = run_and_look(["rt", "check", *tests, "--jobs", "1"], f"crates/{crate}")
     kinds, functions = collections.Counter(), collections.Counter()
-    for seconds, name in modules(f"crates/{crate}/out/incremental", began):
+    for took, name in modules(f"crates/{crate}/out/incremental", moments, seconds):
         library, *path = name.split(".")
         kind = path[-1] if path and path[-1] in KINDS and library.endswith("-proofs") else "other"
-        kinds[kind] += seconds
+        kinds[kind] += took
         function = ".".join(it for it in path if it not in KINDS)
         if kind != "other" and function:
-            functions[function] += seconds
+            functions[function] += took
     print(f"{sum(kinds.values()):8.1f} all of `{crate}`")
-    for kind, seconds in kinds.most_common():
-        print(f"{seconds:8.1f} {kind}")
-    for function, seconds in functions.most_common(most):
-        print(f"{seconds:8.1f} {function}")
+    for name, took in [*kinds.most_common(), *functions.most_common(most)]:
+        print(f"{took:8.1f} {name}")
     sys.exit(status)
 
 

@@ -1,5 +1,5 @@
--- `refuses_next` at a call: what it is handed, a `&` to the requests and a token of its lifetime, and what a caller has
--- of it, the token and a truth value. Assumes `Logic`.
+-- Who has a `&` to the requests and a token of its lifetime may call `refuses_next`, and has the token and a truth value behind it.
+-- Assumes `Logic`.
 use Rattle.std.proofs.Common.{◌≡◌, ℕ, Bool, List, [], ◌∷◌, refl, ap}
 use seplogic.Ra.Ura.{Ura}
 use mir.Val.{Val, vbool, vptr}

@@ -3,7 +3,7 @@
 -- Journaling: A cell whose journal got one more step.
 -- Entering: A step goes from a cell's journal to the book.
 -- Looking: What the book finds at the end of a cell's ring.
--- Opened: Openings that grow.
+-- Opened: An opening stays one with each node more, and what it gives is a cell of each node and a book without lines.
 pub mod NodeFrameLimits
 pub mod Stops
 pub mod Journaling

@@ -1,4 +1,4 @@
--- Openings that grow.
+-- An opening stays one with each node more, and what it gives is a cell of each node and a book without lines.
 use Rattle.std.proofs.Common.{◌≡◌, ℕ, zero, suc, ◌+◌, ◌-◌, ◌++◌, ◌≤◌, ◌<◌, List, [], ◌∷◌, refl, ap}
 use Rattle.std.proofs.Common.{subst, sym, ◌∙◌, length, arith, drop, Some, slice_get, false}
 use Rattle.rtrb.specs.Ring.{received, consumer_capacity, IsPair}

@@ -71,6 +71,7 @@ fn told_cause<A: Allocator + Copy + Drop>(input: LineInput<A>) -> Cause<A>
         LineInput::Called(call) => Cause::Called(call),
         LineInput::Came(input, at) => {
             let cause = came_cause(&input, at);
+            // By name, so that the input is let go in a function of any type, and lives at no exit (docs/DECISIONS.md, *The gate*, 5).
             drop(input);
             cause
         }

@@ -1,5 +1,5 @@
--- A course goes on: what is kept of a life by a message, by a safe mark, by a new ring, by what is handed over and by what is dropped; and a life that is not
--- sound stays so.
+-- What is kept of a life goes on with it: by a message, a safe mark, a new ring, what is handed over and what is dropped.
+-- And a life that is not sound stays so.
 use Rattle.std.proofs.Common.{◌≡◌, ℕ, zero, suc, ◌+◌, ◌-◌, ◌<◌, ◌≤◌, ◌&&◌, max, Bool, true, false, List, [], ◌∷◌, ◌++◌, length, take, drop, inl, inr}
 use Rattle.std.proofs.Common.{Option, Some, None, refl, ap, sym, ◌∙◌, subst, arith, append_assoc, if◌then◌else◌}
 use Rattle.std.specs.Prelude.{slice_get, nat_lt, is_some, not, ◌||◌}

@@ -1,4 +1,4 @@
--- One text after another.
+-- What is appended in two steps is the one text behind the other.
 use Rattle.std.proofs.Common.{ℕ, List, ◌++◌, ap, ◌∙◌, append_assoc, arith}
 use Rattle.std.proofs.lemmas.List.{length-append}
 use Rattle.bytes.specs.Filled.{Filled}

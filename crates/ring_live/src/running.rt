@@ -78,6 +78,7 @@ where
     let refused = AtomicBool::new(false);
     let running = AtomicU64::new(callers.len() as u64);
     let (told, left) = (&refused, &running);
+    // The closure takes what it names: it is handed a loan for the scope alone, and `callers` itself stays here.
     let each = &mut *callers;
     thread::scope(
         thread::scope_env(),

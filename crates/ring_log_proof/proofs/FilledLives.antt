@@ -1,5 +1,5 @@
--- Lives that are filled with what snapshots stand for have the facts of the nodes' own lives and keep the same rules; and as own lives go on, filled ones do:
--- what a snapshot stands for that was sent in a ring is settled once the ring's exchange is whole.
+-- Lives that are filled with what snapshots stand for have the facts of the nodes' own lives, keep the same rules, and go on as these do.
+-- What a snapshot stands for that was sent in a ring is settled once the ring's exchange is whole.
 use Rattle.std.proofs.Common.{◌≡◌, ℕ, zero, suc, ◌<◌, ◌≤◌, Bool, true, false, List, [], ◌∷◌, ◌++◌, take, Option, Some, None, ◌⊎◌, inl, inr}
 use Rattle.std.proofs.Common.{refl, ap, sym, ◌∙◌, subst, arith}
 use Rattle.std.specs.List.{AllByRecursion as Each}

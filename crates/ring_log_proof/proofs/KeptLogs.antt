@@ -1,5 +1,5 @@
--- What a node knows of its log by its own life is the rest of the whole log behind the snapshot that it restored last, where the whole life, with what snapshots
--- stand for, is sound; and its own life is as sound, where no base lacks committed places.
+-- What a node knows of its log by its own life is the rest of the whole log behind the snapshot that it restored last.
+-- It is so where the whole life, with what snapshots stand for, is sound; and its own life is as sound, where no base lacks committed places.
 use Rattle.std.proofs.Common.{◌≡◌, Bool, true, false, ◌&&◌, List, [], ◌∷◌, length, inl, inr, refl, ap, sym, ◌∙◌}
 use Rattle.ring_base.specs.Group.{Group}
 use Rattle.ring_log.specs.Logs.{is_log_length}

@@ -1,5 +1,5 @@
--- The logs that a life tells, each by what was heard in a stay: the log of the life is the newest of them, and what it committed the longest of those
--- that are safe.
+-- Of the logs that a life tells its own is the newest, and what it committed is the longest of those that are safe.
+-- Each of these logs is told by what was heard in a stay.
 use Rattle.std.proofs.Common.{◌≡◌, ℕ, ◌<◌, ◌≤◌, true, false, List, [], ◌∷◌, ◌++◌, length, Option, Some, None, ◌⊎◌, inl, inr, refl, ap, sym, ◌∙◌, subst, arith}
 use Rattle.std.specs.Prelude.{nat_lt}
 use Rattle.std.specs.List.{AllByRecursion as Each}

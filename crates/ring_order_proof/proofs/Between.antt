@@ -1,5 +1,5 @@
--- The facts hold as well between a step of a node's core and what the node then hands over: the cores are still those of a run of ring cores; and so does the
--- discipline, and lives go on to there.
+-- The facts hold, and so does the discipline, also between a step of a node's core and what the node then hands over.
+-- The cores are still those of a run of ring cores there, and lives go on to there.
 use Rattle.std.proofs.Common.{◌≡◌, ℕ, ◌≤◌, ◌==◌, Bool, true, false, cond, if◌then◌else◌, List, [], ◌∷◌, ◌++◌, refl, ap, sym, ◌∙◌, subst}
 use Rattle.std.proofs.lemmas.Bool.{cond_both, eqb-true}
 use Rattle.ring_base.specs.Group.{Group}

@@ -1,5 +1,5 @@
--- In no run whose issued calls keep the limits a node finds that the bytes which it restores are no snapshot: between a step of its core and what it
--- then hands over it knows the whole log too.
+-- In no run whose issued calls keep the limits a node finds that the bytes which it restores are no snapshot.
+-- Between a step of its core and what it then hands over it knows the whole log too.
 use Rattle.std.proofs.Common.{◌≡◌, ℕ, ◌≤◌, ◌==◌, true, List, ap, sym, ◌∙◌, subst, arith, refl}
 use Rattle.std.specs.List.{AllByRecursion as Each}
 use Rattle.std.specs.Prelude.{nat_le}

@@ -1,5 +1,5 @@
--- What a step of a node commits, by the one list: the calls behind what it had committed, or behind what it restored, and the table before them is the
--- one after all that stands before them in the list.
+-- A step of a node commits calls of the one list: those behind what it had committed, or behind what it restored.
+-- The table before them is the one after all that stands before them in the list.
 use Rattle.std.proofs.Common.{◌≡◌, ℕ, ◌≤◌, ◌<◌, ◌&&◌, Bool, true, false, List, [], ◌∷◌, ◌++◌, length}
 use Rattle.std.proofs.Common.{take, drop, ◌⊎◌, inl, inr, refl, ap, sym, ◌∙◌, subst, arith}
 use Rattle.std.proofs.lemmas.Bool.{cond_both}

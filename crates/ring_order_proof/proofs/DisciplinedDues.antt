@@ -1,5 +1,5 @@
--- What is due by what a core tells of a ring: pieces of a snapshot, Parts of the log that the node had before the ring, and calls; and nothing but in a
--- primary ring that runs.
+-- What is due by what a core tells of a ring are pieces of a snapshot, Parts of the log that the node had before the ring, and calls.
+-- Nothing is due but in a primary ring that runs.
 use Rattle.std.proofs.Common.{◌≡◌, ℕ, zero, suc, ◌+◌, ◌*◌, ◌-◌, ◌≤◌, Bool, true, false, ◌==◌, ◌⊎◌, inl, inr, List, [], ◌∷◌, ◌++◌, map, take}
 use Rattle.std.proofs.Common.{length, drop, Option, Some, None, refl, ap, sym, ◌∙◌, subst, arith}
 use Rattle.std.specs.Prelude.{◌&&◌, nat_le, nat_lt, not}

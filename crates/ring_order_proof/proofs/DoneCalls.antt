@@ -1,5 +1,5 @@
--- In every run whose issued calls keep the limits a node has done just the calls that it has committed, but for those that it has by restoring a
--- snapshot; and all answers that it gave are those of the session table before each call that it did, after all places that stand before that in the one
+-- In every run whose issued calls keep the limits a node has done just the calls that it has committed, but for those that it has by a snapshot.
+-- And all answers that it gave are those of the session table before each call that it did, after all places that stand before that in the one
 -- list.
 use Rattle.std.proofs.Common.{◌≡◌, ℕ, ◌+◌, ◌≤◌, ◌==◌, Bool, true, false, List, [], ◌∷◌, ◌++◌, length}
 use Rattle.std.proofs.Common.{fold, Option, Some, None, inl, inr, refl, ap, sym, ◌∙◌, subst}

@@ -1,5 +1,5 @@
--- What a core gives in a step lets its node drop no place but by restoring a snapshot of more than it had committed; what it drops besides, it drops at
--- the step's end.
+-- What a core gives in a step lets its node drop no place but by restoring a snapshot of more than it had committed.
+-- What it drops besides, it drops at the step's end.
 use Rattle.std.proofs.Common.{◌≡◌, ℕ, ◌≤◌, max, Bool, true, false, List, [], ◌∷◌, ◌++◌, map, Option}
 use Rattle.std.proofs.Common.{Some, None, ◌⊎◌, inl, inr, refl, ap, sym, ◌∙◌, subst, arith}
 use Rattle.std.proofs.Common.{append_assoc, append-nil}

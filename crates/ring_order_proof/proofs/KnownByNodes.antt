@@ -1,5 +1,5 @@
--- In every run whose issued calls keep the limits each node knows of its log what the whole log is: its tables are those of the whole log's first
--- places, and its snapshot that of the places that it has dropped.
+-- In every run whose issued calls keep the limits each node knows of its log what the whole log is.
+-- Its tables are those of the whole log's first places, and its snapshot that of the places that it has dropped.
 use Rattle.std.proofs.Common.{◌≡◌, ℕ, ◌≤◌, true, List, [], ap, sym, ◌∙◌, subst, arith}
 use Rattle.std.specs.List.{AllByRecursion as Each}
 use Rattle.std.proofs.lemmas.Bool.{cond_both, cond-true, and_from, le-leb}

@@ -1,5 +1,5 @@
--- What a node knows of its log by its life alone, beside the whole log: its tables and its snapshot are those of the whole log's first places, and the
--- committed places that it keeps are the rest.
+-- The tables and the snapshot that a node knows by its life alone are those of the whole log's first places.
+-- The committed places that it keeps are the rest.
 use Rattle.std.proofs.Common.{◌≡◌, ℕ, ◌+◌, ◌-◌, ◌≤◌, ◌<◌, max, true, List, ◌++◌, length, take, drop, ap, sym, ◌∙◌, arith}
 use Rattle.std.specs.Prelude.{nat_lt}
 use Rattle.std.proofs.lemmas.Bool.{cond_both, ltb-true, ltb-false}

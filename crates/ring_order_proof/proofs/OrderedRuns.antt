@@ -1,5 +1,5 @@
--- In every run of at most 16 nodes the order grows and has what each node committed as a front; and where issued calls keep the limits it explains the
--- history, and each node's snapshot and the places that it keeps follow it.
+-- In every run of at most 16 nodes the order grows and has what each node committed as a front.
+-- Where issued calls keep the limits it explains the history, and each node's snapshot and the places that it keeps follow it.
 use Rattle.std.proofs.Common.{◌≡◌, ℕ, zero, suc, ◌-◌, ◌≤◌, List, [], ◌∷◌, ◌++◌, Option, None, ap, sym, subst, ◌∙◌, refl}
 use Rattle.std.specs.Prelude.{map}
 use Rattle.std.specs.List.{AllByRecursion as Each}

@@ -1,5 +1,5 @@
--- What a step of a core tells keeps the limits: each message that is agreed does, in a ring that is counted, and each ring that is installed; and what is
--- safe in a ring never falls.
+-- What a step of a core tells keeps the limits, and what is safe in a ring never falls.
+-- Each message that is agreed keeps them, in a ring that is counted, and each ring that is installed.
 use Rattle.std.proofs.Common.{◌≡◌, ℕ, ◌+◌, ◌-◌, ◌≤◌, Bool, true, false, List, [], ◌∷◌, ◌++◌, Some, refl, sym, subst, arith}
 use Rattle.std.specs.Prelude.{map, filter_map, nat_lt, ◌&&◌}
 use Rattle.std.specs.List.{AllByRecursion as Each}

@@ -1,5 +1,5 @@
--- What is due of a snapshot by what a core gives in a step are pieces of the one that the node kept as it entered its newest ring, where it drops
--- nothing while the exchange there is open.
+-- What is due of a snapshot by what a core gives in a step are pieces of the one that the node kept as it entered its newest ring.
+-- It is so where it drops nothing while the exchange there is open.
 use Rattle.std.proofs.Common.{◌≡◌, ℕ, ◌+◌, ◌*◌, ◌/◌, ◌-◌, ◌≤◌, ◌<◌, ◌==◌, ◌&&◌, ◌||◌, Bool, true, false, List, [], ◌∷◌, ◌++◌, length, map, drop, max}
 use Rattle.std.proofs.Common.{Option, Some, None, inr, refl, ap, sym, ◌∙◌, subst, arith, append_assoc}
 use Rattle.std.specs.Prelude.{nat_le, nat_lt, not, is_some, filter}

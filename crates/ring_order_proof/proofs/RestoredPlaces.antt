@@ -1,5 +1,5 @@
--- What lies behind the places that a node knows as dropped: its steps dropped them, or it restored a snapshot of so many; and then the node that
--- sent the snapshot had committed them.
+-- The places that a node knows as dropped were dropped by its steps, or it restored a snapshot of so many.
+-- Then the node that sent the snapshot had committed them.
 use Rattle.std.proofs.Common.{◌≡◌, ℕ, ◌≤◌, ◌<◌, ◌==◌, max, true, false, List, [], ◌∷◌, ◌++◌, Option, Some, None, ◌⊎◌, inl, inr, refl, ap, sym, ◌∙◌, subst, arith}
 use Rattle.std.specs.Prelude.{nat_lt, is_some}
 use Rattle.std.proofs.lemmas.Bool.{cond_both, cases_Bool, and_parts, ltb-true, ltb-false, eqb-true}

@@ -1,5 +1,5 @@
--- What snapshots hold, of all lives at one moment: each that was restored is that of the session table after the places that it stands for, so that from the
--- bytes on each node's table is that of the whole log.
+-- Of all lives at one moment each snapshot that was restored is that of the session table after the places that it stands for.
+-- So from the bytes on each node's table is that of the whole log.
 
 -- By the numbers of rings: a snapshot is sent by a node whose life before that ring is of smaller ones.
 use Rattle.std.proofs.Common.{◌≡◌, ℕ, zero, suc, ◌+◌, ◌-◌, ◌^◌, ◌<◌, ◌≤◌, ◌==◌, ◌&&◌, ◌||◌, Bool, true, false, List, [], ◌∷◌, ◌++◌, length, take, drop}

@@ -1,5 +1,5 @@
--- Where a node restored nothing between what it knew of its log and what it knows later, the sessions after the places that were committed stay as they were,
--- and so does the snapshot of those that are dropped.
+-- As long as a node restores nothing, the sessions after the places that it had committed stay as they were.
+-- So does the snapshot of those that are dropped: by what it knew of its log, and what it knows later.
 use Rattle.std.proofs.Common.{◌≡◌, ℕ, ◌-◌, ◌≤◌, ◌==◌, ◌&&◌, take, ap, ◌∙◌, arith, if◌then◌else◌}
 use Rattle.std.specs.Prelude.{nat_lt, fold}
 use Rattle.ring_object.specs.Operations.{Sequential}

@@ -1,5 +1,5 @@
--- The sessions, the calls that a step does and how many took effect, by what the node knew before the step and knows after it: where nothing is restored they
--- go on from what they were, and else from what the snapshot says.
+-- In a step the sessions, its calls and how many took effect go on from what they were, or from the snapshot where one is restored.
+-- That is by what the node knew before the step, and what it knows after it.
 use Rattle.std.proofs.Common.{◌≡◌, ℕ, ◌+◌, ◌-◌, ◌^◌, ◌≤◌, ◌==◌, ◌||◌, max, min, true, false, List, [], ◌∷◌, ◌++◌, take, drop, inl, inr, Option}
 use Rattle.std.proofs.Common.{Some, None, refl, ap, sym, ◌∙◌, arith, if◌then◌else◌}
 use Rattle.std.specs.Prelude.{fold, nat_lt, is_some, is_none}

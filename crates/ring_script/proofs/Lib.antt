@@ -8,7 +8,7 @@
 -- Lengths: An operation of a script is short enough for a call.
 -- Pieces: The first piece of a text, and the first line, by where the separator stands.
 -- Readings: The lines of a text, read one after the other.
--- RefusalsPassOn: Refusals that pass on.
+-- RefusalsPassOn: What refuses one reading refuses every other that is nothing where that one is nothing.
 -- Spelling: How the arguments of an operation are spelled, one after another.
 -- CutGroups: Which nodes a cut keeps together: the group kept for a processor is the only one that it is in.
 -- Voting: A line of votes, read word by word.

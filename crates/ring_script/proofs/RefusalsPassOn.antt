@@ -1,4 +1,4 @@
--- Refusals that pass on.
+-- What refuses one reading refuses every other that is nothing where that one is nothing.
 use Rattle.std.proofs.Common.{◌≡◌, Option, None}
 use Rattle.ring_base.specs.declared.fault.Fault.{Fault}
 use Rattle.ring_base.specs.declared.fault.Fault.TheVariants.{NotMember, PendingFull, OpTooLong, Conflict, Stale}

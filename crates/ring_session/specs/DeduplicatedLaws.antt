@@ -1,5 +1,4 @@
--- What holds of the calls that take effect: more calls only add to their end, each client's are numbered 1, 2, .., so
--- that each call stands once, and each was in the list.
+-- Of the calls that take effect each was in the list and stands once, a client's are numbered 1, 2, .., and more calls only add to their end.
 use Rattle.std.proofs.Common.{◌≡◌, ℕ, zero, suc, ◌+◌, ◌<◌, ◌≤◌, ◌==◌, Bool, true, false, List, [], ◌∷◌, ◌++◌}
 use Rattle.std.proofs.Common.{take, get_or, refl, ap, sym, subst, ◌∙◌, arith, append_assoc, inl}
 use Rattle.std.proofs.Common.{inr, if◌then◌else◌}

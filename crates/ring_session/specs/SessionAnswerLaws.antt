@@ -1,5 +1,4 @@
--- What holds of the session table's answers: a reply is the sequential object's at the one place where its call takes
--- effect, and no later call changes it.
+-- A reply of the session table is the sequential object's at the one place where its call takes effect, and no later call changes it.
 use Rattle.std.proofs.Common.{◌≡◌, ℕ, suc, ◌+◌, ◌<◌, ◌≤◌, ◌==◌, ◌&&◌, nat_lt, Bool, true, false, List, [], ◌∷◌}
 use Rattle.std.proofs.Common.{◌++◌, length, take, drop, Option, Some, None, position, slice_get, get_or, refl, ap, sym}
 use Rattle.std.proofs.Common.{◌∙◌, arith, ◌⊎◌, inl, inr, if◌then◌else◌}
