@@ -7,13 +7,13 @@ use Rattle.ring_book_lines.specs.Lines.{steps_of}
 use Rattle.ring_book_lines.specs.Machines.{Machine}
 use Rattle.ring_book_lines.specs.Runs.{IsStep}
 use Rattle.ring_book_lines.specs.Steps.{StepView, LineView}
-use Rattle.ring_book.specs.Books.{Enters, IsStrange}
+use Rattle.ring_book.specs.Books.{most_places, Enters, IsStrange}
 use Rattle.ring_book.specs.Cells.{SubmitRefused}
 use Rattle.ring_book.specs.Seen.{CellView, BookView}
 
 -- all places of the book are used or reserved
 abbrev pub IsFull : {A : Type 0} → BookView A → Type 0
-IsFull book = length book.lines + book.reserved ≡ 262144
+IsFull book = length book.lines + book.reserved ≡ most_places
 
 -- a place was given back, if one was reserved
 abbrev pub IsReleased : {A : Type 0} → BookView A → BookView A → Type 0

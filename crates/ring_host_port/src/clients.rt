@@ -1,7 +1,8 @@
 //! Clients that have a port to each node of a host.
 
-ghost use Rattle.std.specs.Prelude.{◌≡◌, ◌≤◌, ◌++◌, IfOk, IfErr, OnErr};
+ghost use Rattle.std.specs.Prelude.{◌≡◌, ◌≤◌, ◌++◌, [], length, slice_get, Some, IfOk, IfErr, OnOk, OnErr};
 ghost use Rattle.ring_base.specs.declared.fault.Fault.TheVariants.{Memory};
+ghost use Rattle.ring_client.specs.Asking.{unasked};
 ghost use Rattle.ring_host_port.specs.Clients.{AreSeats, AreForAll, AreNotTaken, IsNew, node_after};
 
 use crate::port::{HostPort, POLLS};
@@ -54,14 +55,33 @@ pub fn client_of<'a, O: Object, K: BookName<O::Alloc>, W: Wait>(
     ensures client { IfOk result (IsNew (λ port. port.node) (λ port. port.asked) number host.now.words first) }
     ensures refused { IfErr result (λ fault. fault ≡ Memory) }
 {
-    let nodes = seats.len() as u8;
     let mut seats = seats;
     let mut ports = Vec::new(alloc);
+    add_ports(rt, host, &mut seats, first, &mut ports)?;
+    Ok(Client::new(alloc, number, ports, POLLS))
+}
+
+/// Puts a port to each node where there is none yet, from the node `first` on, each with one of the seats. Or `Memory`.
+fn add_ports<'a, O: Object, K: BookName<O::Alloc>, W: Wait>(
+    rt: &'a W,
+    host: &'a Host<O, K>,
+    seats: &mut Vec<Seat<O::Alloc>, O::Alloc>,
+    first: u8,
+    ports: &mut Vec<HostPort<'a, O, K, W>, O::Alloc>,
+) -> Result<(), Fault>
+    requires seats { AreForAll host.now seats.old.items }
+    requires none { ports.old.items ≡ [] }
+    ensures count { OnOk result (length ports.new.items ≡ host.now.words) }
+    ensures order { OnOk result ((k : _) (port : _) → slice_get ports.new.items k ≡ Some port → port.node ≡ node_after host.now.words first k) }
+    ensures fresh { OnOk result ((k : _) (port : _) → slice_get ports.new.items k ≡ Some port → port.asked ≡ unasked) }
+    ensures refused { IfErr result (λ fault. fault ≡ Memory) }
+{
+    let nodes = seats.len() as u8;
     for passed in 0..nodes {
-        let port = HostPort::to(rt, host, &mut seats, node_after(nodes, first, passed))?;
+        let port = HostPort::to(rt, host, seats, node_after(nodes, first, passed))?;
         ports.push(port)?;
     }
-    Ok(Client::new(alloc, number, ports, POLLS))
+    Ok(())
 }
 
 /// The node that a client tries after so many others, where this one is its first.

@@ -1,7 +1,8 @@
 //! How nodes stand.
 
-use ring_base::{Proc, ProcSet, RingId, State};
+use ring_base::{Fault, Proc, ProcSet, RingId, State};
 use ring_trace_forms::{Change, NodeVotes, Why};
+use std::alloc::Allocator;
 
 /// What was last seen of a node.
 #[derive(Clone, Copy)]
@@ -33,11 +34,7 @@ impl Standing {
     /// How the node stands, as changes since its opening.
     pub fn changes(&self, votes: &NodeVotes) -> [Change; 3] {
         let first = match self.state {
-            State::Operational => Change::Ring {
-                ring: self.ring,
-                members: self.members,
-                share: votes.share(self.members),
-            },
+            State::Operational => self.ring_change(votes),
             state => Change::State(state),
         };
         [
@@ -45,6 +42,40 @@ impl Standing {
             Change::Committed(self.committed),
             Change::Trimmed(self.trimmed),
         ]
+    }
+
+    /// Adds what changed at the node since it stood so. Or `Memory`: then a part of it may be added.
+    ///
+    /// A new ring tells its state: a node that installs one is operational.
+    pub fn add_changes<A: Allocator>(
+        &self,
+        before: &Standing,
+        votes: &NodeVotes,
+        changes: &mut Vec<Change, A>,
+    ) -> Result<(), Fault> {
+        let is_new_ring = self.ring != before.ring;
+        if is_new_ring {
+            changes.push(self.ring_change(votes))?;
+        }
+        if self.state != before.state && !(is_new_ring && self.state == State::Operational) {
+            changes.push(Change::State(self.state))?;
+        }
+        if self.committed != before.committed {
+            changes.push(Change::Committed(self.committed))?;
+        }
+        if self.trimmed != before.trimmed {
+            changes.push(Change::Trimmed(self.trimmed))?;
+        }
+        Ok(())
+    }
+
+    /// That the node installed its ring.
+    fn ring_change(&self, votes: &NodeVotes) -> Change {
+        Change::Ring {
+            ring: self.ring,
+            members: self.members,
+            share: votes.share(self.members),
+        }
     }
 
     /// Why a call waits at the node, which has sent it or not.

@@ -11,7 +11,7 @@ use crate::sent::{frames_behind, sent_of, write_frames};
 use crate::sides::sides_of;
 use crate::sight::{Sight, sight_of, write_turn, write_what};
 use crate::standing::Standing;
-use ring_base::{Fault, MOST_PROCESSORS, Proc, ProcSet, State};
+use ring_base::{Fault, MOST_PROCESSORS, Proc, ProcSet};
 use ring_console::{Failure, Groups, Line, Pair, Run, Script};
 use ring_object::Object;
 use ring_trace_forms::{
@@ -20,6 +20,7 @@ use ring_trace_forms::{
 };
 use std::alloc::Allocator;
 use std::io::Write;
+use std::mem;
 
 /// A script under way, and what was seen of it.
 #[derive(Drop)]
@@ -254,22 +255,39 @@ impl<O: Object> Tracer<O> {
         if !self.draws() || next == 1 || next != self.selection.from {
             return Ok(());
         }
+        self.draw_standings(next)?;
+        self.draw_waiting(next)?;
+        if self.sides.is_empty() {
+            Ok(())
+        } else {
+            self.drawing.add_cut(self.events, self.sides.as_slice())
+        }
+    }
+
+    /// Draws how the nodes stand before this event, each that is told of then.
+    fn draw_standings(&mut self, event: u64) -> Result<(), Fault>
+        ensures { self.new.run ≡ self.old.run }
+    {
         for (before, standing) in self.standings.iter().enumerate() {
             if before < usize::from(MOST_PROCESSORS)
-                && self.selection.has(next, Some(Proc::new(before as u8 + 1)))
+                && self.selection.has(event, Some(Proc::new(before as u8 + 1)))
             {
                 let changes = standing.changes(&self.votes);
                 self.drawing
                     .add_standing(Proc::new(before as u8 + 1), changes.as_slice())?;
             }
         }
+        Ok(())
+    }
+
+    /// Draws the calls that wait before this event, each at a node that is told of then.
+    fn draw_waiting(&mut self, event: u64) -> Result<(), Fault>
+        ensures { self.new.run ≡ self.old.run }
+    {
         for call in self.queue.calls() {
-            if self.selection.has(next, Some(call.node)) {
+            if self.selection.has(event, Some(call.node)) {
                 self.drawing.add_call(call)?;
             }
-        }
-        if !self.sides.is_empty() {
-            self.drawing.add_cut(self.events, self.sides.as_slice())?;
         }
         Ok(())
     }
@@ -295,30 +313,15 @@ impl<O: Object> Tracer<O> {
         };
         let world = self.run.world();
         let node = world.node(world.fixed().proc(sight.node.number())?);
-        let (state, ring) = (node.state(), node.ring());
-        let (committed, trimmed) = (node.committed_len(), node.trimmed());
-        if ring != standing.ring {
-            standing.members = node.members();
-            self.changes.push(Change::Ring {
-                ring,
-                members: standing.members,
-                share: self.votes.share(standing.members),
-            })?;
-        }
-        if state != standing.state && (ring == standing.ring || state != State::Operational) {
-            self.changes.push(Change::State(state))?;
-        }
-        if committed != standing.committed {
-            self.changes.push(Change::Committed(committed))?;
-        }
-        if trimmed != standing.trimmed {
-            self.changes.push(Change::Trimmed(trimmed))?;
-        }
-        standing.state = state;
-        standing.ring = ring;
-        standing.committed = committed;
-        standing.trimmed = trimmed;
-        Ok(())
+        let now = Standing {
+            state: node.state(),
+            ring: node.ring(),
+            members: node.members(),
+            committed: node.committed_len(),
+            trimmed: node.trimmed(),
+        };
+        let before = mem::replace(standing, now);
+        now.add_changes(&before, &self.votes, &mut self.changes)
     }
 
     /// Takes the calls that were answered or refused from those that wait.

@@ -26,8 +26,8 @@ loop-node-preserved g c =
     let table = e.3 ∙ i.table_is in
     let number : c.new.result ≡ suc c.loop-node.node = omega (arith, c.new.ensures) in
     let is : seat ≡ new_seat gauge (node_at c.args.nodes c.loop-node.node) = rw c.new-in-loop-node.ensures
-        (new_of_node gauge c.split_seat-seat.result.table_id c.args.nodes c.loop-node.node c.new.result c.split_seat-seat.result.me.0.published
-        c.split_seat-seat.result.me.0.seen table number lt (ap (λ v. v.published) own) (ap (λ v. v.seen) own)) in
+    (new_of_node gauge c.split_seat-seat.result.table_id c.args.nodes c.loop-node.node c.new.result c.split_seat-seat.result.me.0.published
+    c.split_seat-seat.result.me.0.seen table number lt (ap (λ v. v.published) own) (ap (λ v. v.seen) own)) in
     record {
       maker = maker ∙ ap made i.maker;
       table_is = e.0 ∙ i.table_is;
