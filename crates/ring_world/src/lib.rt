@@ -1,6 +1,7 @@
 //! Worlds of nodes that run: what is issued, delivered, lost, repeated, timed out and stopped, and the one order that it shows.
 #![tactic(auto)]
 
+mod chronicle;
 mod copies;
 mod frames;
 mod longest;

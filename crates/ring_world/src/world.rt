@@ -29,9 +29,9 @@ ghost use Rattle.ring_world.specs.Steps.{stepping, input_by, handed_by, HasStepp
 ghost use Rattle.ring_world.specs.Stored.{HasRoom, text_of};
 ghost use Rattle.ring_world.specs.Spares.{Spares as ToldSpares, AllLeft, after_answers};
 
-use crate::copies::{copied_event, copied_events, copied_history, copied_told};
+use crate::chronicle::Chronicle;
+use crate::copies::copied_event;
 use crate::frames::Frames;
-use crate::longest::Longest;
 use crate::order::most_effects;
 use crate::spares::Spares;
 use crate::telling::tell;
@@ -44,7 +44,7 @@ use ring_order_proof::laws::linear_law;
 use ring_order_proof::longest_laws::longest_law;
 use ring_payload::Call;
 use ring_rules::{Event, Item, Told};
-use ring_session::{MAX_UNANSWERED, copy_of};
+use ring_session::copy_of;
 use ring_wire::Frame;
 use std::alloc::Allocator;
 use std::marker::Model;
@@ -58,11 +58,7 @@ pub struct World<O: Object> {
     nodes: Vec<Node<O>, O::Alloc>,
     /// Of each node, the second copies of the calls that wait for their answers.
     spares: Vec<Spares<O::Alloc>, O::Alloc>,
-    frames: Frames<O::Alloc>,
-    history: Vec<Item<O::Alloc>, O::Alloc>,
-    told: Vec<Told<O::Alloc>, O::Alloc>,
-    longest: Longest<O::Alloc>,
-    events: Vec<Event<O::Alloc>, O::Alloc>,
+    chronicle: Chronicle<O::Alloc>,
     done: u64,
     rooms: Rooms<O::Alloc>,
 }
@@ -82,10 +78,10 @@ impl<O: Object> Model for World<O> {
 
     ghost Value = { Played O.Alloc };
 
-    ghost view = { λ w. record { group = w.fixed; events = w.events.items; told = w.told.items; done = w.done } };
+    ghost view = { λ w. record { group = w.fixed; events = w.chronicle.events.items; told = w.chronicle.told.items; done = w.done } };
 
-    ghost invariant = { λ w. IsWorld O.sequential w.fixed w.events.items w.nodes.items w.spares.items w.frames.frames w.history.items w.told.items
-        w.longest.calls };
+    ghost invariant = { λ w. IsWorld O.sequential w.fixed w.chronicle.events.items w.nodes.items w.spares.items w.chronicle.frames.frames w.chronicle.history.items
+        w.chronicle.told.items w.chronicle.longest.calls };
 }
 
 impl<O: Object> World<O> {
@@ -102,11 +98,7 @@ impl<O: Object> World<O> {
             fixed,
             nodes,
             spares,
-            frames: Frames::new(alloc),
-            history: Vec::new(alloc),
-            told: Vec::new(alloc),
-            longest: Longest::new(alloc),
-            events: Vec::new(alloc),
+            chronicle: Chronicle::new(alloc),
             done: 0,
             rooms: no_rooms(alloc),
         })
@@ -118,11 +110,7 @@ impl<O: Object> World<O> {
         ensures ok { IfOk result (λ copy. copy ≡ self.now) }
         ensures refused { IfErr result (λ fault. fault ≡ Memory) }
     {
-        let frames = self.frames.clone()?;
-        let history = copied_history(&self.history)?;
-        let told = copied_told(&self.told)?;
-        let events = copied_events(&self.events)?;
-        let longest = self.longest.clone()?;
+        let chronicle = self.chronicle.copy()?;
         let spares = self.spares.clone()?;
         let nodes = copied_nodes(self.alloc, &self.nodes)?;
         Ok(World {
@@ -130,11 +118,7 @@ impl<O: Object> World<O> {
             fixed: self.fixed,
             nodes,
             spares,
-            frames,
-            history,
-            told,
-            longest,
-            events,
+            chronicle,
             done: self.done,
             rooms: no_rooms(self.alloc),
         })
@@ -236,7 +220,7 @@ impl<O: Object> World<O> {
     pub fn events(&self) -> &[Event<O::Alloc>]
         ensures { result.now ≡ self.now.events }
     {
-        &self.events
+        &self.chronicle.events
     }
 
     /// What was told, in order: answers and refused submits. Without the submits that memory refused, it is what the run of
@@ -245,14 +229,14 @@ impl<O: Object> World<O> {
         ensures told { result.now ≡ self.now.told }
         ensures events { told_of_events result.now ≡ (world_of O.sequential self.now).told }
     {
-        &self.told
+        &self.chronicle.told
     }
 
     /// What was issued and replied, in order.
     pub fn history(&self) -> &[Item<O::Alloc>]
         ensures { result.now ≡ (world_of O.sequential self.now).history }
     {
-        &self.history
+        &self.chronicle.history
     }
 
     /// The order: the longest committed log, repeats removed. Or `Memory`.
@@ -262,7 +246,7 @@ impl<O: Object> World<O> {
     {
         // A law: no effect at run time. The proof takes from it that what takes effect of the longest log is the order.
         longest_law::<O>();
-        self.longest.order(self.alloc)
+        self.chronicle.longest.order(self.alloc)
     }
 
     /// How long the order is.
@@ -285,7 +269,7 @@ impl<O: Object> World<O> {
         longest_law::<O>();
         let place = usize::from(node.number()) - 1;
         let many = self.nodes[place].committed_len();
-        self.longest.first(self.alloc, many)
+        self.chronicle.longest.first(self.alloc, many)
     }
 
     /// A node of the group.
@@ -300,14 +284,14 @@ impl<O: Object> World<O> {
     pub fn frame(&self, number: u64) -> Option<(Proc, ProcSet)>
         ensures { result ≡ option_map (λ (f : Carried O.Alloc). (f.from, f.to)) (frame_at (world_of O.sequential self.now).frames number) }
     {
-        self.frames.ends(number)
+        self.chronicle.frames.ends(number)
     }
 
     /// All frames ever sent, as they are spelled, one behind the other in the order sent.
     pub fn sent_text(&self) -> &[u8]
         ensures { result.now ≡ text_of (world_of O.sequential self.now).frames }
     {
-        self.frames.text()
+        self.chronicle.frames.text()
     }
 
     /// The group.
@@ -345,9 +329,9 @@ impl<O: Object> World<O> {
         ensures done { self.new.done ≡ self.old.done }
         ensures refused { IfErr result (λ fault. fault ≡ Memory) }
     {
-        self.events.reserve(1)?;
+        self.chronicle.events.reserve(1)?;
         let kept = copied_event(event)?;
-        self.events.push_reserved(kept);
+        self.chronicle.events.push_reserved(kept);
         Ok(())
     }
 
@@ -368,17 +352,16 @@ impl<O: Object> World<O> {
         if place >= self.nodes.len() {
             return self.idle(event);
         }
-        let is_step = read_handed(&self.frames, self.alloc, event, &mut self.rooms.place)?;
+        let is_step = read_handed(
+            &self.chronicle.frames,
+            self.alloc,
+            event,
+            &mut self.rooms.place,
+        )?;
         if !is_step {
             return self.idle(event);
         }
-        make_room(
-            &mut self.events,
-            &mut self.told,
-            &mut self.history,
-            &mut self.frames,
-            &mut self.longest,
-        )?;
+        self.chronicle.make_room()?;
         let kept = copied_event(event)?;
         match step_by(
             &mut self.nodes[place],
@@ -391,17 +374,21 @@ impl<O: Object> World<O> {
                     self.alloc,
                     node,
                     &mut self.rooms.outs,
-                    &mut self.frames,
-                    &mut self.told,
-                    &mut self.history,
+                    &mut self.chronicle.frames,
+                    &mut self.chronicle.told,
+                    &mut self.chronicle.history,
                     &mut self.spares[place],
                 );
                 let many = self.nodes[place].committed_len();
-                self.longest
+                self.chronicle
+                    .longest
                     .add(self.alloc, many, &mut self.rooms.outs.committed);
-                self.events.push_reserved(kept);
+                self.chronicle.events.push_reserved(kept);
             }
-            Err(fault) => self.events.push_reserved(standing(fault, kept, node)),
+            Err(fault) => self
+                .chronicle
+                .events
+                .push_reserved(standing(fault, kept, node)),
         }
         Ok(())
     }
@@ -418,9 +405,9 @@ impl<O: Object> World<O> {
         if place >= self.nodes.len() {
             return self.idle(event);
         }
-        self.events.reserve(1)?;
+        self.chronicle.events.reserve(1)?;
         halt(&mut self.nodes[place], &mut self.rooms.outs);
-        self.events.push_reserved(Event::Stop(node));
+        self.chronicle.events.push_reserved(Event::Stop(node));
         Ok(())
     }
 
@@ -442,23 +429,23 @@ impl<O: Object> World<O> {
         if place >= self.nodes.len() {
             return self.idle(event);
         }
-        make_room(
-            &mut self.events,
-            &mut self.told,
-            &mut self.history,
-            &mut self.frames,
-            &mut self.longest,
-        )?;
+        self.chronicle.make_room()?;
         self.spares[place].make_room()?;
         let copies = issue_copies(event, call)?;
         match self.nodes[place].submit_on(call) {
             Ok(_) => keep_issue(
-                &mut self.events,
-                &mut self.history,
+                &mut self.chronicle.events,
+                &mut self.chronicle.history,
                 &mut self.spares[place],
                 copies,
             ),
-            Err(fault) => refuse(&mut self.events, &mut self.told, node, copies, fault),
+            Err(fault) => refuse(
+                &mut self.chronicle.events,
+                &mut self.chronicle.told,
+                node,
+                copies,
+                fault,
+            ),
         }
         Ok(())
     }
@@ -664,41 +651,6 @@ fn standing<A: Allocator + Copy>(fault: Fault, event: Event<A>, node: Proc) -> E
             Event::Stop(node)
         }
     }
-}
-
-/// Makes the room for all that an event adds, or answers `Memory`. Most often there is room.
-fn make_room<A: Allocator + Copy>(
-    events: &mut Vec<Event<A>, A>,
-    told: &mut Vec<Told<A>, A>,
-    history: &mut Vec<Item<A>, A>,
-    frames: &mut Frames<A>,
-    longest: &mut Longest<A>,
-) -> Result<(), Fault>
-    ensures events { events.new.items ≡ events.old.items }
-    ensures events_room { OnOk result (vec_len events.new + 1 ≤ vec_capacity events.new) }
-    ensures told { told.new.items ≡ told.old.items }
-    ensures told_room { OnOk result (vec_len told.new + 64 ≤ vec_capacity told.new) }
-    ensures history { history.new.items ≡ history.old.items }
-    ensures history_room { OnOk result (vec_len history.new + 64 ≤ vec_capacity history.new) }
-    ensures frames { frames.new.frames ≡ frames.old.frames }
-    ensures frames_room { OnOk result (HasRoom 64 frames.new) }
-    ensures longest { longest.new.calls ≡ longest.old.calls }
-    ensures longest_room { OnOk result (0 < longest.new.places) }
-    ensures refused { IfErr result (λ fault. fault ≡ Memory) }
-{
-    let has_room = events.len() < events.capacity()
-        && told.capacity() - told.len() >= MAX_UNANSWERED
-        && history.capacity() - history.len() >= MAX_UNANSWERED
-        && frames.has_room()
-        && longest.has_room();
-    if has_room {
-        return Ok(());
-    }
-    events.reserve(1)?;
-    told.reserve(MAX_UNANSWERED)?;
-    history.reserve(MAX_UNANSWERED)?;
-    frames.make_room()?;
-    longest.make_room()
 }
 
 /// Keeps what a node's step gave: its frames, which keep their limits, and its answers, which are told. There is room.

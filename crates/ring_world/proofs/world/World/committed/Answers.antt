@@ -13,9 +13,9 @@ use Rattle.ring_world.proofs.world.World.committed.Goals as goal
 
 -- where the node stands
 here : (g : Over) (c : After-index g) → Stands g.O.Object.sequential
-    (record { group = c.self.inside.fixed; events = c.self.inside.events.items; told = c.self.inside.told.items; done = c.self.inside.done })
-    c.args.self.now c.self.inside.nodes.items c.self.inside.spares.items c.self.inside.frames.frames c.self.inside.history.items
-    c.self.inside.longest.calls c.args.node (c.from-place.result - 1)
+    (record { group = c.self.inside.fixed; events = c.self.inside.chronicle.events.items; told = c.self.inside.chronicle.told.items; done = c.self.inside.done })
+    c.args.self.now c.self.inside.nodes.items c.self.inside.spares.items c.self.inside.chronicle.frames.frames c.self.inside.chronicle.history.items
+    c.self.inside.chronicle.longest.calls c.args.node (c.from-place.result - 1)
 here g c =
     let k = c.self.inside in
     let within = c.requires in
@@ -33,11 +33,11 @@ returns-clause-ok g c =
     let object = g.O.Object.sequential in
     let node = c.args.node in
     let at = here g (goal.at.returns-clause-ok g c).After-index in
-    let p : Played g.row.O-Alloc.Denot = record { group = k.fixed; events = k.events.items; told = k.told.items; done = k.done } in
+    let p : Played g.row.O-Alloc.Denot = record { group = k.fixed; events = k.chronicle.events.items; told = k.chronicle.told.items; done = k.done } in
     let w = world_of object p in
     let many = c.committed_len-many.ensures ∙ ap (λ (n : Node g.row.O-Alloc.Denot). (node_kept n).committed) (node_is at c.index.ensures) in
-    let same : take c.committed_len-many.result k.longest.calls ≡ committed_of k.fixed (lives_of w node) =
-    ap (λ n. take n k.longest.calls) many ∙ ap (take (node_kept (w.nodes node)).committed) c.self.invariant.kept.longest_is
-    ∙ sym (c.longest_law.ensures.takes k.fixed k.events.items node c.self.invariant.few at.low (high at)) in
+    let same : take c.committed_len-many.result k.chronicle.longest.calls ≡ committed_of k.fixed (lives_of w node) =
+    ap (λ n. take n k.chronicle.longest.calls) many ∙ ap (take (node_kept (w.nodes node)).committed) c.self.invariant.kept.longest_is
+    ∙ sym (c.longest_law.ensures.takes k.fixed k.chronicle.events.items node c.self.invariant.few at.low (high at)) in
     subst (λ (q : Played g.row.O-Alloc.Denot). IfOk c.first.result (λ calls. calls.items ≡ committed_of q.group (lives_of (world_of object q) node)))
     c.self.view_is (subst (λ xs. IfOk c.first.result (λ calls. calls.items ≡ xs)) same c.first.ensures.ok)

@@ -8,8 +8,9 @@ use Rattle.ring_world.proofs.world.World.copy.Goals as goal
 
 pub invariant_of-result : goal.invariant_of-result
 invariant_of-result g c =
-    copied c.self.invariant c.in_ok-events.ensures.ok (c.in_ok-nodes.ensures.ok ∙ c.deref.ensures.value) c.in_ok-spares.ensures.cases.0
-    c.in_ok-frames.ensures.cases c.in_ok-history.ensures.ok c.in_ok-told.ensures.ok c.in_ok-longest.ensures.cases
+    let kept = c.in_ok-chronicle.ensures in
+    copied c.self.invariant kept.events (c.in_ok-nodes.ensures.ok ∙ c.deref.ensures.value) c.in_ok-spares.ensures.cases.0
+    kept.frames kept.history kept.told kept.longest
 
 pub returns-clause-ok : goal.returns-clause-ok
 returns-clause-ok g c =
@@ -20,4 +21,4 @@ returns-clause-ok g c =
       told = ts;
       done = k.done;
     } in
-    ap (λ es. view es c.in_ok-told.told.items) c.in_ok-events.ensures.ok ∙ (ap (view k.events.items) c.in_ok-told.ensures.ok ∙ c.self.view_is)
+    ap (λ es. view es c.in_ok-chronicle.chronicle.told.items) c.in_ok-chronicle.ensures.events ∙ (ap (view k.chronicle.events.items) c.in_ok-chronicle.ensures.told ∙ c.self.view_is)

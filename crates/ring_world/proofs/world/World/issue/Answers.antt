@@ -11,9 +11,9 @@ use Rattle.ring_world.proofs.world.World.issue.Goals as goal
 
 -- where the node stands, once there is room
 place : (g : Over) (c : In_ok-make_room g) → Stands g.O.Object.sequential
-    (record { group = c.self.inside.fixed; events = c.make_room.new.events.items; told = c.make_room.new.told.items; done = c.self.inside.done })
-    c.args.self.now c.self.inside.nodes.items c.self.inside.spares.items c.make_room.new.frames.frames c.make_room.new.history.items
-    c.make_room.new.longest.calls c.args.node (c.from-place.result - 1)
+    (record { group = c.self.inside.fixed; events = c.make_room.new.self.events.items; told = c.make_room.new.self.told.items; done = c.self.inside.done })
+    c.args.self.now c.self.inside.nodes.items c.self.inside.spares.items c.make_room.new.self.frames.frames c.make_room.new.self.history.items
+    c.make_room.new.self.longest.calls c.args.node (c.from-place.result - 1)
 place g c =
     let there = stands c.self.view_is c.self.invariant c.number.ensures.value c.number.ensures.in_range c.from-place.ensures
     c.self.inside.nodes.ok.0 c.len.ensures c.if-place-len.false in

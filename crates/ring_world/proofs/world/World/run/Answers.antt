@@ -13,7 +13,7 @@ pub returns-clause-plays : goal.returns-clause-plays
 returns-clause-plays g c =
     let k = c.self.inside in
     let object = g.O.Object.sequential in
-    let p : Played g.row.O-Alloc.Denot = record { group = k.fixed; events = k.events.items; told = k.told.items; done = k.done } in
+    let p : Played g.row.O-Alloc.Denot = record { group = k.fixed; events = k.chronicle.events.items; told = k.chronicle.told.items; done = k.done } in
     let q = c.run_all-ran.new.self in
     let es = take q.done c.args.events.now in
     subst (λ (r : Played g.row.O-Alloc.Denot). Plays object es r q) c.self.view_is (plays_from object es 0 p q c.run_all-ran.ensures.plays)
@@ -27,13 +27,13 @@ pub returns-clause-grows : goal.returns-clause-grows
 returns-clause-grows g c =
     let k = c.self.inside in
     let object = g.O.Object.sequential in
-    let p : Played g.row.O-Alloc.Denot = record { group = k.fixed; events = k.events.items; told = k.told.items; done = k.done } in
+    let p : Played g.row.O-Alloc.Denot = record { group = k.fixed; events = k.chronicle.events.items; told = k.chronicle.told.items; done = k.done } in
     let q = c.run_all-ran.new.self in
     let es = take q.done c.args.events.now in
     let l = plays_longer object es p q (plays_from object es 0 p q c.run_all-ran.ensures.plays) in
     subst (λ (r : Played g.row.O-Alloc.Denot). IsFront (order (world_of object r)) (order (world_of object q))) c.self.view_is
     (subst (λ (x : World g.row.O-Alloc.Denot). IsFront (order (world_of object p)) (order x)) (sym (world_later object p q l))
-    (c.linear_law.ensures.grows k.fixed k.events.items l.later c.self.invariant.few))
+    (c.linear_law.ensures.grows k.fixed k.chronicle.events.items l.later c.self.invariant.few))
 
 pub returns-clause-fronts : goal.returns-clause-fronts
 returns-clause-fronts g c = λ node low high.
@@ -52,7 +52,7 @@ pub returns-clause-outs_grow : goal.returns-clause-outs_grow
 returns-clause-outs_grow g c =
     let k = c.self.inside in
     let object = g.O.Object.sequential in
-    let p : Played g.row.O-Alloc.Denot = record { group = k.fixed; events = k.events.items; told = k.told.items; done = k.done } in
+    let p : Played g.row.O-Alloc.Denot = record { group = k.fixed; events = k.chronicle.events.items; told = k.chronicle.told.items; done = k.done } in
     let q = c.run_all-ran.new.self in
     let es = take q.done c.args.events.now in
     let l = plays_longer object es p q (plays_from object es 0 p q c.run_all-ran.ensures.plays) in

@@ -22,9 +22,9 @@ use Rattle.ring_world.proofs.world.World.step.Goals as goal
 
 -- where the node stands, once there is room
 place : (g : Over) (c : In_ok-make_room g) → Stands g.O.Object.sequential
-    (record { group = c.self.inside.fixed; events = c.make_room.new.events.items; told = c.make_room.new.told.items; done = c.self.inside.done })
-    c.args.self.now c.self.inside.nodes.items c.self.inside.spares.items c.make_room.new.frames.frames c.make_room.new.history.items
-    c.make_room.new.longest.calls c.args.node (c.from-place.result - 1)
+    (record { group = c.self.inside.fixed; events = c.make_room.new.self.events.items; told = c.make_room.new.self.told.items; done = c.self.inside.done })
+    c.args.self.now c.self.inside.nodes.items c.self.inside.spares.items c.make_room.new.self.frames.frames c.make_room.new.self.history.items
+    c.make_room.new.self.longest.calls c.args.node (c.from-place.result - 1)
 place g c =
     let there = stands c.self.view_is c.self.invariant c.number.ensures.value c.number.ensures.in_range c.from-place.ensures
     c.self.inside.nodes.ok.0 c.len.ensures c.if-place-len.false in
@@ -37,7 +37,7 @@ by g c =
     let k = c.self.inside in
     let placed = c.in_ok-is_step.ensures in
     read g.O.Object.sequential c.args.event.now c.args.node c.self.view_is c.self.invariant.kept.frames_are c.requires
-    placed.is placed.input c.if-not-is_step.false (c.frames_law.ensures.frames k.fixed k.events.items c.self.invariant.few (all_fit k.events.items c.self.invariant.fit))
+    placed.is placed.input c.if-not-is_step.false (c.frames_law.ensures.frames k.fixed k.chronicle.events.items c.self.invariant.few (all_fit k.chronicle.events.items c.self.invariant.fit))
 
 -- what it made of the node, by the input that is in the place
 given : {O A T : Type 0} {object : Sequential O} {o : Option (Input A)} {input : Input A} {n now : Node A} {answer : Result T Fault} {outs : Outs A}
@@ -59,8 +59,8 @@ idle-requires-then-not-is_step g c = record {
   fits = step_fits c.args.event.now c.args.node c.requires;
   same = not_read g.O.Object.sequential {p = record {
     group = c.self.inside.fixed;
-    events = c.self.inside.events.items;
-    told = c.self.inside.told.items;
+    events = c.self.inside.chronicle.events.items;
+    told = c.self.inside.chronicle.told.items;
     done = c.self.inside.done;
   }} c.args.event.now c.args.node refl c.self.invariant.kept.frames_are c.requires c.in_ok-is_step.ensures.is c.if-not-is_step.true;
 }
@@ -91,12 +91,12 @@ keep_step-requires g c =
     let sends = c.few_law.ensures.sends c.index_mut.result.now step.input step.fits in
     let same = ap length so.sends in
     let few = answers_few here c.index_mut.ensures.value so
-    (c.pending_law.ensures.answers c.self.inside.fixed c.make_room.new.events.items c.args.node step.input) in
+    (c.pending_law.ensures.answers c.self.inside.fixed c.make_room.new.self.events.items c.args.node step.input) in
     record {
       fit = sends_fit here c.index_mut.ensures.value so
-          (c.frames_law.ensures.steps c.self.inside.fixed c.make_room.new.events.items c.args.node step.input
-          here.world.few (all_fit c.make_room.new.events.items here.world.fit) here.low (high here) step.fits);
-      room = room_less 64 (length c.step_by.new.outs.sends.items) c.make_room.new.frames (omega (arith, sends, same)) c.in_ok-make_room.ensures.frames_room;
+          (c.frames_law.ensures.steps c.self.inside.fixed c.make_room.new.self.events.items c.args.node step.input
+          here.world.few (all_fit c.make_room.new.self.events.items here.world.fit) here.low (high here) step.fits);
+      room = room_less 64 (length c.step_by.new.outs.sends.items) c.make_room.new.self.frames (omega (arith, sends, same)) c.in_ok-make_room.ensures.frames_room;
       left = answers_left here c.index_mut.ensures.value so c.args.event.now c.index_mut-in-Ok.ensures.value step.same;
       told_room = omega (arith, few, c.in_ok-make_room.ensures.told_room);
       history_room = omega (arith, few, c.in_ok-make_room.ensures.history_room);
@@ -110,9 +110,9 @@ invariant_of-self-in-Ok g c =
     c.in_ok-kept.kept c.keep_step.new.spares c.in_ok-kept.ensures.ok step.steps c.push_reserved.ensures.items c.keep_step.ensures.spares
     c.keep_step.ensures.frames c.keep_step.ensures.history c.keep_step.ensures.told
     (c.add.ensures
-    ∙ ap (λ cs. c.make_room.new.longest.calls ++ calls_past (length c.make_room.new.longest.calls) c.committed_len-many.result cs)
+    ∙ ap (λ cs. c.make_room.new.self.longest.calls ++ calls_past (length c.make_room.new.self.longest.calls) c.committed_len-many.result cs)
     c.keep_step.ensures.committed
-    ∙ ap (λ n. c.make_room.new.longest.calls ++ calls_past (length c.make_room.new.longest.calls) n c.step_by.new.outs.committed.items)
+    ∙ ap (λ n. c.make_room.new.self.longest.calls ++ calls_past (length c.make_room.new.self.longest.calls) n c.step_by.new.outs.committed.items)
     (c.committed_len-many.ensures ∙ ap (λ (n : Node g.row.O-Alloc.Denot). (node_kept n).committed)
     (node_put (place g at.In_ok-make_room) c.step_by.new.node c.index.ensures)))
 

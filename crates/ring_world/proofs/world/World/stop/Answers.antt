@@ -10,9 +10,9 @@ use Rattle.ring_world.proofs.world.World.stop.Goals as goal
 
 -- where the node stands, once there is room
 place : (g : Over) (c : After-reserve g) → Stands g.O.Object.sequential
-    (record { group = c.self.inside.fixed; events = c.reserve.new.self.items; told = c.self.inside.told.items; done = c.self.inside.done })
-    c.args.self.now c.self.inside.nodes.items c.self.inside.spares.items c.self.inside.frames.frames c.self.inside.history.items
-    c.self.inside.longest.calls c.args.node (c.from-place.result - 1)
+    (record { group = c.self.inside.fixed; events = c.reserve.new.self.items; told = c.self.inside.chronicle.told.items; done = c.self.inside.done })
+    c.args.self.now c.self.inside.nodes.items c.self.inside.spares.items c.self.inside.chronicle.frames.frames c.self.inside.chronicle.history.items
+    c.self.inside.chronicle.longest.calls c.args.node (c.from-place.result - 1)
 place g c =
     let there = stands c.self.view_is c.self.invariant c.number.ensures.value c.number.ensures.in_range c.from-place.ensures
     c.self.inside.nodes.ok.0 c.len.ensures c.if-place-len.false in
