@@ -19,7 +19,7 @@ ghost use Rattle.ring_rules.specs.declared.item.Item.TheVariants.{Issue as Issue
 ghost use Rattle.ring_rules.specs.declared.told.Told.TheVariants.{Refused as ToldRefused};
 ghost use Rattle.ring_rules.specs.Histories.{IsLinearization};
 ghost use Rattle.ring_rules.specs.WorldLimits.{EventFits};
-ghost use Rattle.ring_rules.specs.Worlds.{carried, happens, items_of, told_by, order, lives_of, world_opening};
+ghost use Rattle.ring_rules.specs.Worlds.{calls_past, carried, happens, items_of, told_by, order, lives_of, world_opening};
 ghost use Rattle.ring_order_proof.specs.Linear.{EventKeeps, Follows, FollowsOrder};
 ghost use Rattle.ring_order_proof.specs.Projection.{share_of};
 ghost use Rattle.ring_order_proof.specs.Synchronous.{IsSynchronous};
@@ -370,25 +370,21 @@ impl<O: Object> World<O> {
             &mut self.rooms.outs,
         ) {
             Ok(()) => {
+                let many = self.nodes[place].committed_len();
                 keep_step(
                     self.alloc,
                     node,
+                    many,
                     &mut self.rooms.outs,
-                    &mut self.chronicle.frames,
-                    &mut self.chronicle.told,
-                    &mut self.chronicle.history,
+                    &mut self.chronicle,
                     &mut self.spares[place],
                 );
-                let many = self.nodes[place].committed_len();
-                self.chronicle
-                    .longest
-                    .add(self.alloc, many, &mut self.rooms.outs.committed);
                 self.chronicle.events.push_reserved(kept);
             }
-            Err(fault) => self
-                .chronicle
-                .events
-                .push_reserved(standing(fault, kept, node)),
+            Err(fault) => {
+                let stop = standing(fault, kept, node);
+                self.chronicle.events.push_reserved(stop);
+            }
         }
         Ok(())
     }
@@ -653,29 +649,40 @@ fn standing<A: Allocator + Copy>(fault: Fault, event: Event<A>, node: Proc) -> E
     }
 }
 
-/// Keeps what a node's step gave: its frames, which keep their limits, and its answers, which are told. There is room.
+/// Keeps what a node's step gave: its frames, which keep their limits, its answers, which are told, and what is new of so many calls
+/// that it has committed. There is room.
 fn keep_step<A: Allocator + Copy>(
     alloc: A,
     node: Proc,
+    committed: u64,
     outs: &mut Outs<A>,
-    frames: &mut Frames<A>,
-    told: &mut Vec<Told<A>, A>,
-    history: &mut Vec<Item<A>, A>,
+    chronicle: &mut Chronicle<A>,
     spares: &mut Spares<A>,
 )
     requires fit { AllByRecursion (λ (s : OneSent A). FrameFits s.frame) outs.old.sends.items }
-    requires room { HasRoom (length outs.old.sends.items) frames.old }
+    requires room { HasRoom (length outs.old.sends.items) chronicle.old.frames }
     requires left { AllLeft spares.old.calls outs.old.answers.items }
-    requires told_room { vec_len told.old + length outs.old.answers.items ≤ vec_capacity told.old }
-    requires history_room { vec_len history.old + length outs.old.answers.items ≤ vec_capacity history.old }
-    ensures frames { frames.new.frames ≡ frames.old.frames ++ carried node outs.old.sends.items }
-    ensures told { told.new.items ≡ told.old.items ++ told_by node outs.old.answers.items }
-    ensures history { history.new.items ≡ history.old.items ++ items_of outs.old.answers.items }
+    requires told_room { vec_len chronicle.old.told + length outs.old.answers.items ≤ vec_capacity chronicle.old.told }
+    requires history_room { vec_len chronicle.old.history + length outs.old.answers.items ≤ vec_capacity chronicle.old.history }
+    requires longest_room { 0 < chronicle.old.longest.places }
+    ensures events { chronicle.new.events ≡ chronicle.old.events }
+    ensures frames { chronicle.new.frames.frames ≡ chronicle.old.frames.frames ++ carried node outs.old.sends.items }
+    ensures told { chronicle.new.told.items ≡ chronicle.old.told.items ++ told_by node outs.old.answers.items }
+    ensures history { chronicle.new.history.items ≡ chronicle.old.history.items ++ items_of outs.old.answers.items }
     ensures spares { spares.new.calls ≡ after_answers spares.old.calls outs.old.answers.items }
-    ensures committed { outs.new.committed.items ≡ outs.old.committed.items }
+    ensures longest { let calls = chronicle.old.longest.calls in
+        chronicle.new.longest.calls ≡ calls ++ calls_past (length calls) committed outs.old.committed.items }
 {
-    keep_all(frames, node, &outs.sends);
-    tell(alloc, told, history, spares, node, &mut outs.answers);
+    keep_all(&mut chronicle.frames, node, &outs.sends);
+    tell(
+        alloc,
+        &mut chronicle.told,
+        &mut chronicle.history,
+        spares,
+        node,
+        &mut outs.answers,
+    );
+    chronicle.longest.add(alloc, committed, &mut outs.committed);
 }
 
 /// Keeps the frames that a node sent. They keep their limits, and there is room.

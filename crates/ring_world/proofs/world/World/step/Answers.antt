@@ -1,10 +1,9 @@
 -- A step of a node is a step of the world, and its answers have their copies; where memory was refused, it stands as a stop.
-use Rattle.std.proofs.Common.{◌≡◌, ◌-◌, ◌++◌, length, Option, Some, Result, refl, ap, ◌∙◌, sym, subst, arith}
+use Rattle.std.proofs.Common.{◌≡◌, ◌-◌, [], ◌∷◌, ◌++◌, length, Option, Some, Result, refl, ap, ◌∙◌, subst, arith}
 use Rattle.std.specs.Prelude.{IfSome}
 use Rattle.ring_base.specs.declared.fault.Fault.{Fault}
 use Rattle.ring_node.specs.declared.outs.Outs.{Outs}
 use Rattle.ring_object.specs.Operations.{Sequential}
-use Rattle.ring_rules.specs.NodeLimits.{InputFits}
 use Rattle.ring_rules.specs.Nodes.{Node, node_kept}
 use Rattle.ring_rules.specs.Worlds.{calls_past}
 use Rattle.ring_rules.specs.declared.input.Input.{Input}
@@ -12,7 +11,7 @@ use Rattle.ring_world.specs.Played.{Played}
 use Rattle.ring_world.specs.Steps.{HasStepped}
 use Rattle.ring_world.proofs.FrameHanded.{IsStepBy, read, not_read, unknown_step, step_fits}
 use Rattle.ring_world.proofs.NodePlaces.{Stands, stands, unknown, roomy, spare_there, node_put, high}
-use Rattle.ring_world.proofs.WorldOfNodes.{IsStep, stepped_so, sends_fit, answers_few, answers_left, step_world, step_goes}
+use Rattle.ring_world.proofs.WorldOfNodes.{stepped_so, sends_fit, answers_few, answers_left, step_world, step_goes}
 use Rattle.ring_world.proofs.WorldOfNodes.{standing_world, standing_goes}
 use Rattle.ring_world.proofs.EventLimits.{all_fit}
 use Rattle.ring_world.proofs.SubmitRefused.{room_less}
@@ -100,6 +99,7 @@ keep_step-requires g c =
       left = answers_left here c.index_mut.ensures.value so c.args.event.now c.index_mut-in-Ok.ensures.value step.same;
       told_room = omega (arith, few, c.in_ok-make_room.ensures.told_room);
       history_room = omega (arith, few, c.in_ok-make_room.ensures.history_room);
+      longest_room = c.in_ok-make_room.ensures.longest_room;
     }
 
 pub invariant_of-self-in-Ok : goal.invariant_of-self-in-Ok
@@ -107,12 +107,10 @@ invariant_of-self-in-Ok g c =
     let at = goal.at.invariant_of-self-in-Ok g c in
     let step = by g at.In_ok-make_room in
     step_world (place g at.In_ok-make_room) c.index_mut.ensures.value (stepped_so (given step.there c.in-Ok.ensures)) c.args.event.now c.index_mut-in-Ok.ensures.value step.same
-    c.in_ok-kept.kept c.keep_step.new.spares c.in_ok-kept.ensures.ok step.steps c.push_reserved.ensures.items c.keep_step.ensures.spares
+    c.in_ok-kept.kept c.keep_step.new.spares c.in_ok-kept.ensures.ok step.steps
+    (c.push_reserved.ensures.items ∙ ap (λ v. v.items ++ c.in_ok-kept.kept ∷ []) c.keep_step.ensures.events) c.keep_step.ensures.spares
     c.keep_step.ensures.frames c.keep_step.ensures.history c.keep_step.ensures.told
-    (c.add.ensures
-    ∙ ap (λ cs. c.make_room.new.self.longest.calls ++ calls_past (length c.make_room.new.self.longest.calls) c.committed_len-many.result cs)
-    c.keep_step.ensures.committed
-    ∙ ap (λ n. c.make_room.new.self.longest.calls ++ calls_past (length c.make_room.new.self.longest.calls) n c.step_by.new.outs.committed.items)
+    (c.keep_step.ensures.longest ∙ ap (λ n. c.make_room.new.self.longest.calls ++ calls_past (length c.make_room.new.self.longest.calls) n c.step_by.new.outs.committed.items)
     (c.committed_len-many.ensures ∙ ap (λ (n : Node g.row.O-Alloc.Denot). (node_kept n).committed)
     (node_put (place g at.In_ok-make_room) c.step_by.new.node c.index.ensures)))
 
@@ -122,7 +120,8 @@ returns-in-Ok g c =
     let step = by g at.In_ok-make_room in
     record {
       ok = step_goes (place g at.In_ok-make_room) c.index_mut.ensures.value (stepped_so (given step.there c.in-Ok.ensures)) c.args.event.now c.index_mut-in-Ok.ensures.value
-          (by g at.In_ok-make_room).same c.in_ok-kept.kept c.in_ok-kept.ensures.ok c.push_reserved.ensures.items c.keep_step.ensures.told;
+          step.same c.in_ok-kept.kept c.in_ok-kept.ensures.ok
+          (c.push_reserved.ensures.items ∙ ap (λ v. v.items ++ c.in_ok-kept.kept ∷ []) c.keep_step.ensures.events) c.keep_step.ensures.told;
       err = tt;
       done = ap (λ (r : Played g.row.O-Alloc.Denot). r.done) c.self.view_is;
       refused = tt;
@@ -133,8 +132,8 @@ invariant_of-self-in-Err g c =
     let at = goal.at.invariant_of-self-in-Err g c in
     let step = by g at.In_ok-make_room in
     let none = given step.there c.in-Err.ensures in
-    standing_world (place g at.In_ok-make_room) c.args.event.now c.index_mut.ensures.value none.refused c.in_ok-kept.kept c.standing.result step.input
-    c.in_ok-kept.ensures.ok c.standing.ensures.stopped c.standing.ensures.memory step.same step.steps none.err c.push_reserved-in-Err.ensures.items
+    standing_world (place g at.In_ok-make_room) c.args.event.now c.index_mut.ensures.value none.refused c.in_ok-kept.kept c.standing-stop.result step.input
+    c.in_ok-kept.ensures.ok c.standing-stop.ensures.stopped c.standing-stop.ensures.memory step.same step.steps none.err c.push_reserved-in-Err.ensures.items
 
 pub returns-in-Err : goal.returns-in-Err
 returns-in-Err g c =
@@ -142,7 +141,7 @@ returns-in-Err g c =
     let step = by g at.In_ok-make_room in
     record {
       ok = standing_goes (place g at.In_ok-make_room) c.args.event.now c.index_mut.ensures.value (given step.there c.in-Err.ensures).refused
-          c.in_ok-kept.kept c.standing.result step.input c.in_ok-kept.ensures.ok c.standing.ensures.stopped c.standing.ensures.memory step.same
+          c.in_ok-kept.kept c.standing-stop.result step.input c.in_ok-kept.ensures.ok c.standing-stop.ensures.stopped c.standing-stop.ensures.memory step.same
           step.steps c.push_reserved-in-Err.ensures.items;
       err = tt;
       done = ap (λ (r : Played g.row.O-Alloc.Denot). r.done) c.self.view_is;
