@@ -10,6 +10,11 @@ const CALL: [u8; 25] = [
     0x43, 0, 0x16, 0, 0, 0, 7, 0, 0, 0, 0, 0, 0, 0, 1, 1, 0, 0, 0, 0, 0, 0, 0, 0, 5,
 ];
 
+/// The same, and behind it a record that ends before its length.
+const CALL_CUT_OFF: [u8; 27] = [
+    0x43, 0, 0x16, 0, 0, 0, 7, 0, 0, 0, 0, 0, 0, 0, 1, 1, 0, 0, 0, 0, 0, 0, 0, 0, 5, 0x46, 0,
+];
+
 /// Its ticket, and that the node gathers.
 const CALL_TOLD: [u8; 16] = [0x54, 0, 8, 0, 0, 0, 0, 0, 0, 0, 0, 0x45, 0, 2, 0, 0];
 
@@ -59,7 +64,7 @@ fn the_worked_records_are_told_so(rt: HostRuntime) -> Result<(), Fail> {
 
 #[test]
 fn a_bad_record_ends_the_node_after_those_before_it(rt: HostRuntime) -> Result<(), Fail> {
-    let rows: [(&[u8], &[u8], &str); 8] = [
+    let rows: [(&[u8], &[u8], &str); 9] = [
         (&[0x54, 0, 1, 4], &[], "totem: 12 bad frame at byte 0\n"),
         (&[0x54, 0, 0], &[], "totem: 12 bad frame at byte 0\n"),
         (&[0x41, 0, 0], &[], "totem: 12 bad frame at byte 0\n"),
@@ -71,6 +76,11 @@ fn a_bad_record_ends_the_node_after_those_before_it(rt: HostRuntime) -> Result<(
             &[0x53, 0, 0, 0x51, 0, 1, 9],
             &[0x45, 0, 2, 4, 0],
             "totem: 12 bad frame at byte 3\n",
+        ),
+        (
+            &CALL_CUT_OFF,
+            &CALL_TOLD,
+            "totem: 12 bad frame at byte 25\n",
         ),
     ];
     let heap = Refusing::new(rt.alloc(), u64::MAX);
