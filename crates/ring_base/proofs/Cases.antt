@@ -1,7 +1,7 @@
 -- What a choice, an option or a comparison comes to.
-use Rattle.std.proofs.Common.{◌≡◌, ◌||◌, Bool, true, false, Option, Some, None, is_some, refl}
+use Rattle.std.proofs.Common.{◌≡◌, ◌||◌, Bool, true, false, if◌then◌else◌, Option, Some, None, is_some, refl}
 use Rattle.std.specs.Prelude.{IfSome}
-use Rattle.std.specs.Option.{option_map}
+use Rattle.std.specs.Option.{option_map, option_and_then}
 use Rattle.std.specs.Ordering.{is_lt}
 use Rattle.std.specs.declared.cmp.Ordering.{Ordering}
 use Rattle.std.specs.declared.cmp.Ordering.TheVariants.{Less, Equal, Greater}
@@ -19,6 +19,15 @@ pub none_of : {X : Type 0} (o : Option X) → is_some o ≡ false → o ≡ None
 none_of None none = refl
 none_of (Some x) none = absurd (cc none)
 
+pub none_from : {X : Type 0} (o : Option X) → ((x : X) → o ≡ Some x → ⊥) → o ≡ None
+none_from None h = refl
+none_from (Some x) h = absurd (h x refl)
+
+-- what was found under a test that was passed
+pub guarded_some : {A : Type 0} (test : Bool) (found : Option A) (y : A) → (if test then found else None) ≡ Some y → (test ≡ true) × (found ≡ Some y)
+guarded_some true found y is = (refl, is)
+guarded_some false found y is = absurd cc
+
 -- what is said of what is there
 pub some_has : {X : Type 0} (P : X → Type 0) (o : Option X) (x : X) → o ≡ Some x → IfSome o P → P x
 some_has P o x e h = rw e at h
@@ -27,6 +36,12 @@ some_has P o x e h = rw e at h
 pub map_some : {A B : Type 0} (f : A → B) (found : Option A) (y : B) → option_map f found ≡ Some y → (x : A) × (found ≡ Some x) × (f x ≡ y)
 map_some f (Some x) y is = (x, refl, cc)
 map_some f None y is = absurd cc
+
+-- what a function gave of what was found
+pub and_then_some : {A B : Type 0} (f : A → Option B) (found : Option A) (y : B) → option_and_then f found ≡ Some y
+    → (x : A) × (found ≡ Some x) × (f x ≡ Some y)
+and_then_some f (Some x) y is = (x, refl, is)
+and_then_some f None y is = absurd cc
 
 -- what a test of a comparison found
 pub Less-from : (o : Ordering) → is_lt o ≡ true → o ≡ Less

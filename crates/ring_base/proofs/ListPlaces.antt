@@ -41,6 +41,14 @@ get-set [] i x within = absurd (omega arith)
 get-set (y ∷ xs) zero x within = refl
 get-set (y ∷ xs) (suc i) x within = get-set xs i x (omega arith)
 
+-- what stands at another place stays
+pub get-set_other : {X : Type 0} (xs : List X) (i j : ℕ) (x : X) → (j ≡ i → ⊥) → slice_get (slice_set xs i x) j ≡ slice_get xs j
+get-set_other [] i j x n = refl
+get-set_other (z ∷ xs) zero zero x n = absurd (n refl)
+get-set_other (z ∷ xs) zero (suc j) x n = refl
+get-set_other (z ∷ xs) (suc i) zero x n = refl
+get-set_other (z ∷ xs) (suc i) (suc j) x n = get-set_other xs i j x (λ e. n (ap suc e))
+
 -- where nothing stands the list has ended
 pub none-length : {X : Type 0} (xs : List X) (i : ℕ) → slice_get xs i ≡ None → length xs ≤ i
 none-length [] i h = omega arith

@@ -27,3 +27,7 @@ other_ring a ring n = false_from_ne_true (same_ring a ring) (λ e. n (ring_same 
 -- a ring of a lower number is another
 pub lower_other : (a b : RingId) → a.seq < b.seq → same_ring a b ≡ false
 lower_other a b l = ap (λ t. t && (a.rep == b.rep)) (ne_eqb a.seq b.seq (λ e. omega (arith, l, e)))
+
+-- and so is one of a higher
+pub higher_other : (a b : RingId) → b.seq < a.seq → same_ring a b ≡ false
+higher_other a b l = ap (λ t. t && (a.rep == b.rep)) (ne_eqb a.seq b.seq (λ e. omega (arith, l, e)))

@@ -48,7 +48,7 @@ pub told_from-snoc : {A : Type 0} (told : List (Option Answer)) (ss : List (Step
 told_from-snoc told [] s = refl
 told_from-snoc told (x ∷ ss) s = told_from-snoc (told_by told x.input x.answers) ss s
 
-length-answered_in : {A : Type 0} (told : List (Option Answer)) (as' : List (Answered A)) → length (answered_in told as') ≡ length told
+pub length-answered_in : {A : Type 0} (told : List (Option Answer)) (as' : List (Answered A)) → length (answered_in told as') ≡ length told
 length-answered_in told [] = refl
 length-answered_in told (a ∷ as') = length-answered_in (slice_set told a.ticket (Some a.answer)) as' ∙ length-set told a.ticket (Some a.answer)
 

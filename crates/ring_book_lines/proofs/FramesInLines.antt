@@ -4,6 +4,7 @@ use Rattle.std.proofs.Common.{◌∷◌, Option, None, Some, length, take, slice
 use Rattle.std.specs.Prelude.{if◌then◌else◌, IsTrue, ◌↔◌, IfSome, IsSomeAnd}
 use Rattle.std.specs.List.{AllByRecursion}
 use Rattle.std.specs.Option.{option_and_then}
+use Rattle.ring_base.proofs.Cases.{guarded_some}
 use Rattle.ring_base.proofs.Each.{each-get}
 use Rattle.ring_order_proof.specs.Limits.{SentFits}
 use Rattle.ring_base.specs.Processors.{has}
@@ -64,13 +65,9 @@ stood_on (Some l) place s h = (l, (refl, h))
 stood : {A : Type 0} (lines : List (LineView A)) (at : FrameRef) (s : Sent A) → sent_at lines at ≡ Some s → Stood lines at s
 stood lines at s h = let t = stood_on (slice_get lines at.line) at.place s h in record { line = t.0; here = t.1.0; among = t.1.1 }
 
-if_some : {X : Type 0} (b : Bool) (o : Option X) (x : X) → (if b then o else None) ≡ Some x → (b ≡ true) × (o ≡ Some x)
-if_some true o x h = (refl, h)
-if_some false o x h = absurd cc
-
 -- a frame that goes to the node
 goes : {A : Type 0} (node : ℕ) (s : Sent A) (f : Frame A) → frame_for node s ≡ Some f → (has s.to node ≡ true) × (s.frame ≡ f)
-goes node s f h = let i = if_some (has s.to node) (Some s.frame) f h in (i.0, cc (i.1))
+goes node s f h = let i = guarded_some (has s.to node) (Some s.frame) f h in (i.0, cc (i.1))
 
 sent_to : {A : Type 0} (o : Option (Sent A)) (node : ℕ) (f : Frame A) → option_and_then (frame_for node) o ≡ Some f
     → (s : Sent A) × ((o ≡ Some s) × ((has s.to node ≡ true) × (s.frame ≡ f)))

@@ -5,6 +5,7 @@
 use Rattle.std.proofs.Common.{◌≡◌, ℕ, ◌%◌, ◌<◌, ◌≤◌, ◌⊎◌, inl, inr, Bool, true, false, ◌==◌, cond, List, [], ◌∷◌, length, refl, ap, sym, ◌∙◌, subst}
 use Rattle.std.proofs.Math.Nat.{zero-mod}
 use Rattle.std.proofs.lemmas.Bool.{cond_both, eq-eqb, ne_eqb, cond-true, cond-false}
+use Rattle.ring_base.proofs.Taking.{smallest_some}
 use Rattle.ring_base.specs.Rings.{same_ring}
 use Rattle.ring_base.specs.Processors.{only, has, at, size, next}
 use Rattle.ring_base.specs.declared.ring_id.RingId.{RingId}
@@ -20,7 +21,6 @@ use Rattle.ring_core_proof.specs.Worlds.{Carried, put}
 use Rattle.ring_core_proof.specs.Moves.{Move, Idles, Enters, Learns, Visits, Takes, Installs, turn_with, moved, IsStart, MayVisit, MayMove, CameTo}
 use Rattle.ring_core_proof.proofs.Rises.{runs_in}
 use Rattle.ring_core_proof.proofs.VisitsByRules.{Turned, moved_turned}
-use Rattle.ring_core_proof.proofs.StepsAreMoves.{some_member}
 use Rattle.ring_chain_proof.specs.ChainWords.{Chains, IsRingOf, picked, IsRound}
 use Rattle.ring_chain_proof.proofs.GenuineFrames.{HasArrived, IsToken, AreRight, with_visit, visits_after}
 use Rattle.ring_chain_proof.specs.ChainTold.{AreChains}
@@ -76,7 +76,7 @@ module _ {A : Type 0} (visits : Chains A) (cores : ℕ → Core A) (frames : Lis
         let zero : t.number % size ms ≡ 0 = ap (λ (u : Token). u.number % size ms) s.token ∙ zero-mod (size ms) in
         let same : first_token t.ring ≡ t = ap first_token h.ring ∙ sym s.token in
         record {
-          some = some_member ms i first low;
+          some = smallest_some ms i low first;
           here = sym first ∙ ap (at ms) (sym zero);
           arrived = subst (λ u. HasArrived t.ring u (visits t.ring)) same (first-arrived t.ring (visits t.ring));
         }

@@ -24,15 +24,15 @@ all_issued-later places k issued = all-from_places (λ (w : Place). IsIssuedBefo
     issued-later place k (all-at (λ (w : Place). IsIssuedBefore w k) places q place issued at))
 
 -- one more was issued
-pub front-more : (places : List Place) (k m : ℕ) (place : Place) → slice_get places m ≡ Some place → AreIssuedBefore (take m places) k → IsIssuedBefore place k
+pub place-more : (places : List Place) (k m : ℕ) (place : Place) → slice_get places m ≡ Some place → AreIssuedBefore (take m places) k → IsIssuedBefore place k
     → AreIssuedBefore (take (m + 1) places) k
-front-more places k m place at before issued =
+place-more places k m place at before issued =
     rw (take-more places m place at) (All-push (λ (w : Place). IsIssuedBefore w k) (take m places) place before issued)
 
 -- the next wasn't
-pub front-ended : (places : List Place) (k m : ℕ) (place : Place) (issued : Bool) → m ≤ length places → AreIssuedBefore (take m places) k
+pub place-ended : (places : List Place) (k m : ℕ) (place : Place) (issued : Bool) → m ≤ length places → AreIssuedBefore (take m places) k
     → slice_get places m ≡ Some place → (IsTrue issued ↔ IsIssuedBefore place k) → issued ≡ false → IsIssuedFront places k m
-front-ended places k m place issued within before at decides not_so = record {
+place-ended places k m place issued within before at decides not_so = record {
   within = within;
   before = before;
   ends = λ other there is.
@@ -42,8 +42,8 @@ front-ended places k m place issued within before at decides not_so = record {
 }
 
 -- or there is no next
-pub front-whole : (places : List Place) (k m : ℕ) → m ≤ length places → length places ≤ m → AreIssuedBefore (take m places) k → IsIssuedFront places k m
-front-whole places k m within all before = record {
+pub place-whole : (places : List Place) (k m : ℕ) → m ≤ length places → length places ≤ m → AreIssuedBefore (take m places) k → IsIssuedFront places k m
+place-whole places k m within all before = record {
   within = within;
   before = before;
   ends = λ other there is. absurd (omega (arith, all, slice_get_within places m other there));

@@ -1,5 +1,5 @@
 -- Where calls are first issued, by one item of the history after the other.
-use Rattle.std.proofs.Common.{◌≡◌, ℕ, zero, suc, ◌+◌, ◌≤◌, ◌==◌, ◌<◌, nat_lt, not, Bool, true, false, List, [], ◌∷◌, ◌++◌, length, Option, Some, None, position, slice_get, refl, ap, sym, ◌∙◌, arith, inl, inr, cond, length-append, length-set, slice_set}
+use Rattle.std.proofs.Common.{◌≡◌, ℕ, ◌+◌, ◌≤◌, ◌==◌, ◌<◌, nat_lt, not, Bool, true, false, List, [], ◌∷◌, ◌++◌, length, Option, Some, None, position, slice_get, ap, sym, ◌∙◌, arith, inl, inr, cond, length-append, length-set, slice_set}
 use Rattle.std.specs.List.{position_or_len}
 use Rattle.std.proofs.lemmas.Bool.{cases_Bool, cases_eq, cond-true, cond-false, eq-eqb, ne_eqb, cases_lt}
 use Rattle.std.proofs.lemmas.Bool.Decides.{nat_tests}
@@ -8,7 +8,7 @@ use Rattle.std.proofs.lemmas.List.Sums.{prefix_len-le-length}
 use Rattle.std.proofs.lemmas.Option.{slice_get_within}
 use Rattle.std.specs.BTreeMap.{BTreeMap}
 use Rattle.std.specs.Prelude.{Vec}
-use Rattle.ring_base.proofs.ListPlaces.{get-set}
+use Rattle.ring_base.proofs.ListPlaces.{get-set, get-set_other}
 use Rattle.ring_object.specs.Operations.{Sequential}
 use Rattle.ring_payload.specs.declared.call.Call.{Call}
 use Rattle.ring_session.specs.Deduplicated.{StandsAt}
@@ -98,14 +98,6 @@ position-new p xs y none passes =
 -- a place by what it has
 abbrev pub place_by : Option ℕ → List ℕ → Place
 place_by issued reply = record { issued = issued; reply = reply }
-
--- a write changes no other place
-get-apart : {X : Type 0} (xs : List X) (i k : ℕ) (y : X) → (i ≡ k → ⊥) → slice_get (slice_set xs k y) i ≡ slice_get xs i
-get-apart [] i k y apart = refl
-get-apart (x ∷ xs) zero zero y apart = absurd (apart refl)
-get-apart (x ∷ xs) zero (suc k) y apart = refl
-get-apart (x ∷ xs) (suc i) zero y apart = refl
-get-apart (x ∷ xs) (suc i) (suc k) y apart = get-apart xs i k y (λ same. apart (ap suc same))
 
 module _ {O A : Type 0} (object : Sequential O) where
   -- an item that issues no call of the order changes nothing
@@ -203,7 +195,7 @@ module _ {O A : Type 0} (object : Sequential O) where
               ∙ ap (λ o. Some (place_by o (call_reply object order q))) (sym first)
           | inr apart ↦
               let first = position-fails (is_issue_of c) past (Issue d) (not_same order index c d at q is_index is apart there) in
-              get-apart places q at marked apart ∙ are.each q c within there
+              get-set_other places at q marked apart ∙ are.each q c within there
               ∙ ap (λ o. Some (place_by o (call_reply object order q))) (sym first)
         ];
   }

@@ -4,9 +4,10 @@ use Rattle.std.proofs.Common.{None, Result, Ok, Err, refl, sym, ap, subst, ◌�
 use Rattle.std.specs.Prelude.{IsSome, IfSome, OnOk, IfErr}
 use Rattle.std.specs.Io.Iter.{u64_saturate}
 use Rattle.std.specs.Io.KnownBytes.{Keeps, Appends, Consumes, IsAtEnd, prepend_known}
-use Rattle.std.proofs.lemmas.List.{take-append-drop, take_at, take-append-le, append-nil, take_all, drop-drop, length-drop, length-append, flat_map_more}
+use Rattle.std.proofs.lemmas.List.{take-append-drop, take_at, take-append-le, append-nil, drop-drop, length-drop, length-append, flat_map_more}
 use Rattle.std.proofs.KnownBytes.{Appends-trans}
 use Rattle.std.proofs.lemmas.List.Elements.{All-push}
+use Rattle.ring_base.proofs.ListFronts.{rest_whole}
 use Rattle.ring_wire.specs.Frames.{spelling_of, FrameFits, length-frame}
 use Rattle.ring_wire.specs.Fronts.{IsGot}
 use Rattle.ring_wire.specs.declared.frame.Frame.{Frame}
@@ -23,17 +24,13 @@ use Rattle.ring_base.specs.Numbers.{most_frame}
 
 -- ---- one frame
 
--- the bytes from a place on, as a slice has them
-pub from_place : (bytes : List ℕ) (start : ℕ) → take (length bytes - start) (drop start bytes) ≡ drop start bytes
-from_place bytes start = let long = length-drop start bytes in take_all (length bytes - start) (drop start bytes) (omega arith)
-
 -- what was got stood at the front of the bytes from a place on
 pub got_front : {A : Type 0} (bytes : List ℕ) (start n : ℕ) (frame : Frame A) → IsGot spelling_of FrameFits
     (take (length bytes - start) (drop start bytes)) frame n
     → (drop start bytes ≡ spelling_of frame ++ drop (start + n) bytes) × (length (spelling_of frame) ≡ n)
 got_front bytes start n frame got =
     let rest = drop start bytes in
-    let whole = from_place bytes start in
+    let whole = rest_whole start bytes in
     let front : take n rest ≡ spelling_of frame = subst (λ (t : List ℕ). take n t ≡ spelling_of frame) whole got.front in
     let within : n ≤ length rest = subst (λ (t : List ℕ). n ≤ length t) whole got.within in
     let parts : rest ≡ take n rest ++ drop n rest = sym (take-append-drop n rest) in

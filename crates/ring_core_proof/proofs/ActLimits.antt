@@ -4,6 +4,7 @@ use Rattle.std.proofs.Common.{◌++◌, length, Option, Some, None, refl, ap, sy
 use Rattle.std.specs.Prelude.{nat_lt, nat_le, reverse, not, take}
 use Rattle.std.specs.List.{AllByRecursion as Each}
 use Rattle.std.proofs.lemmas.Bool.{cond_both, and_parts, eqb-true, ltb-true, leb-true}
+use Rattle.ring_base.proofs.Taking.{smallest_some}
 use Rattle.ring_base.specs.Numbers.{max_number, merged}
 use Rattle.ring_base.specs.Processors.{IsMember, nobody, only, everybody, size, smallest, less}
 use Rattle.ring_base.specs.Members.{everybody_members}
@@ -56,7 +57,7 @@ use Rattle.ring_core_proof.proofs.Guards.{guarded}
 use Rattle.ring_core_proof.proofs.Lifting.{IsTold, told_from, told_configured}
 use Rattle.ring_core_proof.proofs.InLists.{in-each}
 use Rattle.ring_core_proof.proofs.StepsAreMoves.{move_of, IsAsked, asked_by, may_act, may_propose, may_installs, proposed_token}
-use Rattle.ring_core_proof.proofs.StepsAreMoves.{some_member, fresh_few, queue_each, all_repeats}
+use Rattle.ring_core_proof.proofs.StepsAreMoves.{fresh_few, queue_each, all_repeats}
 use Rattle.ring_core_proof.proofs.VisitsByRules.{front_within}
 use Rattle.ring_core_proof.specs.Limits.{InputFits, OutFits, GatheringFits, QueueFits, CoreFits, SentFits}
 use Rattle.ring_core_proof.proofs.SetLimits.{everybody_lt, less_le, entered_fits, agreed_fits, given_up_fits, widened_fits, widens_other, join_fits}
@@ -351,7 +352,7 @@ proposed_fits {A} c f h =
     let a : candidates g ≤ g.proc_set = less_le g.proc_set g.fail_set in
     let b : g.proc_set < 2 ^ 16 = f.gathering.proc_set in
     entered_with c f (λ frame. Unit {0}) (proposed_token c) v
-    (proposal_fits c.me number (candidates g) (own_entry c) f.me (omega arith) most (omega arith) me (some_member (candidates g) c.me me f.me.0)
+    (proposal_fits c.me number (candidates g) (own_entry c) f.me (omega arith) most (omega arith) me (smallest_some (candidates g) c.me f.me.0 me)
     (entry_fits c f)
     (entry_reports c f (record { seq = number; rep = c.me }) (above_installed c f (λ frame. Unit {0}) (proposed_token c) v)))
 

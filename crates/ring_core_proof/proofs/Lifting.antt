@@ -51,6 +51,10 @@ put-own cores i = fun_ext (λ j. cond_both (j == i) (cores i) (cores j) (λ x. x
 pub put-here : {A : Type 0} → (cores : ℕ → Core A) (i : ℕ) (c : Core A) → put cores i c i ≡ c
 put-here cores i c = cond-true (i == i) c (cores i) (eq-eqb i i refl)
 
+-- a node has a number from 1 on
+pub node_low : {A : Type 0} (w : World A) (i : ℕ) → is_node w i ≡ true → 1 ≤ i
+node_low w i e = leb-true 1 i (and_parts (nat_le 1 i) (nat_le i w.total) e).0
+
 -- Frames
 
 pub carried-append : {A : Type 0} → (i : ℕ) (xs ys : List (Sent A)) → carried_from i (xs ++ ys) ≡ carried_from i xs ++ carried_from i ys
@@ -202,9 +206,6 @@ module _ {A : Type 0} (P : (ℕ → Core A) → List (Carried A) → Type 0) (k 
       Kept w → Kept (stepped_if b w i input)
   kept_stepped false w i input low f p = p
   kept_stepped true w i input low f p = kept_after w i input (low refl) f p
-
-  node_low : (w : World A) (i : ℕ) → is_node w i ≡ true → 1 ≤ i
-  node_low w i e = leb-true 1 i (and_parts (nat_le 1 i) (nat_le i w.total) e).0
 
   kept_stopped : (b : Bool) (w : World A) (i : ℕ) → (b ≡ true → 1 ≤ i) → Kept w → Kept (stopped_if b w i)
   kept_stopped false w i low p = p

@@ -1,13 +1,14 @@
 -- Each step of the definition is moves: the act is one, a proposal after it is another, and an installation the last.
-use Rattle.std.proofs.Common.{◌≡◌, ℕ, suc, ◌+◌, ◌-◌, ◌*◌, ◌%◌, ◌<◌, ◌≤◌, ◌⊎◌, inl, inr, Bool, true, false, ◌&&◌}
+use Rattle.std.proofs.Common.{◌≡◌, ℕ, ◌+◌, ◌-◌, ◌*◌, ◌%◌, ◌≤◌, ◌⊎◌, inl, inr, Bool, true, false, ◌&&◌}
 use Rattle.std.proofs.Common.{◌==◌, eqb, List, [], ◌∷◌, ◌++◌, length, Option, Some, None, refl, ap, sym, ◌∙◌, subst}
 use Rattle.std.proofs.Common.{arith, append-nil}
 use Rattle.std.specs.Prelude.{nat_lt, nat_le, slice_get}
 use Rattle.std.specs.List.{AllByRecursion as Each}
 use Rattle.std.proofs.lemmas.Bool.{cond_both, and_parts, eqb-true, ltb-true, leb-true, false≢true}
+use Rattle.ring_base.proofs.Taking.{smallest_some}
 use Rattle.ring_base.specs.Numbers.{window_size, max_number}
 use Rattle.ring_base.specs.Rings.{same_ring}
-use Rattle.ring_base.specs.Processors.{has, at, size, smallest, elements}
+use Rattle.ring_base.specs.Processors.{has, at, size, smallest}
 use Rattle.ring_base.specs.declared.state.State.{State}
 use Rattle.ring_base.specs.declared.state.State.TheVariants.{Gather, Commit, Recovery, Operational, Stopped}
 use Rattle.ring_base.proofs.Each.{each-push, each-filter_map}
@@ -288,13 +289,6 @@ may_act c input (Learn k) g h u = learns c input k g h
 abbrev pub proposed_token : {A : Type 0} → Core A → CommitToken
 proposed_token c = record { ring = record { seq = new_number (floor c) c.gathering; rep = c.me }; members = candidates c.gathering; hop = 0; entries = [] }
 
-pub some_member : (set me : ℕ) → smallest set ≡ me → 1 ≤ me → 0 < size set
-some_member set me e low = go (elements set) refl
-  where
-    go : (xs : List ℕ) → elements set ≡ xs → 0 < size set
-    go [] q = absurd (let z : smallest set ≡ 0 = ap (λ xs. Rattle.std.specs.Prelude.slice_index xs 0) q in omega arith)
-    go (x ∷ xs) q = (let z : size set ≡ suc (length xs) = ap (λ xs. length xs) q in omega arith)
-
 pub may_propose : {A : Type 0} → (came : Frame A → Type 0) (c : Core A) → proposes c ≡ true → MayEnter came c (proposed_token c)
 may_propose came c h =
     let s = proposes_gathering c.state c h in
@@ -307,7 +301,7 @@ may_propose came c h =
     record {
       state = s;
       above = omega arith;
-      first = λ low. some_member (candidates c.gathering) c.me me low;
+      first = λ low. smallest_some (candidates c.gathering) c.me low me;
       here = ap (at (candidates c.gathering)) none ∙ me;
       from = inl (record { hop = refl; entries = refl; rep = refl });
     }

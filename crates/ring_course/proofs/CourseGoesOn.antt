@@ -37,7 +37,8 @@ use Rattle.ring_course.proofs.Courses.{exchanged-nothing, covers-upto, upto-behi
 use Rattle.ring_course.proofs.Courses.{kept-log, length-with, settled, left-settled}
 use Rattle.ring_course.proofs.Messages.{with_message, Hears, hears-is, length-by, from-by, trimmed-by, bytes-by, calls-by, never-less}
 use Rattle.ring_course.proofs.KnownOn.{known-self, known-trans}
-use Rattle.ring_course.proofs.KeptSound.{kept-short, stay-parts, stay-sound, marked-sound, sound-lived}
+use Rattle.ring_log_proof.proofs.KeptLogs.{kept-short}
+use Rattle.ring_course.proofs.KeptSound.{stay-parts, stay-sound, marked-sound, sound-lived}
 
 -- the same, by equal parts
 pub kept-as : {A : Type 0} (group : Group) (life life' : List (Stay A)) (held held' : Holding A) (ring : RingId)

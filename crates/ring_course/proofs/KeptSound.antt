@@ -11,25 +11,19 @@ use Rattle.ring_log.specs.Stays.{Stay, stay_in, hears, marks}
 use Rattle.ring_log.specs.Lives.{Whole, exchanged, calls_in, upto}
 use Rattle.ring_log.specs.Kept.{Kept, kept_length, adopts, followed_by, kept_of, keeps_kept, is_kept_sound}
 use Rattle.ring_log_proof.proofs.Wholes.{grown, exchanged-front, calls_in-append}
+use Rattle.ring_log_proof.proofs.KeptLogs.{kept-short}
 use Rattle.ring_log_proof.proofs.KnownGrows.{adopts-grown}
 use Rattle.ring_rules.specs.Lives.{lived}
 use Rattle.ring_course.proofs.Courses.{kept_base}
 use Rattle.ring_course.proofs.Messages.{keeps-grown, length-by}
 
--- a sound life's log isn't too long
-pub kept-short : {A : Type 0} (group : Group) (life : List (Stay A)) → is_kept_sound group life ≡ true → is_log_length (kept_length (kept_of group life)) ≡ true
-kept-short group [] t = le-leb 0 max_number (omega arith)
-kept-short group (s ∷ older) t =
-    (and_parts (is_kept_sound group older && keeps_kept (kept_of group older) s.ring (exchanged group s.members s.heard))
-    (is_log_length (kept_length (kept_of group (s ∷ older)))) t).1
-
 -- the parts of it
-pub record SoundStay {A : Type 0} (group : Group) (s : Stay A) (older : List (Stay A)) : Type 0 where
+pub record KeptSoundStay {A : Type 0} (group : Group) (s : Stay A) (older : List (Stay A)) : Type 0 where
   pub before : is_kept_sound group older ≡ true
   pub keeps : keeps_kept (kept_of group older) s.ring (exchanged group s.members s.heard) ≡ true
   pub short : is_log_length (kept_length (kept_base s.ring (kept_of group older) (exchanged group s.members s.heard))) ≡ true
 
-pub stay-parts : {A : Type 0} (group : Group) (s : Stay A) (older : List (Stay A)) → is_kept_sound group (s ∷ older) ≡ true → SoundStay group s older
+pub stay-parts : {A : Type 0} (group : Group) (s : Stay A) (older : List (Stay A)) → is_kept_sound group (s ∷ older) ≡ true → KeptSoundStay group s older
 stay-parts group s older t =
     let k = kept_of group older in
     let o = exchanged group s.members s.heard in
@@ -41,7 +35,7 @@ stay-parts group s older t =
       short = ap is_log_length (sym (length-by s.ring k s.trimmed o (exchanged group s.members (upto s.mark s.heard)))) ∙ outer.1;
     }
 
-pub stay-sound : {A : Type 0} (group : Group) (s : Stay A) (older : List (Stay A)) → SoundStay group s older → is_kept_sound group (s ∷ older) ≡ true
+pub stay-sound : {A : Type 0} (group : Group) (s : Stay A) (older : List (Stay A)) → KeptSoundStay group s older → is_kept_sound group (s ∷ older) ≡ true
 stay-sound group s older p =
     let k = kept_of group older in
     let o = exchanged group s.members s.heard in

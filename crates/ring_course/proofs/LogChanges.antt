@@ -23,24 +23,24 @@ use Rattle.ring_course.specs.declared.setting.Setting.{Setting}
 
 -- ---- the committed places
 
-committed-appended : {A : Type 0} (log : Log A) (more : List (OneCall A)) → IsFront (committed_calls log) (committed_calls (appended log more))
-committed-appended log more = take-append-front (log.committed - log.trimmed) log.calls more
+grows-appended : {A : Type 0} (log : Log A) (more : List (OneCall A)) → IsFront (committed_calls log) (committed_calls (appended log more))
+grows-appended log more = take-append-front (log.committed - log.trimmed) log.calls more
 
-pub committed-followed : {A : Type 0} (log : Log A) (more : List (OneCall A)) → IsFront (committed_calls log) (committed_calls (followed log more))
-committed-followed {A} log more = by (is_log_length (log_length log + length more))
+pub grows-followed : {A : Type 0} (log : Log A) (more : List (OneCall A)) → IsFront (committed_calls log) (committed_calls (followed log more))
+grows-followed {A} log more = by (is_log_length (log_length log + length more))
   where
     by : (b : Bool) → IsFront (committed_calls log) (committed_calls (if b then appended log more else log))
-    by true = committed-appended log more
+    by true = grows-appended log more
     by false = front_self (committed_calls log)
 
-pub committed-raised : {A : Type 0} (log : Log A) (n : ℕ) → IsFront (committed_calls log) (committed_calls (committed_upto log n))
-committed-raised log n =
+pub grows-raised : {A : Type 0} (log : Log A) (n : ℕ) → IsFront (committed_calls log) (committed_calls (committed_upto log n))
+grows-raised log n =
     take-longer (log.committed - log.trimmed) (max log.committed (min n (log_length log)) - log.trimmed) log.calls (omega arith)
 
 -- a base that begins with them
-committed-joined : {A : Type 0} (log : Log A) (ring : RingId) (base : Base A) → begins (committed_calls log) (based log base) ≡ true
+grows-joined : {A : Type 0} (log : Log A) (ring : RingId) (base : Base A) → begins (committed_calls log) (based log base) ≡ true
     → IsFront (committed_calls log) (committed_calls (joined_log log ring base))
-committed-joined log ring base may =
+grows-joined log ring base may =
     let first = committed_calls log in
     let calls = based log base in
     let same : first ≡ take (length first) calls = (begins-Decides first calls).0 may in
@@ -63,14 +63,14 @@ pub front-followed : {A X E : Type 0} (r : Result X E) (before : Option (Log A))
     → OnOk r (new ≡ followed old calls) → OnErr r (new ≡ old) → IsFront (committed_calls (unwrap_or before old)) (committed_calls (unwrap_or before new))
 front-followed {A} r before old new calls ok err =
     told-front before old new
-    (ok_or_err (λ (l : Log A). IsFront (committed_calls old) (committed_calls l)) r new (followed old calls) old ok err (committed-followed old calls)
+    (ok_or_err (λ (l : Log A). IsFront (committed_calls old) (committed_calls l)) r new (followed old calls) old ok err (grows-followed old calls)
     (front_self (committed_calls old)))
 
 -- more that is committed
 pub front-raised : {A : Type 0} (before : Option (Log A)) (old new : Log A) (n : ℕ) → new ≡ committed_upto old n
     → IsFront (committed_calls (unwrap_or before old)) (committed_calls (unwrap_or before new))
 front-raised {A} before old new n is =
-    told-front before old new (subst (λ (l : Log A). IsFront (committed_calls old) (committed_calls l)) (sym is) (committed-raised old n))
+    told-front before old new (subst (λ (l : Log A). IsFront (committed_calls old) (committed_calls l)) (sym is) (grows-raised old n))
 
 -- ---- a base that is adopted, or isn't
 
@@ -158,7 +158,7 @@ front-joined log new ring base j is =
     let goes : (nat_le base.from log.committed && begins (committed_calls log) (based log base)) ≡ true =
     ap (λ c. c || (nat_le base.from log.committed && begins (committed_calls log) (based log base))) (sym j.keeps) ∙ either.0 in
     subst (λ l. IsFront (committed_calls log) (committed_calls l)) (sym (is ∙ log-joined log ring base j))
-    (committed-joined log ring base (and_parts (nat_le base.from log.committed) (begins (committed_calls log) (based log base)) goes).1)
+    (grows-joined log ring base (and_parts (nat_le base.from log.committed) (begins (committed_calls log) (based log base)) goes).1)
 
 pub front-refused : {A : Type 0} (log new : Log A) (ring : RingId) (base : Base A) → is_adoptable log base ≡ false → new ≡ adopted_if log ring base
     → IsFront (committed_calls log) (committed_calls new)

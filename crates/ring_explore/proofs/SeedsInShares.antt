@@ -1,7 +1,8 @@
 -- Seeds that are tried in shares: what was found of two ranges, one behind the other.
 use Rattle.std.proofs.Common.{◌≡◌, ℕ, ◌+◌, ◌<◌, ◌≤◌, ◌⊎◌, inl, inr, Bool, true}
 use Rattle.std.proofs.Common.{Option, Some, None, IsSome, Result, Ok, Err, IfOk, subst, arith}
-use Rattle.ring_shares.specs.Shares.{share_begin, first_of}
+use Rattle.std.specs.Option.{option_or}
+use Rattle.ring_shares.specs.Shares.{share_begin}
 use Rattle.ring_shares.proofs.Sharing.{under_or_past, share_grows}
 use Rattle.std.specs.Prelude.{◌^◌}
 use Rattle.ring_explore.specs.declared.found.Found.{Found}
@@ -19,7 +20,7 @@ module _ (IsTried : Bool → Type 0) where
 
   -- the seeds of one range, and those of the next
   pub tried_append : (a b c : ℕ) (f g : Option ℕ) → a ≤ b → b ≤ c → AreTried IsTried a b f → AreTried IsTried b c g
-      → AreTried IsTried a c (first_of f g)
+      → AreTried IsTried a c (option_or f g)
   tried_append a b c None None le more f g = λ seed from upto. none_none a b c f g seed from upto (under_or_past seed b)
   tried_append a b c None (Some s) le more f g =
       (omega (arith, le, g.0), g.1, g.2, λ seed from upto. none_none a b s f g.3 seed from upto (under_or_past seed b))
@@ -32,7 +33,7 @@ module _ (IsTried : Bool → Type 0) where
 
   -- one seed more
   pub tried_next : (first a p : ℕ) (f g : Option ℕ) → a ≤ p → AreTried IsTried (first + a) (first + p) f
-      → AreTried IsTried (first + p) (first + p + 1) g → AreTried IsTried (first + a) (first + (p + 1)) (first_of f g)
+      → AreTried IsTried (first + p) (first + p + 1) g → AreTried IsTried (first + a) (first + (p + 1)) (option_or f g)
   tried_next first a p f g le h k =
       let next : first + p + 1 ≡ first + (p + 1) = omega arith in
       tried_append (first + a) (first + p) (first + (p + 1)) f g (omega (arith, le)) (omega arith) h
@@ -42,7 +43,7 @@ module _ (IsTried : Bool → Type 0) where
   -- one share more
   pub tried_share : (first many shares k : ℕ) (f g : Option ℕ) → AreTried IsTried first (first + share_begin many shares k) f
       → AreTried IsTried (first + share_begin many shares k) (first + share_begin many shares (k + 1)) g
-      → AreTried IsTried first (first + share_begin many shares (k + 1)) (first_of f g)
+      → AreTried IsTried first (first + share_begin many shares (k + 1)) (option_or f g)
   tried_share first many shares k f g h more =
       let grows = share_grows many shares k in
       tried_append IsTried first (first + share_begin many shares k) (first + share_begin many shares (k + 1)) f g (omega arith)

@@ -1,7 +1,7 @@
 //! What was found.
 
 ghost use Rattle.std.specs.Prelude.{◌≡◌, ◌+◌, ◌-◌, ◌^◌, min, None};
-ghost use Rattle.ring_shares.specs.Shares.{first_of};
+ghost use Rattle.std.specs.Option.{option_or};
 
 /// What was found of some seeds.
 #[derive(Clone, Copy, Debug, PartialEq, Eq)]
@@ -35,7 +35,7 @@ impl Found {
 
     /// Adds what was found of the seeds behind these. In each count 2^64 - 1 stays.
     pub fn add(&mut self, other: &Found)
-        ensures illegal { self.new.illegal ≡ first_of self.old.illegal other.now.illegal }
+        ensures illegal { self.new.illegal ≡ option_or self.old.illegal other.now.illegal }
         ensures events { self.new.events ≡ min (self.old.events + other.now.events) (2 ^ 64 - 1) }
         ensures calls { self.new.calls ≡ min (self.old.calls + other.now.calls) (2 ^ 64 - 1) }
         ensures answered { self.new.answered ≡ min (self.old.answered + other.now.answered) (2 ^ 64 - 1) }

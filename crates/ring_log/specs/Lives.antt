@@ -115,7 +115,7 @@ upto mark [] = []
 upto mark (x ∷ xs) = if nat_le x.number mark then x ∷ upto mark xs else []
 
 -- of two lists the longer, the first if they are equally long
-abbrev pub longer : {A : Type 0} → List (OneCall A) → List (OneCall A) → List (OneCall A)
+abbrev pub longer : {X : Type 0} → List X → List X → List X
 longer old new = if nat_lt (length old) (length new) then new else old
 
 -- what was committed before, or the ring's log by what is safe there, if its exchange is within that and this log is longer

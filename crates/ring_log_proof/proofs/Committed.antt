@@ -1,10 +1,9 @@
 -- What a node committed is settled, and is a front of its log.
 
 -- What a snapshot stands for that it restored is a front of what the chosen sender had committed: so by the numbers of rings.
-use Rattle.std.proofs.Common.{◌≡◌, ℕ, ◌<◌, ◌≤◌, true, false, List, [], ◌∷◌, ◌++◌, length, take, Option, Some, None, ◌⊎◌, inl, inr, refl, ap}
+use Rattle.std.proofs.Common.{◌≡◌, ℕ, ◌<◌, ◌≤◌, List, [], ◌∷◌, ◌++◌, length, take, Option, Some, None, ◌⊎◌, inl, inr, refl, ap}
 use Rattle.std.proofs.Common.{sym, ◌∙◌, subst, arith}
-use Rattle.std.specs.Prelude.{nat_lt}
-use Rattle.std.proofs.lemmas.Bool.{cond_both, ltb-true, lt-ltb, cases_lt}
+use Rattle.std.proofs.lemmas.Bool.{cond_both}
 use Rattle.std.proofs.lemmas.List.{length-take-le}
 use Rattle.ring_base.specs.Fronts.{IsFront, front_self, front_trans}
 use Rattle.ring_base.specs.Group.{Group, is_primary}
@@ -18,6 +17,7 @@ use Rattle.ring_log.specs.Exchanges.{Exchange, opened, wanted}
 use Rattle.ring_log.specs.Stays.{Stay}
 use Rattle.ring_log.specs.Lives.{Whole, whole_from, exchanged, calls_in, places_below, base_on, own_base, log_by, log_of, longer, committed_by}
 use Rattle.ring_log.specs.Lives.{front_on, restored_by, committed_of, trimmed_of, base_of}
+use Rattle.ring_log.proofs.Longer.{longer-either}
 use Rattle.ring_log_proof.specs.RingFacts.{IsStay, StayIn, safe_part, AllHeard, RingFacts}
 use Rattle.ring_log_proof.specs.Discipline.{KeepsRules}
 use Rattle.ring_log_proof.proofs.Wholes.{grown, exchanged-front, log_on, base-front, log-front, upto-front}
@@ -25,18 +25,6 @@ use Rattle.ring_log_proof.proofs.Stays.{IsLifeBelow, life-behind}
 use Rattle.ring_log_proof.proofs.Heads.{ViewsAt, log_before, before-is, outcome}
 use Rattle.ring_log_proof.proofs.Hard.{AgreedBelow, views-lower, agreed-lower, by-ring, heard-in}
 use Rattle.ring_log_proof.proofs.Settled.{SettledBelow, settled-lower, base-settled}
-
--- of two lists the longer is one of them
-longer-is : {A : Type 0} (P : List (OneCall A) → Type 0) (old new : List (OneCall A)) → P old → P new → P (longer old new)
-longer-is P old new h k = cond_both (nat_lt (length old) (length new)) new old P (λ t. k) (λ f. h)
-
-pub longer-most : {A : Type 0} (old new : List (OneCall A)) → (length old ≤ length (longer old new)) × (length new ≤ length (longer old new))
-longer-most old new =
-    cond_both (nat_lt (length old) (length new)) new old (λ l. (length old ≤ length l) × (length new ≤ length l))
-    (λ t. (omega (arith, ltb-true (length old) (length new) t), omega arith)) (λ f. (omega arith, not_less (length old) (length new) f))
-  where
-    not_less : (m n : ℕ) → nat_lt m n ≡ false → n ≤ m
-    not_less m n f = elim (cases_lt m n) as (λ _. n ≤ m) [ inl l ↦ absurd (let k : true ≡ false = sym (lt-ltb m n l) ∙ f in cc k) | inr le ↦ le ]
 
 -- where nothing was heard, no exchange is whole
 heard-some : {A : Type 0} (group : Group) (m : ℕ) (xs : List (Message A)) (w : Whole A) → exchanged group m xs ≡ Some w → xs ≡ [] → ⊥
@@ -120,8 +108,8 @@ module _ {A : Type 0} (group : Group) (lives : ℕ → List (Stay A)) (members :
       let old = committed_of group older in
       let base = own_base (log_of group older) s.front w.exchange in
       record {
-        known = longer-is (IsKnown bound) old [] known (inl refl);
-        within = longer-is (λ l. IsFront l base) old [] within (base, refl);
+        known = longer-either (IsKnown bound) old [] known (inl refl);
+        within = longer-either (λ l. IsFront l base) old [] within (base, refl);
       }
   restored-at bound s older w v (Some at) wants snap stands known within =
       let st = stands at refl in
@@ -131,8 +119,8 @@ module _ {A : Type 0} (group : Group) (lives : ℕ → List (Stay A)) (members :
       ap (λ o. base_on (log_of group older) s.front o w.exchange.brought) wants
       ∙ ap (λ o. places_below (log_of group older) s.front v.from o ++ w.exchange.brought) snap in
       record {
-        known = longer-is (IsKnown bound) old s.front known st.known;
-        within = longer-is (λ l. IsFront l base) old s.front within (w.exchange.brought, sym is);
+        known = longer-either (IsKnown bound) old s.front known st.known;
+        within = longer-either (λ l. IsFront l base) old s.front within (w.exchange.brought, sym is);
       }
 
   -- A stay
@@ -200,9 +188,9 @@ module _ {A : Type 0} (group : Group) (lives : ℕ → List (Stay A)) (members :
       by None f =
           (known-lower s.ring.seq bound new (omega (arith, low)) restored.known, front_trans new (own w.exchange) (log_on own w) restored.within (base-front own w))
       by (Some v) f = (
-        longer-is (IsKnown bound) new (log_on own v) (known-lower s.ring.seq bound new (omega (arith, low)) restored.known)
+        longer-either (IsKnown bound) new (log_on own v) (known-lower s.ring.seq bound new (omega (arith, low)) restored.known)
             (marked-known bound p s older w v there low agreed e f),
-        longer-is (λ l. IsFront l (log_on own w)) new (log_on own v) (front_trans new (own w.exchange) (log_on own w) restored.within (base-front own w))
+        longer-either (λ l. IsFront l (log_on own w)) new (log_on own v) (front_trans new (own w.exchange) (log_on own w) restored.within (base-front own w))
             (log-front own group s.members (safe_part s) s.heard v w f e (upto-front s.mark s.heard)),
       )
 

@@ -1,7 +1,9 @@
 -- What a node knows of its log by its own life is the rest of the whole log behind the snapshot that it restored last.
 -- It is so where the whole life, with what snapshots stand for, is sound; and its own life is as sound, where no base lacks committed places.
-use Rattle.std.proofs.Common.{◌≡◌, Bool, true, false, ◌&&◌, List, [], ◌∷◌, length, inl, inr, refl, ap, sym, ◌∙◌}
+use Rattle.std.proofs.Common.{◌≡◌, Bool, true, false, ◌&&◌, List, [], ◌∷◌, length, inl, inr, refl, ap, sym, ◌∙◌, arith}
+use Rattle.std.proofs.lemmas.Bool.{and_parts, le-leb}
 use Rattle.ring_base.specs.Group.{Group}
+use Rattle.ring_base.specs.Numbers.{max_number}
 use Rattle.ring_log.specs.Logs.{is_log_length}
 use Rattle.ring_log.specs.Stays.{Stay}
 use Rattle.ring_log.specs.Lives.{exchanged, log_of, committed_of, head_of_life, keeps_committed, is_sound}
@@ -11,6 +13,13 @@ use Rattle.ring_log_proof.specs.Discipline.{IsDropping}
 use Rattle.ring_log_proof.specs.Views.{IsView}
 use Rattle.ring_log_proof.proofs.CommittedGrows.{sound_stay, committed_front}
 use Rattle.ring_log_proof.proofs.Views.{view-none, view-more, keeps-more, length-more, head-view}
+
+-- the log of such a life isn't too long
+pub kept-short : {A : Type 0} (group : Group) (life : List (Stay A)) → is_kept_sound group life ≡ true → is_log_length (kept_length (kept_of group life)) ≡ true
+kept-short group [] t = le-leb 0 max_number (omega arith)
+kept-short group (s ∷ older) t =
+    (and_parts (is_kept_sound group older && keeps_kept (kept_of group older) s.ring (exchanged group s.members s.heard))
+    (is_log_length (kept_length (kept_of group (s ∷ older)))) t).1
 
 -- both views of a sound life in which committed places alone are dropped
 pub view : {A : Type 0} (group : Group) (life : List (Stay A)) → is_sound group life ≡ true → IsDropping group life → IsView group life

@@ -22,7 +22,7 @@ use Rattle.ring_log_proof.proofs.HonestExchanges.{Outcome}
 use Rattle.ring_log_proof.proofs.Heads.{ViewsAt, Says, log_before, outcome, base-owner}
 use Rattle.ring_log_proof.proofs.Hard.{shared}
 use Rattle.ring_log_proof.proofs.Settled.{SettledBelow, ground-text}
-use Rattle.ring_log_proof.proofs.Committed.{longer-most}
+use Rattle.ring_log.proofs.Longer.{longer-most}
 
 pub grows-self : {A : Type 0} (s : Stay A) → Grows s s
 grows-self s = record {

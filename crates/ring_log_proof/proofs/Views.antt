@@ -2,7 +2,7 @@
 use Rattle.std.proofs.Common.{◌≡◌, ℕ, zero, suc, ◌+◌, ◌-◌, ◌≤◌, max, Bool, true, false, ◌&&◌, ◌||◌, List, [], ◌∷◌, ◌++◌, length, take, drop}
 use Rattle.std.proofs.Common.{if◌then◌else◌, Option, Some, None, refl, ap, sym, ◌∙◌, subst, arith, length-append}
 use Rattle.std.specs.Prelude.{nat_le, nat_lt, is_some}
-use Rattle.std.proofs.lemmas.Bool.{cond_both, cond-true, cond-false, and_parts, and_from, ltb-true, ltb-false, leb-true, le-leb, eqb-true}
+use Rattle.std.proofs.lemmas.Bool.{cond-true, cond-false, and_parts, and_from, ltb-true, ltb-false, leb-true, le-leb, eqb-true}
 use Rattle.std.proofs.lemmas.List.{length-drop, drop-append-le, take-append-drop}
 use Rattle.std.proofs.Math.Seq.{drop-append_seam}
 use Rattle.ring_base.specs.Fronts.{IsFront, front_length}
@@ -21,17 +21,12 @@ use Rattle.ring_log.specs.Lives.{front_on, restored_by, committed_of, trimmed_on
 use Rattle.ring_log.specs.Lives.{keeps_committed}
 use Rattle.ring_log.specs.Kept.{Kept, restores, restored_kept, first_joined, joined_kept, adopts_wanted, adopts, raised, followed_by, based_on, kept_by, dropped_by, kept_of, kept_length, kept_committed}
 use Rattle.ring_log.specs.Kept.{kept_undropped, head_kept, begins_kept, keeps_wanted, keeps_kept}
+use Rattle.ring_log.proofs.Longer.{length-longer}
 use Rattle.ring_log_proof.proofs.Wholes.{grown, exchanged-front, exchanged-whole, upto-front}
 use Rattle.ring_log_proof.specs.Views.{Rests, IsView}
 use Rattle.ring_log_proof.proofs.Begins.{front-begins, front_begins}
 
 -- ---- lists and lengths
-
-length-longer : {A : Type 0} (old new : List (OneCall A)) → length (longer old new) ≡ max (length old) (length new)
-length-longer old new =
-    cond_both (nat_lt (length old) (length new)) new old (λ l. length l ≡ max (length old) (length new))
-    (λ t. let lt = ltb-true (length old) (length new) t in omega (arith, lt))
-    (λ f. let le = ltb-false (length old) (length new) f in omega (arith, le))
 
 -- what lies behind the first of a base
 drop-based : {X : Type 0} (k from : ℕ) (own calls : List X) → from ≤ length own

@@ -1,8 +1,9 @@
 -- An exchange that was heard whole stays the same as more is heard, and so a ring's log only grows; of two fronts of one text the logs are fronts of one list.
-use Rattle.std.proofs.Common.{if◌then◌else◌, ◌≡◌, ℕ, ◌≤◌, Bool, true, false, List, [], ◌∷◌, ◌++◌, length, Option, Some, None, ◌⊎◌, refl, ap, sym}
+use Rattle.std.proofs.Common.{if◌then◌else◌, ◌≡◌, ℕ, ◌≤◌, Bool, true, false, List, [], ◌∷◌, ◌++◌, length, Some, None, ◌⊎◌, refl, ap, sym}
 use Rattle.std.proofs.Common.{◌∙◌, subst, append_assoc}
 use Rattle.std.specs.Prelude.{nat_le}
 use Rattle.std.proofs.lemmas.Bool.{cond_both}
+use Rattle.ring_base.proofs.Cases.{guarded_some}
 use Rattle.ring_base.specs.Fronts.{IsFront, front_shorter}
 use Rattle.ring_base.specs.Group.{Group, IsPrimary, is_primary}
 use Rattle.ring_base.specs.Primaries.{primary_tested}
@@ -62,27 +63,23 @@ whole-front e xs ys w h f = subst (λ l. whole_from e l ≡ Some (grown w f.0)) 
 
 -- Of a ring
 
-by-primary : {A : Type 0} (b : Bool) (o : Option (Whole A)) (w : Whole A) → (if b then o else None) ≡ Some w → (b ≡ true) × (o ≡ Some w)
-by-primary true o w h = (refl, h)
-by-primary false o w h = absurd (cc h)
-
 -- only a primary ring has one
 pub exchanged-primary : {A : Type 0} (group : Group) (m : ℕ) (xs : List (Message A)) (w : Whole A) → exchanged group m xs ≡ Some w → IsPrimary group m
-exchanged-primary group m xs w h = (primary_tested group m).0 (by-primary (is_primary group m) (whole_from (opened m) xs) w h).0
+exchanged-primary group m xs w h = (primary_tested group m).0 (guarded_some (is_primary group m) (whole_from (opened m) xs) w h).0
 
 pub exchanged-from : {A : Type 0} (group : Group) (m : ℕ) (xs : List (Message A)) (w : Whole A) → exchanged group m xs ≡ Some w
     → whole_from (opened m) xs ≡ Some w
-exchanged-from group m xs w h = (by-primary (is_primary group m) (whole_from (opened m) xs) w h).1
+exchanged-from group m xs w h = (guarded_some (is_primary group m) (whole_from (opened m) xs) w h).1
 
 pub exchanged-whole : {A : Type 0} (group : Group) (m : ℕ) (xs : List (Message A)) (w : Whole A) → exchanged group m xs ≡ Some w → WholeBy (opened m) xs w
-exchanged-whole group m xs w h = whole_by (opened m) xs w (by-primary (is_primary group m) (whole_from (opened m) xs) w h).1
+exchanged-whole group m xs w h = whole_by (opened m) xs w (guarded_some (is_primary group m) (whole_from (opened m) xs) w h).1
 
 exchanged-append : {A : Type 0} (group : Group) (m : ℕ) (xs more : List (Message A)) (w : Whole A) → exchanged group m xs ≡ Some w
     → exchanged group m (xs ++ more) ≡ Some (grown w more)
 exchanged-append group m xs more w h =
     cond_both (is_primary group m) (whole_from (opened m) (xs ++ more)) None (λ o. o ≡ Some (grown w more))
-    (λ t. whole-append (opened m) xs more w (by-primary (is_primary group m) (whole_from (opened m) xs) w h).1)
-    (λ f. absurd (let y : true ≡ false = sym (by-primary (is_primary group m) (whole_from (opened m) xs) w h).0 ∙ f in cc y))
+    (λ t. whole-append (opened m) xs more w (guarded_some (is_primary group m) (whole_from (opened m) xs) w h).1)
+    (λ f. absurd (let y : true ≡ false = sym (guarded_some (is_primary group m) (whole_from (opened m) xs) w h).0 ∙ f in cc y))
 
 -- the same, where what was heard is a front of what is heard
 pub exchanged-front : {A : Type 0} (group : Group) (m : ℕ) (xs ys : List (Message A)) (w : Whole A) → exchanged group m xs ≡ Some w → (f : IsFront xs ys)

@@ -2,7 +2,7 @@
 use Rattle.std.proofs.Common.{◌≡◌, ℕ, ◌≤◌, ◌==◌, true, false, List, [], ◌∷◌, ◌++◌, ◌⊎◌, inl, inr, if◌then◌else◌, refl, ap, sym, ◌∙◌, subst, arith}
 use Rattle.std.specs.declared.alloc.Global.{Global}
 use Rattle.std.specs.List.{AllByRecursion as Each}
-use Rattle.std.proofs.lemmas.Bool.{cond_both, cond-false, eqb-true, ne_eqb, cases_eq, and_parts}
+use Rattle.std.proofs.lemmas.Bool.{cond_both, cond-false, eqb-true, ne_eqb, cases_eq}
 use Rattle.ring_base.specs.Fronts.{IsFront, front_trans}
 use Rattle.ring_base.specs.Group.{IsPrimary, is_primary}
 use Rattle.ring_base.specs.Primaries.{primary_tested}
@@ -10,6 +10,7 @@ use Rattle.ring_base.specs.Processors.{IsMember, elements}
 use Rattle.ring_base.specs.Members.{everybody_members}
 use Rattle.ring_base.specs.Rings.{same_ring}
 use Rattle.ring_base.specs.declared.ring_id.RingId.{RingId}
+use Rattle.ring_base.proofs.SameRing.{ring_same}
 use Rattle.ring_payload.specs.Kinds.{units}
 use Rattle.ring_payload.specs.declared.content.Payload.TheVariants.{Call}
 use Rattle.ring_log.specs.Examples.{group_of_three, message_of}
@@ -41,15 +42,8 @@ by-ring : (P : RingId → List (Message Global) → Type 0) → P first_ring fir
     → P r (text r)
 by-ring P first second none r =
     cond_both (same_ring r first_ring) first_text (if same_ring r second_ring then second_text else []) (P r)
-    (λ e. subst (λ q. P q first_text) (sym (one-ring r first_ring e)) first)
-    (λ f. cond_both (same_ring r second_ring) second_text [] (P r) (λ e. subst (λ q. P q second_text) (sym (one-ring r second_ring e)) second) (λ f. none r))
-  where
-    one-ring : (a b : RingId) → same_ring a b ≡ true → a ≡ b
-    one-ring a b e =
-        let parts = and_parts _ _ e in
-        let seqs = eqb-true a.seq b.seq parts.0 in
-        let reps = eqb-true a.rep b.rep parts.1 in
-        λ i. record { seq = seqs i; rep = reps i }
+    (λ e. subst (λ q. P q first_text) (sym (ring_same r first_ring e)) first)
+    (λ f. cond_both (same_ring r second_ring) second_text [] (P r) (λ e. subst (λ q. P q second_text) (sym (ring_same r second_ring e)) second) (λ f. none r))
 
 -- a processor that sent none of these said nothing
 said-nothing : (p : ℕ) (xs : List (Message Global)) → Each (λ (x : Message Global). (x.sender == p) ≡ false) xs → said_by p xs ≡ []

@@ -1,8 +1,7 @@
 -- Of the logs that a life tells its own is the newest, and what it committed is the longest of those that are safe.
 -- Each of these logs is told by what was heard in a stay.
-use Rattle.std.proofs.Common.{◌≡◌, ℕ, ◌<◌, ◌≤◌, true, false, List, [], ◌∷◌, ◌++◌, length, Option, Some, None, ◌⊎◌, inl, inr, refl, ap, sym, ◌∙◌, subst, arith}
+use Rattle.std.proofs.Common.{◌≡◌, ℕ, ◌<◌, ◌≤◌, List, [], ◌∷◌, ◌++◌, length, Option, Some, None, ◌⊎◌, inl, inr, refl, ap, sym, ◌∙◌, subst, arith}
 use Rattle.std.specs.Prelude.{nat_lt}
-use Rattle.std.specs.List.{AllByRecursion as Each}
 use Rattle.std.proofs.lemmas.Bool.{cond_both, ltb-true, ltb-false}
 use Rattle.ring_base.specs.Fronts.{IsFront, front_self}
 use Rattle.ring_base.specs.Group.{Group}
@@ -15,14 +14,9 @@ use Rattle.ring_log.specs.Stays.{Stay}
 use Rattle.ring_log.specs.Lives.{Whole, exchanged, calls_in, own_base, log_by, log_of, longer, committed_by, restored_by, places_below, front_on, committed_of, base_of, ring_log_by, ring_log}
 use Rattle.ring_log_proof.specs.RingFacts.{IsStay, StayIn, Rises, safe_part, RingFacts}
 use Rattle.ring_log_proof.specs.Discipline.{KeepsRules}
+use Rattle.ring_log_proof.proofs.Stays.{stay-each}
 use Rattle.ring_log_proof.proofs.Wholes.{grown, exchanged-front, log_on, upto-front}
 use Rattle.ring_log_proof.proofs.Moment.{adopted-base}
-
--- what holds of each stay of a life holds of one
-each-stay : {A : Type 0} (P : Stay A → Type 0) (life : List (Stay A)) → Each P life → (s : Stay A) (older : List (Stay A)) → IsStay life s older → P s
-each-stay P [] all s older there = absurd there
-each-stay P (t ∷ life) all s older (inl same) = subst P same.0 all.0
-each-stay P (t ∷ life) all s older (inr there) = each-stay P life all.1 s older there
 
 -- a part of what is heard in each stay
 pub record Part (A : Type 0) : Type 0 where
@@ -159,7 +153,7 @@ module _ {A : Type 0} (group : Group) (lives : ℕ → List (Stay A)) (members :
         newest = λ other its t. elim (first-or-older all_heard s older other its t) [
           | inl first ↦ omega (arith, ap (λ (r : RingId). r.seq) first.ring_is)
           | inr old ↦
-              let below = each-stay (λ (u : Stay A). u.ring.seq < s.ring.seq) older rises.0 old.stay old.older old.there in
+              let below = stay-each (λ (u : Stay A). u.ring.seq < s.ring.seq) older old.stay old.older rises.0 old.there in
               omega (arith, below, ap (λ (r : RingId). r.seq) old.ring_is)
         ];
       })

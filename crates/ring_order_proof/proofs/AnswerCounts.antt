@@ -5,6 +5,7 @@ use Rattle.std.proofs.Common.{if◌then◌else◌}
 use Rattle.std.specs.Prelude.{nat_le, ◌&&◌}
 use Rattle.std.proofs.lemmas.Bool.{cond_both, ne_eqb}
 use Rattle.std.proofs.lemmas.List.{length-append}
+use Rattle.std.specs.Option.{option_or}
 use Rattle.ring_object.specs.Operations.{Sequential}
 use Rattle.ring_payload.specs.declared.call.Call.{Call}
 use Rattle.ring_session.specs.declared.answer.Answer.{Answer}
@@ -16,7 +17,7 @@ use Rattle.ring_core.specs.declared.out.Out.{Out}
 use Rattle.ring_core.specs.Stepping.{ring_step}
 use Rattle.ring_session.specs.declared.answered.Answered.{Answered}
 use Rattle.ring_session.specs.Tickets.{Asked, place_of, unanswered, is_place, answers_at, answers_after}
-use Rattle.ring_session.proofs.TicketPlaces.{first_place-below, or_else, last_place, first_place-push}
+use Rattle.ring_session.proofs.TicketPlaces.{first_place-below, last_place, first_place-push}
 use Rattle.ring_rules.specs.declared.input.Input.{Input as NodeInput}
 use Rattle.ring_rules.specs.declared.input.Input.TheVariants.{Frame as NodeFrame, Noise as NodeNoise, Timeout as NodeTime, Stop as NodeStop}
 use Rattle.ring_rules.specs.Lives.{lived_through}
@@ -35,7 +36,7 @@ counted o n = if is_none o then suc n else n
 -- answers told before those of the tickets behind, and the tickets that wait then, are at most those that waited
 one_ticket : {A : Type 0} → (n : ℕ) (o last : Option ℕ) (told behind : List (Answered A)) (waits waited : ℕ) → ((p : ℕ) → o ≡ Some p → p < n) →
     ((p : ℕ) → last ≡ Some p → p ≡ n) → length told ≤ 1 → length behind + waits ≤ waited →
-    length ((if is_place n (or_else o last) then told else []) ++ behind) + counted (or_else o last) waits ≤ counted o waited
+    length ((if is_place n (option_or o last) then told else []) ++ behind) + counted (option_or o last) waits ≤ counted o waited
 one_ticket n (Some p) last told behind waits waited below at few h =
     let other : (p == n) ≡ false = ne_eqb p n (omega (arith, below p refl)) in
     rw other h
@@ -68,7 +69,7 @@ few_at {A} answer done c ticket (t ∷ ts) =
     let behind = answers_at answer (done ++ c ∷ []) n (ticket + 1) ts in
     let waits = length (unanswered (done ++ c ∷ []) ts) in
     let waited = length (unanswered done ts) in
-    let here : length ((if is_place n (or_else o last) then told else []) ++ behind) + counted (or_else o last) waits ≤ counted o waited =
+    let here : length ((if is_place n (option_or o last) then told else []) ++ behind) + counted (option_or o last) waits ≤ counted o waited =
     one_ticket n o last told behind waits waited (λ p h. (let l = first_place-below t.call t.since 0 done p h in omega (arith, l)))
     (λ p h. (let l = last_is t.call t.since (0 + n) c p h in omega (arith, l))) (let one : length told ≡ 1 = refl in omega (arith, one))
     (few_at answer done c (ticket + 1) ts) in

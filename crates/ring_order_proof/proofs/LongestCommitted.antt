@@ -33,7 +33,8 @@ use Rattle.ring_log_proof.proofs.FilledLives.{kept-filled, filled-there}
 use Rattle.ring_log_proof.proofs.Fronts.{fill}
 use Rattle.ring_log_proof.proofs.Moment.{view-at, committed-front, committed-grows, one-log}
 use Rattle.ring_rules.proofs.Linear.{all-at}
-use Rattle.ring_rules.proofs.Orders.{order_of-fronts, longer-either}
+use Rattle.ring_log.proofs.Longer.{longer-either}
+use Rattle.ring_rules.proofs.Orders.{order_of-fronts}
 use Rattle.ring_rules.specs.Lives.{lived_through}
 use Rattle.ring_rules.specs.Orders.{order_of}
 use Rattle.ring_session.specs.Deduplicated.{deduplicated}

@@ -18,19 +18,19 @@ use Rattle.ring_core.specs.Commits.{Configuration}
 use Rattle.ring_core.specs.declared.input.Input.{Input}
 use Rattle.ring_core.specs.declared.out.Out.{Out}
 use Rattle.ring_core.specs.declared.out.Out.TheVariants.{Send, Agreed, Safe, Trans, Rest, Regular}
-use Rattle.ring_core.specs.State.{Core, Sent, Did}
+use Rattle.ring_core.specs.State.{Core, Sent}
 use Rattle.ring_core.specs.Joining.{proposes}
 use Rattle.ring_core.specs.Views.{front, mark, plan}
 use Rattle.ring_core.specs.Deciding.{Act, Ignore, Enqueue, Repeat, Announce, Invite, GiveUp, Regather, Agree, Widen}
 use Rattle.ring_core.specs.Deciding.{RegatherAndAgree, RegatherAndWiden, Take, Visit, Fill, Learn, decide}
-use Rattle.ring_core.specs.Acting.{act, may_follow, proposed_after, done}
+use Rattle.ring_core.specs.Acting.{act, may_follow, done}
 use Rattle.ring_core.specs.Giving.{may_install, addressed, sent, users, agreed_from, safe_from, delivered_from, given, configured, settle}
 use Rattle.ring_core.specs.Stepping.{ring_step}
 use Rattle.ring_core_proof.proofs.InLists.{in-each, each-in}
 use Rattle.ring_core_proof.proofs.WrapsAndEnd.{found_in}
 use Rattle.ring_core_proof.specs.Limits.{InputFits, CoreFits}
 use Rattle.ring_core_proof.proofs.ActLimits.{done_fits}
-use Rattle.ring_core.proofs.InstalledKept.{done_installed}
+use Rattle.ring_core.proofs.InstalledKept.{done_installed, proposed_marks}
 use Rattle.ring_order_proof.specs.NodeFits.{HeardFits}
 
 -- Outputs that come in a ring of one number, where so much is safe, and lead to a ring of another, where so much is
@@ -118,10 +118,6 @@ act_marks c (Take x) ring = omega arith
 act_marks c (Visit t) ring = safe_mark-turn _ c.turns c.raises ring
 act_marks c (Fill k) ring = omega arith
 act_marks c (Learn k) ring = safe_mark-raise _ c.turns c.raises ring
-
-proposed_marks : {A : Type 0} → (b : Bool) (did : Did A) (ring : RingId) → mark (proposed_after b did).core ring ≡ mark did.core ring
-proposed_marks true did ring = refl
-proposed_marks false did ring = refl
 
 done_marks : {A : Type 0} → (c : Core A) (a : Act A) (ring : RingId) → mark c ring ≤ mark (done c a).core ring
 done_marks c a ring =

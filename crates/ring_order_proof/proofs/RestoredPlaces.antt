@@ -1,8 +1,9 @@
 -- The places that a node knows as dropped were dropped by its steps, or it restored a snapshot of so many.
 -- Then the node that sent the snapshot had committed them.
-use Rattle.std.proofs.Common.{◌≡◌, ℕ, ◌≤◌, ◌<◌, ◌==◌, max, true, false, List, [], ◌∷◌, ◌++◌, Option, Some, None, ◌⊎◌, inl, inr, refl, ap, sym, ◌∙◌, subst, arith}
+use Rattle.std.proofs.Common.{◌≡◌, ℕ, ◌≤◌, ◌<◌, ◌==◌, max, false, List, [], ◌∷◌, ◌++◌, Option, Some, None, ◌⊎◌, inl, inr, refl, ap, sym, ◌∙◌, subst, arith}
 use Rattle.std.specs.Prelude.{nat_lt, is_some}
 use Rattle.std.proofs.lemmas.Bool.{cond_both, cases_Bool, and_parts, ltb-true, ltb-false, eqb-true}
+use Rattle.ring_base.proofs.Cases.{some_of}
 use Rattle.ring_base.specs.Group.{Group}
 use Rattle.ring_base.specs.declared.ring_id.RingId.{RingId}
 use Rattle.ring_payload.specs.declared.content.Payload.{Payload}
@@ -55,10 +56,6 @@ restored-on group s older places r = record {
   fewer = r.fewer;
 }
 
-some-is : (o : Option ℕ) → is_some o ≡ true → (at : ℕ) × (o ≡ Some at)
-some-is None t = absurd cc
-some-is (Some at) t = (at, refl)
-
 -- no step of the life dropped more than so many
 abbrev pub AtMost : {A : Type 0} → ℕ → List (Stay A) → Type 0
 AtMost {A} bound life = (s : Stay A) (older : List (Stay A)) → IsStay life s older → s.trimmed ≤ bound
@@ -92,7 +89,7 @@ gone {A} group bound (s ∷ older) most = whole (by (before (gone group bound ol
         (λ (x : Kept A). Gone x.trimmed)
         (λ t.
         let parts = and_parts (is_some v.snapshot) (nat_lt k.committed v.from) t in
-        let some = some-is v.snapshot parts.0 in
+        let some = some_of v.snapshot parts.0 in
         inr (record {
           stay = s;
           older = older;

@@ -13,11 +13,12 @@ use Rattle.ring_core.specs.declared.input.Input.TheVariants.{Frame as CoreFrame,
 use Rattle.ring_core.specs.declared.out.Out.{Out}
 use Rattle.ring_core.specs.State.{Core, Stepped}
 use Rattle.ring_core.specs.Stepping.{ring_step}
-use Rattle.ring_log.specs.Kept.{Kept, nothing_kept, kept_by, dropped_by, kept_of, kept_length, log_kept, keeps_kept, is_kept_sound}
+use Rattle.ring_log.specs.Kept.{Kept, nothing_kept, kept_by, dropped_by, kept_of, kept_length, log_kept, is_kept_sound}
 use Rattle.ring_log.specs.Lives.{Whole, exchanged}
-use Rattle.ring_log.specs.Logs.{committed_calls, trim_after, is_ripe, is_log_length}
+use Rattle.ring_log.specs.Logs.{committed_calls, trim_after, is_ripe}
 use Rattle.ring_log.specs.Stays.{Stay, born, hands, trims}
 use Rattle.ring_log.proofs.CommittedOf.{hands-kept}
+use Rattle.ring_log_proof.proofs.KeptLogs.{kept-short}
 use Rattle.ring_rules.specs.Dues.{due_by}
 use Rattle.ring_rules.specs.Lives.{lived_through}
 use Rattle.ring_rules.specs.Nodes.{Node, node_opening, node_kept, is_closed, is_restored, snapshot_at}
@@ -29,13 +30,6 @@ use Rattle.ring_rules.specs.Worlds.{world_opening, run}
 use Rattle.ring_order_proof.proofs.KeptByNodes.{all_have}
 
 -- What a life makes of both
-
-kept-short : {A : Type 0} (group : Group) (life : List (Stay A)) → is_kept_sound group life ≡ true → kept_length (kept_of group life) ≤ max_number
-kept-short group [] t = omega arith
-kept-short group (s ∷ older) t =
-    leb-true (kept_length (kept_of group (s ∷ older))) max_number
-    (and_parts (is_kept_sound group older && keeps_kept (kept_of group older) s.ring (exchanged group s.members s.heard))
-    (is_log_length (kept_length (kept_of group (s ∷ older)))) t).1
 
 hands-closed : {A : Type 0} (group : Group) (due : List (Payload A)) (life : List (Stay A)) → is_closed group (hands due life) ≡ is_closed group life
 hands-closed group due [] = refl
@@ -104,7 +98,7 @@ module _ {O A : Type 0} (object : Sequential O) where
   settled-none true n core outs life due sound h =
       let k = kept_of n.group life in
       ended-none (is_closed n.group (hands due life)) k (did object n (walked n core life due) outs k (newly (node_kept n) k)) refl
-      (sym (hands-kept n.group due life)) (kept-short n.group life (sound refl))
+      (sym (hands-kept n.group due life)) (leb-true (kept_length k) max_number (kept-short n.group life (sound refl)))
 
   core-none : (n : Node A) (s : Stepped A) → IsUndropping n → IsUndropping (after_core object n s).node
   core-none n s h =

@@ -26,8 +26,8 @@ records_text (r ∷ before) = records_text before ++ record_of r.kind r.bytes
 abbrev pub behind : ℕ → Record → ℕ
 behind at r = u64_saturate (at + length (record_of r.kind r.bytes))
 
--- why no more records are taken where the next one begins at this byte: for want of memory; since the record asks for nothing that a node
--- does, or isn't there whole; or since the output failed
+-- why no more records are taken where the next one begins at this byte: for want of memory; since the record there is told as one that asks for
+-- nothing that a node does, or isn't there whole; or since the output is told as failed. That it is so isn't said here
 abbrev pub IsStop : ℕ → Failure → Type 0
 IsStop at (Refused fault) = fault ≡ Memory
 IsStop at (BadFrame byte) = byte ≡ at
@@ -70,8 +70,8 @@ module _ {O : Type 0} (object : Sequential O) (A : Type 0) where
       IsInGroup group me × (new : Node A) × Serves object (node_opening group me) new input rest out out' × IsAtEnd rest
 
   -- There is no such processor, and nothing of the input is taken, and nothing told; or there is, its node, at its opening, took each of the
-  -- records before, the output has no more than it told of these, and the failure is why there are no more. Of an output that failed it isn't said
-  -- what it has, nor what is left of the input behind these records.
+  -- records before, the output has no more than it told of these, and the failure is why there are no more; what is left of the input isn't
+  -- said then. Where the output is told as failed it is said alone that there is such a processor.
   abbrev pub IsCutOff : Group → ℕ → Option (List ℕ) → Option (List ℕ) → Option (List ℕ) → Option (List ℕ) → Failure → Type 0
   IsCutOff group me input rest out out' Output = IsInGroup group me
   IsCutOff group me input rest out out' failure =

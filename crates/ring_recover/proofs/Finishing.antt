@@ -38,8 +38,8 @@ plan_from_is k i p e =
     (λ h f. absurd (let q : ⊥ = cc in q))
     e
 
-pub one_plan : (k : CommitToken) (i j : ℕ) (p q : Plan) → plan_from i k ≡ Some p → plan_from j k ≡ Some q → p.old ≡ q.old → p ≡ q
-one_plan k i j p q e f same = plan_from_is k i p e ∙ ap (λ (r : RingId). plan_of r k.members k.entries) same ∙ sym (plan_from_is k j q f)
+pub plan_of_old : (k : CommitToken) (i j : ℕ) (p q : Plan) → plan_from i k ≡ Some p → plan_from j k ≡ Some q → p.old ≡ q.old → p ≡ q
+plan_of_old k i j p q e f same = plan_from_is k i p e ∙ ap (λ (r : RingId). plan_of r k.members k.entries) same ∙ sym (plan_from_is k j q f)
 
 -- One delivery
 

@@ -76,10 +76,6 @@ module _ {A : Type 0} (held : List (Message A)) (ring : RingId) where
 pub kept_found : {A : Type 0} (w : Windowed A) (n : ℕ) → w.mark < n → kept w n ≡ found w.held w.ring n
 kept_found w n l = cond-true (nat_lt w.mark n) (found w.held w.ring n) None (lt-ltb w.mark n l)
 
-pub none_from : {X : Type 0} (o : Option X) → ((x : X) → o ≡ Some x → ⊥) → o ≡ None
-none_from None h = refl
-none_from (Some x) h = absurd (h x refl)
-
 -- Once a message is held whose number was not, those in the front before are a front of those in it now
 
 found_more : {A : Type 0} (x : Message A) (held : List (Message A)) (ring : RingId) (n : ℕ) → holds held ring x.number ≡ false

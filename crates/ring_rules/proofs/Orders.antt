@@ -1,7 +1,6 @@
 -- A run whose steps keep to the rules has one order, which only grows and explains the run's history at each moment.
-use Rattle.std.proofs.Common.{◌≡◌, ℕ, zero, suc, ◌≤◌, nat_lt, Bool, true, false, List, [], ◌∷◌, ◌++◌, length, Some}
-use Rattle.std.proofs.Common.{slice_get, All, refl, ap, sym, subst, arith, inl, inr, if◌then◌else◌}
-use Rattle.std.proofs.lemmas.Bool.Decides.{nat_tests}
+use Rattle.std.proofs.Common.{◌≡◌, ℕ, zero, suc, ◌≤◌, List, [], ◌∷◌, ◌++◌, length, Some}
+use Rattle.std.proofs.Common.{slice_get, All, refl, ap, sym, subst, arith, inl, inr}
 use Rattle.std.proofs.lemmas.List.Elements.{All-nil, All-cons, All-head, All-tail, All-replicate, All-weaker}
 use Rattle.ring_base.specs.Fronts.{IsFront, front_self, front_trans, front_shorter, front_length}
 use Rattle.ring_session.specs.Objects.{Sequential}
@@ -10,24 +9,12 @@ use Rattle.ring_session.specs.Deduplicated.{deduplicated, IsNumbered}
 use Rattle.ring_session.specs.DeduplicatedLaws.{deduplicated-front, deduplicated-numbered, deduplicated-stands}
 use Rattle.ring_session.specs.SessionAnswer.{IsReplyIn}
 use Rattle.ring_session.specs.SessionAnswerLaws.{answered, replied_front}
+use Rattle.ring_log.proofs.Longer.{longer-either, longer-most}
 use Rattle.ring_rules.specs.declared.item.Item.{Item}
 use Rattle.ring_rules.specs.declared.item.Item.TheVariants.{Issue, Reply}
 use Rattle.ring_rules.specs.Histories.{IsIssuedAt, AreIssued, IsLinearization}
 use Rattle.ring_rules.specs.Orders.{longer, order_of, Moment, EachGrows, AreOneLog, IsToldAt, IsGiven, IsAdded, IsOrderStep, IsOrderRun, last_moment, opening}
 use Rattle.ring_rules.proofs.Linear.{all-at, linear-nothing, linear-grows, linear-issue, IsRight, linear-replies}
-
--- ---- the longest list
-
-pub longer-either : {X : Type 0} (P : List X → Type 0) (xs ys : List X) → P xs → P ys → P (longer xs ys)
-longer-either P xs ys at_first at_second = elim (nat_lt (length xs) (length ys)) as (λ b. P (if b then ys else xs)) [ true ↦ at_second | false ↦ at_first ]
-
-longer-cases : {X : Type 0} (xs ys : List X) (b : Bool) → nat_lt (length xs) (length ys) ≡ b
-    → (length xs ≤ length (if b then ys else xs)) × (length ys ≤ length (if b then ys else xs))
-longer-cases xs ys true is = (grind (arith, nat_tests), grind (arith, nat_tests))
-longer-cases xs ys false is = (grind (arith, nat_tests), grind (arith, nat_tests))
-
-length-longer : {X : Type 0} (xs ys : List X) → (length xs ≤ length (longer xs ys)) × (length ys ≤ length (longer xs ys))
-length-longer xs ys = longer-cases xs ys (nat_lt (length xs) (length ys)) refl
 
 -- the order has no more than the log, of which all committed calls are fronts
 order_of-front : {A : Type 0} (log : List (Call A)) (committed : List (List (Call A)))
@@ -45,9 +32,9 @@ order_of-length [] node calls at = absurd (cc at)
 order_of-length (first ∷ rest) zero calls at =
     let same : first ≡ calls = cc at in
     let is : length (deduplicated first) ≡ length (deduplicated calls) = ap (λ w. length (deduplicated w)) same in
-    omega (arith, is, (length-longer (deduplicated first) (order_of rest)).0)
+    omega (arith, is, (longer-most (deduplicated first) (order_of rest)).0)
 order_of-length (first ∷ rest) (suc node) calls at =
-    omega (arith, order_of-length rest node calls at, (length-longer (deduplicated first) (order_of rest)).1)
+    omega (arith, order_of-length rest node calls at, (longer-most (deduplicated first) (order_of rest)).1)
 
 -- each client's calls are numbered in the order
 pub order_of-numbered : {A : Type 0} (committed : List (List (Call A))) → IsNumbered (order_of committed)
@@ -90,7 +77,7 @@ length-grows (calls ∷ rest) [] grows = absurd grows
 length-grows (calls ∷ rest) (more ∷ others) grows =
     let first = front_length (deduplicated calls) (deduplicated more) (deduplicated-front calls more grows.0) in
     let later = length-grows rest others grows.1 in
-    let most = length-longer (deduplicated more) (order_of others) in
+    let most = longer-most (deduplicated more) (order_of others) in
     longer-either (λ w. length w ≤ length (longer (deduplicated more) (order_of others))) (deduplicated calls) (order_of rest)
     (omega (arith, first, most.0)) (omega (arith, later, most.1))
 

@@ -1,19 +1,16 @@
 -- The one order of a group of nodes, and the facts about each step of a run that keep it one.
 -- Sessions, of docs/PROTOCOL.md.
-use Rattle.std.specs.Prelude.{◌≡◌, ℕ, nat_lt, List, [], ◌∷◌, ◌++◌, length, All, Some, slice_get, replicate, if◌then◌else◌, ◌⊎◌}
+use Rattle.std.specs.Prelude.{◌≡◌, ℕ, List, [], ◌∷◌, ◌++◌, All, Some, slice_get, replicate, ◌⊎◌}
 use Rattle.ring_base.specs.Fronts.{IsFront}
 use Rattle.ring_session.specs.Objects.{Sequential}
 use Rattle.ring_core.specs.Payloads.{Call}
 use Rattle.ring_session.specs.declared.answer.Answer.{Answer}
 use Rattle.ring_session.specs.Deduplicated.{deduplicated, StandsAt}
 use Rattle.ring_session.specs.SessionAnswer.{reply_in, session_answer}
+pub use Rattle.ring_log.specs.Lives.{longer}
 use Rattle.ring_rules.specs.declared.item.Item.{Item}
 use Rattle.ring_rules.specs.declared.item.Item.TheVariants.{Issue, Reply}
 use Rattle.ring_rules.specs.Histories.{AreIssued}
-
--- the longer of two lists, the first if they are of one length
-abbrev pub longer : {X : Type 0} → List X → List X → List X
-longer xs ys = if nat_lt (length xs) (length ys) then ys else xs
 
 -- the order that the nodes' committed calls make: the longest of them, with only the calls that take effect
 abbrev pub order_of : {A : Type 0} → List (List (Call A)) → List (Call A)

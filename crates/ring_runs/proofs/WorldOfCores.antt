@@ -7,11 +7,11 @@ use Rattle.ring_base.specs.declared.fault.Fault.TheVariants.{Memory, Stopped as 
 use Rattle.ring_base.proofs.Faults.{was_stopped}
 use Rattle.std.proofs.lemmas.Bool.{cond-true, cond-false, le-leb, eqb-true, eqb-false, cases_Bool}
 use Rattle.std.proofs.lemmas.Bool.Decides.{nat_tests}
-use Rattle.std.proofs.lemmas.List.{append-nil, get_or-set_other}
+use Rattle.std.proofs.lemmas.List.{append-nil}
 use Rattle.std.proofs.lemmas.List.Elements.{filter_map-append}
-use Rattle.std.proofs.lemmas.Option.{slice_get-get_or, get_or_from_slice_get}
+use Rattle.std.proofs.lemmas.Option.{get_or_from_slice_get}
 use Rattle.ring_base.specs.Processors.{has}
-use Rattle.ring_base.proofs.ListPlaces.{get-set}
+use Rattle.ring_base.proofs.ListPlaces.{get-set, get-set_other}
 use Rattle.ring_wire.specs.Frames.{FrameFits}
 use Rattle.ring_wire.specs.declared.frame.Frame.{Frame}
 use Rattle.ring_core.specs.declared.input.Input.{Input}
@@ -45,13 +45,6 @@ node_is w i low high = rw (le-leb 1 i low, le-leb i w.total high) refl
 pub node_is_not : {A : Type 0} (w : World A) (i : ℕ) → 1 ≤ i → w.total ≤ i - 1 → is_node w i ≡ false
 node_is_not w i low far = grind (arith, nat_tests, low, far)
 
--- Lists
-
-get-set_other : {X : Type 0} (xs : List X) (i j : ℕ) (x : X) → (j ≡ i → ⊥) → j < length xs → slice_get (slice_set xs i x) j ≡ slice_get xs j
-get-set_other xs i j x n l =
-    slice_get-get_or (slice_set xs i x) j x (let e = length-set xs i x in omega (arith, e, l)) ∙ ap Some (get_or-set_other xs i j x x n)
-    ∙ sym (slice_get-get_or xs j x l)
-
 -- The core of processor i stands at i - 1
 
 module _ {A : Type 0} (w : World A) (cores : List (Core A)) (many : length cores ≡ w.total)
@@ -71,7 +64,7 @@ module _ {A : Type 0} (w : World A) (cores : List (Core A)) (many : length cores
             ap (slice_get (slice_set cores (i - 1) c)) (sym p) ∙ get-set cores (i - 1) c l ∙ ap Some (sym (cond-true (suc j == i) c (w.cores (suc j)) t))
         | inr f ↦
             let e = eqb-false (suc j) i f in
-            get-set_other cores (i - 1) j c (λ q. e (omega (arith, q, low))) (omega (arith, h, many)) ∙ are j h
+            get-set_other cores (i - 1) j c (λ q. e (omega (arith, q, low))) ∙ are j h
             ∙ ap Some (sym (cond-false (suc j == i) c (w.cores (suc j)) f))
       ]
 

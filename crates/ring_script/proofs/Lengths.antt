@@ -1,7 +1,7 @@
 -- An operation of a script is short enough for a call.
 use Rattle.std.proofs.Common.{◌≡◌, ℕ, ◌+◌, ◌-◌, ◌*◌, ◌^◌, ◌≤◌, Bool, true, false, List, [], ◌∷◌, ◌++◌, length, Option}
-use Rattle.std.proofs.Common.{Some, None, Result, Ok, Err, refl, ap, subst, arith, inl, inr}
-use Rattle.std.specs.Prelude.{option_and_then, if◌then◌else◌, codes, not, nat_le, ◌&&◌}
+use Rattle.std.proofs.Common.{Some, None, Result, Ok, Err, ap, subst, arith, inl, inr}
+use Rattle.std.specs.Prelude.{if◌then◌else◌, codes, not, nat_le, ◌&&◌}
 use Rattle.std.specs.Char.{is_ascii_graphic, is_ascii_uppercase}
 use Rattle.std.specs.List.{list_all, list_any}
 use Rattle.std.specs.Result.{result_ok}
@@ -11,6 +11,7 @@ use Rattle.std.proofs.lemmas.List.{length-append}
 use Rattle.std.proofs.lemmas.Option.{same_Some}
 use Rattle.hex.specs.Hex.{decode_of}
 use Rattle.hex.proofs.HexLemmas.{decode_of-ok}
+use Rattle.ring_base.proofs.Cases.{and_then_some}
 use Rattle.ring_base.specs.declared.fault.Fault.{Fault}
 use Rattle.ring_base.specs.declared.fault.Fault.TheVariants.{NotMember, PendingFull, OpTooLong, Conflict, Stale}
 use Rattle.ring_base.specs.declared.fault.Fault.TheVariants.{NumberGap, SessionsFull, Stopped, BookFull, Stranger}
@@ -22,11 +23,6 @@ use Rattle.ring_script.specs.HexWords.{bytes_of}
 use Rattle.ring_script.specs.Numbers.{is, word_at, number_at}
 use Rattle.ring_script.specs.Operations.{is_name, argument_at, argument_after, arguments_after, Form, is_short, are_short, form_of, named_at, raw_at, operation_at}
 use Rattle.ring_script.specs.Reading.{Refuses}
-
--- what a step and then another have given
-pub and_then_some : {A B : Type 0} (o : Option A) (f : A → Option B) (y : B) → option_and_then f o ≡ Some y → (x : A) × (o ≡ Some x) × (f x ≡ Some y)
-and_then_some None f y e = absurd cc
-and_then_some (Some x) f y e = (x, refl, e)
 
 -- a word that may be a name
 name_short : (word x : List ℕ × List (List ℕ)) → (if is_name word.0 then Some word else None) ≡ Some x → length x.0 ≤ 64
@@ -43,15 +39,15 @@ name_short word x e =
 argument_short : (argument : Argument) (words : List (List ℕ)) (x : List ℕ × List (List ℕ)) → argument_at argument words ≡ Some x → length x.0 ≤ 64
 unfolding argument_at
 argument_short Key words x e =
-    let (key, at, made) = and_then_some (number_at 0 255 words) _ x e in
+    let (key, at, made) = and_then_some _ (number_at 0 255 words) x e in
     let same : key.0 ∷ [] ≡ x.0 = cc in
     omega (arith, ap length same)
 argument_short Value words x e =
-    let (value, at, made) = and_then_some (number_at 0 (2 ^ 64 - 1) words) _ x e in
+    let (value, at, made) = and_then_some _ (number_at 0 (2 ^ 64 - 1) words) x e in
     let same : to_be_bytes w64 value.0 ≡ x.0 = cc in
     omega (arith, ap length same)
 argument_short Name words x e =
-    let (word, at, made) = and_then_some (word_at words) _ x e in
+    let (word, at, made) = and_then_some _ (word_at words) x e in
     name_short word x made
 
 arguments_short : (bytes : List ℕ) (arguments : List Argument) (words : List (List ℕ)) (x : List ℕ × List (List ℕ))
@@ -59,8 +55,8 @@ arguments_short : (bytes : List ℕ) (arguments : List Argument) (words : List (
 unfolding arguments_after
 arguments_short bytes [] words x e = let same : bytes ≡ x.0 = cc in omega (arith, ap length same)
 arguments_short bytes (argument ∷ others) words x e =
-    let (next, at, made) = and_then_some (argument_after bytes argument words) _ x e in
-    let (first, read, put) = and_then_some (argument_at argument words) _ next at in
+    let (next, at, made) = and_then_some _ (argument_after bytes argument words) x e in
+    let (first, read, put) = and_then_some _ (argument_at argument words) next at in
     let same : bytes ++ first.0 ≡ next.0 = cc in
     omega (arith, ap length same, length-append bytes first.0, argument_short argument words first read, arguments_short next.0 others next.1 x made)
 
@@ -81,7 +77,7 @@ named_short : (forms : List Form) (name : List ℕ) (words : List (List ℕ)) (x
     → named_at forms name words ≡ Some x → length x.0 ≤ 1024
 unfolding named_at
 named_short forms name words x short e =
-    let (form, named, made) = and_then_some (form_of forms name) _ x e in
+    let (form, named, made) = and_then_some _ (form_of forms name) x e in
     let low = leb-true (length form.first + 64 * length form.arguments) 1024 (found_short forms name form short named) in
     omega (arith, low, arguments_short form.first form.arguments words x made)
 
@@ -107,15 +103,15 @@ spelled_short most word bytes e =
 raw_short : (words : List (List ℕ)) (x : List ℕ × List (List ℕ)) → raw_at words ≡ Some x → length x.0 ≤ 1024
 unfolding raw_at
 raw_short words x e =
-    let (word, at, next) = and_then_some (word_at words) _ x e in
-    let (bytes, read, made) = and_then_some (bytes_of 1024 word.0) _ x next in
+    let (word, at, next) = and_then_some _ (word_at words) x e in
+    let (bytes, read, made) = and_then_some _ (bytes_of 1024 word.0) x next in
     subst (λ (y : List ℕ × List (List ℕ)). length y.0 ≤ 1024) (same_Some (bytes, word.1) x made) (spelled_short 1024 word.0 bytes read)
 
 pub operation_short : (forms : List Form) (words : List (List ℕ)) (x : List ℕ × List (List ℕ)) → are_short forms ≡ true
     → operation_at forms words ≡ Some x → length x.0 ≤ 1024
 unfolding operation_at
 operation_short forms words x short e =
-    let (word, at, next) = and_then_some (word_at words) _ x e in
+    let (word, at, next) = and_then_some _ (word_at words) x e in
     elim (cases_Bool (is (codes "raw") word.0)) [
       | inl raw ↦ raw_short word.1 x (let taken = rw raw at next in taken)
       | inr named ↦ named_short forms word.0 word.1 x short (let taken = rw named at next in taken)

@@ -3,9 +3,9 @@ use Rattle.std.proofs.Common.{◌≡◌, ℕ, suc, ◌+◌, ◌-◌, ◌<◌, �
 use Rattle.std.specs.Prelude.{position, ◌==◌}
 use Rattle.std.specs.List.{position_or_len}
 use Rattle.std.proofs.lemmas.Bool.{cases_Bool, ltb-true, ltb-false, eqb-true}
-use Rattle.std.proofs.lemmas.Grind.{common_steps}
 use Rattle.std.proofs.lemmas.List.Sums.{position_or_len_is}
 use Rattle.memchr.specs.Find.{IsFirstByte, is_byte}
+use Rattle.ring_base.proofs.ListFronts.{rest_whole}
 use Rattle.ring_script.specs.Words.{pieces, lines_of}
 
 -- where a byte stands first, or the length
@@ -39,10 +39,6 @@ piece_stays separator (b ∷ text) le =
           rw (later, others) refl
     ]
 
--- what stands from a place on
-pub rest_is : (n : ℕ) (text : List ℕ) → take (length text - n) (drop n text) ≡ drop n text
-rest_is n text = grind (arith, common_steps)
-
 -- the same by what `position` gives
 pub pieces-ended : (separator n : ℕ) (text : List ℕ) → Some n ≡ position (λ b. b == separator) text
     → pieces separator text ≡ take n text ∷ pieces separator (take (length text - (n + 1)) (drop (n + 1) text))
@@ -52,7 +48,7 @@ pieces-ended separator n text e =
           let found = rw inside at e in
           let same : place separator text ≡ n = cc in
           let first = piece_ends separator text (ltb-true _ _ inside) in
-          rw (rest_is (n + 1) text, ← same) first
+          rw (rest_whole (n + 1) text, ← same) first
       | inr outside ↦ let none = rw outside at e in absurd (cc)
     ]
 
@@ -122,7 +118,7 @@ pub lines-ended : (n : ℕ) (text : List ℕ) → IsFirstByte (is_byte 10) text 
 lines-ended n text found =
     let same = found_place 10 text n found in
     let first = line_ends text (omega (arith, same, found.0.high)) in
-    rw (rest_is (n + 1) text, ← same) first
+    rw (rest_whole (n + 1) text, ← same) first
 
 pub lines-last : (text : List ℕ) → IsFirstByte (is_byte 10) text None → 0 < length text → lines_of text ≡ text ∷ []
 lines-last [] none some = absurd (omega arith)

@@ -4,7 +4,7 @@ use Rattle.ring_base.specs.declared.fault.Fault.{Fault}
 use Rattle.std.proofs.lemmas.List.{at_drop_more, at_drop_all}
 use Rattle.ring_script.specs.declared.vocabulary.Argument.{Argument}
 use Rattle.ring_script.specs.Reading.{Refuses}
-use Rattle.ring_script.proofs.RefusalsPassOn.{Refuses-on}
+use Rattle.ring_script.proofs.RefusalsPassOn.{Refuses-passes}
 use Rattle.ring_script.specs.Operations.{argument_after, arguments_after}
 
 -- the argument at a place, and the ones after it
@@ -33,4 +33,4 @@ pub arguments_refused : (e : Fault) (bytes : List ℕ) (arguments : List Argumen
     → Refuses e (argument_after bytes (get_or arguments i d) words) → arguments_after bytes (drop i arguments) words
     ≡ total → Refuses e total
 arguments_refused e bytes arguments i words d total lt refused so_far =
-    Refuses-on e (argument_after bytes (get_or arguments i d) words) total refused (λ none. sym so_far ∙ arguments_none bytes arguments i words d lt none)
+    Refuses-passes e (argument_after bytes (get_or arguments i d) words) total refused (λ none. sym so_far ∙ arguments_none bytes arguments i words d lt none)

@@ -9,7 +9,7 @@ use Rattle.ring_base.specs.Processors.{IsProc}
 use Rattle.ring_base.proofs.Cases.{some_has}
 use Rattle.ring_script.specs.Numbers.{number_at}
 use Rattle.ring_script.specs.Votes.{votes_at}
-use Rattle.ring_script.proofs.Lengths.{and_then_some}
+use Rattle.ring_base.proofs.Cases.{and_then_some}
 
 -- what was read before, and what is read after it
 abbrev pub with_front : List ℕ → Option (List ℕ × List (List ℕ)) → Option (List ℕ × List (List ℕ))
@@ -45,8 +45,8 @@ votes_are zero words read e =
     let same : [] ≡ read.0 = cc in
     (sym (ap length same), subst (All (λ vote. 1 ≤ vote)) same (All-nil (λ vote. 1 ≤ vote)))
 votes_are (suc count) words read e =
-    let (vote, at, next) = and_then_some (number_at 1 255 words) _ read e in
-    let (others, later, made) = and_then_some (votes_at count vote.1) _ read next in
+    let (vote, at, next) = and_then_some _ (number_at 1 255 words) read e in
+    let (others, later, made) = and_then_some _ (votes_at count vote.1) read next in
     let same : vote.0 ∷ others.0 ≡ read.0 = cc in
     let rest = votes_are count vote.1 others later in (
       omega (arith, ap length same, rest.0),

@@ -12,7 +12,7 @@ use Rattle.ring_script.specs.Operations.{Form}
 use Rattle.ring_script.specs.Scripts.{Schedule, nodes_of, unless_skipped, asked_in, with_nodes, with_votes, then_nodes, nodes_in, schedule_of, script_by}
 use Rattle.ring_script.specs.Votes.{votes_at, votes_of, is_votes, then_votes, votes_in}
 use Rattle.ring_script.specs.Words.{LinesLeft, words_of, whole, are_ascii, is_skipped, lines_of}
-use Rattle.ring_script.proofs.Lengths.{and_then_some}
+use Rattle.ring_base.proofs.Cases.{and_then_some}
 use Rattle.ring_script.proofs.Voting.{votes_are}
 
 -- as many votes as nodes
@@ -32,9 +32,9 @@ alike_whole line = grind (arith, length-replicate {A = ℕ})
 voted_is : (nodes : Group) (line : List ℕ) (voted : Group) → votes_of nodes line ≡ Some voted → Whole voted
 unfolding votes_of
 voted_is nodes line voted e =
-    let (word, at, next) = and_then_some (word_at (words_of line)) _ voted e in
-    let (read, told, made) = and_then_some (votes_at nodes.count word.1) _ voted next in
-    let (votes, ended, is) = and_then_some (whole read) _ voted made in
+    let (word, at, next) = and_then_some _ (word_at (words_of line)) voted e in
+    let (read, told, made) = and_then_some _ (votes_at nodes.count word.1) voted next in
+    let (votes, ended, is) = and_then_some _ (whole read) voted made in
     let are = votes_are nodes.count word.1 read told in
     let same : read.0 ≡ votes = whole_is read votes ended in
     let count : nodes.count ≡ voted.count = cc in

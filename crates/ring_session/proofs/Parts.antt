@@ -241,29 +241,29 @@ module _ {O : Type 0} (restored : List ℕ → Option O) (bytes : List ℕ) (cou
 -- ---- what was appended
 
 -- a front of a front
-pub front-then : (old mid new : List ℕ) (m n : ℕ) → m ≡ length old → n ≡ length mid → take m mid ≡ old → take n new ≡ mid → take m new ≡ old
-front-then old mid new m n is_m is_n first second =
+pub stays-then : (old mid new : List ℕ) (m n : ℕ) → m ≡ length old → n ≡ length mid → take m mid ≡ old → take n new ≡ mid → take m new ≡ old
+stays-then old mid new m n is_m is_n first second =
     let shorter : m ≤ n = omega (arith, is_m, is_n, ap length first, length-take m mid) in
     sym (take-take m n new shorter) ∙ ap (take m) second ∙ first
 
 -- a front of what was appended to
-pub front-more : (old mid more : List ℕ) (m : ℕ) → m ≡ length old → take m mid ≡ old → take m (mid ++ more) ≡ old
-front-more old mid more m is_m first =
-    front-then old mid (mid ++ more) m (length mid) is_m refl first (take_at mid more (length mid) refl)
+pub stays-more : (old mid more : List ℕ) (m : ℕ) → m ≡ length old → take m mid ≡ old → take m (mid ++ more) ≡ old
+stays-more old mid more m is_m first =
+    stays-then old mid (mid ++ more) m (length mid) is_m refl first (take_at mid more (length mid) refl)
 
 -- a front of what was made by appending
-pub front-on : (old mid new more : List ℕ) (m : ℕ) → m ≡ length old → take m mid ≡ old → new ≡ mid ++ more → take m new ≡ old
-front-on old mid new more m is_m first is = ap (take m) is ∙ front-more old mid more m is_m first
+pub stays-on : (old mid new more : List ℕ) (m : ℕ) → m ≡ length old → take m mid ≡ old → new ≡ mid ++ more → take m new ≡ old
+stays-on old mid new more m is_m first is = ap (take m) is ∙ stays-more old mid more m is_m first
 
 -- a list is a front of itself
-pub front-whole : (old : List ℕ) (m : ℕ) → m ≡ length old → take m old ≡ old
-front-whole old m is_m = take_all m old (omega (arith, is_m))
+pub stays-whole : (old : List ℕ) (m : ℕ) → m ≡ length old → take m old ≡ old
+stays-whole old m is_m = take_all m old (omega (arith, is_m))
 
 -- a front of what was appended to, or left as it was
-pub front-either : {U : Type 0} (r : Result U Fault) (old mid new more : List ℕ) (m : ℕ) → m ≡ length old → take m mid ≡ old
+pub stays-either : {U : Type 0} (r : Result U Fault) (old mid new more : List ℕ) (m : ℕ) → m ≡ length old → take m mid ≡ old
     → OnOk r (new ≡ mid ++ more) → OnErr r (new ≡ mid) → take m new ≡ old
-front-either (Ok u) old mid new more m is_m first ok err = front-on old mid new more m is_m first ok
-front-either (Err e) old mid new more m is_m first ok err = ap (take m) err ∙ first
+stays-either (Ok u) old mid new more m is_m first ok err = stays-on old mid new more m is_m first ok
+stays-either (Err e) old mid new more m is_m first ok err = ap (take m) err ∙ first
 
 -- one client more is appended, and those that are left make the rest
 pub clients-on : (before mid after : List ℕ) (s : ℕ × LastCall) (left rest : List (ℕ × LastCall)) (all : List ℕ) → left ≡ s ∷ rest

@@ -5,6 +5,7 @@ use Rattle.std.proofs.Common.{◌≡◌, ℕ, suc, ◌+◌, ◌==◌, ◌&&◌, 
 use Rattle.std.proofs.Common.{◌∷◌, ◌++◌, length, take, drop, map, Option, Some, None, is_none, refl, ap, sym, ◌∙◌}
 use Rattle.std.proofs.Common.{arith, append_assoc, length-append, if◌then◌else◌}
 use Rattle.std.specs.List.{AllByRecursion}
+use Rattle.std.specs.Option.{option_or}
 use Rattle.std.proofs.lemmas.Bool.{eq-eqb, ne_eqb, le-leb}
 use Rattle.std.proofs.lemmas.List.{append-nil}
 use Rattle.ring_base.specs.Numbers.{max_number}
@@ -20,7 +21,7 @@ use Rattle.ring_session.specs.Tickets.{Asked, first_place, place_of, unanswered,
 use Rattle.ring_session.specs.Tickets.{answers_after, kept_answers, answer_to}
 use Rattle.ring_session.specs.Pendings.{Tickets, is_full, with_ticket, stands_in, answer_for, answers_to, answers_behind}
 use Rattle.ring_session.specs.Pendings.{left_by, with_answers, pending_from, AreTickets}
-use Rattle.ring_session.proofs.TicketPlaces.{first_place-below, or_else, place-push}
+use Rattle.ring_session.proofs.TicketPlaces.{first_place-below, place-push}
 use Rattle.ring_session.proofs.AnswersGrow.{first_place-late, kept-more, kept_answer-map}
 
 -- ---- places of calls done later
@@ -73,7 +74,7 @@ left-pending {A} committed more i (t ∷ ts) early =
 -- ---- the answers of one call
 
 answer-step : {A : Type 0} (b stands same : Bool) (a : Answered A) (o o' : Option ℕ) (n : ℕ) (told here tail : List (Answered A)) → is_none o ≡ b && not stands
-    → o' ≡ or_else o (if same then Some n else None) → ((q : ℕ) → o ≡ Some q → q < n) → told ≡ a ∷ [] → here ≡ tail
+    → o' ≡ option_or o (if same then Some n else None) → ((q : ℕ) → o ≡ Some q → q < n) → told ≡ a ∷ [] → here ≡ tail
     → (if b then (if same && not stands then a ∷ [] else []) ++ here else here) ≡ (if is_place n o' then told else []) ++ tail
 answer-step {A} b stands same a (Some q) o' n told here tail none is below one e = old b stands same none
   where

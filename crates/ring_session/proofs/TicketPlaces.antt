@@ -2,6 +2,7 @@
 use Rattle.std.proofs.Common.{◌≡◌, ℕ, suc, ◌+◌, ◌&&◌, nat_le, ◌<◌, ◌≤◌, Bool, true, false, List, []}
 use Rattle.std.proofs.Common.{◌∷◌, ◌++◌, length, Option, Some, None, refl, ap, ◌∙◌}
 use Rattle.std.proofs.Common.{arith, if◌then◌else◌}
+use Rattle.std.specs.Option.{option_or}
 use Rattle.std.proofs.lemmas.Bool.{le-leb}
 use Rattle.ring_payload.specs.declared.call.Call.{Call}
 use Rattle.ring_session.specs.SessionAnswer.{is_same}
@@ -24,32 +25,28 @@ first_place-below c since at (d ∷ ds) p e = below-step c since at ds p (nat_le
 abbrev pub last_place : {A : Type 0} → Call A → ℕ → ℕ → Call A → Option ℕ
 last_place c since at d = if nat_le since at && is_same c d then Some at else None
 
-abbrev pub or_else : Option ℕ → Option ℕ → Option ℕ
-or_else None o = o
-or_else (Some p) o = Some p
-
 push-step : {A : Type 0} (c : Call A) (since at : ℕ) (xs : List (Call A)) (d : Call A) (b : Bool) (last : Option ℕ)
-    → first_place c since (at + 1) (xs ++ d ∷ []) ≡ or_else (first_place c since (at + 1) xs) last
-    → (if b then Some at else first_place c since (at + 1) (xs ++ d ∷ [])) ≡ or_else (if b then Some at else first_place c since (at + 1) xs) last
+    → first_place c since (at + 1) (xs ++ d ∷ []) ≡ option_or (first_place c since (at + 1) xs) last
+    → (if b then Some at else first_place c since (at + 1) (xs ++ d ∷ [])) ≡ option_or (if b then Some at else first_place c since (at + 1) xs) last
 push-step c since at xs d true last e = refl
 push-step c since at xs d false last e = e
 
 pub first_place-push : {A : Type 0} (c : Call A) (since at : ℕ) (xs : List (Call A)) (d : Call A)
-    → first_place c since at (xs ++ d ∷ []) ≡ or_else (first_place c since at xs) (last_place c since (at + length xs) d)
+    → first_place c since at (xs ++ d ∷ []) ≡ option_or (first_place c since at xs) (last_place c since (at + length xs) d)
 first_place-push c since at [] d = let e : at ≡ at + 0 = omega arith in ap (λ k. last_place c since k d) e
 first_place-push c since at (x ∷ xs) d =
     push-step c since at xs d (nat_le since at && is_same c x) (last_place c since (at + suc (length xs)) d)
     (let e : at + 1 + length xs ≡ at + suc (length xs) = omega arith in first_place-push c since (at + 1) xs d
-    ∙ ap (λ k. or_else (first_place c since (at + 1) xs) (last_place c since k d)) e)
+    ∙ ap (λ k. option_or (first_place c since (at + 1) xs) (last_place c since k d)) e)
 
 -- one more call answers a ticket that waits exactly if it is its call
 abbrev pub place_now : {A : Type 0} → List (Call A) → Asked A → Call A → Option ℕ
 place_now committed t c = if is_same t.call c then Some (length committed) else None
 
 pub place-push : {A : Type 0} (committed : List (Call A)) (t : Asked A) (c : Call A) → t.since ≤ length committed
-    → place_of (committed ++ c ∷ []) t ≡ or_else (place_of committed t) (place_now committed t c)
+    → place_of (committed ++ c ∷ []) t ≡ option_or (place_of committed t) (place_now committed t c)
 place-push committed t c early =
     let all : 0 + length committed ≡ length committed = omega arith in
     first_place-push t.call t.since 0 committed c
-    ∙ ap (λ k. or_else (place_of committed t) (last_place t.call t.since k c)) all
-    ∙ ap (λ b. or_else (place_of committed t) (if b && is_same t.call c then Some (length committed) else None)) (le-leb t.since (length committed) early)
+    ∙ ap (λ k. option_or (place_of committed t) (last_place t.call t.since k c)) all
+    ∙ ap (λ b. option_or (place_of committed t) (if b && is_same t.call c then Some (length committed) else None)) (le-leb t.since (length committed) early)

@@ -1,6 +1,6 @@
 -- No act makes more of the installed ring safe than was in its front before.
-use Rattle.std.proofs.Common.{◌≡◌, ℕ, ◌≤◌, max, Bool, true, false, List, [], ◌∷◌, map, filter}
-use Rattle.std.proofs.Common.{slice_get, refl, ap, ◌∙◌, sym, subst, arith}
+use Rattle.std.proofs.Common.{◌≡◌, ℕ, ◌≤◌, max, true, List, [], ◌∷◌, map, filter}
+use Rattle.std.proofs.Common.{slice_get, ap, ◌∙◌, sym, subst, arith}
 use Rattle.std.specs.Prelude.{◌&&◌, ◌==◌, nat_eq}
 use Rattle.std.specs.Cmp.Lexicographic.{pointwise}
 use Rattle.std.proofs.lemmas.Bool.{cond_both, and_parts, eqb-true}
@@ -10,16 +10,16 @@ use Rattle.ring_base.specs.declared.ring_id.RingId.{RingId}
 use Rattle.ring_wire.specs.declared.commit.CommitToken.{CommitToken}
 use Rattle.ring_core.specs.Tokens.{Turn, Raise, turns_of, mark_by, raised_to, safe_mark, last_aru}
 use Rattle.ring_core.specs.Commits.{reports_of, safe_of, is_sound, position_of_hop, is_own, Configuration}
-use Rattle.ring_core.specs.State.{Core, Did}
+use Rattle.ring_core.specs.State.{Core}
 use Rattle.ring_core.specs.Views.{front, mark, own_entry}
 use Rattle.ring_core.specs.Visiting.{turn_of}
 use Rattle.ring_core.specs.Joining.{proposes}
 use Rattle.ring_core.specs.Handing.{takes_second_round}
 use Rattle.ring_core.specs.Deciding.{Act, Ignore, Enqueue, Repeat, Announce, Invite, GiveUp, Regather, Agree, Widen}
 use Rattle.ring_core.specs.Deciding.{RegatherAndAgree, RegatherAndWiden, Take, Visit, Fill, Learn}
-use Rattle.ring_core.specs.Acting.{act, may_follow, proposed_after, done}
+use Rattle.ring_core.specs.Acting.{act, may_follow, done}
 use Rattle.ring_srp_acts.specs.Allowing.{Allows}
-use Rattle.ring_core.proofs.InstalledKept.{done_installed}
+use Rattle.ring_core.proofs.InstalledKept.{done_installed, proposed_marks}
 use Rattle.ring_core.proofs.Commits.{none_behind-at, own_stands}
 
 -- A visit: its mark is the lesser of two numbers, of which the earlier was in the front
@@ -83,18 +83,14 @@ acted_mark c (Learn k) m h l = raise_mark
     (record { ring = c.installed.ring; mark = safe_of (reports_of c.installed.ring k.entries) }) c.turns c.raises c.installed.ring
     (front c c.installed.ring) h (learned_front c k m.passes)
 
--- nor does a proposal, which makes nothing safe
-
-after_mark : {A : Type 0} (b : Bool) (did : Did A) (ring : RingId) → mark (proposed_after b did).core ring ≡ mark did.core ring
-after_mark true did ring = refl
-after_mark false did ring = refl
+-- nor does the proposal after it, which makes nothing safe
 
 done_mark : {A : Type 0} (c : Core A) (a : Act A) → Allows c a → mark c c.installed.ring ≤ front c c.installed.ring
     → last_aru (turns_of c.installed.ring c.turns) ≤ front c c.installed.ring → mark (done c a).core (done c a).core.installed.ring ≤ front c c.installed.ring
 done_mark c a m h l =
     let e : mark (done c a).core (done c a).core.installed.ring ≡ mark (act c a).core c.installed.ring =
     ap (λ (x : Configuration). mark (done c a).core x.ring) (done_installed c a)
-    ∙ after_mark (may_follow a && proposes (act c a).core) (act c a) c.installed.ring in
+    ∙ proposed_marks (may_follow a && proposes (act c a).core) (act c a) c.installed.ring in
     subst (λ n. n ≤ front c c.installed.ring) (sym e) (acted_mark c a m h l)
 
 -- the same, of what the code answers

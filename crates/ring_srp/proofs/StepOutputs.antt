@@ -17,7 +17,7 @@ use Rattle.ring_core.specs.Views.{front, mark}
 use Rattle.ring_core.specs.Visiting.{visited}
 use Rattle.ring_core.specs.Giving.{addressed, sent, send_of, delivered_from, given, may_install, settle, delivered}
 use Rattle.ring_core.specs.Stepping.{ring_step}
-use Rattle.ring_srp_acts.proofs.Told.{none_both, none_from, none_settled}
+use Rattle.ring_srp_acts.proofs.Told.{none_both, none_delivered, none_settled}
 use Rattle.ring_srp_acts.proofs.Visits.{addressed-append}
 use Rattle.ring_srp.specs.Given.{IsGiven}
 
@@ -99,7 +99,7 @@ is_given {A} c mid a sends told e s t =
           ∙ joined;
       told = ap (λ (xs : List (Out A)). filter_map send_of xs) behind
           ∙ none_both (given c did.core) later
-          (none_from did.core c.installed.ring (front c c.installed.ring) (mark c c.installed.ring)) (none_settled (may_install did.core) did.core);
+          (none_delivered did.core c.installed.ring (front c c.installed.ring) (mark c c.installed.ring)) (none_settled (may_install did.core) did.core);
     }
 
 -- of what the code keeps

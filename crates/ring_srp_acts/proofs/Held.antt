@@ -4,7 +4,7 @@ use Rattle.std.proofs.Common.{filter_map, length, Option, Some, None, refl, ap, 
 use denote.Enum.Bare.{sameb, same_false}
 use mathlib.Core.Path.{fun_ext}
 use Rattle.std.specs.Prelude.{◌&&◌, ◌==◌}
-use Rattle.std.proofs.lemmas.Bool.{cases_Bool, cond-true, cond-false, and_parts, and_from, ne_eqb}
+use Rattle.std.proofs.lemmas.Bool.{cases_Bool, cond-true, cond-false, and_parts, and_from}
 use Rattle.ring_base.specs.Fronts.{IsFront, front_trans, front_shorter, front_whole}
 use Rattle.ring_base.specs.Numbers.{numbers_from, greatest}
 use Rattle.ring_base.specs.Rings.{same_ring}
@@ -20,7 +20,7 @@ use Rattle.ring_window.specs.Held.{is_numbered, found, holds, of_ring, highest, 
 use Rattle.ring_window.specs.Windows.{Windowed, takes, taken}
 use Rattle.ring_window.proofs.HeldFront.{front_grows}
 use Rattle.ring_window.proofs.OfRing.{found_of_ring, front_of_ring, highest_of_ring, is_new_of_ring}
-use Rattle.ring_base.proofs.SameRing.{ring_same, ring_itself, lower_other}
+use Rattle.ring_base.proofs.SameRing.{ring_same, ring_itself, lower_other, higher_other}
 use Rattle.ring_window.proofs.Windows.{IsTaken, taken_is}
 use Rattle.ring_token.specs.Histories.{TokenHistory, last_aru}
 use Rattle.ring_token.specs.Turns.{turns_of}
@@ -51,11 +51,6 @@ with_held c held = record c { held = held }
 le_on : (a b c : ℕ) → a ≤ b → b ≤ c → a ≤ c
 le_on a b c h k = omega (arith, h, k)
 
--- ---- names of rings
-
-pub higher_other : (a b : RingId) → b.seq < a.seq → same_ring a b ≡ false
-higher_other a b l = ap (λ t. t && (a.rep == b.rep)) (ne_eqb a.seq b.seq (λ e. omega (arith, l, e)))
-
 -- ---- what is said of a ring goes by its own messages alone
 
 module _ {A : Type 0} (ring : RingId) (a b : List (Message A)) (same : of_ring ring a ≡ of_ring ring b) where
@@ -80,9 +75,9 @@ module _ {A : Type 0} (ring : RingId) (a b : List (Message A)) (same : of_ring r
       (filter_map f (numbers_from (below + 1) (upto - below)))) same_found
 
 -- a message of another ring
-pub other_ring : {A : Type 0} (ring : RingId) (x : Message A) (held : List (Message A)) → same_ring x.ring ring ≡ false
+pub not_of_ring : {A : Type 0} (ring : RingId) (x : Message A) (held : List (Message A)) → same_ring x.ring ring ≡ false
     → of_ring ring (x ∷ held) ≡ of_ring ring held
-other_ring ring x held h = cond-false (same_ring x.ring ring) (x ∷ of_ring ring held) (of_ring ring held) h
+not_of_ring ring x held h = cond-false (same_ring x.ring ring) (x ∷ of_ring ring held) (of_ring ring held) h
 
 -- what a payload wraps
 pub unwrapped_of_ring : {A : Type 0} (old : RingId) (mark : ℕ) (held : List (Message A)) (payload : Payload A)
@@ -318,7 +313,7 @@ module _ {A : Type 0} {c : Core A} {gather : Gatherer} {window : Windowed A} {vi
       let apart : old.seq < ring.seq = m.apart (forming c.state s) in
       let other : same_ring x.ring old ≡ false = subst (λ (q : RingId). same_ring q old ≡ false) (sym e) (higher_other ring old apart) in
       let l : x.ring.seq < bound c.state (floor c) = subst (λ (q : RingId). q.seq < bound c.state (floor c)) (sym e) (running_below c.state ring.seq s) in
-      machine_as m refl refl (part_same c (x ∷ c.held) old window visit (other_ring old x c.held other) m.kept)
+      machine_as m refl refl (part_same c (x ∷ c.held) old window visit (not_of_ring old x c.held other) m.kept)
       (below_more c x (bound c.state (floor c)) l m.below) (λ q. recovers_more c x r e h (recovering_some c recovery r some (m.recovering s)))
       (λ n. absurd (n s))
 
@@ -333,7 +328,7 @@ module _ {A : Type 0} {c : Core A} {gather : Gatherer} {window : Windowed A} {vi
       let l : y.ring.seq < bound c.state (floor c) = subst (λ (q : RingId). q.seq < bound c.state (floor c)) (sym e)
       (installed_below c.state old.seq (floor c) m.older m.apart) in
       machine_as m refl refl (part_more c old y (fresh_is c old y e h) window visit m.kept) (below_more c y (bound c.state (floor c)) l m.below)
-      (λ q. recovering_on recovery (m.recovering q) (other_ring ring y c.held other)) m.over
+      (λ q. recovering_on recovery (m.recovering q) (not_of_ring ring y c.held other)) m.over
     where
       recovering_on : (o : Option (Recovering A)) → IsRecovering c o → of_ring c.running.ring (y ∷ c.held) ≡ of_ring c.running.ring c.held
           → IsRecovering (with_held c (y ∷ c.held)) o
@@ -369,7 +364,7 @@ module _ {A : Type 0} {c : Core A} {gather : Gatherer} {window : Windowed A} {vi
 unwrapped_still : {A : Type 0} (old : RingId) (mark : ℕ) (x : Message A) (held : List (Message A)) (payload : Payload A) → same_ring x.ring old ≡ false
     → unwrapped old mark (x ∷ held) payload ≡ unwrapped old mark held payload
 unwrapped_still {A} old mark x held payload other =
-    sym (unwrapped_of_ring old mark (x ∷ held) payload) ∙ ap (λ (xs : List (Message A)). unwrapped old mark xs payload) (other_ring old x held other)
+    sym (unwrapped_of_ring old mark (x ∷ held) payload) ∙ ap (λ (xs : List (Message A)). unwrapped old mark xs payload) (not_of_ring old x held other)
     ∙ unwrapped_of_ring old mark held payload
 
 -- the old ring's window tells what a payload wraps

@@ -34,6 +34,7 @@ use Rattle.ring_core.specs.State.{Core, Sent, floor}
 use Rattle.ring_core.specs.Views.{front, mark, own_entry, entries_for, plan}
 use Rattle.ring_core.specs.Giving.{users}
 use Rattle.ring_core.specs.Handing.{passed}
+use Rattle.ring_core.proofs.Commits.{none_behind-at}
 use Rattle.ring_srp_acts.specs.Allowing.{LearnAllowed}
 use Rattle.ring_srp_acts.specs.Learns.{plan_at, safe_at}
 use Rattle.ring_srp_acts.specs.Machines.{IsPart, IsBelow, bound, is_forming, Recovers, IsMachine, raises_of}
@@ -68,22 +69,6 @@ marked old (x ∷ es) (suc k) e h s =
     let l = marked old es k e h s in
     cond_both (same_ring x.old old) (x ∷ reports_of old es) (reports_of old es) (λ (ys : List CommitEntry). e.mark ≤ safe_of ys) (λ t. omega (arith, l))
     (λ t. l)
-
--- and no front of those that come from it is behind
-behind : (safe : ℕ) (old : RingId) (es : List CommitEntry) (k : ℕ) (e : CommitEntry) → slice_get es k ≡ Some e → same_ring e.old old ≡ true
-    → none_behind safe (reports_of old es) ≡ true → safe ≤ e.front
-behind safe old [] k e h s n = absurd cc
-behind safe old (x ∷ es) zero e h s n =
-    let same : x ≡ e = cc in
-    let there : same_ring x.old old ≡ true = subst (λ (y : CommitEntry). same_ring y.old old ≡ true) (sym same) s in
-    let all : none_behind safe (x ∷ reports_of old es) ≡ true =
-    subst (λ (ys : List CommitEntry). none_behind safe ys ≡ true) (cond-true (same_ring x.old old) (x ∷ reports_of old es) (reports_of old es) there) n in
-    subst (λ (y : CommitEntry). safe ≤ y.front) same (leb-true safe x.front (and_parts (nat_le safe x.front) (none_behind safe (reports_of old es)) all).0)
-behind safe old (x ∷ es) (suc k) e h s n =
-    behind safe old es k e h s
-    (cond_both (same_ring x.old old) (x ∷ reports_of old es) (reports_of old es) (λ (ys : List CommitEntry). none_behind safe ys ≡ true
-    → none_behind safe (reports_of old es) ≡ true)
-    (λ t m. (and_parts (nat_le safe x.front) (none_behind safe (reports_of old es)) m).1) (λ t m. m) n)
 
 -- the own report, where it stands in the token
 pub record IsOwn (own : CommitEntry) (o : Option CommitEntry) : Type 0 where
@@ -190,7 +175,7 @@ module _ {A : Type 0} (c : Core A) (k : CommitToken) (a : LearnAllowed c k) wher
   pub safe_within : safe_at c k ≤ front c c.installed.ring
   safe_within =
       let w = is_second.own in
-      let l = behind (safe_at c k) c.installed.ring k.entries (position_of_hop k) w.entry w.there w.same is_second.sound in
+      let l = none_behind-at c.installed.ring (safe_at c k) k.entries (position_of_hop k) w.entry is_second.sound w.there w.same in
       omega (arith, l, w.front_is)
 
 -- it is the one that the code makes

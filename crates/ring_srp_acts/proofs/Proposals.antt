@@ -1,9 +1,10 @@
 -- Who proposes a ring is one of its members, and the ring is newer than all that it took part in.
-use Rattle.std.proofs.Common.{◌≡◌, ℕ, ◌<◌, ◌≤◌, true, false, List, [], ◌∷◌, length, suc, refl, ap, ◌∙◌, sym, subst, arith}
-use Rattle.std.specs.Prelude.{◌==◌, nat_le, slice_index}
+use Rattle.std.proofs.Common.{◌≡◌, ℕ, ◌<◌, ◌≤◌, true, false, suc, refl, ap, ◌∙◌, sym, subst, arith}
+use Rattle.std.specs.Prelude.{◌==◌, nat_le}
 use Rattle.std.proofs.lemmas.Bool.{and_parts, eqb-true, cond-true}
+use Rattle.ring_base.proofs.Taking.{smallest_some}
 use Rattle.ring_base.specs.Numbers.{max_number}
-use Rattle.ring_base.specs.Processors.{IsMember, elements, size, smallest}
+use Rattle.ring_base.specs.Processors.{IsMember, size, smallest}
 use Rattle.ring_base.specs.Elements.{at_member}
 use Rattle.ring_base.specs.declared.state.State.{State}
 use Rattle.ring_base.specs.declared.state.State.TheVariants.{Gather, Commit, Recovery, Operational, Stopped}
@@ -21,14 +22,6 @@ use Rattle.ring_core.specs.Joining.{proposes_in, proposes}
 use Rattle.ring_core.specs.Handing.{joined}
 use Rattle.ring_core.specs.Acting.{silently, proposed_after}
 use Rattle.ring_core.proofs.States.{proposes_gathering}
-
--- a list whose first number is no zero has one
-some_first : (xs : List ℕ) (n : ℕ) → 1 ≤ n → slice_index xs 0 ≡ n → 0 < length xs
-some_first [] n low e = absurd (omega arith)
-some_first (x ∷ xs) n low e = omega arith
-
-smallest_some : (set me : ℕ) → 1 ≤ me → smallest set ≡ me → 0 < size set
-smallest_some set me low e = some_first (elements set) me low e
 
 smallest_member : (set me : ℕ) → 1 ≤ me → smallest set ≡ me → IsMember set me
 smallest_member set me low e = subst (λ i. IsMember set i) e (at_member set 0 (smallest_some set me low e)).1

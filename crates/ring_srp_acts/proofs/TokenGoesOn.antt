@@ -2,6 +2,7 @@
 use Rattle.std.proofs.Common.{◌≡◌, ℕ, suc, ◌+◌, ◌≤◌, max, true, false, List, ◌∷◌, map, length, Option, Some, refl}
 use Rattle.std.proofs.Common.{ap, ◌∙◌, sym, subst, ◌⊎◌, inl, inr, arith}
 use Rattle.std.proofs.lemmas.Bool.{true≢false}
+use Rattle.ring_base.proofs.SameRing.{higher_other}
 use Rattle.ring_base.specs.Rings.{same_ring}
 use Rattle.ring_base.specs.Numbers.{greatest}
 use Rattle.ring_base.specs.Processors.{only, next}
@@ -31,7 +32,7 @@ use Rattle.ring_srp_state.specs.Users.{users_in}
 use Rattle.ring_srp_acts.proofs.KeptByActs.{machine_as}
 use Rattle.ring_srp_acts.proofs.UsersOfRing.{users_of, front_by, mark_of_part}
 use Rattle.ring_srp_acts.proofs.OneRingOfCore.{turns_twice, raises_twice}
-use Rattle.ring_srp_state.proofs.OneVisitMore.{other_ring, turned, unturned, mark_unturned, mark_within, mark_risen, led_turned, led_unturned, aru_within}
+use Rattle.ring_srp_state.proofs.OneVisitMore.{turned, unturned, mark_unturned, mark_within, mark_risen, led_turned, led_unturned, aru_within}
 
 -- the mark of the visits of one ring is the core's
 mark_of_visits : {A : Type 0} (me : ℕ) (turns : List (Turn A)) (raises : List Raise) (ring : RingId) →
@@ -214,7 +215,7 @@ module _ {A : Type 0} {c : Core A} {gather : Gatherer} {window : Windowed A} {vi
       let v = turn_in w r.part.visit t stays fresh in
       let f : front_of w.held w.ring ≡ front c c.running.ring = front_by c c.running.ring w r.part.visit now.part in
       let apart : same_ring t.ring c.installed.ring ≡ false = ap (λ (q : RingId). same_ring q c.installed.ring) e
-      ∙ other_ring c.installed.ring c.running.ring (m.apart (ap is_forming is)) in
+      ∙ higher_other c.running.ring c.installed.ring (m.apart (ap is_forming is)) in
       machine_as m refl refl (part_apart c c.installed.ring window visit v shown m.kept apart) (below_turned m.below (ap is_running is) e)
       (λ q. recovers_turned c r v shown now apart e (subst (λ k. v.went.aru ≤ k) f (aru_within w r.part.visit t stays fresh))
       (subst (λ k. k ≤ r.most) f all)) (λ q. absurd (q is))

@@ -21,8 +21,8 @@ pub none_both : {A : Type 0} (a b : List (Out A)) → filter_map send_of a ≡ [
 none_both a b f g = filter_map-append send_of a b ∙ ap (λ xs. xs ++ filter_map send_of b) f ∙ g
 
 -- what is agreed and safe
-pub none_from : {A : Type 0} (c : Core A) (ring : RingId) (reached safe : ℕ) → filter_map send_of (delivered_from c ring reached safe) ≡ []
-none_from {A} c ring reached safe =
+pub none_delivered : {A : Type 0} (c : Core A) (ring : RingId) (reached safe : ℕ) → filter_map send_of (delivered_from c ring reached safe) ≡ []
+none_delivered {A} c ring reached safe =
     none_both (agreed_from c ring reached) (safe_from c ring safe)
     (none_among (λ (x : Message A). Agreed ring x.number x) (users c ring reached (front c ring)) (λ x. refl))
     (cond_both (nat_lt safe (mark c ring)) (Safe ring (mark c ring) ∷ []) [] (λ (outs : List (Out A)). filter_map send_of outs ≡ [])
@@ -34,4 +34,4 @@ none_settled false c = refl
 none_settled {A} true c =
     let rest = λ (x : Message A). Rest x.ring x.number x in
     none_both (map rest (rests (plan c) c.held)) (Regular c.running.ring c.running.members ∷ delivered_from c c.running.ring 0 0)
-    (none_among rest (rests (plan c) c.held) (λ x. refl)) (none_from c c.running.ring 0 0)
+    (none_among rest (rests (plan c) c.held) (λ x. refl)) (none_delivered c c.running.ring 0 0)

@@ -1,7 +1,6 @@
 -- A visit more is a fact: the mark of its ring, and what was forwarded there.
-use Rattle.std.proofs.Common.{◌≡◌, ℕ, ◌+◌, ◌<◌, ◌≤◌, min, max, false, List, [], ◌∷◌, map, length, refl, ap, ◌∙◌, sym, subst, inl, inr, arith}
-use Rattle.std.specs.Prelude.{◌==◌}
-use Rattle.std.proofs.lemmas.Bool.{cond-true, cond-false, cases_Bool, eqb-true, and_parts}
+use Rattle.std.proofs.Common.{◌≡◌, ℕ, ◌+◌, ◌≤◌, min, max, false, List, ◌∷◌, map, length, ap, ◌∙◌, sym, subst, inl, inr, arith}
+use Rattle.std.proofs.lemmas.Bool.{cond-true, cond-false}
 use Rattle.ring_base.specs.Rings.{same_ring}
 use Rattle.ring_base.specs.declared.ring_id.RingId.{RingId}
 use Rattle.ring_base.proofs.SameRing.{ring_itself}
@@ -11,22 +10,11 @@ use Rattle.ring_window.specs.Held.{front_of}
 use Rattle.ring_window.specs.Windows.{Windowed}
 use Rattle.ring_token.specs.Turns.{Turn, Raise, turns_of, mark_by, forwarded_in, raised_to, safe_mark}
 use Rattle.ring_token.specs.Histories.{TokenHistory, last_aru}
+use Rattle.ring_token.proofs.VisitNumbers.{mark_more}
 use Rattle.ring_token.proofs.Arus.{aru_step}
 use Rattle.ring_srp_state.specs.Setting.{turn_in}
 
 -- The mark of one ring
-
--- rings of two numbers are two
-pub other_ring : (a b : RingId) → a.seq < b.seq → same_ring b a ≡ false
-other_ring a b l = elim (cases_Bool (same_ring b a)) [
-  | inl e ↦ (let q : b.seq ≡ a.seq = eqb-true b.seq a.seq (and_parts (b.seq == a.seq) (b.rep == a.rep) e).0 in absurd (omega arith))
-  | inr e ↦ e
-]
-
-pub mark_more : {A : Type 0} (v : Turn A) (turns : List (Turn A)) → mark_by (v.went.aru ∷ map (λ (x : Turn A). x.went.aru) turns) ≡ max
-    (min v.went.aru (last_aru turns)) (mark_by (map (λ (x : Turn A). x.went.aru) turns))
-mark_more v [] = omega arith
-mark_more v (w ∷ turns) = refl
 
 pub turned : {A : Type 0} (v : Turn A) (turns : List (Turn A)) (ring : RingId) → v.came.ring ≡ ring → turns_of ring (v ∷ turns) ≡ v ∷ turns_of ring turns
 turned v turns ring e = cond-true (same_ring v.came.ring ring) (v ∷ turns_of ring turns) (turns_of ring turns) (ring_itself v.came.ring ring e)

@@ -3,6 +3,7 @@ use Rattle.std.proofs.Common.{◌≡◌, ℕ, zero, suc, ◌+◌, ◌-◌, ◌<�
 use Rattle.std.proofs.Common.{refl, sym, ap, subst, ◌∙◌, arith, ◌*◌, ◌/◌, le-div_iff_mul-le}
 use Rattle.std.proofs.lemmas.Bool.{cases_lt}
 use Rattle.std.specs.Io.KnownBytes.{Appends}
+use Rattle.std.specs.Option.{option_or}
 use Rattle.ring_base.specs.Group.{Group}
 use Rattle.ring_object.specs.Operations.{Sequential}
 use Rattle.ring_script.specs.declared.scripts.Numbered.{Numbered}
@@ -14,7 +15,7 @@ use Rattle.ring_sweep.specs.declared.sweeping.Swept.{Swept}
 use Rattle.ring_report.specs.declared.failure.Failure.{Failure}
 use Rattle.ring_sweep.specs.Swept.{are_legal, swept_text, AllLegal, IsSwept, IsSweptText}
 use Rattle.ring_sweep.specs.Variants.{steps_of, upset_at, first_illegal, Passes, HasEvents, IsVariant, IsTried, AreTried, AreTriedFrom, AreTriedIn, IsFirstIllegal}
-use Rattle.ring_shares.specs.Shares.{share_begin, first_of}
+use Rattle.ring_shares.specs.Shares.{share_begin}
 use Rattle.ring_shares.proofs.Sharing.{shares_end}
 
 module _ {O A : Type 0} (object : Sequential O) (group : Group) (lines : List (Numbered A)) where
@@ -68,39 +69,39 @@ module _ {O A : Type 0} (object : Sequential O) (group : Group) (lines : List (N
         ),
       )
 
-  first_none : (f : Option Upset) → first_of f None ≡ f
+  first_none : (f : Option Upset) → option_or f None ≡ f
   first_none None = refl
   first_none (Some u) = refl
 
-  first_more : (f g : Option Upset) (last : Bool) (u : Upset) → first_of f (first_illegal g last u) ≡ first_illegal (first_of f g) last u
+  first_more : (f g : Option Upset) (last : Bool) (u : Upset) → option_or f (first_illegal g last u) ≡ first_illegal (option_or f g) last u
   first_more None g last u = refl
   first_more (Some v) g last u = refl
 
   append_from : (a n m : ℕ) (f g : Option Upset) → AreTriedFrom object group lines a n f → AreTriedFrom object group lines (a + n) m g
-      → AreTriedFrom object group lines a (n + m) (first_of f g)
+      → AreTriedFrom object group lines a (n + m) (option_or f g)
   append_from a n zero f g h k =
-      let same : f ≡ first_of f g = sym (ap (first_of f) k ∙ first_none f) in
+      let same : f ≡ option_or f g = sym (ap (option_or f) k ∙ first_none f) in
       let many : n ≡ n + 0 = omega arith in
-      subst (λ (i : ℕ). AreTriedFrom object group lines a i (first_of f g)) many (subst (λ (o : Option Upset). AreTriedFrom object group lines a n o) same h)
+      subst (λ (i : ℕ). AreTriedFrom object group lines a i (option_or f g)) many (subst (λ (o : Option Upset). AreTriedFrom object group lines a n o) same h)
   append_from a n (suc m) f g h k =
       let place : a + n + m ≡ a + (n + m) = omega arith in
       let many : suc (n + m) ≡ n + suc m = omega arith in
-      let first : first_of f g ≡ first_illegal (first_of f k.0) k.1 (upset_at group.count (a + n + m)) =
-      ap (first_of f) k.2.2 ∙ first_more f k.0 k.1 (upset_at group.count (a + n + m)) in
-      let whole : AreTriedFrom object group lines a (suc (n + m)) (first_of f g) = (
-        first_of f k.0,
+      let first : option_or f g ≡ first_illegal (option_or f k.0) k.1 (upset_at group.count (a + n + m)) =
+      ap (option_or f) k.2.2 ∙ first_more f k.0 k.1 (upset_at group.count (a + n + m)) in
+      let whole : AreTriedFrom object group lines a (suc (n + m)) (option_or f g) = (
+        option_or f k.0,
         k.1,
         (
           append_from a n m f k.0 h k.2.0,
           subst (λ (i : ℕ). IsTried object group lines (upset_at group.count i) k.1) place k.2.1,
-          subst (λ (i : ℕ). first_of f g ≡ first_illegal (first_of f k.0) k.1 (upset_at group.count i)) place first,
+          subst (λ (i : ℕ). option_or f g ≡ first_illegal (option_or f k.0) k.1 (upset_at group.count i)) place first,
         ),
       ) in
-      subst (λ (i : ℕ). AreTriedFrom object group lines a i (first_of f g)) many whole
+      subst (λ (i : ℕ). AreTriedFrom object group lines a i (option_or f g)) many whole
 
   -- the variants of one part, and those of the next
   pub tried_append : (a b c : ℕ) (f g : Option Upset) → AreTriedIn object group lines a b f → AreTriedIn object group lines b c g
-      → AreTriedIn object group lines a c (first_of f g)
+      → AreTriedIn object group lines a c (option_or f g)
   tried_append a b c f g h k =
       let ends : c ≡ a + (h.0 + k.0) = let at = h.1 in let upto = k.1 in omega (arith, at, upto) in
       (h.0 + k.0, ends, append_from a h.0 k.0 f g h.2 (subst (λ (i : ℕ). AreTriedFrom object group lines i k.0 g) h.1 k.2))
@@ -111,7 +112,7 @@ module _ {O A : Type 0} (object : Sequential O) (group : Group) (lines : List (N
 
   -- the variants of one part and those of the next, of which this is the first that is not legal
   pub tried_rest : (a b c : ℕ) (f g all : Option Upset) → AreTriedIn object group lines a b f → AreTriedIn object group lines b c g
-      → all ≡ first_of f g → AreTriedIn object group lines a c all
+      → all ≡ option_or f g → AreTriedIn object group lines a c all
   tried_rest a b c f g all h k is = subst (λ (o : Option Upset). AreTriedIn object group lines a c o) (sym is) (tried_append a b c f g h k)
 
   from_first : (n : ℕ) (f : Option Upset) → AreTriedFrom object group lines 0 n f → AreTried object group lines n f
@@ -151,7 +152,7 @@ module _ {O A : Type 0} (object : Sequential O) (group : Group) (lines : List (N
   -- one share more
   pub tried_share : (from many shares k : ℕ) (f g : Option Upset) → AreTriedIn object group lines from (from + share_begin many shares k) f
       → AreTriedIn object group lines (from + share_begin many shares k) (from + share_begin many shares (k + 1)) g
-      → AreTriedIn object group lines from (from + share_begin many shares (k + 1)) (first_of f g)
+      → AreTriedIn object group lines from (from + share_begin many shares (k + 1)) (option_or f g)
   tried_share from many shares k f g h more =
       tried_append from (from + share_begin many shares k) (from + share_begin many shares (k + 1)) f g h more
 

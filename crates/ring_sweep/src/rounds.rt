@@ -3,7 +3,7 @@
 ghost use Rattle.std.specs.Prelude.{◌≡◌, ℕ, ◌-◌, ◌+◌, ◌<◌, ◌≤◌, IfOk, IfErr, max, vec_len, slice_index_or};
 ghost use Rattle.ring_base.specs.declared.fault.Fault.TheVariants.{Memory};
 ghost use Rattle.ring_script.specs.Fits.{AreFit};
-ghost use Rattle.ring_shares.specs.Shares.{share_begin, first_of};
+ghost use Rattle.ring_shares.specs.Shares.{share_begin};
 ghost use Rattle.ring_sweep.specs.Variants.{AreTried, AreTriedIn};
 
 use crate::part::{VariantSpan, try_share};

@@ -26,7 +26,7 @@ use Rattle.ring_core_proof.specs.declared.event.RingEvent.{RingEvent}
 use Rattle.ring_core_proof.specs.Worlds.{World, run, unformed}
 use Rattle.ring_core_proof.specs.Texts.{held_by, text_of}
 use Rattle.ring_core_proof.specs.Lives.{Stage, InRegular, InTransitional, delivered_in}
-use Rattle.ring_core_proof.proofs.InLists.{in-each, each-in, in-left, in-right, in-filter, in-filtered, in-contains}
+use Rattle.ring_core_proof.proofs.InLists.{in-each, each-in, in-left, in-right, in-filter, in-filtered, in-contains, in-numbers}
 use Rattle.ring_core_proof.proofs.WithinWindow.{mark_below}
 use Rattle.ring_core_proof.proofs.Rises.{all_below}
 use Rattle.ring_core_proof.proofs.OwnMessages.{holds_in}
@@ -36,7 +36,7 @@ use Rattle.ring_chain_proof.proofs.ChainInRuns.{unformed_text}
 use Rattle.ring_synchrony_proof.specs.Changes.{IsNode, stages_in, agreed_at, agreed_of, deliveries_of, users_upto, regulars_of, Change, changes_in}
 use Rattle.ring_synchrony_proof.specs.Changes.{delivered_by}
 use Rattle.ring_synchrony_proof.specs.Synchrony.{IsBefore, Ascend, HasSameText, DeliversSafely, IsVirtuallySynchronous}
-use Rattle.ring_synchrony_proof.proofs.Quantified.{in_decides, in_numbers, numbers_in}
+use Rattle.ring_synchrony_proof.proofs.Quantified.{in_decides, numbers_in}
 use Rattle.ring_synchrony_proof.proofs.EqualityTests.{ring_decides}
 use Rattle.ring_synchrony_proof.specs.Tales.{regular_of, plan_into, between}
 use Rattle.ring_synchrony_proof.proofs.LivesTold.{heard, found_alike}
@@ -217,7 +217,7 @@ node_in w i k =
     let p = and_parts (nat_le 1 i) (nat_le i w.total) k in
     let a = leb-true 1 i p.0 in
     let b = leb-true i w.total p.1 in
-    in_numbers i 1 w.total a (omega (arith, b))
+    in-numbers 1 w.total i a (omega (arith, b))
 
 in_map : {X Y : Type 0} (f : X → Y) (y : Y) (xs : List X) → IsIn y (map f xs) → (x : X) × IsIn x xs × (f x ≡ y)
 in_map f y [] h = absurd h

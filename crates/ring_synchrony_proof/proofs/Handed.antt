@@ -4,6 +4,7 @@
 use Rattle.std.proofs.Common.{◌≡◌, ℕ, suc, ◌+◌, ◌<◌, ◌≤◌, inl, inr, true, List, [], ◌∷◌, length, Some, refl, sym, ◌∙◌, subst, arith}
 use Rattle.std.specs.Prelude.{reverse}
 use Rattle.std.specs.List.{AllByRecursion as Each}
+use Rattle.std.proofs.lemmas.Bool.{false≢true}
 use Rattle.ring_base.specs.declared.ring_id.RingId.{RingId}
 use Rattle.ring_base.proofs.Each.{each-weaker}
 use Rattle.ring_payload.specs.Kinds.{is_user, is_end}
@@ -16,6 +17,7 @@ use Rattle.ring_core.specs.Tokens.{numbered}
 use Rattle.ring_core.specs.Recoveries.{Plan, plan_of, low, is_reported, is_wrap_of}
 use Rattle.ring_core.specs.State.{Core}
 use Rattle.ring_core.specs.Views.{plan}
+use Rattle.ring_core.proofs.Recoveries.{end_no_user}
 use Rattle.ring_core_proof.specs.FactWords.{IsIn, SomeIs}
 use Rattle.ring_core_proof.specs.Moves.{Move, Idles, Enters, Learns, Visits, Takes, Installs, moved, MayMove, MayVisit, AreWraps, AllAreUsers}
 use Rattle.ring_core_proof.proofs.InLists.{in-left, in-right, in-reverse}
@@ -26,7 +28,7 @@ use Rattle.ring_chain_proof.proofs.OneText.{numbered_in}
 use Rattle.ring_core.proofs.Windows.{holds-found}
 use Rattle.ring_synchrony_proof.proofs.Heard.{found_as}
 use Rattle.ring_synchrony_proof.specs.Ends.{IsHandedBefore, HasHandedOn, EndsBehindWraps}
-use Rattle.ring_synchrony_proof.proofs.Sent.{numbered-left, held_under, end_last, all_users, end_no_user}
+use Rattle.ring_synchrony_proof.proofs.Sent.{numbered-left, held_under, end_last, all_users}
 use Rattle.ring_synchrony_proof.proofs.Ends.{sent_back}
 use Rattle.ring_synchrony_proof.proofs.Own.{HasOwn, KnowsOwn, plan_is}
 
@@ -124,7 +126,7 @@ module _ {A : Type 0} (came : Frame A → Type 0) (c : Core A) (t : Token) (fres
   visit_ends knows queued x i e =
       elim (h.state) [
         | inl r ↦ has_handed (knows r) (h.wraps r) x i e
-        | inr o ↦ absurd (end_no_user x.payload e (all_users came c t fresh again queue h (h.users o queued) x i))
+        | inr o ↦ absurd (false≢true (sym (end_no_user x.payload e) ∙ all_users came c t fresh again queue h (h.users o queued) x i))
       ]
 
 pub moved_handed : {A : Type 0} → (came : Frame A → Type 0) (c : Core A) (m : Move A) → MayMove came c m → KnowsOwn c → AllAreUsers c.queue →

@@ -1,8 +1,8 @@
 -- Lists of what is heard of a ring: up to a number, and what a plan's rest has.
 use Rattle.std.proofs.Common.{◌≡◌, ℕ, zero, suc, ◌+◌, ◌-◌, ◌<◌, ◌≤◌, ◌⊎◌, inl, inr, Bool, true, false, ◌==◌, List, []}
-use Rattle.std.proofs.Common.{◌∷◌, ◌++◌, Option, Some, None, refl, ap, sym, ◌∙◌, subst, arith, append-nil}
+use Rattle.std.proofs.Common.{◌∷◌, ◌++◌, Option, Some, refl, ap, sym, ◌∙◌, subst, arith, append-nil}
 use Rattle.std.specs.Prelude.{filter, filter_map, nat_le, nat_lt}
-use Rattle.std.specs.List.{AllByRecursion as Each, cons_option, prefix_len}
+use Rattle.std.specs.List.{AllByRecursion as Each, prefix_len}
 use Rattle.std.proofs.lemmas.Bool.{cond_both, cond-true, cond-false, cases_order, and_parts, both_ways, eqb-true, le-leb, lt-leb, lt-ltb}
 use Rattle.std.proofs.lemmas.List.Elements.{filter-append}
 use Rattle.ring_base.specs.Numbers.{window_size, numbers_from}
@@ -17,8 +17,8 @@ use Rattle.ring_base.proofs.SameRing.{ring_same}
 use Rattle.ring_core.specs.Recoveries.{Plan, safe, low, is_known, gap, known_above_safe}
 use Rattle.ring_core.specs.Recoveries.{sent_by_mate, is_from_mate, transitional_part, past_gap_part, rests}
 use Rattle.ring_core_proof.specs.FactWords.{IsIn}
-use Rattle.ring_core_proof.proofs.InLists.{in-left, in-right, each-in, find-in, in-filter}
-use Rattle.ring_synchrony_proof.proofs.Quantified.{in_numbers, numbers_in}
+use Rattle.ring_core_proof.proofs.InLists.{in-left, in-right, each-in, find-in, in-filter, in-numbers, in-filter_map}
+use Rattle.ring_synchrony_proof.proofs.Quantified.{numbers_in}
 use Rattle.ring_synchrony_proof.proofs.LivesTold.{heard, heard_more}
 
 -- What is found has its number
@@ -75,20 +75,9 @@ heard_upto {A} held ring m f l =
 
 -- What stands there
 
-map_in : {A : Type 0} → (get : ℕ → Option (Message A)) (ns : List ℕ) (n : ℕ) (x : Message A) → IsIn n ns → get n ≡ Some x → IsIn x (filter_map get ns)
-map_in get [] n x h e = absurd h
-map_in {A} get (m ∷ ns) n x (inl s) e =
-    (let o : get m ≡ Some x = subst (λ k. get k ≡ Some x) s e in subst
-    (λ (o : Option (Message A)). IsIn x (cons_option o (filter_map get ns))) (sym o) (inl refl))
-map_in {A} get (m ∷ ns) n x (inr h) e = more (get m) (map_in get ns n x h e)
-  where
-    more : (o : Option (Message A)) → IsIn x (filter_map get ns) → IsIn x (cons_option o (filter_map get ns))
-    more None i = i
-    more (Some y) i = inr i
-
 pub in_heard : {A : Type 0} → (get : ℕ → Option (Message A)) (ns : List ℕ) (n : ℕ) (x : Message A) → IsIn n ns → get n ≡ Some x → is_user x.payload ≡ true →
     IsIn x (filter (λ (x : Message A). is_user x.payload) (filter_map get ns))
-in_heard {A} get ns n x h e u = in-filter (λ (x : Message A). is_user x.payload) x (filter_map get ns) (map_in get ns n x h e) u
+in_heard {A} get ns n x h e u = in-filter (λ (x : Message A). is_user x.payload) x (filter_map get ns) (in-filter_map get n x ns h e) u
 
 -- The gap is not known
 
@@ -112,7 +101,7 @@ gap_unknown p reach sound h =
 
 known_there : (p : Plan) (n : ℕ) → safe p < n → n ≤ safe p + window_size → is_known p n ≡ true → IsIn n (known_above_safe p)
 known_there p n above within k = in-filter (is_known p) n (numbers_from (safe p + 1) window_size)
-    (in_numbers n (safe p + 1) window_size (omega (arith, above)) (omega (arith, within))) k
+    (in-numbers (safe p + 1) window_size n (omega (arith, above)) (omega (arith, within))) k
 
 -- what is known above the mark is in the rest, if it lies below the gap or a mate sent it
 pub in_rest : {A : Type 0} → (p : Plan) (held : List (Message A))

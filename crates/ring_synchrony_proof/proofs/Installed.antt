@@ -3,8 +3,7 @@
 -- Such a message makes the ring ready, since each member's End stands before it.
 use Rattle.std.proofs.Common.{◌≡◌, ℕ, ◌≤◌, ◌⊎◌, inl, inr, Bool, true, false, ◌||◌, ◌==◌, List, [], ◌∷◌, ◌++◌, Option}
 use Rattle.std.proofs.Common.{Some, None, refl, ap, sym, ◌∙◌, subst, arith}
-use Rattle.std.specs.Prelude.{nat_le}
-use Rattle.std.proofs.lemmas.Bool.{cond_both, and_parts, and_from, or_right, eq-eqb, eqb-true, leb-true}
+use Rattle.std.proofs.lemmas.Bool.{cond_both, and_from, or_right, eq-eqb, eqb-true}
 use Rattle.ring_base.specs.Numbers.{numbers_from}
 use Rattle.ring_base.specs.Processors.{elements, has}
 use Rattle.ring_base.specs.declared.ring_id.RingId.{RingId}
@@ -26,7 +25,7 @@ use Rattle.ring_core_proof.specs.Worlds.{World, Carried, put, carried_from, is_n
 use Rattle.ring_core_proof.specs.Worlds.{happens, run, unformed}
 use Rattle.ring_core_proof.specs.declared.event.RingEvent.{RingEvent}
 use Rattle.ring_core_proof.specs.declared.event.RingEvent.TheVariants.{Send, Deliver, Timeout, Stop}
-use Rattle.ring_core_proof.proofs.Lifting.{IsKeptInWorlds, kept_run}
+use Rattle.ring_core_proof.proofs.Lifting.{IsKeptInWorlds, kept_run, node_low}
 use Rattle.ring_core_proof.proofs.InLists.{in-each, in-filter, in-filter_map, in-numbers, any-in}
 use Rattle.ring_chain_proof.specs.ChainWords.{IsRingOf}
 use Rattle.ring_chain_proof.proofs.ChainInRuns.{held_somewhere}
@@ -74,9 +73,6 @@ complete_all cores frames a q s ready = ready_complete cores frames a.unwraps a.
 
 abbrev IsAfter : {A : Type 0} → World A → ℕ → Core A → Type 0
 IsAfter {A} w q c = (c ≡ w.cores q) ⊎ (((input : Input A) × (1 ≤ q) × (c ≡ (ring_step (w.cores q) input).core)) ⊎ (c ≡ halted (w.cores q)))
-
-node_low : {A : Type 0} → (w : World A) (i : ℕ) → is_node w i ≡ true → 1 ≤ i
-node_low w i e = leb-true 1 i (and_parts (nat_le 1 i) (nat_le i w.total) e).0
 
 after_stepped : {A : Type 0} → (b : Bool) (w : World A) (i : ℕ) (input : Input A) → (b ≡ true → 1 ≤ i) → (q : ℕ) →
     IsAfter w q ((stepped_if b w i input).cores q)

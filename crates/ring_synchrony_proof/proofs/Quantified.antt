@@ -3,9 +3,10 @@ use Rattle.std.proofs.Common.{◌≡◌, ℕ, zero, suc, ◌+◌, ◌<◌, ◌�
 use Rattle.std.specs.Prelude.{if◌then◌else◌, nat_le}
 use Rattle.std.specs.Bool.{Decides}
 use Rattle.std.specs.List.{list_all, list_any, AllByRecursion}
-use Rattle.std.proofs.lemmas.Bool.{false≢true, leb-true, le-leb, and_parts, cases_lt}
+use Rattle.std.proofs.lemmas.Bool.{false≢true, leb-true, le-leb, and_parts}
 use Rattle.std.proofs.lemmas.Bool.Decides.{Decides-and, Decides-or, Decides-like}
 use Rattle.ring_base.specs.Numbers.{numbers_from}
+use Rattle.ring_core_proof.proofs.InLists.{in-numbers}
 use Rattle.ring_core_proof.specs.FactWords.{IsIn}
 
 pub all_decides : {X : Type 0} (p : X → Bool) (P : X → Type 0) → ((x : X) → Decides (p x) (P x)) → (xs : List X) →
@@ -34,11 +35,6 @@ when_decides false t d e = (λ h p. absurd (false≢true (d.1 p)), λ f. refl)
 
 -- Numbers in a row
 
-pub in_numbers : (i first count : ℕ) → first ≤ i → i < first + count → IsIn i (numbers_from first count)
-in_numbers i first zero a b = absurd (omega (arith, a, b))
-in_numbers i first (suc count) a b =
-    elim (cases_lt first i) [ inl c ↦ inr (in_numbers i (suc first) count (omega (arith, c)) (omega (arith, b))) | inr c ↦ inl (omega (arith, a, c)) ]
-
 pub numbers_in : (i first count : ℕ) → IsIn i (numbers_from first count) → (first ≤ i) × (i < first + count)
 numbers_in i first zero h = absurd h
 numbers_in i first (suc count) (inl e) = (omega (arith, e), omega (arith, e))
@@ -50,6 +46,6 @@ pub nodes_decide : (n : ℕ) (p : ℕ → Bool) (P : ℕ → Type 0) → ((i : �
     Decides (list_all p (numbers_from 1 n)) ((i : ℕ) → (nat_le 1 i && nat_le i n) ≡ true → P i)
 nodes_decide n p P d =
     Decides-like (list_all p (numbers_from 1 n))
-    (λ h i k. (let b = and_parts (nat_le 1 i) (nat_le i n) k in h i (in_numbers i 1 n (leb-true 1 i b.0) (omega (arith, leb-true i n b.1)))))
+    (λ h i k. (let b = and_parts (nat_le 1 i) (nat_le i n) k in h i (in-numbers 1 n i (leb-true 1 i b.0) (omega (arith, leb-true i n b.1)))))
     (λ f i k. (let r = numbers_in i 1 n k in let a : 1 ≤ i = r.0 in let b : i ≤ n = omega (arith, r.1) in f i (rw (le-leb 1 i a, le-leb i n b) refl)))
     (all_decides p P d (numbers_from 1 n))

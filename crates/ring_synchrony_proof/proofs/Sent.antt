@@ -16,6 +16,7 @@ use Rattle.ring_core.proofs.Windows.{highest_covers}
 use Rattle.ring_core.specs.Tokens.{Turn, numbered}
 use Rattle.ring_core.specs.Recoveries.{has_ended, inner_message}
 use Rattle.ring_core.specs.State.{Core}
+use Rattle.ring_core.proofs.Recoveries.{end_no_user}
 use Rattle.ring_core_proof.specs.FactWords.{IsIn}
 use Rattle.ring_core_proof.specs.LawWords.{EndsWrapping, HasEnded}
 use Rattle.ring_core_proof.specs.Moves.{Move, Idles, Enters, Learns, Visits, Takes, Installs, moved, MayMove, MayVisit}
@@ -51,9 +52,6 @@ end_is (Head head) h = absurd (false≢true h)
 end_is (Part part) h = absurd (false≢true h)
 end_is (Pack pack) h = absurd (false≢true h)
 end_is (Snap snap) h = absurd (false≢true h)
-
-pub end_no_user : {A : Type 0} → (p : Payload A) → is_end p ≡ true → is_user p ≡ true → ⊥
-end_no_user {A} p h u = false≢true (subst (λ (q : Payload A). is_user q ≡ true) (end_is p h) u)
 
 -- A visit
 
@@ -156,7 +154,7 @@ module _ {A : Type 0} (came : Frame A → Type 0) (c : Core A) (t : Token) (fres
               let within = f.within in
               let count : length (ws.wraps ++ End ∷ []) ≡ suc (length ws.wraps) = length_more ws.wraps in
               omega (arith, n, within, count))
-          | inr o ↦ absurd (end_no_user y.payload ended (all_users (h.users o queued) y j))
+          | inr o ↦ absurd (false≢true (sym (end_no_user y.payload ended) ∙ all_users (h.users o queued) y j))
         ]
       where
         length_more : (ps : List (Payload A)) → length (ps ++ End ∷ []) ≡ suc (length ps)

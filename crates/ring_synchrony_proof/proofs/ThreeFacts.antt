@@ -24,7 +24,7 @@ use Rattle.ring_core_proof.specs.Worlds.{World, run, unformed}
 use Rattle.ring_core_proof.specs.Texts.{text_of}
 use Rattle.ring_core_proof.specs.Lives.{Stage, stages_of, delivered_in}
 use Rattle.ring_core_proof.specs.CommitRounds.{all_pairs, is_above}
-use Rattle.ring_core_proof.proofs.InLists.{in-each, in-left, in-right, in-contains}
+use Rattle.ring_core_proof.proofs.InLists.{in-each, in-left, in-right, in-contains, in-numbers}
 use Rattle.ring_core_proof.proofs.MembersOfRings.{member_in}
 use Rattle.ring_core_proof.proofs.WithinWindow.{mark_below}
 use Rattle.ring_core_proof.proofs.Rounds.{pairs_fall}
@@ -37,7 +37,6 @@ use Rattle.ring_chain_proof.proofs.Plans.{IsPlan, one_plan}
 use Rattle.ring_chain_proof.proofs.ChainInRuns.{held_somewhere}
 use Rattle.ring_synchrony_proof.specs.Changes.{IsNode, stages_in, regulars_of, members_in, alternate, Change, changes_of, changes_in, delivered_by}
 use Rattle.ring_synchrony_proof.specs.Synchrony.{DeliversAlike, DeliversOwn, IsShared, GoesOn, HasConfigurations}
-use Rattle.ring_synchrony_proof.proofs.Quantified.{in_numbers}
 use Rattle.ring_synchrony_proof.specs.Tales.{regular_of, plan_into, before_of}
 use Rattle.ring_synchrony_proof.proofs.LivesTold.{heard, found_alike, tale_is}
 use Rattle.ring_synchrony_proof.proofs.LivesOfWorlds.{lives_are, all_well_told}
@@ -246,7 +245,7 @@ module _ {A : Type 0} (w : World A) (r : Recovered w.cores w.frames) where
             in-left x (delivered_in (regular_of c old)) (rests p c.held)
             (subst (λ (xs : List (Message A)). IsIn x xs) (sym (regular_is i old))
             (in_heard (found c.held old.ring) (numbers_from 1 (mark c old.ring)) x.number x
-            (in_numbers x.number 1 (mark c old.ring) low
+            (in-numbers 1 (mark c old.ring) x.number low
             (let m : mark c old.ring ≡ safe p = q.marked in omega (arith, within, m))) is u))
       ]
 
@@ -338,8 +337,8 @@ module _ {A : Type 0} (n : ℕ) (events : List (RingEvent A)) where
       (came_mate n events i a.next a.old a.changed low q (subst (λ (z : Change A). IsIn q (elements z.new.members)) a.is m)
       (installed_there q a.old goes.through) (λ b k. goes.straight b (subst (λ xs. IsIn b xs) (sym (installs_are q)) k)))
 
-  node_low : (i : ℕ) → IsNode w i → 1 ≤ i
-  node_low i ni = leb-true 1 i (and_parts (nat_le 1 i) (nat_le i w.total) ni).0
+  is_node-low : (i : ℕ) → IsNode w i → 1 ≤ i
+  is_node-low i ni = leb-true 1 i (and_parts (nat_le 1 i) (nat_le i w.total) ni).0
 
   pub have_configurations : (i : ℕ) → IsNode w i → HasConfigurations w i
   have_configurations i ni =
@@ -356,5 +355,5 @@ module _ {A : Type 0} (n : ℕ) (events : List (RingEvent A)) where
         rising = ap (all_pairs is_above) (ap regulars_of (stages_are i) ∙ regulars_are c c.installed o.older) ∙ pairs_fall (c.installed ∷ o.older) o.falls;
         shared = are_shared i ni;
         mates = λ c k q m. mate_goes i c (change_is i c k) q m;
-        all_mates = λ c k q m g. goer_is_mate i (node_low i ni) c (change_is i c k) q m g;
+        all_mates = λ c k q m g. goer_is_mate i (is_node-low i ni) c (change_is i c k) q m g;
       }

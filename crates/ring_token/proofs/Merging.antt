@@ -1,6 +1,6 @@
 -- The smallest numbers of two lists, of which the first ascends, one after another.
 use Rattle.std.proofs.Common.{◌≡◌, ℕ, zero, suc, ◌-◌, ◌<◌, ◌≤◌, List, [], ◌∷◌, ◌++◌, length, take, refl, sym, ap, ◌∙◌}
-use Rattle.std.proofs.Common.{arith, inl, inr, append_assoc, length-append, subst, append-nil, min, Option, Some, None}
+use Rattle.std.proofs.Common.{arith, inl, inr, append_assoc, length-append, subst, append-nil, min, Some, None}
 use Rattle.std.specs.Prelude.{nat_lt, ◌==◌, if◌then◌else◌}
 use Rattle.std.specs.List.{AllByRecursion}
 use Rattle.std.specs.List.Sorted.{IsStrictlyIncreasing}
@@ -217,7 +217,3 @@ none_left sofar xs ys all e t =
 
 pub begun : (stays missing : List ℕ) → IsStrictlyIncreasing stays → AreTaken [] stays missing (take 32 (merged stays missing))
 begun stays missing h = record { few = omega arith; ascends = ascending stays h; is = refl }
-
-pub none_from : (o : Option ℕ) → ((n : ℕ) → o ≡ Some n → ⊥) → o ≡ None
-none_from None h = refl
-none_from (Some n) h = absurd (h n refl)

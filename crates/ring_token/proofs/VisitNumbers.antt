@@ -56,7 +56,7 @@ accepted_by h next aru safe high t k =
 -- The safe mark
 
 -- a visit more: the lesser of its aru and the last one
-mark_more : {A : Type 0} → (v : Turn A) (turns : List (Turn A))
+pub mark_more : {A : Type 0} → (v : Turn A) (turns : List (Turn A))
     → mark_by (v.went.aru ∷ map (λ (v : Turn A). v.went.aru) turns) ≡ max (min v.went.aru (last_aru turns))
     (mark_by (map (λ (v : Turn A). v.went.aru) turns))
 mark_more v [] = omega arith

@@ -44,7 +44,7 @@ impl Standing {
         ]
     }
 
-    /// Adds what changed at the node since it stood so. Or `Memory`: then a part of it may be added.
+    /// Adds what changed at the node, which stood as `before` and stands so now. Or `Memory`: then a part of it may be added.
     ///
     /// A new ring tells its state: a node that installs one is operational.
     pub fn add_changes<A: Allocator>(

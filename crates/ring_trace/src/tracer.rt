@@ -302,7 +302,7 @@ impl<O: Object> Tracer<O> {
             .add_event(self.events, sight.node, changes, &sight.call, told)
     }
 
-    /// Finds what an event changed at its node.
+    /// Finds what an event changed at its node, and keeps how it stands now.
     fn find_changes(&mut self, sight: &Sight) -> Result<(), Fault>
         ensures { self.new.run ≡ self.old.run }
     {

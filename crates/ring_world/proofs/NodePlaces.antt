@@ -1,12 +1,13 @@
 -- Where a node stands in the lists that the code of a world keeps, and what they are with another node in its place.
-use Rattle.std.proofs.Common.{◌≡◌, ℕ, zero, suc, ◌-◌, ◌<◌, ◌≤◌, true, false, ◌==◌, List, [], ◌∷◌, length}
+use Rattle.std.proofs.Common.{◌≡◌, ℕ, zero, suc, ◌-◌, ◌<◌, ◌≤◌, true, false, ◌==◌, List, [], ◌∷◌, length, length-set}
 use Rattle.std.proofs.Common.{Some, slice_get, get_or, ap, ◌∙◌, sym, subst, arith, inl, inr}
 use Rattle.std.specs.Prelude.{slice_set}
 use Rattle.std.proofs.lemmas.Bool.{cond-true, cond-false, and_from, le-leb, eqb-true, eqb-false, eq-eqb, cases_Bool}
 use Rattle.std.proofs.lemmas.Bool.Decides.{nat_tests}
-use Rattle.std.proofs.lemmas.Option.{get_or_from_slice_get}
+use Rattle.std.proofs.lemmas.Option.{get_or_from_slice_get, slice_get_within}
 use Rattle.ring_base.specs.Group.{Group}
 use Rattle.ring_base.specs.Processors.{IsProc}
+use Rattle.ring_base.proofs.ListPlaces.{get-set, get-set_other}
 use Rattle.ring_object.specs.Operations.{Sequential}
 use Rattle.ring_payload.specs.declared.call.Call.{Call}
 use Rattle.ring_core.specs.State.{Carried}
@@ -18,7 +19,6 @@ use Rattle.ring_rules.specs.Worlds.{World, put, is_node}
 use Rattle.ring_world.specs.Played.{Played, told_of_events, world_of}
 use Rattle.ring_world.specs.Spares.{Spares, Holds}
 use Rattle.ring_world.specs.Keeping.{KeepsCopies, IsWorldKept, IsWorld}
-use Rattle.ring_world.proofs.Spared.{get-set_same, get-set_other, set-length}
 
 -- the lists are those of a world, and its processor i stands at place m of the nodes
 pub record Stands {O A : Type 0} (object : Sequential O) (p old : Played A) (nodes : List (Node A)) (spares : List (Spares A))
@@ -144,7 +144,7 @@ module _ {O A : Type 0} {object : Sequential O} {p old : Played A} {nodes : List
   nodes_put n j l = elim (cases_Bool (j == m)) [
     | inl t ↦
         let e = eqb-true j m t in
-        ap (slice_get (slice_set nodes m n)) e ∙ get-set_same nodes m n (w.nodes (suc m)) (kept.nodes_are m below) ∙ ap Some (sym (put_at n j e))
+        ap (slice_get (slice_set nodes m n)) e ∙ get-set nodes m n (slice_get_within nodes m (w.nodes (suc m)) (kept.nodes_are m below)) ∙ ap Some (sym (put_at n j e))
     | inr f ↦
         let e = eqb-false j m f in
         get-set_other nodes m j n e ∙ kept.nodes_are j l ∙ ap Some (sym (put_other n j e))
@@ -158,7 +158,7 @@ module _ {O A : Type 0} {object : Sequential O} {p old : Played A} {nodes : List
     | inl t ↦
         let e = eqb-true j m t in
         let c = kept.copies m below in
-        (s, (ap (slice_get (slice_set spares m s)) e ∙ get-set_same spares m s c.0 c.1), subst (λ (x : Node A). KeepsCopies x s) (sym (put_at n j e)) k)
+        (s, (ap (slice_get (slice_set spares m s)) e ∙ get-set spares m s (slice_get_within spares m c.0 c.1)), subst (λ (x : Node A). KeepsCopies x s) (sym (put_at n j e)) k)
     | inr f ↦
         let e = eqb-false j m f in
         let c = kept.copies j l in
@@ -185,7 +185,7 @@ module _ {O A : Type 0} {object : Sequential O} {p old : Played A} {nodes : List
       let cs : v.group.count ≡ w.group.count = ap (λ (x : Group). x.count) g in
       record {
         nodes_are = λ j below. nodes_put n j (omega (arith, below, cs)) ∙ ap (λ (x : ℕ → Node A). Some (x (suc j))) (sym ns);
-        many = set-length nodes m n ∙ kept.many ∙ sym cs;
+        many = length-set nodes m n ∙ kept.many ∙ sym cs;
         copies = λ j below. (let c = copied j (omega (arith, below, cs)) in (c.0, c.1, subst (λ (x : ℕ → Node A). KeepsCopies (x (suc j)) c.0) (sym ns) c.2));
         copies_many = many ∙ kept.copies_many ∙ sym cs;
         frames_are = sym f;
@@ -206,7 +206,7 @@ module _ {O A : Type 0} {object : Sequential O} {p old : Played A} {nodes : List
         let e = eqb-true j m t in
         let c = kept.copies m below in (
           s,
-          (ap (slice_get (slice_set spares m s)) e ∙ get-set_same spares m s c.0 c.1),
+          (ap (slice_get (slice_set spares m s)) e ∙ get-set spares m s (slice_get_within spares m c.0 c.1)),
           subst (λ x. KeepsCopies (w.nodes x) s) (sym (ap suc e ∙ next)) k,
         )
     | inr f ↦
@@ -227,7 +227,7 @@ module _ {O A : Type 0} {object : Sequential O} {p old : Played A} {nodes : List
             nodes_are = kept.nodes_are;
             many = kept.many;
             copies = spared_copies t k;
-            copies_many = set-length spares m t ∙ kept.copies_many;
+            copies_many = length-set spares m t ∙ kept.copies_many;
             frames_are = kept.frames_are;
             history_is = kept.history_is;
             told_is = kept.told_is;

@@ -1,26 +1,20 @@
 -- How long the order is: as many calls as took effect at the node where the most did.
-use Rattle.std.proofs.Common.{◌≡◌, ℕ, suc, ◌+◌, ◌<◌, ◌≤◌, max, List, [], ◌∷◌, ◌++◌, map, length, Some, slice_get, refl, ap, ◌∙◌, sym, arith}
-use Rattle.std.specs.Prelude.{nat_lt}
-use Rattle.std.proofs.lemmas.Bool.{cond_both, ltb-true, ltb-false}
+use Rattle.std.proofs.Common.{◌≡◌, ℕ, suc, ◌+◌, ◌<◌, ◌≤◌, max, List, [], ◌∷◌, map, length, Some, slice_get, refl, ap, ◌∙◌, sym, arith}
 use Rattle.ring_base.specs.Numbers.{greatest, numbers_from}
 use Rattle.ring_object.specs.Operations.{Sequential}
 use Rattle.ring_payload.specs.declared.call.Call.{Call}
 use Rattle.ring_core.specs.State.{Carried}
 use Rattle.ring_log.specs.Lives.{committed_of}
+use Rattle.ring_log.proofs.Longer.{length-longer}
 use Rattle.ring_rules.specs.Nodes.{Node}
 use Rattle.ring_rules.specs.declared.item.Item.{Item}
 use Rattle.ring_rules.specs.declared.told.Told.{Told}
-use Rattle.ring_rules.specs.Orders.{longer, order_of}
+use Rattle.ring_rules.specs.Orders.{order_of}
 use Rattle.ring_rules.specs.Worlds.{World, lives_of, order}
 use Rattle.ring_session.specs.Deduplicated.{deduplicated}
 use Rattle.ring_world.specs.Keeping.{IsWorldKept}
 use Rattle.ring_world.specs.Ordering.{effects_of, effects_in}
 use Rattle.ring_world.specs.Spares.{Spares}
-
-length-longer : {X : Type 0} (xs ys : List X) → length (longer xs ys) ≡ max (length xs) (length ys)
-length-longer {X} xs ys =
-    cond_both (nat_lt (length xs) (length ys)) ys xs (λ (zs : List X). length zs ≡ max (length xs) (length ys))
-    (λ t. (let l = ltb-true (length xs) (length ys) t in omega (arith, l))) (λ f. (let l = ltb-false (length xs) (length ys) f in omega (arith, l)))
 
 -- the longest of what takes effect of each of these lists
 length-order : {A : Type 0} (f : ℕ → List (Call A)) (numbers : List ℕ)

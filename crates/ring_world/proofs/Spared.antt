@@ -1,8 +1,9 @@
 -- The second copies of the calls that wait: what a step answers has its copy, and those that wait on keep theirs.
-use Rattle.std.proofs.Common.{◌≡◌, ℕ, zero, suc, ◌+◌, ◌<◌, Bool, true, false, List, [], ◌∷◌, ◌++◌, length, Option, Some}
+use Rattle.std.proofs.Common.{◌≡◌, ℕ, zero, suc, ◌+◌, ◌<◌, Bool, true, false, List, [], ◌∷◌, ◌++◌, length, Option, Some, length-set}
 use Rattle.std.proofs.Common.{None, slice_get, refl, ap, ◌∙◌, sym, subst, arith, append-nil, append_assoc, inl}
 use Rattle.std.proofs.Common.{inr}
-use Rattle.std.specs.Prelude.{if◌then◌else◌, slice_set}
+use Rattle.std.specs.Prelude.{if◌then◌else◌}
+use Rattle.std.specs.Option.{option_or}
 use Rattle.ring_object.specs.Operations.{Sequential}
 use Rattle.ring_payload.specs.declared.call.Call.{Call}
 use Rattle.ring_order_proof.proofs.RepliesTold.{is_place-true}
@@ -10,28 +11,9 @@ use Rattle.ring_session.specs.declared.answer.Answer.{Answer}
 use Rattle.ring_session.specs.Table.{Table, table_answer, table_next}
 use Rattle.ring_session.specs.declared.answered.Answered.{Answered}
 use Rattle.ring_session.specs.Tickets.{Asked, place_of, is_place, answers_at, answers_after}
-use Rattle.ring_session.proofs.TicketPlaces.{first_place-below, or_else, last_place, first_place-push}
+use Rattle.ring_session.proofs.TicketPlaces.{first_place-below, last_place, first_place-push}
 use Rattle.ring_world.specs.Spares.{IsLeft, AllLeft, without, after_answers, Holds}
-use Rattle.ring_base.proofs.ListPlaces.{get-push, get-last, get-left, push-length}
-
--- Places of what is set
-
-pub get-set_same : {X : Type 0} (xs : List X) (i : ℕ) (x y : X) → slice_get xs i ≡ Some y → slice_get (slice_set xs i x) i ≡ Some x
-get-set_same [] i x y e = absurd (let q : ⊥ = cc e in q)
-get-set_same (z ∷ xs) zero x y e = refl
-get-set_same (z ∷ xs) (suc i) x y e = get-set_same xs i x y e
-
-pub get-set_other : {X : Type 0} (xs : List X) (i j : ℕ) (x : X) → (j ≡ i → ⊥) → slice_get (slice_set xs i x) j ≡ slice_get xs j
-get-set_other [] i j x n = refl
-get-set_other (z ∷ xs) zero zero x n = absurd (n refl)
-get-set_other (z ∷ xs) zero (suc j) x n = refl
-get-set_other (z ∷ xs) (suc i) zero x n = refl
-get-set_other (z ∷ xs) (suc i) (suc j) x n = get-set_other xs i j x (λ e. n (ap suc e))
-
-pub set-length : {X : Type 0} (xs : List X) (i : ℕ) (x : X) → length (slice_set xs i x) ≡ length xs
-set-length [] i x = refl
-set-length (z ∷ xs) zero x = refl
-set-length (z ∷ xs) (suc i) x = ap suc (set-length xs i x)
+use Rattle.ring_base.proofs.ListPlaces.{get-push, get-last, get-left, get-set_other, push-length}
 
 -- Answers, one list behind the other
 
@@ -48,11 +30,11 @@ left-append calls (x ∷ xs) ys h k = (h.0, left-append (without calls x.ticket)
 -- One call more: a ticket without a place gets this one, or none
 
 module _ {A : Type 0} (done : List (Call A)) (d : Call A) where
-  split_new : (o last : Option ℕ) → ((p : ℕ) → o ≡ Some p → p < length done) → or_else o last ≡ Some (length done) → o ≡ None
+  split_new : (o last : Option ℕ) → ((p : ℕ) → o ≡ Some p → p < length done) → option_or o last ≡ Some (length done) → o ≡ None
   split_new None last below e = refl
   split_new (Some p) last below e = absurd (let l = below p refl in let q : p ≡ length done = cc e in omega (arith, l, q))
 
-  split_none : (o last : Option ℕ) → or_else o last ≡ None → o ≡ None
+  split_none : (o last : Option ℕ) → option_or o last ≡ None → o ≡ None
   split_none None last e = refl
   split_none (Some p) last e = absurd (let q : ⊥ = cc e in q)
 
@@ -109,7 +91,7 @@ module _ {A : Type 0} where
     left = (here, g.left);
     each = each_of;
     below = λ j l. g.below j (omega (arith, l)) ∙ get-set_other calls ticket j None (λ e. (let q : ⊥ = omega (arith, e, l) in q));
-    many = g.many ∙ set-length calls ticket None;
+    many = g.many ∙ length-set calls ticket None;
   }
     where
       each_of : Wait done (after_answers (without calls ticket) rest) ticket (t ∷ ts)

@@ -5,7 +5,8 @@ use Rattle.std.proofs.Common.{arith, append-nil, append_assoc, length-append, in
 use Rattle.std.specs.Prelude.{slice_range, option_map, drop, IfSome, IsSome, ◌↔◌}
 use Rattle.std.specs.List.{AllByRecursion as Each}
 use Rattle.std.proofs.lemmas.List.{take_at, drop_at, take-append-drop}
-use Rattle.ring_base.proofs.Each.{each-push, each-get}
+use Rattle.ring_core.proofs.Carrying.{at_fits}
+use Rattle.ring_base.proofs.Each.{each-push}
 use Rattle.ring_base.specs.Processors.{has}
 use Rattle.ring_base.specs.declared.fault.Fault.{Fault}
 use Rattle.ring_base.specs.declared.fault.Fault.TheVariants.{Memory, BadFrame}
@@ -144,11 +145,6 @@ module _ {A : Type 0} where
     pub within : m.end ≤ length bytes
     pub spelled : slice_range bytes m.start m.end ≡ spelling_of frame
 
-  fit_at : (frames : List (Carried A)) (number : ℕ) (f : Carried A) → Each (λ (g : Carried A). FrameFits g.frame)
-      frames → frame_at frames number ≡ Some f → FrameFits f.frame
-  fit_at frames zero f h e = absurd (let q : ⊥ = cc e in q)
-  fit_at frames (suc k) f h e = each-get (λ (g : Carried A). FrameFits g.frame) frames k f h e
-
   for_mark : (frames : List (Carried A)) (bytes : List ℕ) (marks : List Mark) (h : AreFrames frames bytes marks)
       (node number : ℕ) (n m : Mark) → mark_at marks number ≡ Some n →
       mark_for node (Some n) ≡ Some m → IsFor bytes m (frame_for node (frame_at frames number))
@@ -159,7 +155,7 @@ module _ {A : Type 0} where
       record {
         frame = is.sent.frame;
         there = ap (frame_for node) is.there ∙ if_so (has is.sent.to node) is.sent.frame to;
-        fits = fit_at frames number is.sent h.fit is.there;
+        fits = at_fits frames number is.sent h.fit is.there;
         order = is.order;
         within = is.within;
         spelled = is.spelled;

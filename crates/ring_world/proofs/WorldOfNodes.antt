@@ -1,5 +1,5 @@
 -- What the code keeps goes on telling the world, event by event.
-use Rattle.std.proofs.Common.{◌≡◌, ◌⊎◌, ℕ, ◌-◌, ◌≤◌, ◌==◌, Bool, true, false, List, [], ◌∷◌, ◌++◌, length, drop, arith}
+use Rattle.std.proofs.Common.{◌≡◌, ◌⊎◌, ℕ, ◌-◌, ◌≤◌, ◌==◌, Bool, true, false, List, [], ◌∷◌, ◌++◌, length, drop, arith, length-set}
 use Rattle.std.proofs.Common.{Option, Some, None, Ok, get_or, refl, ap, ◌∙◌, sym, subst, inl, inr, append-nil}
 use Rattle.std.specs.Prelude.{not, slice_set, MatchOption, if◌then◌else◌}
 use Rattle.std.specs.List.{AllByRecursion}
@@ -38,7 +38,7 @@ use Rattle.ring_node.specs.declared.outs.Outs.{Outs}
 use Rattle.ring_world.specs.Steps.{HasStepped}
 use Rattle.ring_world.specs.Spares.{Spares, AllLeft, Holds, after_answers}
 use Rattle.ring_world.specs.Keeping.{KeepsCopies, IsWorldKept, IsWorld}
-use Rattle.ring_world.proofs.Spared.{set-length, holds-more}
+use Rattle.ring_world.proofs.Spared.{holds-more}
 use Rattle.ring_world.proofs.EventLimits.{step_keeps}
 use Rattle.ring_world.proofs.Events.{tells_answers, tells_refusal, tells_memory}
 use Rattle.ring_world.proofs.StoppedNode.{silent}
@@ -169,7 +169,7 @@ module _ {O A : Type 0} {object : Sequential O} {p old : Played A} {nodes : List
           (ap (λ (xs : List (Call A)). xs ++ calls_past (length xs) (node_kept st.node).committed st.committed) (sym kept.longest_is)
           ∙ sym (ls_is ∙ ap (λ (x : Node A). longest ++ calls_past (length longest) (node_kept x).committed committed) gives.node
           ∙ ap (λ xs. longest ++ calls_past (length longest) (node_kept st.node).committed xs) gives.committed_is))
-          (copies_set here after s' keeps) (set-length spares m s')) es_is
+          (copies_set here after s' keeps) (length-set spares m s')) es_is
 
       pub step_goes : {es : List (Event A)} {ts : List (Told A)} {done : ℕ} (d : Event A) → d ≡ e → es ≡ p.events ++ d ∷ []
           → ts ≡ p.told ++ told_by i answered → Goes object e old (record { group = p.group; events = es; told = ts; done = done })
@@ -313,7 +313,7 @@ module _ {O A : Type 0} {object : Sequential O} {p old : Played A} {nodes : List
         tells (Issue i c) d here.world copy (subst EventKeeps event fits) (issue_is None free) refl
         (put_kept here after refl (ap (λ (x : Node A). put w.nodes i x) (sym now)) (sym kept.frames_are)
         (ap (λ xs. xs ++ IssuedItem c ∷ []) (sym kept.history_is) ∙ sym (is_is ∙ ap (λ x. history ++ IssuedItem x ∷ []) b_is))
-        (sym kept.told_is) (sym kept.longest_is) (copies_set here after s' keeps) (set-length spares m s')) es_is
+        (sym kept.told_is) (sym kept.longest_is) (copies_set here after s' keeps) (length-set spares m s')) es_is
 
     pub issue_goes : {es : List (Event A)} {done : ℕ} → submit_fault n ≡ None → es ≡ p.events ++ d ∷ []
         → Goes object e old (record { group = p.group; events = es; told = p.told; done = done })

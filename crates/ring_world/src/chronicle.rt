@@ -59,7 +59,7 @@ impl<A: Allocator + Copy> Chronicle<A> {
         })
     }
 
-    /// Makes the room for all that an event adds, or answers `Memory`. Most often there is room.
+    /// Makes the room for all that an event adds here, or answers `Memory`. Most often there is room.
     pub fn make_room(&mut self) -> Result<(), Fault>
         ensures events { self.new.events.items ≡ self.old.events.items }
         ensures events_room { OnOk result (vec_len self.new.events + 1 ≤ vec_capacity self.new.events) }

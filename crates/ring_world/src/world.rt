@@ -320,7 +320,7 @@ impl<O: Object> World<O> {
         }
     }
 
-    /// The event changes nothing.
+    /// The event changes nothing but the list of events.
     fn idle(&mut self, event: &Event<O::Alloc>) -> Result<(), Fault>
         requires fits { EventFits event.now }
         requires same { happens O.sequential (world_of O.sequential self.old) event.now ≡ world_of O.sequential self.old }
@@ -335,8 +335,8 @@ impl<O: Object> World<O> {
         Ok(())
     }
 
-    /// A node steps: it hears a frame, or a time is over. Where there is no such node, or the frame was not sent to it, nothing
-    /// changes.
+    /// A node steps: it hears a frame, or a time is over. Where there is no such node, or the frame was not sent to it, the list of
+    /// events alone changes. Where memory ran out in its step it has stopped, and its stop stands for the event.
     fn step(&mut self, node: Proc, event: &Event<O::Alloc>) -> Result<(), Fault>
         requires { stepping event.now ≡ Some node }
         ensures ok { OnOk result (Goes O.sequential event.now self.old self.new) }

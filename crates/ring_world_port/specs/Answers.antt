@@ -1,5 +1,6 @@
 -- What a node told of a call. Clients, rule 8, of docs/PROTOCOL.md.
 use Rattle.std.specs.Prelude.{◌≡◌, ℕ, ◌≤◌, ◌==◌, ◌&&◌, Bool, if◌then◌else◌, List, [], ◌∷◌, drop, Option, Some, None}
+use Rattle.std.specs.Option.{option_or}
 use Rattle.std.specs.Str.{bytes_eq}
 use Rattle.ring_client.specs.Asking.{tellable}
 use Rattle.ring_client.specs.declared.asked.Asked.{Asked}
@@ -20,15 +21,10 @@ abbrev pub answer_of : {A : Type 0} → SubmittedCall → Told A → Option OneA
 answer_of q (Answer i c answer) = if is_asked q i c then tellable answer else None
 answer_of q (Refused i c number) = None
 
--- the first, or else the later one
-abbrev pub first_of : {A : Type 0} → Option A → Option A → Option A
-first_of None later = later
-first_of (Some x) later = Some x
-
 -- the first answer among what was told
 abbrev pub answer_in : {A : Type 0} → SubmittedCall → List (Told A) → Option OneAnswer
 answer_in q [] = None
-answer_in q (t ∷ ts) = first_of (answer_of q t) (answer_in q ts)
+answer_in q (t ∷ ts) = option_or (answer_of q t) (answer_in q ts)
 
 -- the call that was submitted last, at this node
 abbrev pub submitted_call_of : ℕ → Asked → SubmittedCall

@@ -1,6 +1,6 @@
 use Rattle.std.proofs.Common.{◌≡◌, ap, ◌∙◌, take, rules, arith}
 use Rattle.std.proofs.lemmas.Grind.{common_steps}
-use Rattle.ring_session.proofs.Parts.{front-then, front-more, front-on, front-whole, clients-on}
+use Rattle.ring_session.proofs.Parts.{stays-then, stays-more, stays-on, stays-whole, clients-on}
 use Rattle.ring_session.proofs.snapshots.append_clients.Goals as goal
 
 pub returns-in_err-append_last-clause-front : goal.returns-in_err-append_last-clause-front
@@ -8,8 +8,8 @@ returns-in_err-append_last-clause-front g c =
     let old = c.args.out.now in
     let l = c.loop-client in
     let mid = c.append_number-in-loop-client.new.out in
-    let first = front-more old.items l.out.items _ old.len old.ok.0 l.invariant.front in
-    front-then old.items mid.items c.append_last.new.out.items old.len mid.len old.ok.0 mid.ok.0
+    let first = stays-more old.items l.out.items _ old.len old.ok.0 l.invariant.front in
+    stays-then old.items mid.items c.append_last.new.out.items old.len mid.len old.ok.0 mid.ok.0
     (rw c.in_ok-append_number-2.ensures.ok first) c.in_err-append_last.ensures.front
 
 pub loop-client-init : goal.loop-client-init
@@ -17,7 +17,7 @@ loop-client-init g c =
     let old = c.args.out.now in
     record {
       whole = grind (arith, common_steps);
-      front = front-on old.items old.items c.append_number.new.out.items _ old.len old.ok.0 (front-whole old.items old.len old.ok.0)
+      front = stays-on old.items old.items c.append_number.new.out.items _ old.len old.ok.0 (stays-whole old.items old.len old.ok.0)
           c.in_ok-append_number.ensures.ok;
     }
 
@@ -30,8 +30,8 @@ loop-client-preserved g c =
       whole = clients-on l.out.items mid.items c.append_last.new.out.items (c.in-Some.client.now, c.in-Some.last.now) l.client-iterator
           c.next.new.self _ c.in-Some.ensures.steps (rw c.from.ensures at c.in_ok-append_number-2.ensures.ok) c.in_ok-append_last.ensures.ok
           l.invariant.whole;
-      front = front-on old.items mid.items c.append_last.new.out.items _ old.len old.ok.0
-          (front-on old.items l.out.items mid.items _ old.len old.ok.0 l.invariant.front c.in_ok-append_number-2.ensures.ok)
+      front = stays-on old.items mid.items c.append_last.new.out.items _ old.len old.ok.0
+          (stays-on old.items l.out.items mid.items _ old.len old.ok.0 l.invariant.front c.in_ok-append_number-2.ensures.ok)
           c.in_ok-append_last.ensures.ok;
     }
 
@@ -39,7 +39,7 @@ pub returns-in_err-append_number-clause-front : goal.returns-in_err-append_numbe
 returns-in_err-append_number-clause-front g c =
     let old = c.args.out.now in
     let same : c.append_number.new.out.items ≡ old.items = search rules in
-    ap (take old.len) same ∙ front-whole old.items old.len old.ok.0
+    ap (take old.len) same ∙ stays-whole old.items old.len old.ok.0
 
 pub returns-in_err-append_number-2-clause-front : goal.returns-in_err-append_number-2-clause-front
 returns-in_err-append_number-2-clause-front g c =

@@ -2,8 +2,9 @@
 use Rattle.std.proofs.Common.{◌+◌, ◌≤◌, max, ◌++◌, ap, sym, ◌∙◌, append_assoc, arith}
 use Rattle.std.proofs.lemmas.List.{append-nil}
 use Rattle.std.specs.Option.{option_copied}
+use Rattle.ring_base.proofs.Cases.{none_from}
 use Rattle.ring_window.specs.Held.{front_of}
-use Rattle.ring_recover.proofs.MessagesInFront.{kept_found, none_from}
+use Rattle.ring_recover.proofs.MessagesInFront.{kept_found}
 use Rattle.ring_srp_state.specs.Users.{agreed_in, agreed_of}
 use Rattle.ring_srp_state.proofs.UsersOfWindow.{agreed_first, agreed_some, agreed_none, agreed_last}
 use Rattle.ring_srp_state.proofs.giving.give_agreed.Goals.{in-Some+in_ok-give_message, in_default}

@@ -1,7 +1,7 @@
 -- Number by number, until there are so many; and then the End.
 use Rattle.std.proofs.Common.{◌<◌, ◌≤◌, length, sym, ap, ◌∙◌, arith}
+use Rattle.ring_base.proofs.Cases.{none_from}
 use Rattle.ring_window.specs.Held.{highest}
-use Rattle.ring_recover.proofs.MessagesInFront.{none_from}
 use Rattle.ring_srp_state.proofs.WrapsByNumber.{made_one, made_next, made_full, made_end, made_all}
 use Rattle.ring_srp_state.proofs.wrapping.first_left.Goals as goal
 use Rattle.ring_srp_state.proofs.wrapping.first_left.Goals.{in-Some+in_ok-push, in_default}

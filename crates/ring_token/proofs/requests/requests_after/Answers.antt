@@ -1,7 +1,8 @@
 -- At each turn the lesser first number is the next of both lists.
 use Rattle.std.proofs.Common.{◌≡◌, ◌<◌, ◌≤◌, length, Some, None, sym, ap, ◌∙◌, arith}
 use Rattle.ring_token.specs.Requesting.{least_first}
-use Rattle.ring_token.proofs.Merging.{begun, taken, whole, all_taken, none_left, none_from}
+use Rattle.ring_base.proofs.Cases.{none_from}
+use Rattle.ring_token.proofs.Merging.{begun, taken, whole, all_taken, none_left}
 use Rattle.ring_token.proofs.requests.requests_after.Goals as goal
 
 pub loop-left-init : goal.loop-left-init

@@ -4,7 +4,8 @@ use Rattle.ring_wire.specs.Frames.{spelling_of, FrameFits}
 use Rattle.ring_wire.specs.Fronts.{IsGot}
 use Rattle.ring_wire.specs.declared.frame.Frame.{Frame}
 use Rattle.ring_console.specs.Listings.{BeginsWithNone}
-use Rattle.ring_console.proofs.ListingLemmas.{next_put, from_place, stop_here}
+use Rattle.ring_base.proofs.ListFronts.{rest_whole}
+use Rattle.ring_console.proofs.ListingLemmas.{next_put, stop_here}
 use Rattle.ring_console.proofs.ahead.Ahead.take_frame.Goals as goal
 
 pub returns-in-Ok-clause-next : goal.returns-in-Ok-clause-next
@@ -21,5 +22,5 @@ returns-in-Err-BadFrame-2-clause-stopped g c =
     let self = c.args.self.now in
     let none : BeginsWithNone g.row.A.Denot (take (length c.deref.result.now - self.taken)
     (drop self.taken c.deref.result.now)) = c.in-Err-BadFrame.ensures.bad c.in-Err-BadFrame.field-0-is in
-    let here = subst (BeginsWithNone g.row.A.Denot) (from_place c.deref.result.now self.taken ∙ ap (drop self.taken) c.deref.ensures.value) none in
+    let here = subst (BeginsWithNone g.row.A.Denot) (rest_whole self.taken c.deref.result.now ∙ ap (drop self.taken) c.deref.ensures.value) none in
     stop_here g.row.A.Denot (drop self.taken self.bytes.items) self.position self.state (λ failed. let same = rw failed at c.if-eq-2.ensures in cc) here

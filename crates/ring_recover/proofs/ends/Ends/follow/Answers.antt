@@ -1,8 +1,9 @@
 -- The front's messages so far, and one more at each turn.
 use Rattle.std.proofs.Common.{◌≡◌, ◌+◌, ◌≤◌, [], ◌∷◌, ◌++◌, length, ap, sym, ◌∙◌, arith}
 use Rattle.std.specs.Option.{option_copied}
+use Rattle.ring_base.proofs.Cases.{none_from}
 use Rattle.ring_window.specs.Held.{front_of}
-use Rattle.ring_recover.proofs.MessagesInFront.{up_to, up_to_few, up_to_some, up_to_none, front_short, front_up_to, kept_found, none_from}
+use Rattle.ring_recover.proofs.MessagesInFront.{up_to, up_to_few, up_to_some, up_to_none, front_short, front_up_to, kept_found}
 use Rattle.ring_recover.proofs.ends.Ends.follow.Goals.{in-Some, in_default}
 use Rattle.ring_recover.proofs.ends.Ends.follow.Goals as goal
 

@@ -2,7 +2,7 @@ use Rattle.std.proofs.Common.{sym, ap, ◌∙◌}
 use Rattle.ring_script.specs.Numbers.{decimal_at}
 use Rattle.ring_script.specs.Words.{pieces_left}
 use Rattle.ring_script.proofs.Digits.{decimal-none, decimal-broken, decimal-read}
-use Rattle.ring_script.proofs.Pieces.{rest_is}
+use Rattle.ring_base.proofs.ListFronts.{rest_whole}
 use Rattle.ring_script.proofs.words.Words.decimal.Goals as goal
 
 pub returns-then-not-are_plain : goal.returns-then-not-are_plain
@@ -18,7 +18,7 @@ returns-in-Err c =
     let text = c.in-Some.text.now in
     let n = c.leading-digits.result.count in
     let seen = sym c.self.view_is ∙ ap (pieces_left separator) c.in-Some.is in
-    let failed = rw (rest_is n text) at c.in-Err.ensures.failed in
+    let failed = rw (rest_whole n text) at c.in-Err.ensures.failed in
     rw failed.0
     (ap decimal_at seen ∙ decimal-broken separator text n c.leading-digits.result.value c.self.invariant c.leading-digits.ensures failed.1 failed.2)
 
@@ -28,6 +28,6 @@ returns-in-Ok c =
     let text = c.in-Some.text.now in
     let n = c.leading-digits.result.count in
     let seen = sym c.self.view_is ∙ ap (pieces_left separator) c.in-Some.is in
-    let parted = rw (rest_is n text) at c.in-Ok.ensures.left in
+    let parted = rw (rest_whole n text) at c.in-Ok.ensures.left in
     ap decimal_at seen ∙ decimal-read separator text n c.leading-digits.result.value c.in-Ok.rest
     c.self.invariant c.leading-digits.ensures (sym c.if-not-are_plain.ensures) parted

@@ -2,7 +2,7 @@
 use Rattle.std.proofs.Common.{ap, ◌∙◌, sym, refl, Some, None, arith}
 use Rattle.std.proofs.lemmas.List.{append-nil}
 use Rattle.std.specs.Option.{option_copied}
-use Rattle.ring_recover.proofs.MessagesInFront.{none_from}
+use Rattle.ring_base.proofs.Cases.{none_from}
 use Rattle.ring_srp_state.proofs.Aside.{sets_more}
 use Rattle.ring_srp_state.proofs.recovering.Recovering.set_aside.Goals.{in-Some+in_ok-keep_copy, in_default}
 use Rattle.ring_srp_state.proofs.recovering.Recovering.set_aside.Goals as goal
