@@ -5,19 +5,19 @@ use Rattle.ring_base.proofs.Cases.{none_of}
 use Rattle.ring_object.specs.Bytes.{AreBytes}
 use Rattle.ring_object.specs.Operations.{IsReply, unreadable}
 use Rattle.ring_things.specs.Replies.{code_fits, code_and_value_fits}
-use Rattle.ring_things.specs.Values.{IsValues, IsValues-set}
+use Rattle.ring_things.specs.Table.{IsTable, IsTable-set, keys}
 use Rattle.ring_things.specs.Counters.{reading, is_readable, reply, next, reply_to, after}
 use Rattle.ring_things.specs.declared.counters.Asked.{Asked}
 use Rattle.ring_things.specs.declared.counters.Asked.TheVariants.{Add, Read}
 
-after_kept : (counts : List ℕ) (op : Option Asked) → IsValues counts → IsValues (after counts op)
+after_kept : (counts : List ℕ) (op : Option Asked) → IsTable keys counts → IsTable keys (after counts op)
 after_kept counts (Some (Add key amount)) is =
     let count = slice_index counts key + amount in
-    cond_both (nat_lt count (2 ^ 64)) _ _ IsValues (λ fits. IsValues-set counts key count (ltb-true _ _ fits) is) (λ _. is)
+    cond_both (nat_lt count (2 ^ 64)) _ _ (IsTable keys) (λ fits. IsTable-set keys counts key count (ltb-true _ _ fits) is) (λ _. is)
 after_kept counts (Some (Read key)) is = is
 after_kept counts None is = is
 
-pub next_kept : (counts op : List ℕ) → AreBytes op → IsValues counts → IsValues (next counts op)
+pub next_kept : (counts op : List ℕ) → AreBytes op → IsTable keys counts → IsTable keys (next counts op)
 next_kept counts op are is = after_kept counts (reading op) is
 
 reply_fits : (counts : List ℕ) (op : Option Asked) → IsReply (reply_to counts op)
@@ -27,7 +27,7 @@ reply_fits counts (Some (Add key amount)) =
 reply_fits counts (Some (Read key)) = code_and_value_fits 0 (slice_index counts key) (omega arith)
 reply_fits counts None = code_fits 255 (omega arith)
 
-pub replies_fit : (counts op : List ℕ) → AreBytes op → IsValues counts → IsReply (reply counts op)
+pub replies_fit : (counts op : List ℕ) → AreBytes op → IsTable keys counts → IsReply (reply counts op)
 replies_fit counts op are is = reply_fits counts (reading op)
 
 pub ignored : (counts op : List ℕ) → is_readable op ≡ false → (reply counts op ≡ unreadable) × (next counts op ≡ counts)

@@ -1,6 +1,5 @@
 pub mod Counters
 pub mod CountersLaws
-pub mod Guards
 pub mod Names
 pub mod NamesLaws
 pub mod Numbers
@@ -13,4 +12,4 @@ pub mod RegistersLaws
 pub mod Replies
 pub mod Shelf
 pub mod ShelfLaws
-pub mod Values
+pub mod Table

@@ -20,7 +20,7 @@ use Rattle.ring_base.proofs.Cases.{none_of, map_some, Less-from}
 use Rattle.ring_object.specs.Bytes.{AreBytes}
 use Rattle.ring_object.specs.Operations.{IsReply, unreadable}
 use Rattle.ring_object.specs.Snapshots.{Restores}
-use Rattle.ring_things.specs.Guards.{guarded, and_then_some}
+use Rattle.ring_base.proofs.Cases.{guarded_some, and_then_some}
 use Rattle.ring_things.specs.Numbers.{exact_2, apart, together}
 use Rattle.ring_things.specs.Replies.{code_fits, AreBytes-rest, AreBytes-drop, AreBytes-take}
 use Rattle.ring_things.specs.Names.{most, IsName, is_name, by_bytes, AreAscending, IsSet, same, has, below, with_name}
@@ -167,7 +167,7 @@ record IsNext (last bytes name : List ℕ) : Type 0 where
 next_exact : (last bytes name : List ℕ) → AreBytes bytes → next_name last bytes ≡ Some name → IsNext last bytes name
 next_exact last [] name are is = absurd cc
 next_exact last (len ∷ rest) name are is =
-    let g = guarded ((nat_le 1 len && nat_le len 64) && (nat_le len (length rest) && is_lt (by_bytes last (take len rest)))) (Some (take len rest)) name is in
+    let g = guarded_some ((nat_le 1 len && nat_le len 64) && (nat_le len (length rest) && is_lt (by_bytes last (take len rest)))) (Some (take len rest)) name is in
     let a = and_parts (nat_le 1 len && nat_le len 64) _ g.0 in
     let sizes = and_parts (nat_le 1 len) _ a.0 in
     let b = and_parts (nat_le len (length rest)) _ a.1 in
@@ -193,7 +193,7 @@ record AreNext (count : ℕ) (last bytes : List ℕ) (names : List (List ℕ)) :
 exact : (count : ℕ) (last bytes : List ℕ) (names : List (List ℕ)) → AreBytes bytes → names_of count last bytes ≡ Some names → AreNext count last bytes names
 unfolding names_of IsStrictlySortedBy
 exact zero last bytes names are is =
-    let g = guarded (length bytes == 0) (Some []) names is in
+    let g = guarded_some (length bytes == 0) (Some []) names is in
     let none : bytes ≡ [] = nil_from_length bytes (eqb-true _ _ g.0) in
     let P : List (List ℕ) → Type 0 = λ xs. AreNext 0 last bytes xs in
     subst P (same_Some _ _ g.1) (record { many = refl; each = All-nil IsName; ascending = (tt, tt); text = sym none })
@@ -242,7 +242,7 @@ restored names is =
 
 only : (bytes : List ℕ) (names : List (List ℕ)) → AreBytes bytes → set_of bytes ≡ Some names → IsSet names × (snapshot_of names ≡ bytes)
 only bytes names are is =
-    let g = guarded (nat_le 2 (length bytes) && nat_le (big_number 2 bytes) most) _ names is in
+    let g = guarded_some (nat_le 2 (length bytes) && nat_le (big_number 2 bytes) most) _ names is in
     let a = and_parts (nat_le 2 (length bytes)) _ g.0 in
     let read = IsSet-names_of (big_number 2 bytes) (drop 2 bytes) names (leb-true _ _ a.1) (AreBytes-drop 2 bytes are) g.1 in
     (read.0, together 2 exact_2 bytes (leb-true _ _ a.0) are (length names) (spelled names) read.1 read.2)

@@ -6,7 +6,7 @@ use Rattle.std.proofs.lemmas.List.{nil_from_length}
 use Rattle.std.proofs.lemmas.Option.{same_Some}
 use Rattle.ring_base.proofs.Cases.{map_some}
 use Rattle.ring_object.specs.Bytes.{AreBytes}
-use Rattle.ring_things.specs.Guards.{and_then_some}
+use Rattle.ring_base.proofs.Cases.{and_then_some}
 use Rattle.ring_things.specs.Numbers.{big_number-whole, exact_8}
 use Rattle.ring_things.specs.Outcome.{code_of, outcome_of, value_bytes, value_in, spelling, reading, ValueFits}
 use Rattle.ring_things.specs.Replies.{AreBytes-rest}

@@ -10,7 +10,7 @@ use Rattle.ring_base.proofs.Cases.{none_of}
 use Rattle.ring_object.specs.Bytes.{AreBytes}
 use Rattle.ring_object.specs.Operations.{IsReply, unreadable}
 use Rattle.ring_object.specs.Snapshots.{Restores}
-use Rattle.ring_things.specs.Guards.{guarded}
+use Rattle.ring_base.proofs.Cases.{guarded_some}
 use Rattle.ring_things.specs.Numbers.{spelled, numbers_of, big_number-lt, exact_2, exact_8, apart, together}
 use Rattle.ring_things.specs.Numbers.{length-spelled, length-numbers_of, AreNumbers-numbers_of, numbers_of-spelled}
 use Rattle.ring_things.specs.Numbers.{spelled-numbers_of}
@@ -81,7 +81,7 @@ only : (bytes items : List ℕ) → AreBytes bytes → queue_of bytes ≡ Some i
 only bytes items are is =
     let count = big_number 2 bytes in
     let rest = drop 2 bytes in
-    let g = guarded (is_snapshot bytes) (Some (numbers_of 8 count rest)) items is in
+    let g = guarded_some (is_snapshot bytes) (Some (numbers_of 8 count rest)) items is in
     let a = and_parts (nat_le 2 (length bytes)) _ g.0 in
     let b = and_parts (nat_le count most) _ a.1 in
     let len : length (numbers_of 8 count rest) ≡ count = length-numbers_of 8 count rest in

@@ -6,7 +6,7 @@ use Rattle.ring_object.specs.Bytes.{AreBytes}
 use Rattle.ring_object.specs.Operations.{IsReply, unreadable}
 use Rattle.ring_things.specs.Numbers.{big_number-lt}
 use Rattle.ring_things.specs.Replies.{code_fits, code_and_value_fits, AreBytes-rest, AreBytes-drop}
-use Rattle.ring_things.specs.Values.{IsValues, IsValues-set}
+use Rattle.ring_things.specs.Table.{IsTable, IsTable-set, keys}
 use Rattle.ring_things.specs.Registers.{reading, is_readable, reply, next, reply_to, after}
 use Rattle.ring_things.specs.declared.registers.Asked.{Asked}
 use Rattle.ring_things.specs.declared.registers.Asked.TheVariants.{Get, Put, CompareAndSet}
@@ -26,14 +26,14 @@ reading_fits (code ∷ key ∷ rest) are =
     (λ _. cond_both (code == 2 && length rest == 8) _ _ Fits (λ _. big_number-lt 8 rest bytes)
     (λ _. cond_both (code == 3 && length rest == 16) _ _ Fits (λ _. big_number-lt 8 (drop 8 rest) (AreBytes-drop 8 rest bytes)) (λ _. tt)))
 
-after_kept : (values : List ℕ) (op : Option Asked) → Fits op → IsValues values → IsValues (after values op)
+after_kept : (values : List ℕ) (op : Option Asked) → Fits op → IsTable keys values → IsTable keys (after values op)
 after_kept values (Some (Get key)) fits is = is
-after_kept values (Some (Put key value)) fits is = IsValues-set values key value fits is
+after_kept values (Some (Put key value)) fits is = IsTable-set keys values key value fits is
 after_kept values (Some (CompareAndSet key expected new)) fits is =
-    cond_both (slice_index values key == expected) _ _ IsValues (λ _. IsValues-set values key new fits is) (λ _. is)
+    cond_both (slice_index values key == expected) _ _ (IsTable keys) (λ _. IsTable-set keys values key new fits is) (λ _. is)
 after_kept values None fits is = is
 
-pub next_kept : (values op : List ℕ) → AreBytes op → IsValues values → IsValues (next values op)
+pub next_kept : (values op : List ℕ) → AreBytes op → IsTable keys values → IsTable keys (next values op)
 next_kept values op are is = after_kept values (reading op) (reading_fits op are) is
 
 reply_fits : (values : List ℕ) (op : Option Asked) → IsReply (reply_to values op)
@@ -44,7 +44,7 @@ reply_fits values (Some (CompareAndSet key expected new)) =
     (λ _. code_and_value_fits 1 (slice_index values key) (omega arith))
 reply_fits values None = code_fits 255 (omega arith)
 
-pub replies_fit : (values op : List ℕ) → AreBytes op → IsValues values → IsReply (reply values op)
+pub replies_fit : (values op : List ℕ) → AreBytes op → IsTable keys values → IsReply (reply values op)
 replies_fit values op are is = reply_fits values (reading op)
 
 pub ignored : (values op : List ℕ) → is_readable op ≡ false → (reply values op ≡ unreadable) × (next values op ≡ values)

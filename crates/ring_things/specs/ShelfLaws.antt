@@ -11,7 +11,7 @@ use Rattle.ring_object.specs.Bytes.{AreBytes}
 use Rattle.ring_object.specs.Operations.{IsReply, unreadable}
 use Rattle.ring_object.specs.Sized.{sized}
 use Rattle.ring_object.specs.Snapshots.{Restores}
-use Rattle.ring_things.specs.Guards.{guarded, and_then_some}
+use Rattle.ring_base.proofs.Cases.{guarded_some, and_then_some}
 use Rattle.ring_things.specs.Numbers.{IsExact, exact_8, big_bytes-big_number}
 use Rattle.ring_things.specs.Replies.{code_fits, AreBytes-rest, AreBytes-drop, AreBytes-take}
 use Rattle.ring_things.specs.Shelf.{shelf_readable, shelf_reply, shelf_next, first_text, texts_of}
@@ -117,7 +117,7 @@ first_text-exact width exact bytes parts are is =
     let number = big_number width bytes in
     let behind = drop width bytes in
     let read : List ℕ × List ℕ = (take number behind, drop number behind) in
-    let g = guarded (nat_le width (length bytes) && nat_le number (length behind)) (Some read) parts is in
+    let g = guarded_some (nat_le width (length bytes) && nat_le number (length behind)) (Some read) parts is in
     let tests = and_parts (nat_le width (length bytes)) _ g.0 in
     let size : length (take number behind) ≡ number = omega (arith, length-take number behind, leb-true _ _ tests.1) in
     let behind_bytes = AreBytes-drop width bytes are in
@@ -174,7 +174,7 @@ texts_of-exact bytes texts are is =
     let s = and_then_some _ (first_text 8 r.0.1) texts r.2 in
     let d = first_text-exact 8 exact_8 r.0.1 s.0 c.rest s.1 in
     let read : List ℕ × List ℕ × List ℕ × List ℕ = (p.0.0, q.0.0, r.0.0, s.0.0) in
-    let g = guarded (length s.0.1 == 0) (Some read) texts s.2 in
+    let g = guarded_some (length s.0.1 == 0) (Some read) texts s.2 in
     let none : s.0.1 ≡ [] = nil_from_length s.0.1 (eqb-true _ _ g.0) in
     let last : sized 8 s.0.0 ≡ r.0.1 = sym (append-nil (sized 8 s.0.0)) ∙ ap (λ x. sized 8 s.0.0 ++ x) (sym none) ∙ d.whole in
     let Holds : List ℕ × List ℕ × List ℕ × List ℕ → Type 0 = λ x. AreTexts bytes x in

@@ -5,7 +5,7 @@ ghost use Rattle.ring_things.specs.Counters.{reading, spelling};
 
 use crate::operations::{Operation, keyed, keyed_with};
 use crate::replies::{Outcome, reply, reply_with};
-use crate::values::Values;
+use crate::table::Table;
 use byteorder::{BigEndian, ByteOrder};
 use ring_base::Fault;
 use ring_object::{Object, Reply};
@@ -22,7 +22,7 @@ use std::marker::Model;
 /// The snapshot is the counts in the order of their keys, 2,048 bytes.
 #[derive(Drop)]
 pub struct Counters<A: Allocator + Copy = Global> {
-    counts: Values<A>,
+    counts: Table<A>,
 }
 
 impl<A: Allocator + Copy> Model for Counters<A> {
@@ -34,20 +34,19 @@ impl<A: Allocator + Copy> Model for Counters<A> {
 }
 
 impl<A: Allocator + Copy + Drop> Object for Counters<A> {
-    ghost use Rattle.ring_things.specs.Numbers.{spelled};
-    ghost use Rattle.ring_things.specs.Values.{IsValues, zeros, values_of, zeros_IsValues, values_restore};
+    ghost use Rattle.ring_things.specs.Table.{IsTable, keys, zeros, snapshot_of, table_of, zeros_IsTable, tables_restore};
     ghost use Rattle.ring_things.specs.Counters.{is_readable, reply, next};
     ghost use Rattle.ring_things.specs.CountersLaws.{next_kept, replies_fit, ignored};
 
     type Alloc = A;
 
-    ghost is_content = { IsValues };
+    ghost is_content = { IsTable keys };
 
     ghost is_readable = { is_readable };
 
-    ghost sequential = { record { initial = zeros; reply = reply; next = next; snapshot_of = λ counts. spelled 8 counts; restored = values_of } };
+    ghost sequential = { record { initial = zeros keys; reply = reply; next = next; snapshot_of = snapshot_of; restored = table_of keys } };
 
-    ghost starts = { zeros_IsValues };
+    ghost starts = { zeros_IsTable keys };
 
     ghost keeps = { next_kept };
 
@@ -55,10 +54,10 @@ impl<A: Allocator + Copy + Drop> Object for Counters<A> {
 
     ghost ignores = { ignored };
 
-    ghost restores = { values_restore };
+    ghost restores = { tables_restore keys };
 
     fn start(alloc: A) -> Result<Counters<A>, Fault> {
-        let counts = Values::zeros(alloc)?;
+        let counts = Table::zeros(alloc)?;
         Ok(Counters { counts })
     }
 
@@ -81,7 +80,7 @@ impl<A: Allocator + Copy + Drop> Object for Counters<A> {
     }
 
     fn restore(alloc: A, bytes: &[u8]) -> Result<Counters<A>, Fault> {
-        let counts = Values::restore(alloc, bytes)?;
+        let counts = Table::restore(alloc, bytes)?;
         Ok(Counters { counts })
     }
 }

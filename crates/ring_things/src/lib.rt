@@ -2,8 +2,8 @@
 //!
 //! Operations, replies and snapshots are bytes, told at each type in hexadecimal. Keys are a byte, values 8
 //! bytes, and all numbers are big-endian. Other bytes are no operation: they change nothing and are replied
-//! `FF`. In `specs/` each object is a table: how an operation is read, what is replied to it, and what the
-//! content is after it.
+//! `FF`. In `specs/` each object is told by rows: how an operation is read, what is replied to it, and what the
+//! content is after it. [`Table`] is the content of registers and counters, for objects of one's own too.
 #![tactic(auto)]
 
 mod counters;
@@ -14,14 +14,13 @@ mod queue;
 mod registers;
 mod replies;
 mod shelf;
-mod values;
+mod table;
 
 pub use counters::Counters;
 pub use names::Names;
-pub use numbers::read_numbers;
 pub use operations::{Operation, ShelfOperation};
 pub use queue::Queue;
 pub use registers::Registers;
 pub use replies::{Outcome, Replied, reply, reply_with};
 pub use shelf::{Place, Shelf, Things};
-pub use values::KEYS;
+pub use table::Table;

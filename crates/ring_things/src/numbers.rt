@@ -8,7 +8,7 @@ use ring_base::Fault;
 use std::alloc::Allocator;
 
 /// Appends the numbers, in the room that there is.
-pub fn append_numbers<A: Allocator>(out: &mut Vec<u8, A>, numbers: &[u64])
+pub(crate) fn append_numbers<A: Allocator>(out: &mut Vec<u8, A>, numbers: &[u64])
     requires { vec_len out.old + 8 * length numbers.now ≤ vec_capacity out.old }
     ensures items { out.new.items ≡ out.old.items ++ spelled 8 numbers.now }
     ensures len { vec_len out.new ≡ vec_len out.old + 8 * length numbers.now }
@@ -22,7 +22,7 @@ pub fn append_numbers<A: Allocator>(out: &mut Vec<u8, A>, numbers: &[u64])
 }
 
 /// The numbers that the bytes hold, 8 bytes each, big-endian; or `Memory`.
-pub fn read_numbers<A: Allocator + Copy + Drop>(
+pub(crate) fn read_numbers<A: Allocator + Copy + Drop>(
     alloc: A,
     count: usize,
     bytes: &[u8],

@@ -5,7 +5,7 @@ ghost use Rattle.ring_things.specs.Registers.{reading, spelling};
 
 use crate::operations::{Operation, keyed, keyed_with};
 use crate::replies::{Outcome, reply, reply_with};
-use crate::values::Values;
+use crate::table::Table;
 use byteorder::{BigEndian, ByteOrder};
 use ring_base::Fault;
 use ring_object::{Object, Reply};
@@ -23,7 +23,7 @@ use std::marker::Model;
 /// The snapshot is the values in the order of their keys, 2,048 bytes.
 #[derive(Drop)]
 pub struct Registers<A: Allocator + Copy = Global> {
-    values: Values<A>,
+    values: Table<A>,
 }
 
 impl<A: Allocator + Copy> Model for Registers<A> {
@@ -35,20 +35,19 @@ impl<A: Allocator + Copy> Model for Registers<A> {
 }
 
 impl<A: Allocator + Copy + Drop> Object for Registers<A> {
-    ghost use Rattle.ring_things.specs.Numbers.{spelled};
-    ghost use Rattle.ring_things.specs.Values.{IsValues, zeros, values_of, zeros_IsValues, values_restore};
+    ghost use Rattle.ring_things.specs.Table.{IsTable, keys, zeros, snapshot_of, table_of, zeros_IsTable, tables_restore};
     ghost use Rattle.ring_things.specs.Registers.{is_readable, reply, next};
     ghost use Rattle.ring_things.specs.RegistersLaws.{next_kept, replies_fit, ignored};
 
     type Alloc = A;
 
-    ghost is_content = { IsValues };
+    ghost is_content = { IsTable keys };
 
     ghost is_readable = { is_readable };
 
-    ghost sequential = { record { initial = zeros; reply = reply; next = next; snapshot_of = λ values. spelled 8 values; restored = values_of } };
+    ghost sequential = { record { initial = zeros keys; reply = reply; next = next; snapshot_of = snapshot_of; restored = table_of keys } };
 
-    ghost starts = { zeros_IsValues };
+    ghost starts = { zeros_IsTable keys };
 
     ghost keeps = { next_kept };
 
@@ -56,10 +55,10 @@ impl<A: Allocator + Copy + Drop> Object for Registers<A> {
 
     ghost ignores = { ignored };
 
-    ghost restores = { values_restore };
+    ghost restores = { tables_restore keys };
 
     fn start(alloc: A) -> Result<Registers<A>, Fault> {
-        let values = Values::zeros(alloc)?;
+        let values = Table::zeros(alloc)?;
         Ok(Registers { values })
     }
 
@@ -87,7 +86,7 @@ impl<A: Allocator + Copy + Drop> Object for Registers<A> {
     }
 
     fn restore(alloc: A, bytes: &[u8]) -> Result<Registers<A>, Fault> {
-        let values = Values::restore(alloc, bytes)?;
+        let values = Table::restore(alloc, bytes)?;
         Ok(Registers { values })
     }
 }

@@ -2,7 +2,7 @@
 use Rattle.std.proofs.Common.{◌≡◌, ℕ, List, Option, Some, sym, ap, ◌∙◌, subst}
 use Rattle.std.specs.Option.{option_and_then}
 use Rattle.ring_object.specs.Bytes.{AreBytes}
-use Rattle.ring_things.specs.Guards.{and_then_some}
+use Rattle.ring_base.proofs.Cases.{and_then_some}
 
 -- Exactly the spellings of the values that fit are read, each as the value that it is of.
 pub record Reads {T : Type 0} (Fits : T → Type 0) (spelling : T → List ℕ) (reading : List ℕ → Option T) : Type 0 where

@@ -8,10 +8,8 @@
 
 mod keyed;
 mod replies;
-mod table;
 
 pub use keyed::Keyed;
 pub use replies::{done, done_with, refused_with, reply_of};
 pub use ring_object::{Object, Reply};
-pub use ring_things::{Operation, Outcome, Replied};
-pub use table::Table;
+pub use ring_things::{Operation, Outcome, Replied, Table};

@@ -4,10 +4,10 @@ pub use Rattle.ring_object.specs.Operations
 pub use Rattle.ring_object.specs.Snapshots
 pub use Rattle.ring_things.specs.Numbers
 pub use Rattle.ring_things.specs.Outcome
+pub use Rattle.ring_things.specs.Table
 pub use Rattle.ring_typed.specs.Keyed
 pub use Rattle.ring_typed.specs.KeyedLaws
 pub use Rattle.ring_typed.specs.Reads
-pub use Rattle.ring_typed.specs.Table
 pub use Rattle.ring_typed.specs.Typed
 pub mod Types
 pub mod Words

@@ -1,13 +1,15 @@
 //! A number for each of 256 keys.
 
-ghost use Rattle.std.specs.Prelude.{◌≡◌, ◌++◌, take, vec_len, slice_index, slice_set, Some, IfOk, IfErr, OnOk, OnErr};
+ghost use Rattle.std.specs.Prelude.{◌≡◌, ◌++◌, slice_index, slice_set, Some, IfOk, IfErr, OnOk, OnErr};
 ghost use Rattle.ring_things.specs.Numbers.{spelled};
 
-use byteorder::{BigEndian, ByteOrder};
+use crate::numbers::{append_numbers, read_numbers};
 use ring_base::Fault;
-use ring_things::{KEYS, read_numbers};
 use std::alloc::{Allocator, Global};
 use std::marker::Model;
+
+/// How many keys there are: a key is a byte.
+const KEYS: usize = 256;
 
 /// 256 numbers of 64 bits under the keys 0 to 255, at the start all 0. In clauses it is the list of them.
 ///
@@ -19,7 +21,7 @@ pub struct Table<A: Allocator + Copy = Global> {
 
 impl<A: Allocator + Copy> Model for Table<A> {
     ghost use Rattle.std.specs.Prelude.{ℕ, List};
-    ghost use Rattle.ring_typed.specs.Table.{IsTable, keys};
+    ghost use Rattle.ring_things.specs.Table.{IsTable, keys};
 
     ghost Value = { List ℕ };
 
@@ -29,7 +31,7 @@ impl<A: Allocator + Copy> Model for Table<A> {
 }
 
 impl<A: Allocator + Copy + Drop> Table<A> {
-    ghost use Rattle.ring_typed.specs.Table.{IsTable, keys, zeros, table_of};
+    ghost use Rattle.ring_things.specs.Table.{IsTable, keys, zeros, table_of};
     ghost use Rattle.ring_object.specs.Snapshots.{Refuses};
 
     /// All zero, or `Memory`.
@@ -62,11 +64,8 @@ impl<A: Allocator + Copy + Drop> Table<A> {
         ensures err { OnErr result (out.new.items ≡ out.old.items) }
         ensures refused { IfErr result (λ fault. fault ≡ Fault.Memory) }
     {
-        let len = out.len();
-        if let Err(fault) = append_numbers(out, self.numbers.as_slice()) {
-            out.truncate(len);
-            return Err(fault);
-        }
+        out.reserve(8 * KEYS)?;
+        append_numbers(out, self.numbers.as_slice());
         Ok(())
     }
 
@@ -81,21 +80,4 @@ impl<A: Allocator + Copy + Drop> Table<A> {
         let numbers = read_numbers(alloc, KEYS, bytes)?;
         Ok(Table { numbers })
     }
-}
-
-/// Appends the numbers; or a front of them, for want of memory.
-fn append_numbers<A: Allocator + Copy + Drop>(
-    out: &mut Vec<u8, A>,
-    numbers: &[u64],
-) -> Result<(), Fault>
-    ensures ok { OnOk result (out.new.items ≡ out.old.items ++ spelled 8 numbers.now) }
-    ensures front { take (vec_len out.old) out.new.items ≡ out.old.items }
-    ensures refused { IfErr result (λ fault. fault ≡ Fault.Memory) }
-{
-    for number in numbers {
-        let mut word = [0; 8];
-        BigEndian::write_u64(&mut word, *number);
-        out.extend_from_slice(&word)?;
-    }
-    Ok(())
 }

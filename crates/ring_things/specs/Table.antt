@@ -7,11 +7,11 @@ use Rattle.std.proofs.lemmas.Option.{same_Some}
 use Rattle.std.proofs.lemmas.List.Elements.{All-set, All-replicate}
 use Rattle.ring_object.specs.Bytes.{AreBytes}
 use Rattle.ring_object.specs.Snapshots.{Restores}
-use Rattle.ring_things.specs.Guards.{guarded}
+use Rattle.ring_base.proofs.Cases.{guarded_some}
 use Rattle.ring_things.specs.Numbers.{spelled, numbers_of, AreNumbers, exact_8, length-spelled, length-numbers_of}
 use Rattle.ring_things.specs.Numbers.{AreNumbers-numbers_of, numbers_of-spelled, spelled-numbers_of}
 
--- how many keys the tables have that the code keeps
+-- how many keys the tables have that the code keeps: a key is a byte
 abbrev pub keys : ℕ
 keys = 256
 
@@ -54,7 +54,7 @@ restored n numbers is =
 
 only : (n : ℕ) (bytes numbers : List ℕ) → AreBytes bytes → table_of n bytes ≡ Some numbers → IsTable n numbers × (spelled 8 numbers ≡ bytes)
 only n bytes numbers are is =
-    let g = guarded (length bytes == 8 * n) (Some (numbers_of 8 n bytes)) numbers is in
+    let g = guarded_some (length bytes == 8 * n) (Some (numbers_of 8 n bytes)) numbers is in
     let P : List ℕ → Type 0 = λ v. IsTable n v × (spelled 8 v ≡ bytes) in
     subst P (same_Some _ _ g.1) (IsTable-numbers_of n bytes are, spelled-numbers_of 8 exact_8 n bytes (eqb-true _ _ g.0) are)
 
