@@ -1,5 +1,6 @@
 -- What a port was asked last (docs/PROTOCOL.md, "Clients"), and what a client makes of it.
 use Rattle.std.specs.Prelude.{◌≡◌, ℕ, ◌+◌, ◌-◌, ◌^◌, ◌≤◌, ◌⊎◌, ◌&&◌, min, nat_le, if◌then◌else◌, List, [], length, take, Option, Some, None, ⊤}
+use Rattle.ring_payload.specs.Limits.{most_operation}
 use Rattle.ring_base.specs.Fault.{fault_number}
 use Rattle.ring_base.specs.declared.fault.Fault.{Fault}
 use Rattle.ring_payload.specs.declared.call.Call.{Call}
@@ -17,11 +18,11 @@ unasked = just_submitted 0 0 []
 
 -- a call that may be submitted: an operation of at most 1,024 bytes, under a number counted from 1
 abbrev pub IsSubmittable : {A : Type 0} → Call A → Type 0
-IsSubmittable call = (length call.op ≤ 1024) × (1 ≤ call.number)
+IsSubmittable call = (length call.op ≤ most_operation) × (1 ≤ call.number)
 
 -- after the submit of a call
 abbrev pub submitted : {A : Type 0} → Call A → Asked
-submitted call = just_submitted call.client call.number (take 1024 call.op)
+submitted call = just_submitted call.client call.number (take most_operation call.op)
 
 -- the submit was refused
 abbrev pub refused_with : Fault → Asked → Asked

@@ -2,6 +2,7 @@
 
 ghost use Rattle.std.specs.Prelude.{◌≡◌, ◌≤◌, length, false, None, if◌then◌else◌, IfOk, IfErr, IsOk, OnOk, OnErr};
 ghost use Rattle.std.specs.Option.{option_map};
+ghost use Rattle.ring_payload.specs.Limits.{most_operation};
 ghost use Rattle.ring_base.specs.Group.{IsInGroup};
 ghost use Rattle.ring_base.specs.declared.fault.Fault.TheVariants.{Memory, Stopped as StoppedFault};
 ghost use Rattle.ring_driver.specs.Driving.{opened, stepped, ended, called, IsNotOpened, IsRefused, IsTaken, IsFirst};
@@ -86,7 +87,7 @@ impl<O: Object> Driver<O> {
     #[tactic(auto, using(crate::proofs::DriverLimits::not_made, crate::proofs::DriverLimits::not_taken))]
     pub fn submit(&mut self, client: u32, number: u64, operation: &[u8]) -> Result<Ticket, Fault>
         ensures ticket { IfOk result (λ ticket. ticket ≡ length self.old.node.tickets) }
-        ensures fits { OnOk result ((length operation.now ≤ 1024) × (1 ≤ number)) }
+        ensures fits { OnOk result ((length operation.now ≤ most_operation) × (1 ≤ number)) }
         ensures taken { OnOk result (submit_fault self.old.node ≡ None) }
         ensures ok { OnOk result (self.new ≡ called self.old client number operation.now) }
         ensures err { OnErr result (self.new ≡ self.old) }

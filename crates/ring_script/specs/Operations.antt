@@ -4,6 +4,7 @@ use Rattle.std.specs.Prelude.{ℕ, ◌+◌, ◌*◌, ◌^◌, ◌-◌, Bool, nat
 use Rattle.std.specs.Char.{is_ascii_graphic}
 use Rattle.std.specs.Int.{w64, to_be_bytes}
 use Rattle.std.specs.List.{find, list_all}
+use Rattle.ring_payload.specs.Limits.{most_operation}
 use Rattle.ring_script.specs.declared.vocabulary.Argument.{Argument}
 use Rattle.ring_script.specs.declared.vocabulary.Argument.TheVariants.{Key, Value, Name}
 use Rattle.ring_script.specs.declared.vocabulary.Form as declared
@@ -52,7 +53,7 @@ said form = record { word = form.word.now; first = form.first.now; arguments = f
 
 -- whether an operation of this form has at most 1,024 bytes, for no argument has more than 64
 abbrev pub is_short : Form → Bool
-is_short form = nat_le (length form.first + 64 * length form.arguments) 1024
+is_short form = nat_le (length form.first + 64 * length form.arguments) most_operation
 
 -- whether all have
 abbrev pub are_short : List Form → Bool
@@ -72,7 +73,7 @@ named_at forms name words = do
 unfoldable pub raw_at : List (List ℕ) → Option (List ℕ × List (List ℕ))
 raw_at words = do
   word ← word_at words
-  bytes ← bytes_of 1024 word.0
+  bytes ← bytes_of most_operation word.0
   Some (bytes, word.1)
 
 -- the bytes of the operation that the next words say, of an object with these words, and the words after it

@@ -2,6 +2,7 @@
 
 ghost use Rattle.std.specs.Prelude.{◌≡◌, ℕ, ◌≤◌, ◌<◌, ◌+◌, List, length, take, Some, IfOk, IfErr};
 ghost use Rattle.std.specs.List.Sorted.{IsStrictlyIncreasing};
+ghost use Rattle.ring_wire.specs.Payloads.{most_requests};
 ghost use Rattle.ring_base.specs.Numbers.{max_number};
 ghost use Rattle.ring_base.specs.declared.fault.Fault.TheVariants.{Memory};
 ghost use Rattle.ring_payload.specs.declared.content.Payload.{Payload as OnePayload};
@@ -166,7 +167,7 @@ impl<A: Allocator + Copy> Clone for RingPart<A> {
 #[inline(never)]
 fn add_stays(stays: &Requests, missing: &mut Requests)
     requires { IsStrictlyIncreasing stays.now }
-    ensures { (lacking : List ℕ) → missing.old ≡ take 32 lacking → missing.new ≡ requests_after stays.now lacking }
+    ensures { (lacking : List ℕ) → missing.old ≡ take most_requests lacking → missing.new ≡ requests_after stays.now lacking }
 {
     let both = requests_after(stays, missing);
     *missing = both;

@@ -2,6 +2,7 @@
 
 ghost use Rattle.std.specs.Prelude.{◌≡◌, List, ℕ, Bool, take};
 ghost use Rattle.std.specs.List.Sorted.{IsStrictlyIncreasing};
+ghost use Rattle.ring_wire.specs.Payloads.{most_requests};
 ghost use Rattle.ring_token.specs.Visits.{left, requests_after};
 ghost use Rattle.ring_token.specs.Requesting.{least_first, after};
 
@@ -26,7 +27,7 @@ pub fn left<F: Fn(u64) -> bool>(requests: &Requests, mark: u64, holds: F) -> Req
 /// the 32 smallest need be given.
 pub fn requests_after(stays: &Requests, missing: &Requests) -> Requests
     requires { IsStrictlyIncreasing stays.now }
-    ensures { (lacking : List ℕ) → missing.now ≡ take 32 lacking → result ≡ requests_after stays.now lacking }
+    ensures { (lacking : List ℕ) → missing.now ≡ take most_requests lacking → result ≡ requests_after stays.now lacking }
 {
     let mut smallest = Requests::new();
     let mut left = stays.as_slice();

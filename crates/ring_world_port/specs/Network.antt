@@ -1,6 +1,7 @@
 -- A network over a world, and what its calls do. Clients, rule 8, of docs/PROTOCOL.md.
 use Rattle.std.specs.Prelude.{◌≡◌, ℕ, ◌+◌, ◌-◌, ◌/◌, ◌%◌, ◌^◌, ◌<◌, ◌≤◌, ◌==◌, ◌&&◌, ◌⊎◌, min, if◌then◌else◌}
 use Rattle.std.specs.Prelude.{Bool, true, false, List, [], ◌∷◌, ◌++◌, length, drop, Option, Some, None}
+use Rattle.ring_payload.specs.Limits.{most_operation}
 use Rattle.ring_base.specs.Fault.{fault_number}
 use Rattle.ring_base.specs.Processors.{has, size, at}
 use Rattle.ring_base.specs.declared.fault.Fault.{Fault}
@@ -125,8 +126,8 @@ module _ {O : Type 0} (object : Sequential O) where
   -- why a call is not issued, by the first that holds: no such node, too long, the number 0; no memory for its copy or the event, or refused by the node
   abbrev pub IsNotIssued : {A : Type 0} → ℕ → Call A → Networked A → Networked A → Fault → Type 0
   IsNotIssued i c n m NotMember = (n.pump.played.group.count < i) × (m ≡ n)
-  IsNotIssued i c n m OpTooLong = (i ≤ n.pump.played.group.count) × (1024 < length c.op) × (m ≡ n)
-  IsNotIssued i c n m NumberGap = (i ≤ n.pump.played.group.count) × (length c.op ≤ 1024) × (c.number ≡ 0) × (m ≡ n)
+  IsNotIssued i c n m OpTooLong = (i ≤ n.pump.played.group.count) × (most_operation < length c.op) × (m ≡ n)
+  IsNotIssued i c n m NumberGap = (i ≤ n.pump.played.group.count) × (length c.op ≤ most_operation) × (c.number ≡ 0) × (m ≡ n)
   IsNotIssued i c n m Memory = IsIssuable i c n × (Stays n m ⊎ IsToldRefused i c n m Memory)
   IsNotIssued i c n m PendingFull = IsIssuable i c n × IsToldRefused i c n m PendingFull
   IsNotIssued i c n m StoppedFault = IsIssuable i c n × IsToldRefused i c n m StoppedFault
