@@ -3,6 +3,7 @@
 ghost use Rattle.std.specs.Prelude.{◌≡◌, ◌+◌, ◌≤◌, length, OnErr, MatchResult};
 ghost use Rattle.std.specs.List.{AllByRecursion};
 ghost use Rattle.ring_book_lines.specs.Runs.{LineFits};
+ghost use Rattle.ring_book_lines.specs.Kept.{line_input};
 ghost use Rattle.ring_book_lines.specs.declared.input.LineInput.TheVariants.{Called, Came};
 ghost use Rattle.ring_rules.specs.NodeLimits.{InputFits};
 ghost use Rattle.ring_payload.specs.Calls.{CallFits};
@@ -14,7 +15,7 @@ use crate::name::BookName;
 use bytes::BytesMut;
 use ring_base::{Fault, Proc};
 use ring_book_lines::{
-    FrameRef, Frames, HeardFrame, LineInput, Step, call_keeps_law, node_fits_law,
+    FrameRef, Frames, HeardFrame, LineInput, Step, StepInput, call_keeps_law, node_fits_law,
 };
 use ring_node::{Node, Outs};
 use ring_object::Object;
@@ -93,7 +94,7 @@ impl<O: Object, K: BookName<O::Alloc>> Cell<O, K> {
                 self.journal.push_reserved(step_of(
                     self.alloc,
                     self.me,
-                    LineInput::Came(input, at),
+                    StepInput::Told(LineInput::Came(input, at)),
                     outs,
                     places,
                     &mut self.text,
@@ -142,11 +143,10 @@ impl<O: Object, K: BookName<O::Alloc>> Cell<O, K> {
             Ok(()) => {
                 let places = self.node.committed_len() as usize;
                 let heard = HeardFrame::new(frame, bytes);
-                self.journal.push_reserved(step_on_frame(
+                self.journal.push_reserved(step_of(
                     self.alloc,
                     self.me,
-                    heard,
-                    at,
+                    StepInput::Heard(heard, at),
                     outs,
                     places,
                     &mut self.text,
@@ -194,22 +194,22 @@ impl<O: Object, K: BookName<O::Alloc>> Cell<O, K> {
     }
 }
 
-/// The step of a node to which the input came, that gave these, and then has so many places committed. Its frames are spelled in
+/// The step of a node at which this happened, that gave these, and then has so many places committed. Its frames are spelled in
 /// `text`, which has room for every frame.
 fn step_of<A: Allocator + Copy + Drop>(
     alloc: A,
     me: Proc,
-    input: LineInput<A>,
+    input: StepInput<A>,
     outs: Outs<A>,
     places: usize,
     text: &mut BytesMut<A>,
 ) -> Step<A>
-    requires input { LineFits input }
+    requires input { LineFits (line_input input) }
     requires sends { AllByRecursion (λ s. FrameFits s.frame) outs.sends.items }
     requires room { most_frame ≤ length text.old.items + text.old.spare }
     ensures step { result ≡ record {
       node = me;
-      input = input;
+      input = line_input input;
       frames = outs.sends.items;
       answers = outs.answers.items;
       calls = outs.committed.items;
@@ -225,38 +225,5 @@ fn step_of<A: Allocator + Copy + Drop>(
         restored: _,
     } = outs;
     let frames = Frames::new(alloc, sends, text);
-    Step::came(me, input, frames, answers, committed, places)
-}
-
-/// The same where a frame came that stands there in the book.
-fn step_on_frame<A: Allocator + Copy + Drop>(
-    alloc: A,
-    me: Proc,
-    frame: HeardFrame<A>,
-    at: FrameRef,
-    outs: Outs<A>,
-    places: usize,
-    text: &mut BytesMut<A>,
-) -> Step<A>
-    requires sends { AllByRecursion (λ s. FrameFits s.frame) outs.sends.items }
-    requires room { most_frame ≤ length text.old.items + text.old.spare }
-    ensures step { result ≡ record {
-      node = me;
-      input = Came (Comes frame) at;
-      frames = outs.sends.items;
-      answers = outs.answers.items;
-      calls = outs.committed.items;
-      committed = places;
-    } }
-    ensures room { most_frame ≤ length text.new.items + text.new.spare }
-{
-    let Outs {
-        sends,
-        answers,
-        committed,
-        dropped: _,
-        restored: _,
-    } = outs;
-    let frames = Frames::new(alloc, sends, text);
-    Step::heard(me, frame, at, frames, answers, committed, places)
+    Step::new(me, input, frames, answers, committed, places)
 }

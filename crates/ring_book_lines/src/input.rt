@@ -11,15 +11,15 @@ use std::alloc::{Allocator, Global};
 pub enum LineInput<A: Allocator + Copy = Global> {
     /// The call was submitted, and the node took it.
     Called(Call<A>),
-    /// The input came. If it is a frame, the frame stands there in the book.
+    /// The input came. If it is a frame, the frame is said to stand there in the book.
     Came(Input<A>, FrameRef),
 }
 
 /// What happened at a node, as a step keeps it on its way.
 #[derive(Drop)]
-pub(crate) enum StepInput<A: Allocator + Copy + Drop = Global> {
+pub enum StepInput<A: Allocator + Copy + Drop = Global> {
     /// This happened.
     Told(LineInput<A>),
-    /// The frame came that stands there in the book. Of it the bytes are kept.
+    /// The frame came that is said to stand there in the book. Of it the bytes are kept.
     Heard(HeardFrame<A>, FrameRef),
 }

@@ -23,7 +23,7 @@ pub use frame_ref::FrameRef;
 pub use frames::{Frames, KeptFrames};
 pub use heard::HeardFrame;
 pub use histories::history;
-pub use input::LineInput;
+pub use input::{LineInput, StepInput};
 pub use line::{Line, is_found, stands};
 pub use log::{Segment, note};
 pub use orders::order;

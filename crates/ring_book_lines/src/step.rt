@@ -1,14 +1,13 @@
 //! What a node did, on its way from the cell to the book.
 
 ghost use Rattle.std.specs.Prelude.{◌≡◌, []};
-ghost use Rattle.ring_rules.specs.declared.input.Input.TheVariants.{Frame as Comes, Stop};
+ghost use Rattle.ring_rules.specs.declared.input.Input.TheVariants.{Stop};
 ghost use Rattle.ring_book_lines.specs.Runs.{LineFits};
 ghost use Rattle.ring_payload.specs.Calls.{CallFits};
 ghost use Rattle.ring_book_lines.specs.declared.input.LineInput.TheVariants.{Called, Came};
 
 use crate::frame_ref::FrameRef;
 use crate::frames::Frames;
-use crate::heard::HeardFrame;
 use crate::input::{LineInput, StepInput};
 use ring_base::Proc;
 use ring_order_proof::fit_laws::call_keeps_law;
@@ -50,52 +49,30 @@ impl<A: Allocator + Copy + Drop> Model for Step<A> {
 }
 
 impl<A: Allocator + Copy + Drop> Step<A> {
-    /// The step of a node to which the input came.
-    pub fn came(
-        node: Proc,
-        input: LineInput<A>,
-        frames: Frames<A>,
-        answers: Vec<Answered<A>, A>,
-        calls: Vec<Call<A>, A>,
-        committed: usize,
-    ) -> Step<A>
-        requires { LineFits input }
-        ensures { result ≡ record { node = node; input = input; frames = frames; answers = answers.items; calls = calls.items; committed = committed } }
-    {
-        Step {
-            node,
-            input: StepInput::Told(input),
-            frames,
-            answers,
-            calls,
-            committed,
-        }
-    }
+    ghost use Rattle.ring_book_lines.specs.Kept.{line_input};
 
-    /// The step of a node to which the frame came that stands there in the book.
-    pub fn heard(
+    /// What a node did when this happened.
+    pub fn new(
         node: Proc,
-        frame: HeardFrame<A>,
-        at: FrameRef,
+        input: StepInput<A>,
         frames: Frames<A>,
         answers: Vec<Answered<A>, A>,
         calls: Vec<Call<A>, A>,
         committed: usize,
     ) -> Step<A>
+        requires { LineFits (line_input input) }
         ensures { result ≡ record {
           node = node;
-          input = Came (Comes frame) at;
+          input = line_input input;
           frames = frames;
           answers = answers.items;
           calls = calls.items;
           committed = committed;
         } }
     {
-        // No effect at run time. The proof takes from this call that the frame keeps the limits of frames.
-        let _bytes = frame.bytes();
         Step {
             node,
-            input: StepInput::Heard(frame, at),
+            input,
             frames,
             answers,
             calls,
@@ -110,9 +87,9 @@ impl<A: Allocator + Copy + Drop> Step<A> {
     {
         // A law: no effect at run time. The proof takes from it that a call within the limits of frames is within those of snapshots.
         call_keeps_law(&call);
-        Step::came(
+        Step::new(
             node,
-            LineInput::Called(call),
+            StepInput::Told(LineInput::Called(call)),
             Frames::none(alloc),
             Vec::new(alloc),
             Vec::new(alloc),
@@ -124,9 +101,9 @@ impl<A: Allocator + Copy + Drop> Step<A> {
     pub fn stop(alloc: A, node: Proc, at: FrameRef, committed: usize) -> Step<A>
         ensures { result ≡ record { node = node; input = Came Stop at; frames = []; answers = []; calls = []; committed = committed } }
     {
-        Step::came(
+        Step::new(
             node,
-            LineInput::Came(Input::Stop, at),
+            StepInput::Told(LineInput::Came(Input::Stop, at)),
             Frames::none(alloc),
             Vec::new(alloc),
             Vec::new(alloc),
