@@ -1,22 +1,19 @@
 -- Who has an answer to a ticket was given the ticket.
-use Rattle.std.proofs.Common.{◌≡◌, ℕ, zero, suc, ◌+◌, ◌<◌, List, [], ◌∷◌, Option, Some, None, length, refl, ◌∙◌, sym, arith, length-append, length-set}
-use Rattle.std.proofs.Common.{slice_set, IfSome}
+use Rattle.std.proofs.Common.{◌≡◌, ℕ, zero, suc, ◌+◌, ◌<◌, List, [], ◌∷◌, Option, Some, None, length, sym, arith, length-append}
+use Rattle.std.proofs.Common.{IfSome}
 use Rattle.ring_base.specs.Group.{Group}
 use Rattle.ring_object.specs.Operations.{Sequential}
 use Rattle.ring_session.specs.declared.answer.Answer.{Answer}
 use Rattle.ring_session.specs.declared.answered.Answered.{Answered}
-use Rattle.ring_book.specs.Lines.{LineInput, Called, Came, answered_in, told_by, told_from, told_to, told_at, answer_in, IsRun, steps_of}
+use Rattle.ring_book_lines.proofs.AnswersByTicket.{length-answered_in}
+use Rattle.ring_book.specs.Lines.{LineInput, Called, Came, told_by, told_from, told_to, told_at, answer_in, IsRun, steps_of}
 use Rattle.ring_book.specs.Lines.{call_in, calls_of, StepView, LineView}
 use Rattle.ring_host.specs.Answering.{IsAnswered}
 
 module _ {A : Type 0} where
-  length_answered : (told : List (Option Answer)) (answers : List (Answered A)) → length (answered_in told answers) ≡ length told
-  length_answered told [] = refl
-  length_answered told (a ∷ rest) = length_answered (slice_set told a.ticket (Some a.answer)) rest ∙ length-set told a.ticket (Some a.answer)
-
   length_told_by : (told : List (Option Answer)) (i : LineInput A) (answers : List (Answered A)) → length (told_by told i answers) ≡ length told + length (call_in i)
   length_told_by told (Called c) answers = omega (arith, length-append told (None ∷ []))
-  length_told_by told (Came input at) answers = omega (arith, length_answered told answers)
+  length_told_by told (Came input at) answers = omega (arith, length-answered_in told answers)
 
   -- each call that was submitted has one ticket, and nothing else has
   length_told : (told : List (Option Answer)) (ss : List (StepView A)) → length (told_from told ss) ≡ length told + length (calls_of ss)

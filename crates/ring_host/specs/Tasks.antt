@@ -8,6 +8,9 @@ use Rattle.ring_rules.specs.declared.input.Input.TheVariants.{Frame as Comes, No
 use Rattle.ring_book_lines.specs.declared.frame_ref.FrameRef.{FrameRef}
 use Rattle.ring_book_lines.specs.Lines.{Stands}
 use Rattle.ring_book_lines.specs.Steps.{LineView}
+use Rattle.ring_base.specs.declared.kind.Kind.{Kind}
+use Rattle.ring_host.specs.declared.item.Found.{Found}
+use Rattle.ring_host.specs.declared.item.Found.TheVariants as found
 use Rattle.ring_host.specs.declared.item.Task.{Task}
 use Rattle.ring_host.specs.declared.item.Task.TheVariants.{Timeout, Came}
 
@@ -38,6 +41,18 @@ IsTokenRead (Some (Commit commit)) = ⊤
 pub record IsTokenTask {A : Type 0} (place : Option (OneFrame A)) (task : Task A) : Type 0 where
   pub came : IsFrame task
   pub token : IsTokenRead place
+
+-- the timeout that it is, if it is one
+abbrev pub timeout_of : {A : Type 0} → Task A → Option Kind
+timeout_of (Timeout kind) = Some kind
+timeout_of (Came bytes at) = None
+
+-- the timeout that was found, if it was one
+abbrev pub timeout_found : Found → Option Kind
+timeout_found (found.Timeout kind) = Some kind
+timeout_found found.Token = None
+timeout_found found.Join = None
+timeout_found found.Message = None
 
 -- of a frame that came the bytes stand in these lines where it says, and go to the node
 abbrev pub TaskStands : {A : Type 0} → List (LineView A) → ℕ → Task A → Type 0

@@ -18,6 +18,7 @@ use crate::bell::Bell;
 use crate::gate::Open;
 use crate::inbox::Inbox;
 use crate::item::Task;
+use crate::step::turn_of;
 use crate::submitting::submit_in;
 use crate::taking::take;
 use crate::turn::Turn;
@@ -164,7 +165,8 @@ impl<O: Object, K: BookName<O::Alloc>> HostOf<Cell<O, K>, Book<O, K>, O::Alloc> 
         ensures err { OnErr result ((seat.new.published ≡ seat.old.published) × (seat.new.clock ≡ counted seat.old.clock)) }
         ensures refused { IfErr result IsTurnFault }
     {
-        self.gated_turn(rt, seat, &Open)
+        let done = self.gated_turn(rt, seat, &Open)?;
+        Ok(turn_of(done))
     }
 
     /// Submits a call at the node, which enters its line. Seat and node are this host's, and the call keeps the limits of frames, as

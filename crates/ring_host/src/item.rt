@@ -1,13 +1,13 @@
 //! What lies in an inbox, and what a turn makes of it.
 
-ghost use Rattle.std.specs.Prelude.{◌≡◌, ◌⊎◌, ◌↔◌, IfOk, IfErr, OnOk};
+ghost use Rattle.std.specs.Prelude.{◌≡◌, ◌⊎◌, ◌↔◌, None, IfOk, IfErr, OnOk};
 ghost use Rattle.ring_base.specs.declared.fault.Fault.TheVariants.{Memory, Stranger, BadFrame};
 ghost use Rattle.ring_wire.specs.declared.frame.Frame.{Frame as OneFrame};
 ghost use Rattle.ring_wire.specs.Fronts.{IsReadFault};
 ghost use Rattle.ring_wire.specs.Spells.{Spells};
 ghost use Rattle.ring_host.specs.declared.item.Found.TheVariants.{Token};
 ghost use Rattle.ring_host.specs.declared.item.Task.TheVariants.{Came};
-ghost use Rattle.ring_host.specs.Tasks.{IsRead, IsTokenRead, IsTokenTask, TaskFits};
+ghost use Rattle.ring_host.specs.Tasks.{IsRead, IsTokenRead, IsTokenTask, TaskFits, timeout_found, timeout_of};
 
 use ring_base::{Fault, Kind};
 use ring_book::FrameRef;
@@ -24,7 +24,8 @@ pub struct InboxFrame<A: Allocator + Copy + Drop = Global> {
 /// What a turn found, as far as the seat's clock and a gate want to know it.
 #[derive(Clone, Copy, Debug, PartialEq, Eq)]
 pub(crate) enum Found {
-    Timeout,
+    /// A timeout that was due.
+    Timeout(Kind),
     /// A token or a commit token.
     Token,
     Join,
@@ -63,10 +64,11 @@ impl<A: Allocator + Copy + Drop> Task<A> {
 
     /// What it is, of the frame in the turn's place.
     pub(crate) fn found(&self, place: &Option<Frame<A>>) -> Found
-        ensures { (result ≡ Token) ↔ IsTokenTask place.now self.now }
+        ensures token { (result ≡ Token) ↔ IsTokenTask place.now self.now }
+        ensures timeout { timeout_found result ≡ timeout_of self.now }
     {
         match self {
-            Task::Timeout(_) => Found::Timeout,
+            Task::Timeout(kind) => Found::Timeout(*kind),
             Task::Came(_, _) => found_in(place),
         }
     }
@@ -91,7 +93,8 @@ fn read_frame<A: Allocator + Copy>(
 
 /// What the frame is.
 fn found_in<A: Allocator + Copy>(frame: &Option<Frame<A>>) -> Found
-    ensures { (result ≡ Token) ↔ IsTokenRead frame.now }
+    ensures token { (result ≡ Token) ↔ IsTokenRead frame.now }
+    ensures frame { timeout_found result ≡ None }
 {
     match frame {
         Some(Frame::Token(_) | Frame::Commit(_)) => Found::Token,

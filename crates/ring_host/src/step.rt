@@ -5,8 +5,8 @@ ghost use Rattle.ring_rules.specs.Nodes.{node_kept};
 ghost use Rattle.ring_seat.specs.Clocks.{counted};
 ghost use Rattle.ring_seat.specs.Seats.{IsOwn};
 ghost use Rattle.ring_host.specs.Refusing.{IsTurnFault};
-ghost use Rattle.ring_host.specs.Tasks.{TaskFits, IsTokenTask};
-ghost use Rattle.ring_host.specs.Turns.{published_by, IsCounted, IsNoted};
+ghost use Rattle.ring_host.specs.Tasks.{TaskFits, IsTokenTask, timeout_found, timeout_of};
+ghost use Rattle.ring_host.specs.Turns.{published_by, length_of, IsTurned, IsNoted};
 ghost use Rattle.ring_host.specs.declared.item.Found.TheVariants.{Token};
 
 use crate::gate::{Gate, GatePlace, Stir};
@@ -26,7 +26,7 @@ use std::thread;
 
 /// What a step made.
 #[derive(Clone, Copy)]
-struct Done {
+pub(crate) struct Done {
     /// How many places the node has committed.
     length: u64,
     found: Found,
@@ -52,7 +52,7 @@ fn done_of<O: Object>(node: &Node<O>, found: Found, sent: usize) -> Done
         dropped: 0,
         stir: match found {
             Found::Token if is_quiet => Stir::Quiet,
-            Found::Timeout if is_quiet => Stir::Timeout,
+            Found::Timeout(_) if is_quiet => Stir::Timeout,
             _ => Stir::Busy,
         },
     }
@@ -63,21 +63,36 @@ fn note_step<A: Allocator + Copy + Drop>(seat: &mut Seat<A>, done: &Done)
     ensures clock { IsNoted done.now.found done.now.sent seat.old.clock seat.new.clock }
     ensures seat { seat.new ≡ record (seat.old) { clock = seat.new.clock } }
 {
-    if done.found == Found::Token && done.sent > 0 {
-        seat.take();
+    match done.found {
+        Found::Token => {
+            if done.sent > 0 {
+                seat.take();
+            }
+        }
+        Found::Timeout(_) | Found::Join | Found::Message => {}
     }
 }
 
 /// A turn finds nothing: its thread lets others run.
-fn find_nothing<G: Gate>(node: Proc, gate: &G) -> Turn
-    ensures length { result.length ≡ None }
-    ensures dropped { result.dropped ≡ 0 }
-{
+fn find_nothing<G: Gate>(node: Proc, gate: &G) {
     thread::yield_now();
     gate.over(node, Stir::Nothing);
-    Turn {
-        dropped: 0,
-        length: None,
+}
+
+/// What a turn tells of what it did, if it did anything.
+pub(crate) fn turn_of(done: Option<Done>) -> Turn
+    ensures length { result.length ≡ length_of done }
+    ensures vain { done ≡ None → result.dropped ≡ 0 }
+{
+    match done {
+        Some(done) => Turn {
+            dropped: done.dropped,
+            length: Some(done.length),
+        },
+        None => Turn {
+            dropped: 0,
+            length: None,
+        },
     }
 }
 
@@ -117,18 +132,17 @@ impl<C, B, A: Allocator + Copy + Drop> HostOf<C, B, A> {
 }
 
 impl<O: Object, K: BookName<O::Alloc>> HostOf<Cell<O, K>, Book<O, K>, O::Alloc> {
-    /// A turn that tells the gate.
+    /// A turn that tells the gate. Tells what it did, if it found anything to do.
     pub(crate) fn gated_turn<W: Wait, G: Gate>(
         &self,
         rt: &W,
         seat: &mut Seat<O::Alloc>,
         gate: &G,
-    ) -> Result<Turn, Fault>
+    ) -> Result<Option<Done>, Fault>
         requires own { IsOwn self.now seat.old }
         ensures seat { IsOwn self.now seat.new × (seat.new.node ≡ seat.old.node) × (seat.new.seen ≡ seat.old.seen) }
-        ensures ok { IfOk result (λ turn. seat.new.published ≡ published_by turn.length seat.old.published) }
-        ensures vain { IfOk result (λ turn. turn.length ≡ None → turn.dropped ≡ 0) }
-        ensures clock { IfOk result (λ turn. IsCounted turn.length seat.old.clock seat.new.clock) }
+        ensures ok { IfOk result (λ done. seat.new.published ≡ published_by (length_of done) seat.old.published) }
+        ensures clock { IfOk result (λ done. IsTurned done seat.old.clock seat.new.clock) }
         ensures err { OnErr result ((seat.new.published ≡ seat.old.published) × (seat.new.clock ≡ counted seat.old.clock)) }
         ensures refused { IfErr result IsTurnFault }
     {
@@ -137,20 +151,20 @@ impl<O: Object, K: BookName<O::Alloc>> HostOf<Cell<O, K>, Book<O, K>, O::Alloc> 
         };
         let due = seat.tick();
         let mut came = None;
-        let turn = match self.task(rt, node, due, &mut came) {
+        let turned = match self.task(rt, node, due, &mut came) {
             Ok(Some(task)) => match self.do_task(rt, seat, task, &came, gate) {
-                Ok(done) => Ok(Turn {
-                    dropped: done.dropped,
-                    length: Some(done.length),
-                }),
+                Ok(done) => Ok(Some(done)),
                 Err(fault) => Err(fault),
             },
-            Ok(None) => Ok(find_nothing(node, gate)),
+            Ok(None) => {
+                find_nothing(node, gate);
+                Ok(None)
+            }
             Err(fault) => Err(fault),
         };
         // By name, so that the frame is let go in a function of any type, and lives at no exit.
         drop(came);
-        turn
+        turned
     }
 
     /// The task of a turn: the step's frames go out, and the length is published.
@@ -167,6 +181,7 @@ impl<O: Object, K: BookName<O::Alloc>> HostOf<Cell<O, K>, Book<O, K>, O::Alloc> 
         ensures seat { IsOwn self.now seat.new × (seat.new.node ≡ seat.old.node) × (seat.new.seen ≡ seat.old.seen) }
         ensures ok { IfOk result (λ done. seat.new.published ≡ seat.old.published ++ done.length ∷ []) }
         ensures found { IfOk result (λ done. (done.found ≡ Token) ↔ IsTokenTask came.now task) }
+        ensures timeout { IfOk result (λ done. timeout_found done.found ≡ timeout_of task) }
         ensures clock { IfOk result (λ done. IsNoted done.found done.sent seat.old.clock seat.new.clock) }
         ensures err { OnErr result ((seat.new.published ≡ seat.old.published) × (seat.new.clock ≡ seat.old.clock)) }
         ensures refused { IfErr result IsTurnFault }
@@ -202,6 +217,7 @@ impl<O: Object, K: BookName<O::Alloc>> HostOf<Cell<O, K>, Book<O, K>, O::Alloc> 
         requires member { node ≤ self.now.words }
         requires fits { TaskFits came.now task }
         ensures found { IfOk result (λ done. (done.found ≡ Token) ↔ IsTokenTask came.now task) }
+        ensures timeout { IfOk result (λ done. timeout_found done.found ≡ timeout_of task) }
         ensures refused { IfErr result IsTurnFault }
     {
         let mut cell = take(rt, &self.cells[node.number() as usize - 1]);

@@ -1,7 +1,7 @@
 -- The line of a call, and why it has none, stand in what `enter` answers of the step that the cell journaled.
 use Rattle.ring_book_lines.specs.Machines.{node_machine}
 use Rattle.ring_book_lines.specs.declared.input.LineInput.TheVariants.{Called}
-use Rattle.ring_host.proofs.Lent.{line_entered, line_refused}
+use Rattle.ring_host.proofs.JournaledSteps.{line_entered, line_refused}
 use Rattle.ring_host.proofs.submitting.enter_call.Goals as goal
 
 pub returns-in-Ok-clause-entered : goal.returns-in-Ok-clause-entered
