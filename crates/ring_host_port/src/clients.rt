@@ -61,7 +61,7 @@ pub fn client_of<'a, O: Object, K: BookName<O::Alloc>, W: Wait>(
     Ok(Client::new(alloc, number, ports, POLLS))
 }
 
-/// Puts a port to each node where there is none yet, from the node `first` on, each with one of the seats. Or `Memory`.
+/// Puts a port to each node into the list, which has none, from the node `first` on, each with one of the seats. Or `Memory`.
 fn add_ports<'a, O: Object, K: BookName<O::Alloc>, W: Wait>(
     rt: &'a W,
     host: &'a Host<O, K>,
