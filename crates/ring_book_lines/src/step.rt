@@ -50,6 +50,8 @@ impl<A: Allocator + Copy + Drop> Model for Step<A> {
 
 impl<A: Allocator + Copy + Drop> Step<A> {
     ghost use Rattle.ring_book_lines.specs.Kept.{line_input};
+    ghost use Rattle.ring_book_lines.specs.declared.input.LineInput.{LineInput};
+    ghost use Rattle.ring_book_lines.specs.declared.input.StepInput.TheVariants.{Told};
 
     /// What a node did when this happened.
     pub fn new(
@@ -60,7 +62,7 @@ impl<A: Allocator + Copy + Drop> Step<A> {
         calls: Vec<Call<A>, A>,
         committed: usize,
     ) -> Step<A>
-        requires { LineFits (line_input input) }
+        requires { (told : LineInput A) → input ≡ Told told → LineFits told }
         ensures { result ≡ record {
           node = node;
           input = line_input input;
@@ -70,6 +72,10 @@ impl<A: Allocator + Copy + Drop> Step<A> {
           committed = committed;
         } }
     {
+        if let StepInput::Heard(frame, _) = &input {
+            // No effect at run time. The proof takes from this call that the frame keeps the limits of frames.
+            let _bytes = frame.bytes();
+        }
         Step {
             node,
             input,
