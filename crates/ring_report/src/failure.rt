@@ -1,6 +1,6 @@
 //! Why the program ends before its work is done, and how it says so.
 
-ghost use Rattle.std.specs.Prelude.{◌≡◌, ◌≤◌, [], Ok, Err, IsOk, OnOk, MatchResult};
+ghost use Rattle.std.specs.Prelude.{◌≡◌, ◌≤◌, ◌⊎◌, [], Ok, Err, IsOk, OnOk, MatchResult};
 ghost use Rattle.std.specs.Io.Buffered.{writer_buffer, writer_contents};
 ghost use Rattle.std.specs.Io.KnownBytes.{Appends, Keeps};
 ghost use Rattle.ring_report.specs.declared.failure.Failure.TheVariants.{Output};
@@ -113,7 +113,8 @@ fn tell<E: Write>(err: &mut E, failure: Failure) -> io::Result<()>
 
 /// Ends what writes on standard output by a buffer: what was written stands there before anything is said
 /// on standard error. Answers the exit status: 0 where the work was done and all of it stands there, or else 1.
-/// `err` is told why, but where standard output failed nothing is told.
+/// `err` is told why, but where standard output failed nothing is told, nor where the work was done: whatever `err` was told,
+/// the buffer was emptied before.
 pub fn exit_status<O: Write + Drop, A: Allocator, E: Write>(
     out: &mut BufWriter<O, A>,
     err: &mut E,
@@ -124,6 +125,9 @@ pub fn exit_status<O: Write + Drop, A: Allocator, E: Write>(
     ensures quiet { result ≡ 0 → err.new ≡ err.old }
     ensures kept { Keeps (writer_contents O.contents out.old) (writer_contents O.contents out.new) }
     ensures flushed { result ≡ 0 → writer_buffer out.new ≡ [] }
+    ensures output { done ≡ Err Output → err.new ≡ err.old }
+    ensures well { IsOk done → err.new ≡ err.old }
+    ensures stands { (err.new ≡ err.old) ⊎ (writer_buffer out.new ≡ []) }
 {
     let has_failed = done == Err(Failure::Output) || out.flush().is_err();
     match done {
