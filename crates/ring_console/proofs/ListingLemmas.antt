@@ -1,7 +1,7 @@
 -- How frames are taken from the front of an input, and how a listing goes on.
 use Rattle.std.proofs.Common.{◌≡◌, ℕ, ◌+◌, ◌-◌, ◌≤◌, true, false, List, [], ◌∷◌, ◌++◌, length, take, drop, Option, Some}
-use Rattle.std.proofs.Common.{None, Result, Ok, Err, refl, sym, ap, subst, ◌∙◌, arith, append_assoc}
-use Rattle.std.specs.Prelude.{IsSome, IfSome, OnOk, IfErr}
+use Rattle.std.proofs.Common.{None, Result, Ok, Err, inl, inr, refl, sym, ap, subst, ◌∙◌, arith, append_assoc}
+use Rattle.std.specs.Prelude.{◌≢◌, ◌⊎◌, IsSome, IfSome, IsOk, OnOk, IfErr}
 use Rattle.std.specs.Io.Iter.{u64_saturate}
 use Rattle.std.specs.Io.KnownBytes.{Keeps, Appends, Consumes, IsAtEnd, prepend_known}
 use Rattle.std.proofs.lemmas.List.{take-append-drop, take_at, take-append-le, append-nil, drop-drop, length-drop, length-append, flat_map_more}
@@ -19,7 +19,7 @@ use Rattle.ring_console.specs.declared.ahead.State.{State}
 use Rattle.ring_console.specs.declared.ahead.State.TheVariants.{Open, Ended, Failed}
 use Rattle.ring_console.specs.Listed.{frame_text, listing_of}
 use Rattle.ring_console.specs.declared.ahead.Ahead.{Ahead}
-use Rattle.ring_console.specs.Listings.{spellings_of, BeginsWithNone, untaken, left_of, IsEndRight, IsNext, IsStop, Lists, IsListed, IsCut}
+use Rattle.ring_console.specs.Listings.{spellings_of, BeginsWithNone, untaken, left_of, IsEndRight, IsNext, IsStop, Lists, IsListed, IsCut, IsCutListing}
 use Rattle.ring_base.specs.Numbers.{most_frame}
 
 -- ---- one frame
@@ -235,3 +235,35 @@ so_far_cut {A} ahead input mid out out' state (BadFrame byte) so stop =
     (so.frames, left_of ahead mid, state, so.lists, subst (λ (p : ℕ). IsStop A (left_of ahead mid) p state (BadFrame byte)) so.position stop)
 so_far_cut {A} ahead input mid out out' state (BadScript line) so stop = absurd stop
 so_far_cut {A} ahead input mid out out' state Output so stop = tt
+
+-- ---- a listing that has ended
+
+-- the lines came to the output as they were written
+moved_cut : (A : Type 0) (input mid mid' out out' : Option (List ℕ)) (failure : Failure) → failure ≢ Output
+    → ((text : List ℕ) → Appends mid mid' text → Appends out out' text) → IsCut A input mid mid' failure → IsCutListing A input out out'
+moved_cut A input mid mid' out out' (Refused fault) other moved cut = (
+  Refused fault,
+  other,
+  (cut.0, cut.1, cut.2, record { fit = cut.3.fit; read = cut.3.read; printed = moved (listing_of cut.0) cut.3.printed }, cut.4),
+)
+moved_cut A input mid mid' out out' (BadFrame byte) other moved cut = (
+  BadFrame byte,
+  other,
+  (cut.0, cut.1, cut.2, record { fit = cut.3.fit; read = cut.3.read; printed = moved (listing_of cut.0) cut.3.printed }, cut.4),
+)
+moved_cut A input mid mid' out out' (BadScript line) other moved cut = absurd cut.4
+moved_cut A input mid mid' out out' Output other moved cut = absurd (other refl)
+
+-- nothing is told where the listing is done or its output failed, nor where its lines did not come to the output; else it is cut there
+pub cut_told : {T : Type 0} (A : Type 0) (done : Result T Failure) (input mid mid' out out' : Option (List ℕ)) (Untold Emptied Unread : Type 0)
+    → (done ≡ Err Output → Untold) → (IsOk done → Untold) → Untold ⊎ Emptied → IfErr done (IsCut A input mid mid')
+    → ((text : List ℕ) → Emptied → Appends mid mid' text → Appends out out' text) → Untold ⊎ (Unread ⊎ IsCutListing A input out out')
+cut_told A (Ok x) input mid mid' out out' Untold Emptied Unread output well stands cut moved = inl (well refl)
+cut_told A (Err failure) input mid mid' out out' Untold Emptied Unread output well (inl untold) cut moved = inl untold
+cut_told A (Err Output) input mid mid' out out' Untold Emptied Unread output well (inr emptied) cut moved = inl (output refl)
+cut_told A (Err (Refused fault)) input mid mid' out out' Untold Emptied Unread output well (inr emptied) cut moved =
+    inr (inr (moved_cut A input mid mid' out out' (Refused fault) (λ e. cc) (λ text written. moved text emptied written) cut))
+cut_told A (Err (BadFrame byte)) input mid mid' out out' Untold Emptied Unread output well (inr emptied) cut moved =
+    inr (inr (moved_cut A input mid mid' out out' (BadFrame byte) (λ e. cc) (λ text written. moved text emptied written) cut))
+cut_told A (Err (BadScript line)) input mid mid' out out' Untold Emptied Unread output well (inr emptied) cut moved =
+    inr (inr (moved_cut A input mid mid' out out' (BadScript line) (λ e. cc) (λ text written. moved text emptied written) cut))

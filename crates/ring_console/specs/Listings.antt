@@ -1,6 +1,6 @@
 -- Frames that stand one after another in an input, and what is listed of them.
 -- Listing frames, of docs/FORMATS.md.
-use Rattle.std.specs.Prelude.{◌≡◌, ℕ, ◌+◌, List, length, drop, All, IfSome, Option, Some, None, flat_map}
+use Rattle.std.specs.Prelude.{◌≡◌, ◌≢◌, ℕ, ◌+◌, List, length, drop, All, IfSome, Option, Some, None, flat_map}
 use Rattle.std.specs.Io.Iter.{u64_saturate}
 use Rattle.std.specs.Io.KnownBytes.{Keeps, Appends, Consumes, IsAtEnd, prepend_known}
 use Rattle.ring_base.specs.declared.fault.Fault.TheVariants.{Memory}
@@ -63,3 +63,7 @@ IsCut A input out out' Output = Unit {0}
 IsCut A input out out' failure =
     (frames : List (Frame A)) × (rest : Option (List ℕ)) × (state : State) × Lists input rest out out' frames
     × IsStop A rest (u64_saturate (length (spellings_of frames))) state failure
+
+-- a listing ended before its input did, and not for its output: just the lines of the frames so far were printed
+abbrev pub IsCutListing : Type 0 → Option (List ℕ) → Option (List ℕ) → Option (List ℕ) → Type 0
+IsCutListing A input out out' = (failure : Failure) × (failure ≢ Output) × IsCut A input out out' failure

@@ -1,11 +1,11 @@
 //! Listing the frames of a file.
 
-ghost use Rattle.std.specs.Prelude.{◌≡◌, ◌≤◌, [], OnOk, IfErr};
+ghost use Rattle.std.specs.Prelude.{◌≡◌, ◌≤◌, ◌⊎◌, [], OnOk, IfErr};
 ghost use Rattle.std.specs.Io.KnownBytes.{Keeps, Appends};
 ghost use Rattle.ring_report.specs.declared.failure.Failure.TheVariants.{Output};
 ghost use Rattle.ring_report.specs.Texts.{line_of};
 ghost use Rattle.ring_console.specs.Listed.{frame_text};
-ghost use Rattle.ring_console.specs.Listings.{IsListed, IsCut};
+ghost use Rattle.ring_console.specs.Listings.{IsListed, IsCut, IsCutListing};
 ghost use Rattle.ring_console.specs.declared.ahead.State.TheVariants.{Open};
 
 use crate::ahead::Ahead;
@@ -23,7 +23,8 @@ use std::io::{BufWriter, Read, Write};
 /// - where memory is refused, `err` is told so;
 /// - where `out` fails, or there are more frames than can be counted, nothing is told.
 ///
-/// The lines of the frames before that stand on `out`. The memory taken is the same for every input.
+/// The lines of the frames before that stand on `out`, wherever `err` was told and the input was read at all. The memory taken is the
+/// same for every input.
 pub fn frames<A: Allocator + Copy, R: Read, O: Write, E: Write>(
     alloc: A,
     input: &mut R,
@@ -34,6 +35,8 @@ pub fn frames<A: Allocator + Copy, R: Read, O: Write, E: Write>(
     ensures quiet { result ≡ 0 → Keeps (E.contents err.old) (E.contents err.new) }
     ensures listed { result ≡ 0 → IsListed A (R.remaining input.old) (R.remaining input.new)
         (O.contents out.old) (O.contents out.new) }
+    ensures cut { result ≡ 1 → (err.new ≡ err.old) ⊎ ((input.new ≡ input.old)
+        ⊎ IsCutListing A (R.remaining input.old) (O.contents out.old) (O.contents out.new)) }
 {
     match BufWriter::new(alloc, Lent { writer: out }) {
         Ok(mut buffer) => {

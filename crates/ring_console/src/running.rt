@@ -1,13 +1,16 @@
 //! What the program prints of a script.
 
-ghost use Rattle.std.specs.Prelude.{◌≡◌, ℕ, ◌≤◌, ◌↔◌, List, [], Ok, OnOk, IfOk, IfErr, true, false, IsTrue};
+ghost use Rattle.std.specs.Prelude.{◌≡◌, ℕ, ◌≤◌, ◌⊎◌, ◌↔◌, List, [], Some, Ok, Err, IsOk, OnOk, IfOk, IfErr, true, false, IsTrue};
 ghost use Rattle.std.specs.Io.Buffered.{writer_buffer, writer_contents};
 ghost use Rattle.std.specs.Io.KnownBytes.{Appends, Keeps};
 ghost use Rattle.ring_base.specs.declared.fault.Fault.TheVariants.{Memory};
 ghost use Rattle.ring_script.specs.Fits.{AreFit};
 ghost use Rattle.ring_script.specs.Scripts.{IsAllOf, AnswersInputBy, AnswersInput};
+ghost use Rattle.ring_script.specs.ShelfWords.{shelf_forms};
 ghost use Rattle.ring_script.specs.declared.scripts.Script.{Script};
 ghost use Rattle.ring_report.specs.Failures.{IsOutputOrMemory};
+ghost use Rattle.ring_report.specs.declared.failure.Failure.TheVariants.{Output};
+ghost use Rattle.ring_console.specs.NoScripts.{IsNoScript};
 ghost use Rattle.ring_console.specs.Running.{Prints, run_opening, IsTextOf, IsLegal, IsVerdict, legal_line};
 
 use crate::printed::print_legal;
@@ -41,6 +44,7 @@ pub fn script<A: Allocator + Copy + Drop, R: Read, O: Write, E: Write>(
     ensures printed { let object = ⟦<Things<A> as Object>⟧ in
         result ≡ 0 → (script : Script A) × (bytes : List ℕ) × IsAllOf (R.remaining input.old) bytes × AnswersInput (Ok script) bytes
         × Prints (O.contents out.old) (O.contents out.new) (IsTextOf object.sequential script.nodes false script.lines.items true) }
+    ensures no_script { (bytes : List ℕ) → R.remaining input.old ≡ Some bytes → IsNoScript shelf_forms bytes → (result ≡ 1) × (out.new ≡ out.old) }
 {
     script_of::<Things<A>, ShelfWords, R, O, E>(alloc, input, false, out, err)
 }
@@ -58,6 +62,7 @@ pub fn script_check<A: Allocator + Copy + Drop, R: Read, O: Write, E: Write>(
     ensures printed { let object = ⟦<Things<A> as Object>⟧ in
         result ≡ 0 → (script : Script A) × (bytes : List ℕ) × IsAllOf (R.remaining input.old) bytes × AnswersInput (Ok script) bytes
         × Prints (O.contents out.old) (O.contents out.new) (IsTextOf object.sequential script.nodes true script.lines.items true) }
+    ensures no_script { (bytes : List ℕ) → R.remaining input.old ≡ Some bytes → IsNoScript shelf_forms bytes → (result ≡ 1) × (out.new ≡ out.old) }
 {
     script_of::<Things<A>, ShelfWords, R, O, E>(alloc, input, true, out, err)
 }
@@ -72,8 +77,10 @@ pub fn script_of<T: Object, V: Vocabulary, R: Read, O: Write, E: Write>(
 ) -> u8
     ensures status { result ≤ 1 }
     ensures quiet { result ≡ 0 → Keeps (E.contents err.old) (E.contents err.new) }
-    ensures printed { result ≡ 0 → (script : Script T.Alloc) × (bytes : List ℕ) × IsAllOf (R.remaining input.old) bytes × AnswersInputBy V.forms (Ok script) bytes
+    ensures printed { result ≡ 0 → (script : Script T.Alloc) × (bytes : List ℕ) × IsAllOf (R.remaining input.old) bytes
+        × AnswersInputBy V.forms (Ok script) bytes
         × Prints (O.contents out.old) (O.contents out.new) (IsTextOf T.sequential script.nodes is_checked script.lines.items true) }
+    ensures no_script { (bytes : List ℕ) → R.remaining input.old ≡ Some bytes → IsNoScript V.forms bytes → (result ≡ 1) × (out.new ≡ out.old) }
 {
     match Script::read_by::<V, R>(alloc, input) {
         Ok(script) => print_run::<T, O, E>(alloc, script, is_checked, out, err),
@@ -189,6 +196,9 @@ fn verdict_status<O: Write + Drop, A: Allocator, E: Write>(
     ensures quiet { result ≡ 0 → err.new ≡ err.old }
     ensures kept { Keeps (writer_contents O.contents out.old) (writer_contents O.contents out.new) }
     ensures flushed { result ≡ 0 → writer_buffer out.new ≡ [] }
+    ensures output { done ≡ Err Output → err.new ≡ err.old }
+    ensures well { IsOk done → err.new ≡ err.old }
+    ensures stands { (err.new ≡ err.old) ⊎ (writer_buffer out.new ≡ []) }
 {
     match done {
         Ok(true) => exit_status(out, err, Ok(())),
