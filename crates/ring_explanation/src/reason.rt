@@ -1,5 +1,8 @@
 //! Why a line is at fault.
 
+ghost use Rattle.std.specs.Prelude.{◌↔◌, IsNone, IfOk};
+ghost use Rattle.ring_explanation.specs.Scripts.{IsScript};
+
 use crate::form::{LINES, LineForm, Rest, line_form};
 use crate::groups::groups_reason;
 use crate::line::{PlacedLine, Stand, line_at};
@@ -16,8 +19,10 @@ use std::str::Split;
 pub(crate) type Reason = Result<Option<String>, AllocError>;
 
 /// Why the text is no script by the words of this object's operations: what stands in the line that `Script::parse_by` finds at
-/// fault, and what was expected there. None where it is a script. Memory refused is the only refusal.
-pub fn reason_by<V: Vocabulary>(alloc: Global, text: &[u8]) -> Result<Option<String>, AllocError> {
+/// fault, and what was expected there. None where it is a script, and there alone. Memory refused is the only refusal.
+pub fn reason_by<V: Vocabulary>(alloc: Global, text: &[u8]) -> Result<Option<String>, AllocError>
+    ensures { IfOk result (λ reason. IsNone reason ↔ IsScript V.forms text.now) }
+{
     if text.len() as u64 > LONGEST_TEXT {
         return Ok(Some(format!(in alloc; "the text is longer than {LONGEST_TEXT} bytes")?));
     }
