@@ -1,42 +1,45 @@
 -- A node that takes one record more, and where its input ends.
-use Rattle.std.proofs.Common.{◌≡◌, ℕ, ◌⊎◌, inl, inr, List, [], ◌∷◌, ◌++◌, length, Option, Some, None, Result, Ok, Err, refl, subst, sym, arith}
+use Rattle.std.proofs.Common.{◌≡◌, ℕ, ◌+◌, ◌-◌, ◌^◌, inl, inr, List, [], ◌∷◌, ◌++◌, length, take, drop, Option, Some, None, Result, Ok, Err, refl, subst, sym, ◌∙◌, arith, take-append-drop}
 use Rattle.std.specs.Prelude.{IfErr, IsErrAnd}
 use Rattle.std.specs.Io.Iter.{u64_saturate}
-use Rattle.std.specs.Io.KnownBytes.{Appends, IsAtEnd}
-use Rattle.std.proofs.KnownBytes.{Consumes-nil, Consumes-trans, Consumes-kept, Appends-nil, Appends-trans}
+use Rattle.std.specs.Io.KnownBytes.{Appends, Consumes, IsAtEnd}
+use Rattle.std.proofs.KnownBytes.{Consumes-nil, Consumes-trans, Consumes-kept, Appends-nil, Appends-trans, Keeps-refl}
 use Rattle.std.proofs.lemmas.List.{length-append}
 use Rattle.ring_base.specs.Group.{Group, IsInGroup}
 use Rattle.ring_base.specs.declared.fault.Fault.{Fault}
-use Rattle.ring_base.specs.declared.fault.Fault.TheVariants.{Memory, NotMember}
 use Rattle.ring_object.specs.Operations.{Sequential}
 use Rattle.ring_records.specs.Records.{record_of}
+use Rattle.ring_records.proofs.Parts.{unfinished_none}
 use Rattle.ring_report.specs.declared.failure.Failure.{Failure}
-use Rattle.ring_report.specs.declared.failure.Failure.TheVariants.{Refused, BadFrame, BadScript, Output}
+use Rattle.ring_report.specs.declared.failure.Failure.TheVariants.{Refused, Output}
 use Rattle.ring_rules.specs.Nodes.{Node, node_opening}
-use Rattle.ring_pipe.specs.Piping.{Writes, IsUnmade}
-use Rattle.ring_pipe.specs.Serving.{records_text, IsStop, TakesAll, ServesNext, Serves, IsCutFrom, IsCutOff}
+use Rattle.ring_pipe.specs.Piping.{Takes, Writes, IsUnmade}
+use Rattle.ring_pipe.specs.Serving.{Record, records_text, IsHalfTold, IsStop, TakesAll, ServesNext, Serves, IsCutFrom, IsCutOff}
 
 -- what was told into an empty room, and then written
 pub written_out : (told : List ℕ) (old new : Option (List ℕ)) (P : List ℕ → Type 0) → Writes (Some []) (Some told) P → Appends old new told → Writes old new P
 written_out told old new P w out = record { text = w.text; told = subst (Appends old new) w.told out; holds = w.holds }
 
 module _ {O A : Type 0} (object : Sequential O) where
-  -- the records before this byte were taken
-  pub record ServesTo (at : ℕ) (old new : Node A) (input rest out out' : Option (List ℕ)) : Type 0 where
+  -- so many records were taken, those before this byte
+  pub record ServesTo (count at : ℕ) (old new : Node A) (input rest out out' : Option (List ℕ)) : Type 0 where
     pub so : Serves object old new input rest out out'
+    pub many : length so.records ≡ count
     pub place : at ≡ u64_saturate (length (records_text so.records))
 
   -- nothing is read yet
-  pub served_none : (old : Node A) (input out : Option (List ℕ)) → ServesTo 0 old old input input out out
+  pub served_none : (old : Node A) (input out : Option (List ℕ)) → ServesTo 0 0 old old input input out out
   served_none old input out = record {
     so = record { records = []; text = []; read = Consumes-nil input; took = (refl, refl); told = Appends-nil out };
+    many = refl;
     place = omega arith;
   }
 
   -- one record more
-  pub served_more : (at next : ℕ) (old mid new : Node A) (input left rest out told out' : Option (List ℕ))
-      → ServesTo at old mid input left out told → ServesNext object at (Some next) mid new left rest told out' → ServesTo next old new input rest out out'
-  served_more at next old mid new input left rest out told out' to taken =
+  pub served_more : (count at next : ℕ) (old mid new : Node A) (input left rest out told out' : Option (List ℕ))
+      → ServesTo count at old mid input left out told → ServesNext object at (Some next) mid new left rest told out'
+      → ServesTo (count + 1) next old new input rest out out'
+  served_more count at next old mid new input left rest out told out' to taken =
       let so = to.so in
       let r = taken.0 in
       let writes = taken.2 in
@@ -49,30 +52,42 @@ module _ {O A : Type 0} (object : Sequential O) where
           took = (mid, so.text, writes.text, so.took, writes.holds, refl);
           told = Appends-trans out told out' so.text writes.text so.told writes.told;
         };
+        many = omega (arith, to.many);
         place = omega (arith, to.place, taken.3, length-append (records_text so.records) bytes);
       }
 
-  -- there is no next record, and the output is as it was
-  pub cut_here : (at : ℕ) (old new : Node A) (input left out told out' : Option (List ℕ)) (failure : Failure) → ServesTo at old new input left out told
-      → out' ≡ told → IsStop at failure → IsCutFrom object old input out out' failure
-  cut_here at old new input left out told out' failure to same stop =
-      let so = to.so in (
-        new,
-        left,
-        record {
-          records = so.records;
-          text = so.text;
-          read = so.read;
-          took = so.took;
-          told = subst (λ (o : Option (List ℕ)). Appends out o so.text) (sym same) so.told;
-        },
-        subst (λ (n : ℕ). IsStop n failure) to.place stop,
-      )
+  -- the next record was taken and done, and of what was told of it so many bytes are written
+  pub half_told : (old new : Node A) (next : Record) (text : List ℕ) (count : ℕ) (left rest out out' : Option (List ℕ))
+      → Consumes left rest (record_of next.kind next.bytes)
+      → Writes (Some []) (Some text) (λ (t : List ℕ). Takes object old next.kind next.bytes new t) → Appends out out' (take count text)
+      → IsHalfTold object old new left rest out out'
+  half_told old new next text count left rest out out' read w written =
+      let parted : text ≡ take count text ++ drop count text = sym (take-append-drop count text) in
+      record {
+        next = next;
+        front = take count text;
+        lost = drop count text;
+        read = read;
+        took = subst (λ (t : List ℕ). Takes object old next.kind next.bytes new t) (sym w.told ∙ parted) w.holds;
+        told = written;
+      }
+
+  -- there is no next record, or it is half told
+  pub cut_here : (count at : ℕ) (old mid : Node A) (input left rest out told out' : Option (List ℕ)) (failure : Failure)
+      → ServesTo count at old mid input left out told → IsStop object at mid left rest told out' failure
+      → IsCutFrom object old input rest out out' failure
+  cut_here count at old mid input left rest out told out' failure to stop =
+      (mid, left, told, to.so, inl (subst (λ (n : ℕ). IsStop object n mid left rest told out' failure) to.place stop))
+
+  -- there are as many records as can be counted
+  pub cut_full : (count at : ℕ) (old mid : Node A) (input left out told : Option (List ℕ)) → ServesTo count at old mid input left out told
+      → count ≡ 2 ^ 64 - 1 → IsCutFrom object old input left out told Output
+  cut_full count at old mid input left out told to full = (mid, left, told, to.so, inr (refl, to.many ∙ full, refl, refl))
 
   -- no record is left: those before are the whole input
-  pub served_end : (at : ℕ) (old new last : Node A) (input left rest out told out' : Option (List ℕ)) → ServesTo at old new input left out told
+  pub served_end : (count at : ℕ) (old new last : Node A) (input left rest out told out' : Option (List ℕ)) → ServesTo count at old new input left out told
       → ServesNext object at None new last left rest told out' → Serves object old last input rest out out' × IsAtEnd rest
-  served_end at old new last input left rest out told out' to none =
+  served_end count at old new last input left rest out told out' to none =
       let so = to.so in (
         record {
           records = so.records;
@@ -90,7 +105,9 @@ module _ {O : Type 0} (object : Sequential O) (A : Type 0) where
       → IsCutOff object A group me input input out out (Refused fault)
   cut_first group me fault input out (inl both) =
       let opening = node_opening {A = A} group me in
-      inr (both.1, cut_here object 0 opening opening input input out out out (Refused fault) (served_none object opening input out) refl both.0)
+      let begun = served_none object opening input out in
+      let kept = unfinished_none input input (Keeps-refl input) in
+      inr (both.1, cut_here object 0 0 opening opening input input input out out out (Refused fault) begun (both.0, inr kept, refl))
   cut_first group me fault input out (inr both) = inl (subst (λ (f : Fault). Refused fault ≡ Refused f) both.0 refl, both.1, refl, refl)
 
   -- nothing was read
@@ -101,16 +118,8 @@ module _ {O : Type 0} (object : Sequential O) (A : Type 0) where
       subst (λ (f : Failure). IsCutOff object A group me input input out out f) (sym is) (cut_first group me fault input out why)
 
   -- a processor's node, from its opening, took no more records
-  cut_behind : (group : Group) (me : ℕ) (input rest out out' : Option (List ℕ)) (failure : Failure) → IsInGroup group me
-      → ((failure ≡ Output → ⊥) → IsCutFrom object (node_opening {A = A} group me) input out out' failure)
-      → IsCutOff object A group me input rest out out' failure
-  cut_behind group me input rest out out' (Refused fault) among cut = inr (among, cut (λ e. absurd (cc e)))
-  cut_behind group me input rest out out' (BadFrame byte) among cut = inr (among, cut (λ e. absurd (cc e)))
-  cut_behind group me input rest out out' (BadScript line) among cut = inr (among, cut (λ e. absurd (cc e)))
-  cut_behind group me input rest out out' Output among cut = among
-
   pub cut_after : {T : Type 0} (r : Result T Failure) (group : Group) (me : ℕ) (input rest out out' : Option (List ℕ)) → IsInGroup group me
-      → IfErr r (λ failure. (failure ≡ Output → ⊥) → IsCutFrom object (node_opening {A = A} group me) input out out' failure)
+      → IfErr r (IsCutFrom object (node_opening {A = A} group me) input rest out out')
       → IfErr r (IsCutOff object A group me input rest out out')
   cut_after (Ok x) group me input rest out out' among cut = tt
-  cut_after (Err failure) group me input rest out out' among cut = cut_behind group me input rest out out' failure among cut
+  cut_after (Err failure) group me input rest out out' among cut = inr (among, cut)

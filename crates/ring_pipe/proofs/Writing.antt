@@ -1,8 +1,8 @@
 -- What an output grew by, as it is said of several texts and of what comes of a record.
-use Rattle.std.proofs.Common.{◌≡◌, ℕ, ◌≤◌, List, ◌++◌, length, Option, Result, Ok, Err}
+use Rattle.std.proofs.Common.{◌≡◌, ℕ, ◌+◌, ◌-◌, ◌≤◌, List, [], ◌++◌, length, take, drop, Option, Result, Ok, Err, sym, ap, subst, ◌∙◌, arith, length-take, take-take, take-add}
 use Rattle.std.specs.Prelude.{OnOk}
-use Rattle.std.specs.Io.KnownBytes.{Appends}
-use Rattle.std.proofs.KnownBytes.{Appends-trans}
+use Rattle.std.specs.Io.KnownBytes.{Keeps, Appends}
+use Rattle.std.proofs.KnownBytes.{Appends-nil, Appends-trans, Appends-kept}
 use Rattle.ring_object.specs.Operations.{Sequential}
 use Rattle.ring_rules.specs.Nodes.{Node}
 use Rattle.ring_records.specs.Asking.{Asks}
@@ -30,6 +30,22 @@ pub writes_then : {T E : Type 0} (r : Result T E) (old mid new : Option (List �
     → OnOk r (Appends mid new more) → OnOk r (Appends old new (text ++ more))
 writes_then (Ok x) old mid new text more told then = Appends-trans old mid new text more told then
 writes_then (Err e) old mid new text more told then = tt
+
+-- nothing was written
+pub none_written : (old new : Option (List ℕ)) → Keeps old new → Appends old new []
+none_written old new kept = Appends-kept old old new [] (Appends-nil old) kept
+
+-- a text was written up to a place, and then so many of its bytes behind it
+pub written_upto : (old mid new : Option (List ℕ)) (text : List ℕ) (from count : ℕ) → count ≤ length (take (length text - from) (drop from text))
+    → Appends old mid (take from text) → Appends mid new (take count (take (length text - from) (drop from text)))
+    → Appends old new (take (from + count) text)
+written_upto old mid new text from count fits first then =
+    let rest = take (length text - from) (drop from text) in
+    let most = length-take (length text - from) (drop from text) in
+    let within : count ≤ length text - from = omega (arith, fits, most) in
+    let joined : take from text ++ take count rest ≡ take (from + count) text
+    = ap (λ (l : List ℕ). take from text ++ l) (take-take count (length text - from) (drop from text) within) ∙ sym (take-add from count text) in
+    subst (λ (l : List ℕ). Appends old new l) joined (Appends-trans old mid new (take from text) (take count rest) first then)
 
 -- the bytes of a call's record are twelve at least
 pub call_long : (kind : ℕ) (bytes : List ℕ) (what : RecordRequest) → Asks kind bytes what → (client number : ℕ) → what ≡ Call client number → 12 ≤ length bytes

@@ -1,15 +1,15 @@
 -- A node that takes the records of an input, one after the other: Records, of docs/FORMATS.md.
-use Rattle.std.specs.Prelude.{◌≡◌, ℕ, ◌+◌, ◌^◌, ◌<◌, ◌≤◌, ◌⊎◌, List, [], ◌∷◌, ◌++◌, length, Option, Some, None}
+use Rattle.std.specs.Prelude.{◌≡◌, ℕ, ◌+◌, ◌-◌, ◌^◌, ◌<◌, ◌⊎◌, List, [], ◌∷◌, ◌++◌, length, Option, Some, None}
 use Rattle.std.specs.Io.Iter.{u64_saturate}
 use Rattle.std.specs.Io.KnownBytes.{Keeps, Appends, Consumes, IsAtEnd}
 use Rattle.ring_base.specs.Group.{Group, IsInGroup}
 use Rattle.ring_base.specs.declared.fault.Fault.TheVariants.{Memory, NotMember}
 use Rattle.ring_object.specs.Operations.{Sequential}
-use Rattle.ring_records.specs.Records.{record_of}
+use Rattle.ring_records.specs.Records.{record_of, TakesUnfinished}
 use Rattle.ring_report.specs.declared.failure.Failure.{Failure}
 use Rattle.ring_report.specs.declared.failure.Failure.TheVariants.{Refused, BadFrame, BadScript, Output}
 use Rattle.ring_rules.specs.Nodes.{Node, node_opening}
-use Rattle.ring_pipe.specs.Piping.{Takes, Writes}
+use Rattle.ring_pipe.specs.Piping.{Takes, Writes, AsksNothing}
 
 -- a record: its kind and its bytes, as many as two bytes can tell
 pub record Record : Type 0 where
@@ -26,13 +26,18 @@ records_text (r ∷ before) = records_text before ++ record_of r.kind r.bytes
 abbrev pub behind : ℕ → Record → ℕ
 behind at r = u64_saturate (at + length (record_of r.kind r.bytes))
 
--- why no more records are taken where the next one begins at this byte: for want of memory; since the record there is told as one that asks for
--- nothing that a node does, or isn't there whole; or since the output is told as failed. That it is so isn't said here
-abbrev pub IsStop : ℕ → Failure → Type 0
-IsStop at (Refused fault) = fault ≡ Memory
-IsStop at (BadFrame byte) = byte ≡ at
-IsStop at (BadScript line) = ⊥
-IsStop at Output = Unit {0}
+-- the record that is left first is at fault: it is there, it alone is taken off the input, and it asks for nothing that a node does; or less than a
+-- record is taken off it. That no more of it is there, or that it can't be read, isn't said
+abbrev pub IsAtFault : Option (List ℕ) → Option (List ℕ) → Type 0
+IsAtFault left rest = ((r : Record) × Consumes left rest (record_of r.kind r.bytes) × AsksNothing r.kind r.bytes) ⊎ TakesUnfinished left rest
+
+-- no more is taken off the input than the record that is left first
+abbrev pub TakesNoMore : Option (List ℕ) → Option (List ℕ) → Type 0
+TakesNoMore left rest = ((r : Record) × Consumes left rest (record_of r.kind r.bytes)) ⊎ TakesUnfinished left rest
+
+-- there are as many records as can be counted, and behind them nothing is taken or told: this is told as an output that failed
+abbrev pub IsFull : List Record → Option (List ℕ) → Option (List ℕ) → Option (List ℕ) → Option (List ℕ) → Failure → Type 0
+IsFull records left rest out out' failure = (failure ≡ Output) × (length records ≡ 2 ^ 64 - 1) × (rest ≡ left) × (out' ≡ out)
 
 module _ {O A : Type 0} (object : Sequential O) where
   -- a node took the records, the newest first here, and told all this, of each behind what it told of those before
@@ -57,10 +62,29 @@ module _ {O A : Type 0} (object : Sequential O) where
     pub took : TakesAll old records new text
     pub told : Appends out out' text
 
-  -- the node took each of the records before, the output has just what it told of these, and the failure is why there are no more
-  abbrev pub IsCutFrom : Node A → Option (List ℕ) → Option (List ℕ) → Option (List ℕ) → Failure → Type 0
-  IsCutFrom old input out out' failure =
-      (new : Node A) × (left : Option (List ℕ)) × (so : Serves old new input left out out') × IsStop (u64_saturate (length (records_text so.records))) failure
+  -- the record that is left first was taken, and what it asked for is done; of what the node told of that the output has a front, and the rest of it
+  -- is lost, which may be none of it
+  pub record IsHalfTold (old new : Node A) (left rest out out' : Option (List ℕ)) : Type 0 where
+    pub next : Record
+    pub front : List ℕ
+    pub lost : List ℕ
+    pub read : Consumes left rest (record_of next.kind next.bytes)
+    pub took : Takes object old next.kind next.bytes new (front ++ lost)
+    pub told : Appends out out' front
+
+  -- why the record that is left first, which begins at this byte, isn't taken and told: memory is refused, or it is at fault, and nothing is told of
+  -- it; or it is done and half told, since the output failed. That memory is refused, or that the output failed, isn't said
+  abbrev pub IsStop : ℕ → Node A → Option (List ℕ) → Option (List ℕ) → Option (List ℕ) → Option (List ℕ) → Failure → Type 0
+  IsStop at old left rest out out' (Refused fault) = (fault ≡ Memory) × TakesNoMore left rest × (out' ≡ out)
+  IsStop at old left rest out out' (BadFrame byte) = (byte ≡ at) × IsAtFault left rest × (out' ≡ out)
+  IsStop at old left rest out out' (BadScript line) = ⊥
+  IsStop at old left rest out out' Output = (new : Node A) × IsHalfTold old new left rest out out'
+
+  -- the node took each of the records before, the output has what it told of these, and the failure is why no more are taken and told
+  abbrev pub IsCutFrom : Node A → Option (List ℕ) → Option (List ℕ) → Option (List ℕ) → Option (List ℕ) → Failure → Type 0
+  IsCutFrom old input rest out out' failure =
+      (mid : Node A) × (left : Option (List ℕ)) × (told : Option (List ℕ)) × (so : Serves old mid input left out told)
+      × (IsStop (u64_saturate (length (records_text so.records))) mid left rest told out' failure ⊎ IsFull so.records left rest told out' failure)
 
 module _ {O : Type 0} (object : Sequential O) (A : Type 0) where
   -- the processor of this number is one of the group; the input was records, one after the other, nothing of it is left, and its node,
@@ -70,13 +94,11 @@ module _ {O : Type 0} (object : Sequential O) (A : Type 0) where
       IsInGroup group me × (new : Node A) × Serves object (node_opening group me) new input rest out out' × IsAtEnd rest
 
   -- There is no such processor, and nothing of the input is taken, and nothing told; or there is, its node, at its opening, took each of the
-  -- records before, the output has no more than it told of these, and the failure is why there are no more; what is left of the input isn't
-  -- said then. Where the output is told as failed it is said alone that there is such a processor.
+  -- records before, the output has what it told of these, and the failure is why no more are taken and told.
   abbrev pub IsCutOff : Group → ℕ → Option (List ℕ) → Option (List ℕ) → Option (List ℕ) → Option (List ℕ) → Failure → Type 0
-  IsCutOff group me input rest out out' Output = IsInGroup group me
   IsCutOff group me input rest out out' failure =
       ((failure ≡ Refused NotMember) × (¬ IsInGroup group me) × (rest ≡ input) × (out' ≡ out))
-      ⊎ (IsInGroup group me × IsCutFrom object (node_opening {A = A} group me) input out out' failure)
+      ⊎ (IsInGroup group me × IsCutFrom object (node_opening {A = A} group me) input rest out out' failure)
 
   -- so the input was cut off; and where it is the output that failed, nothing is told elsewhere
   abbrev pub IsCutShort : {E : Type 0} → Group → ℕ → Option (List ℕ) → Option (List ℕ) → Option (List ℕ) → Option (List ℕ) → E → E → Type 0

@@ -1,16 +1,9 @@
--- A record is read and written part by part.
-use Rattle.std.proofs.Common.{◌≡◌, ℕ, ◌+◌, List, [], ◌∷◌, ◌++◌, length, Option, Some, None, Result, sym, ap, subst, ◌∙◌, append_assoc}
+-- A record is written part by part.
+use Rattle.std.proofs.Common.{◌≡◌, ℕ, List, ◌∷◌, ◌++◌, length, Option, Result, ap, subst, ◌∙◌, append_assoc}
 use Rattle.std.specs.Prelude.{OnOk}
-use Rattle.std.specs.Io.KnownBytes.{Keeps, Appends, Consumes, IsAtEnd}
+use Rattle.std.specs.Io.KnownBytes.{Appends}
 use Rattle.byteorder.specs.Endian.{big_bytes}
-use Rattle.ring_records.specs.Records.{record_of, IsNextByte}
-
--- what was read of no more than one byte, after reads that took nothing: none, at the end
-pub none_read : (a b c : Option (List ℕ)) → Keeps a b → Consumes b c [] → IsAtEnd c → IsNextByte a c None
-none_read None b c p q end = (tt, end)
-none_read (Some x) None c p q end = absurd p
-none_read (Some x) (Some y) None p q end = absurd q
-none_read (Some x) (Some y) (Some z) p q end = (sym q ∙ p, end)
+use Rattle.ring_records.specs.Records.{record_of}
 
 -- what was written, with the parts of the record as they are otherwise known
 pub told_as : {T E : Type 0} (r : Result T E) (old new : Option (List ℕ)) (kind : ℕ) (first rest first' rest' : List ℕ) → first ≡ first' → rest ≡ rest'

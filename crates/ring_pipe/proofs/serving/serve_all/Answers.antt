@@ -1,5 +1,5 @@
 -- The node of the processor, from its opening, takes the records; or it can't begin.
-use Rattle.std.proofs.Common.{◌≡◌, inl, inr}
+use Rattle.std.proofs.Common.{inl, inr}
 use Rattle.ring_base.proofs.Results.{on-ok}
 use Rattle.ring_pipe.proofs.Served.{cut_at_once, cut_after}
 use Rattle.ring_pipe.proofs.serving.serve_all.Goals as goal
