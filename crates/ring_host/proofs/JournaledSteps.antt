@@ -16,7 +16,7 @@ use Rattle.ring_book.specs.Seen.{CellView, BookView}
 use Rattle.ring_host.specs.Lent.{IsPast, IsEntered, IsCallRefused}
 
 -- two lists that are the same end with the same
-last_same : {T : Type 0} (xs ys : List T) (x y : T) → xs ++ x ∷ [] ≡ ys ++ y ∷ [] → x ≡ y
+pub last_same : {T : Type 0} (xs ys : List T) (x y : T) → xs ++ x ∷ [] ≡ ys ++ y ∷ [] → x ≡ y
 last_same [] [] x y e = let same : x ∷ [] ≡ y ∷ [] = e in cc
 last_same [] (b ∷ ys) x y e = let n = ap length e in absurd (omega (arith, n, length-append ys (y ∷ [])))
 last_same (a ∷ xs) [] x y e = let n = ap length e in absurd (omega (arith, n, length-append xs (x ∷ [])))

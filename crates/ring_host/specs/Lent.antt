@@ -1,7 +1,10 @@
 -- What is done with a node's cell and the book while both are lent, under their locks (docs/PROTOCOL.md, The book and the threads).
-use Rattle.std.specs.Prelude.{ℕ, ◌≡◌, ◌+◌, ◌-◌, ◌⊎◌, false, List, [], ◌∷◌, ◌++◌, Result, Err, slice_get, length, IsSomeAnd}
+use Rattle.std.specs.Prelude.{ℕ, ◌≡◌, ◌≤◌, ◌+◌, ◌-◌, ◌⊎◌, false, List, [], ◌∷◌, ◌++◌, Result, Err, slice_get, length, IsSomeAnd}
 use Rattle.ring_base.specs.declared.fault.Fault.{Fault}
 use Rattle.ring_base.specs.declared.fault.Fault.TheVariants.{BookFull, Memory, Stranger}
+use Rattle.ring_base.specs.Group.{Group}
+use Rattle.ring_object.specs.Operations.{Sequential}
+use Rattle.ring_rules.specs.Nodes.{Node}
 use Rattle.ring_book_lines.specs.declared.input.LineInput.{LineInput}
 use Rattle.ring_book_lines.specs.Lines.{steps_of}
 use Rattle.ring_book_lines.specs.Machines.{Machine}
@@ -9,7 +12,9 @@ use Rattle.ring_book_lines.specs.Runs.{IsStep}
 use Rattle.ring_book_lines.specs.Steps.{StepView, LineView}
 use Rattle.ring_book.specs.Books.{most_places, Enters, IsStrange}
 use Rattle.ring_book.specs.Cells.{SubmitRefused}
+use Rattle.ring_book.specs.Lines.{IsRun}
 use Rattle.ring_book.specs.Seen.{CellView, BookView}
+use Rattle.ring_host.specs.Steps.{node_after_lines}
 
 -- all places of the book are used or reserved
 abbrev pub IsFull : {A : Type 0} → BookView A → Type 0
@@ -65,3 +70,15 @@ module _ {S A : Type 0} (m : Machine S A) where
   IsSubmitRefused cell cell' book fault =
       ((fault ≡ BookFull) × IsFull book × (cell' ≡ cell))
       ⊎ ((IsFull book → ⊥) × (((fault ≡ Memory) × (cell' ≡ cell)) ⊎ IsCallRefused cell cell' book.lines fault))
+
+module _ {O A : Type 0} (object : Sequential O) (group : Group) where
+  -- Some book's lines end with the cell's step, which sent so many frames, and are a run of the group; the cell's node is one of the group, and as it is
+  -- after that run.
+  pub record IsEndOfRun (cell cell' : CellView (Node A) A) (sent : ℕ) : Type 0 where
+    pub book : BookView A
+    pub book' : BookView A
+    pub entered : Enters book book' cell cell'
+    pub frames : HasSent book'.lines sent
+    pub is_run : IsRun object group book'.lines
+    pub member : (1 ≤ cell'.me) × (cell'.me ≤ group.count)
+    pub node : cell'.node ≡ node_after_lines object group book'.lines cell'.me

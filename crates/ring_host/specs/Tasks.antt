@@ -29,30 +29,23 @@ abbrev pub IsFrame : {A : Type 0} → Task A → Type 0
 IsFrame (Timeout kind) = ⊥
 IsFrame (Came bytes at) = ⊤
 
--- the frame that was read is a token or a commit token
-abbrev pub IsTokenRead : {A : Type 0} → Option (OneFrame A) → Type 0
-IsTokenRead None = ⊥
-IsTokenRead (Some (Message message)) = ⊥
-IsTokenRead (Some (Token token)) = ⊤
-IsTokenRead (Some (Join join)) = ⊥
-IsTokenRead (Some (Commit commit)) = ⊤
-
--- It is a token or a commit token that came.
-pub record IsTokenTask {A : Type 0} (place : Option (OneFrame A)) (task : Task A) : Type 0 where
-  pub came : IsFrame task
-  pub token : IsTokenRead place
-
 -- the timeout that it is, if it is one
 abbrev pub timeout_of : {A : Type 0} → Task A → Option Kind
 timeout_of (Timeout kind) = Some kind
 timeout_of (Came bytes at) = None
 
--- the timeout that was found, if it was one
-abbrev pub timeout_found : Found → Option Kind
-timeout_found (found.Timeout kind) = Some kind
-timeout_found found.Token = None
-timeout_found found.Join = None
-timeout_found found.Message = None
+-- what a frame that was read is to a clock and to a gate: a token, as a commit token is too, or another frame
+abbrev pub found_in : {A : Type 0} → Option (OneFrame A) → Found
+found_in None = found.Other
+found_in (Some (Message message)) = found.Other
+found_in (Some (Token token)) = found.Token
+found_in (Some (Join join)) = found.Other
+found_in (Some (Commit commit)) = found.Token
+
+-- what a task is to them: the timeout that it is, or what the frame is
+abbrev pub found_of : {A : Type 0} → Option (OneFrame A) → Task A → Found
+found_of place (Timeout kind) = found.Timeout kind
+found_of place (Came bytes at) = found_in place
 
 -- of a frame that came the bytes stand in these lines where it says, and go to the node
 abbrev pub TaskStands : {A : Type 0} → List (LineView A) → ℕ → Task A → Type 0

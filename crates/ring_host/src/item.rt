@@ -1,13 +1,12 @@
 //! What lies in an inbox, and what a turn makes of it.
 
-ghost use Rattle.std.specs.Prelude.{◌≡◌, ◌⊎◌, ◌↔◌, None, IfOk, IfErr, OnOk};
+ghost use Rattle.std.specs.Prelude.{◌≡◌, ◌⊎◌, IfOk, IfErr, OnOk};
 ghost use Rattle.ring_base.specs.declared.fault.Fault.TheVariants.{Memory, Stranger, BadFrame};
 ghost use Rattle.ring_wire.specs.declared.frame.Frame.{Frame as OneFrame};
 ghost use Rattle.ring_wire.specs.Fronts.{IsReadFault};
 ghost use Rattle.ring_wire.specs.Spells.{Spells};
-ghost use Rattle.ring_host.specs.declared.item.Found.TheVariants.{Token};
 ghost use Rattle.ring_host.specs.declared.item.Task.TheVariants.{Came};
-ghost use Rattle.ring_host.specs.Tasks.{IsRead, IsTokenRead, IsTokenTask, TaskFits, timeout_found, timeout_of};
+ghost use Rattle.ring_host.specs.Tasks.{IsRead, TaskFits, found_in, found_of};
 
 use ring_base::{Fault, Kind};
 use ring_book::FrameRef;
@@ -28,8 +27,8 @@ pub(crate) enum Found {
     Timeout(Kind),
     /// A token or a commit token.
     Token,
-    Join,
-    Message,
+    /// Another frame.
+    Other,
 }
 
 /// What a turn hands to its node. The frame that came is read into a place of the turn, and moved no more.
@@ -64,8 +63,7 @@ impl<A: Allocator + Copy + Drop> Task<A> {
 
     /// What it is, of the frame in the turn's place.
     pub(crate) fn found(&self, place: &Option<Frame<A>>) -> Found
-        ensures token { (result ≡ Token) ↔ IsTokenTask place.now self.now }
-        ensures timeout { timeout_found result ≡ timeout_of self.now }
+        ensures { result ≡ found_of place.now self.now }
     {
         match self {
             Task::Timeout(kind) => Found::Timeout(*kind),
@@ -93,12 +91,10 @@ fn read_frame<A: Allocator + Copy>(
 
 /// What the frame is.
 fn found_in<A: Allocator + Copy>(frame: &Option<Frame<A>>) -> Found
-    ensures token { (result ≡ Token) ↔ IsTokenRead frame.now }
-    ensures frame { timeout_found result ≡ None }
+    ensures { result ≡ found_in frame.now }
 {
     match frame {
         Some(Frame::Token(_) | Frame::Commit(_)) => Found::Token,
-        Some(Frame::Join(_)) => Found::Join,
-        Some(Frame::Message(_)) | None => Found::Message,
+        Some(Frame::Message(_) | Frame::Join(_)) | None => Found::Other,
     }
 }

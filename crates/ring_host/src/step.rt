@@ -1,13 +1,14 @@
 //! A turn, step by step: what is done under which lock.
 
-ghost use Rattle.std.specs.Prelude.{◌≡◌, ◌≤◌, ◌↔◌, ◌++◌, ◌∷◌, [], None, IfErr, IfOk, OnErr};
+ghost use Rattle.std.specs.Prelude.{◌≡◌, ◌≤◌, ◌↔◌, ◌++◌, ◌∷◌, [], None, IfErr, IfOk, IsOk, IsTrue, OnErr, OnOk};
 ghost use Rattle.ring_rules.specs.Nodes.{node_kept};
 ghost use Rattle.ring_seat.specs.Clocks.{counted};
 ghost use Rattle.ring_seat.specs.Seats.{IsOwn};
+ghost use Rattle.ring_host.specs.Lent.{IsEndOfRun};
 ghost use Rattle.ring_host.specs.Refusing.{IsTurnFault};
-ghost use Rattle.ring_host.specs.Tasks.{TaskFits, IsTokenTask, timeout_found, timeout_of};
-ghost use Rattle.ring_host.specs.Turns.{published_by, length_of, IsTurned, IsNoted};
-ghost use Rattle.ring_host.specs.declared.item.Found.TheVariants.{Token};
+ghost use Rattle.ring_host.specs.Steps.{LeavesQuiet, IsStir, IsDoneOf};
+ghost use Rattle.ring_host.specs.Tasks.{TaskFits};
+ghost use Rattle.ring_host.specs.Turns.{published_by, length_of, IsTurnedAt, IsTurned, IsNoted};
 
 use crate::gate::{Gate, GatePlace, Stir};
 use crate::host::HostOf;
@@ -15,7 +16,7 @@ use crate::item::{Found, InboxFrame, Task};
 use crate::taking::take;
 use crate::turn::Turn;
 use crate::turning::{entered_in, place_in, step_in};
-use ring_base::{Fault, Proc, State};
+use ring_base::{Fault, Kind, Proc, State};
 use ring_book::{Book, BookName, Cell, FrameRef, Node, ReservedPlace};
 use ring_object::Object;
 use ring_seat::{Outbox, Seat};
@@ -42,20 +43,38 @@ fn done_of<O: Object>(node: &Node<O>, found: Found, sent: usize) -> Done
     ensures found { result.found ≡ found }
     ensures sent { result.sent ≡ sent }
     ensures length { result.length ≡ (node_kept node.now).committed }
+    ensures stir { IsStir node.now found sent result.stir }
 {
     let length = node.committed_len();
-    let is_quiet = sent <= 1 && node.state() == State::Operational && node.log_len() == length;
+    let stir = stir_of(node, found, sent);
     Done {
         length,
         found,
         sent,
         dropped: 0,
-        stir: match found {
-            Found::Token if is_quiet => Stir::Quiet,
-            Found::Timeout(_) if is_quiet => Stir::Timeout,
-            _ => Stir::Busy,
-        },
+        stir,
     }
+}
+
+/// What a gate is told of a step that found this and sent so many frames, of the node after it.
+fn stir_of<O: Object>(node: &Node<O>, found: Found, sent: usize) -> Stir
+    ensures { IsStir node.now found sent result }
+{
+    if !is_quiet(node, sent) {
+        return Stir::Busy;
+    }
+    match found {
+        Found::Token => Stir::Quiet,
+        Found::Timeout(_) => Stir::Timeout,
+        Found::Other => Stir::Busy,
+    }
+}
+
+/// Whether a step that sent so many frames leaves its node quiet.
+fn is_quiet<O: Object>(node: &Node<O>, sent: usize) -> bool
+    ensures { IsTrue result ↔ LeavesQuiet node.now sent }
+{
+    sent <= 1 && node.state() == State::Operational && node.log_len() == node.committed_len()
 }
 
 /// The seat's clock after a step: the turn has taken the item where that was a token which the node did not ignore.
@@ -69,7 +88,7 @@ fn note_step<A: Allocator + Copy + Drop>(seat: &mut Seat<A>, done: &Done)
                 seat.take();
             }
         }
-        Found::Timeout(_) | Found::Join | Found::Message => {}
+        Found::Timeout(_) | Found::Other => {}
     }
 }
 
@@ -142,7 +161,7 @@ impl<O: Object, K: BookName<O::Alloc>> HostOf<Cell<O, K>, Book<O, K>, O::Alloc> 
         requires own { IsOwn self.now seat.old }
         ensures seat { IsOwn self.now seat.new × (seat.new.node ≡ seat.old.node) × (seat.new.seen ≡ seat.old.seen) }
         ensures ok { IfOk result (λ done. seat.new.published ≡ published_by (length_of done) seat.old.published) }
-        ensures clock { IfOk result (λ done. IsTurned done seat.old.clock seat.new.clock) }
+        ensures clock { IfOk result (λ done. IsTurned O.Alloc O.sequential K.name.group done seat.old.clock seat.new.clock) }
         ensures err { OnErr result ((seat.new.published ≡ seat.old.published) × (seat.new.clock ≡ counted seat.old.clock)) }
         ensures refused { IfErr result IsTurnFault }
     {
@@ -151,20 +170,41 @@ impl<O: Object, K: BookName<O::Alloc>> HostOf<Cell<O, K>, Book<O, K>, O::Alloc> 
         };
         let due = seat.tick();
         let mut came = None;
-        let turned = match self.task(rt, node, due, &mut came) {
-            Ok(Some(task)) => match self.do_task(rt, seat, task, &came, gate) {
-                Ok(done) => Ok(Some(done)),
-                Err(fault) => Err(fault),
-            },
-            Ok(None) => {
-                find_nothing(node, gate);
-                Ok(None)
-            }
-            Err(fault) => Err(fault),
-        };
+        let turned = self.turn_at(rt, seat, node, due, &mut came, gate);
         // By name, so that the frame is let go in a function of any type, and lives at no exit.
         drop(came);
         turned
+    }
+
+    /// A turn that is counted, at which this timeout is due, or none. A frame that comes is read into the place. Tells what it did, if it
+    /// found anything to do.
+    fn turn_at<W: Wait, G: Gate>(
+        &self,
+        rt: &W,
+        seat: &mut Seat<O::Alloc>,
+        node: Proc,
+        due: Option<Kind>,
+        came: &mut Option<Frame<O::Alloc>>,
+        gate: &G,
+    ) -> Result<Option<Done>, Fault>
+        requires own { IsOwn self.now seat.old }
+        requires member { node ≤ self.now.words }
+        ensures seat { IsOwn self.now seat.new × (seat.new.node ≡ seat.old.node) × (seat.new.seen ≡ seat.old.seen) }
+        ensures ok { IfOk result (λ done. seat.new.published ≡ published_by (length_of done) seat.old.published) }
+        ensures clock { IfOk result (λ done. IsTurnedAt O.Alloc O.sequential K.name.group due done seat.old.clock seat.new.clock) }
+        ensures err { OnErr result ((seat.new.published ≡ seat.old.published) × (seat.new.clock ≡ seat.old.clock)) }
+        ensures refused { IfErr result IsTurnFault }
+    {
+        match self.task(rt, node, due, came)? {
+            Some(task) => {
+                let done = self.do_task(rt, seat, task, came, gate)?;
+                Ok(Some(done))
+            }
+            None => {
+                find_nothing(node, gate);
+                Ok(None)
+            }
+        }
     }
 
     /// The task of a turn: the step's frames go out, and the length is published.
@@ -180,8 +220,7 @@ impl<O: Object, K: BookName<O::Alloc>> HostOf<Cell<O, K>, Book<O, K>, O::Alloc> 
         requires fits { TaskFits came.now task }
         ensures seat { IsOwn self.now seat.new × (seat.new.node ≡ seat.old.node) × (seat.new.seen ≡ seat.old.seen) }
         ensures ok { IfOk result (λ done. seat.new.published ≡ seat.old.published ++ done.length ∷ []) }
-        ensures found { IfOk result (λ done. (done.found ≡ Token) ↔ IsTokenTask came.now task) }
-        ensures timeout { IfOk result (λ done. timeout_found done.found ≡ timeout_of task) }
+        ensures done { IfOk result (IsDoneOf O.sequential K.name.group came.now task) }
         ensures clock { IfOk result (λ done. IsNoted done.found done.sent seat.old.clock seat.new.clock) }
         ensures err { OnErr result ((seat.new.published ≡ seat.old.published) × (seat.new.clock ≡ seat.old.clock)) }
         ensures refused { IfErr result IsTurnFault }
@@ -190,16 +229,33 @@ impl<O: Object, K: BookName<O::Alloc>> HostOf<Cell<O, K>, Book<O, K>, O::Alloc> 
             unreachable!()
         };
         let mut outbox = seat.take_outbox();
-        let mut stepped = self.step(rt, node, task, came, gate, &mut outbox);
-        if let Ok(done) = &mut stepped {
-            done.dropped = self.send(rt, &outbox);
-        }
+        let stepped = self.step_and_send(rt, node, task, came, gate, &mut outbox);
         seat.put_outbox(outbox);
         let done = stepped?;
         note_step(seat, &done);
         self.gauge.publish(seat, done.length);
         gate.at(node, GatePlace::Entered);
         gate.over(node, done.stir);
+        Ok(done)
+    }
+
+    /// The task under the node's lock, and then, with no lock, the frames go out. The outbox is for them.
+    fn step_and_send<W: Wait, G: Gate>(
+        &self,
+        rt: &W,
+        node: Proc,
+        task: Task<O::Alloc>,
+        came: &Option<Frame<O::Alloc>>,
+        gate: &G,
+        outbox: &mut Outbox<O::Alloc>,
+    ) -> Result<Done, Fault>
+        requires member { node ≤ self.now.words }
+        requires fits { TaskFits came.now task }
+        ensures done { IfOk result (IsDoneOf O.sequential K.name.group came.now task) }
+        ensures refused { IfErr result IsTurnFault }
+    {
+        let mut done = self.step(rt, node, task, came, gate, outbox)?;
+        done.dropped = self.send(rt, outbox);
         Ok(done)
     }
 
@@ -216,16 +272,32 @@ impl<O: Object, K: BookName<O::Alloc>> HostOf<Cell<O, K>, Book<O, K>, O::Alloc> 
     ) -> Result<Done, Fault>
         requires member { node ≤ self.now.words }
         requires fits { TaskFits came.now task }
-        ensures found { IfOk result (λ done. (done.found ≡ Token) ↔ IsTokenTask came.now task) }
-        ensures timeout { IfOk result (λ done. timeout_found done.found ≡ timeout_of task) }
+        ensures done { IfOk result (IsDoneOf O.sequential K.name.group came.now task) }
         ensures refused { IfErr result IsTurnFault }
     {
         let mut cell = take(rt, &self.cells[node.number() as usize - 1]);
         gate.at(node, GatePlace::Held);
         let place = self.place_for(rt, node, &task)?;
+        self.step_lent(rt, place, &mut cell, task, came, outbox)
+    }
+
+    /// The same with the node's cell lent, and a place for the line.
+    fn step_lent<W: Wait>(
+        &self,
+        rt: &W,
+        place: ReservedPlace,
+        cell: &mut Cell<O, K>,
+        task: Task<O::Alloc>,
+        came: &Option<Frame<O::Alloc>>,
+        outbox: &mut Outbox<O::Alloc>,
+    ) -> Result<Done, Fault>
+        requires fits { TaskFits came.now task }
+        ensures done { IfOk result (IsDoneOf O.sequential K.name.group came.now task) }
+        ensures refused { IfErr result IsTurnFault }
+    {
         let found = task.found(came);
-        let stepped = step_in(&mut cell, task, came);
-        let sent = self.entered(rt, place, &mut cell, stepped, outbox)?;
+        let stepped = step_in(cell, task, came);
+        let sent = self.entered(rt, place, cell, stepped, outbox)?;
         Ok(done_of(cell.node(), found, sent))
     }
 
@@ -253,6 +325,8 @@ impl<O: Object, K: BookName<O::Alloc>> HostOf<Cell<O, K>, Book<O, K>, O::Alloc> 
         outbox: &mut Outbox<O::Alloc>,
     ) -> Result<usize, Fault>
         requires refused { IfErr stepped IsTurnFault }
+        ensures done { OnOk result (IsOk stepped) }
+        ensures ends { IfOk result (IsEndOfRun O.sequential K.name.group cell.old cell.new) }
         ensures refused { IfErr result IsTurnFault }
     {
         let mut book = take(rt, &self.book);

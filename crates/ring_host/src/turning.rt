@@ -7,7 +7,7 @@ ghost use Rattle.ring_book.specs.Books.{Enters, IsStrange};
 ghost use Rattle.ring_book.specs.Cells.{Journals, StepRefused};
 ghost use Rattle.ring_book_lines.specs.Machines.{node_machine};
 ghost use Rattle.ring_book_lines.specs.declared.input.LineInput.TheVariants.{Came};
-ghost use Rattle.ring_host.specs.Lent.{IsFull, IsReleased, HasSent, IsPlaceFault, IsUntold};
+ghost use Rattle.ring_host.specs.Lent.{IsFull, IsReleased, HasSent, IsEndOfRun, IsPlaceFault, IsUntold};
 ghost use Rattle.ring_host.specs.Refusing.{IsTurnFault};
 ghost use Rattle.ring_host.specs.Tasks.{TaskFits, TaskStands, input_of, ref_of};
 
@@ -115,6 +115,7 @@ pub(crate) fn entered_in<O: Object, K: BookName<O::Alloc>>(
     ensures done { OnOk result (IsOk stepped) }
     ensures entered { OnOk result (Enters book.old book.new cell.old cell.new) }
     ensures sent { IfOk result (HasSent book.new.lines) }
+    ensures ends { IfOk result (IsEndOfRun O.sequential K.name.group cell.old cell.new) }
     ensures why { IfErr result (IsUntold stepped book.old book.new cell.old cell.new) }
     ensures refused { IfErr result IsTurnFault }
 {
@@ -141,6 +142,7 @@ fn enter_in<O: Object, K: BookName<O::Alloc>>(
 ) -> Result<usize, Fault>
     ensures entered { OnOk result (Enters book.old book.new cell.old cell.new) }
     ensures sent { IfOk result (HasSent book.new.lines) }
+    ensures ends { IfOk result (IsEndOfRun O.sequential K.name.group cell.old cell.new) }
     ensures strange { OnErr result (IsStrange book.old cell.old) }
     ensures released { OnErr result (IsReleased book.old book.new) }
     ensures cell { OnErr result (cell.new ≡ cell.old) }
@@ -149,7 +151,11 @@ fn enter_in<O: Object, K: BookName<O::Alloc>>(
     match book.enter(place, cell) {
         Ok(line) => {
             pack(line, outbox);
-            Ok(line.frames().len())
+            let sent = line.frames().len();
+            // Laws: no effect at run time. The proof takes from them that the lines are a run of the group, and the node is as that leaves it.
+            book.run_law();
+            book.node_law(cell);
+            Ok(sent)
         }
         Err(fault) => {
             book.release(place);
