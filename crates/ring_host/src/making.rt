@@ -1,8 +1,8 @@
 //! How a host is made.
 
-ghost use Rattle.std.specs.Prelude.{◌≡◌, ◌<◌, ◌≤◌, ◌+◌, vec_len, length, Some, slice_get, All, IfOk, IfErr};
+ghost use Rattle.std.specs.Prelude.{◌≡◌, ◌<◌, ◌≤◌, ◌+◌, vec_len, length, All, IfOk, IfErr};
 ghost use Rattle.ring_base.specs.declared.fault.Fault.TheVariants.{Memory};
-ghost use Rattle.ring_seat.specs.Seats.{SeatView, IsAt, new_seat, node_at};
+ghost use Rattle.ring_seat.specs.Seats.{IsAt, AreNew};
 
 use crate::INBOX;
 use crate::bell::Bell;
@@ -27,7 +27,7 @@ impl<O: Object, K: BookName<O::Alloc>> HostOf<Cell<O, K>, Book<O, K>, O::Alloc> 
         requires name { opening ≡ K.name }
         requires few { more ≤ 256 }
         ensures count { IfOk result (λ r. length r.1.items ≡ K.name.group.count + more) }
-        ensures seats { IfOk result (λ r. (i : _) (s : SeatView) → slice_get r.1.items i ≡ Some s → s ≡ new_seat r.0 (node_at K.name.group.count i)) }
+        ensures seats { IfOk result (λ r. AreNew r.0 K.name.group.count r.1.items) }
         ensures at { IfOk result (λ r. All (IsAt r.0) r.1.items) }
         ensures nodes { IfOk result (λ r. r.0.words ≡ K.name.group.count) }
         ensures refused { IfErr result (λ fault. fault ≡ Memory) }
@@ -46,7 +46,7 @@ impl<O: Object, K: BookName<O::Alloc>> HostOf<Cell<O, K>, Book<O, K>, O::Alloc> 
         requires few { more ≤ 256 }
         requires size { (1 ≤ size) × (size ≤ 1024) }
         ensures count { IfOk result (λ r. length r.1.items ≡ K.name.group.count + more) }
-        ensures seats { IfOk result (λ r. (i : _) (s : SeatView) → slice_get r.1.items i ≡ Some s → s ≡ new_seat r.0 (node_at K.name.group.count i)) }
+        ensures seats { IfOk result (λ r. AreNew r.0 K.name.group.count r.1.items) }
         ensures at { IfOk result (λ r. All (IsAt r.0) r.1.items) }
         ensures nodes { IfOk result (λ r. r.0.words ≡ K.name.group.count) }
         ensures refused { IfErr result (λ fault. fault ≡ Memory) }

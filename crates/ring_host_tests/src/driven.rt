@@ -15,6 +15,9 @@ use std::alloc::Allocator;
 use std::sync::Wait;
 use std::thread::Threads;
 
+/// In how many rounds at most a ring forms, and the calls that wait for it are answered.
+pub const FORM: u32 = 60;
+
 /// The most turns that pass until a timeout is due.
 const LONGEST: u32 = 32_000;
 

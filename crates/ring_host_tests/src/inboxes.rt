@@ -2,7 +2,7 @@
 
 ghost use Rattle.std.specs.Prelude.{◌≡◌, ◌≤◌};
 
-use crate::driven::{DrivenHost, done};
+use crate::driven::{DrivenHost, FORM, done};
 use ring_base::{Fault, Fixed, Kind};
 use ring_host::{BookName, Opening};
 use ring_object::Object;
@@ -49,9 +49,6 @@ fn counted<W: Wait>(rt: &W, alloc: Global) -> Result<(u32, u32), Fault> {
 fn an_inbox_of_one_place_drops_the_second_join(rt: HostRuntime) {
     assert!(rt; counted(&rt, rt.alloc()) == Ok((0, 1)));
 }
-
-/// In how many rounds at most a ring of three forms, and answers the calls that wait for it.
-const FORM: u32 = 60;
 
 /// What three clients see, each of which calls at a node of its own, and how many copies two turns of node 1 drop.
 #[derive(Clone, Copy, Debug, PartialEq, Eq)]

@@ -3,7 +3,7 @@
 
 ghost use Rattle.std.specs.Prelude.{◌≡◌};
 
-use crate::driven::DrivenHost;
+use crate::driven::{DrivenHost, FORM};
 use refusing_alloc::Refusing;
 use ring_base::{Fault, Fixed, Kind};
 use ring_host::{Book, BookName, Cause, HostTicket, INBOX, Opening, Turn};
@@ -13,9 +13,6 @@ use ring_things::Counters;
 use std::alloc::{Allocator, Global};
 use std::marker::Brand;
 use std::sync::Wait;
-
-/// How many rounds form a ring, and answer the calls that wait for it.
-const FORM: u32 = 60;
 
 /// In how many rounds at most all that is under way is taken, a join that was just sent and those that answer it.
 const HEAR: u32 = 10;

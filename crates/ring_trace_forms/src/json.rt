@@ -51,6 +51,7 @@ struct RingValue {
     is_primary: bool,
 }
 
+/// What a node told: the answer to a call, its outcome in words and its reply.
 #[derive(Drop, Serialize)]
 pub(crate) struct ToldValue {
     client: u32,

@@ -3,7 +3,7 @@ use Rattle.std.proofs.Common.{◌≡◌, ℕ, Bool, true, false, Option, None, S
 use Rattle.std.specs.Prelude.{not}
 use lib.Dec.{T}
 use seplogic.Ra.Ura.{Ura}
-use mir.Val.{Val, vbool, vstruct, vcons, vnil, of_list}
+use mir.Val.{Val, vbool, vstruct, of_list}
 use mir.Raw.{raw as bare}
 use base.Fml.{ftrue}
 use base.Logic.{never, never_e, fst∗}
@@ -22,16 +22,14 @@ use Rattle.totem_c.specs.declared.desk.Desk.{Desk}
 use Rattle.totem_c.specs.contracts.desk.Desk as desk
 use Rattle.totem_c.specs.Handles.{held_owns, lies_boxed}
 use Rattle.totem_c.specs.contracts.held.Held as held
-
-abbrev pub pair : Val → Val → Val
-pair v w = vstruct (vcons v (vcons w vnil))
+use Rattle.totem_c.proofs.Loosed.{both}
 
 module _ {M : Type 1} {𝓤 : Ura M} {𝓛 : Logic 𝓤} {K : Type 0} {Γ : List (Item 𝓤)} {G : Goal 𝓤 𝓛.H} where
   -- a handle that is made
   pub handle_in : K → (h : (held.the_row).Denot)
-      → Step K 𝓛 (‵ ((held.the_row).own_val h (pair (ptr_val h.at) (vbool h.made) ∷ [])) ∷ Γ) G (‵ (held_owns h.made h.at h.value) ∷ Γ) G
+      → Step K 𝓛 (‵ ((held.the_row).own_val h (both (ptr_val h.at) (vbool h.made) ∷ [])) ∷ Γ) G (‵ (held_owns h.made h.at h.value) ∷ Γ) G
   handle_in t h = step (λ s.
-      let v : Val = pair (ptr_val h.at) (vbool h.made) in
+      let v : Val = both (ptr_val h.at) (vbool h.made) in
       nothing t $ feq_i t (List Val) (vbool h.made ∷ []) (vbool h.made ∷ []) refl $ fjoin t $
       feq_i t (List Val) (ptr_val h.at ∷ []) (ptr_val h.at ∷ []) refl $ fjoin t $ feq_i t (List Val) (v ∷ []) (v ∷ []) refl $ fjoin t $
       fpack t (Valss (RawPtr ∷ bool ∷ [])) (within (shape held.the_type) (h.at, (h.made, tt)) (v ∷ [])) (ptr_val h.at ∷ [], (vbool h.made ∷ [], tt)) $
@@ -39,7 +37,7 @@ module _ {M : Type 1} {𝓤 : Ura M} {𝓛 : Logic 𝓤} {K : Type 0} {Γ : List
 
   -- a handle that is taken apart
   pub handle_out : K → (h : (held.the_row).Denot) (vs : List Val)
-      → (vs ≡ pair (ptr_val h.at) (vbool h.made) ∷ [] → Seq K 𝓛 (‵ (held_owns h.made h.at h.value) ∷ Γ) G) → Seq K 𝓛 (‵ ((held.the_row).own_val h vs) ∷ Γ) G
+      → (vs ≡ both (ptr_val h.at) (vbool h.made) ∷ [] → Seq K 𝓛 (‵ (held_owns h.made h.at h.value) ∷ Γ) G) → Seq K 𝓛 (‵ ((held.the_row).own_val h vs) ∷ Γ) G
   handle_out t h vs k =
       fsplit t $ fpick t (λ vss. fsplit t $ feq_l t (λ ev. fsplit t $ feq_l t (λ ep. fsplit t $ feq_l t (λ eb. drop t $
       k (ev ∙ (λ i. vstruct (of_list (ep i ++ (eb i ++ []))) ∷ []))))))

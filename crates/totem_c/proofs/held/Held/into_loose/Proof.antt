@@ -31,7 +31,7 @@ use Rattle.std.specs.contracts.impls.GlobalAllocator.TheImpl.{ghosts}
 use Rattle.std.proofs.raw_atomic.Walks.{proved_at, leaves}
 use Rattle.totem_c.specs.contracts.desk.Desk as desk
 use Rattle.totem_c.proofs.Loosed.{both, Loose, loose_good, loose_in}
-use Rattle.totem_c.proofs.Handled.{pair, handle_out, full, empty}
+use Rattle.totem_c.proofs.Handled.{handle_out, full, empty}
 use Rattle.totem_c.specs.contracts.held.Held as held
 use Rattle.totem_c.proofs.held.Held.TheLaws as held_laws
 use Rattle.totem_c.specs.contracts.held.Held.into_loose.{ended, clauses}
@@ -52,7 +52,7 @@ into_loose_spec 𝓤 𝓛 𝓜 𝓡 wired =
     let d = z.0.3.0 in let a = z.0.3.1.0 in
     let Post : Val → SProp 𝓤 = (walk_of 𝓛 ended hs c).post z in let Run : List Val → SProp 𝓤 = λ ws. WpFn 𝓤 H 𝓣.C 𝓣.Λ fn ws Post in
     let Out : RattleType = type_at ended.signature.result z.0.0 in
-    let h = one (layout Z) z.0.4.1.0 ((LZ.lawful 𝓛).typed a z.0.4.1.0 are.1.0) in let w : Val = pair (ptr_val d.at) (vbool d.made) in
+    let h = one (layout Z) z.0.4.1.0 ((LZ.lawful 𝓛).typed a z.0.4.1.0 are.1.0) in let w : Val = both (ptr_val d.at) (vbool d.made) in
     qed 𝓛 ((raw (alive 𝓛 ended.signature z.0.0 z.0.1) ⊛ ‵ (owns (types_at ended.signature.params z.0.0) z.0.3 z.0.4)) ∷
     raw ((c z.0.0 z.0.3).requires z.1) ∷ []) ∵
     split ! $ move ! (1 ∷ []) $ fsplit3 ! $ rewrite ! 1 (λ (us : List Val). ‵ (Z.own_val a us)) h.1 refl $ handle_out ! d z.0.4.0 (λ es.

@@ -15,7 +15,8 @@ use denote.Triple.Entry.{on_entry}
 use denote.Triple.Walked.{Stays, walk_of}
 use lib.Dec.{lit<}
 use Rattle.std.proofs.raw_atomic.Walks.{proved_at, leaves}
-use Rattle.totem_c.proofs.Handled.{pair, handle_in}
+use Rattle.totem_c.proofs.Handled.{handle_in}
+use Rattle.totem_c.proofs.Loosed.{both}
 use Rattle.totem_c.specs.contracts.held.Held as held
 use Rattle.totem_c.specs.contracts.held.Held.none.{ended, clauses}
 use Rattle.totem_c.specs.contracts.held.Held.none.Key.{name as #self}
@@ -28,7 +29,7 @@ none_spec 𝓤 𝓛 𝓜 𝓡 wired =
     let hs : Stays ended.signature.params ended.kept = tt in
     proved_at 𝓛 ended hs c 𝓜 𝓡 tt #self fn (code.unfolded 𝓤 H 𝓜 𝓡 wired) (λ z are.
     let Post : Val → SProp 𝓤 = (walk_of 𝓛 ended hs c).post z in
-    let v : Val = pair (vint w64 0) (vbool false) in
+    let v : Val = both (vint w64 0) (vbool false) in
     let d : (held.the_row).Denot = record { at = null_ptr; made = false; value = None } in
     qed 𝓛 (raw (on_entry 𝓛 ended.signature z.0.0 z.0.1 z.0.3 z.0.4) ∷ raw ((c z.0.0 z.0.3).requires z.1) ∷ []) ∵ drop ! $ drop ! $
     enter ! 𝓣.C 𝓣.Λ fn [] Post $ alloc_all ! (λ l. pass_all ! refl tt $

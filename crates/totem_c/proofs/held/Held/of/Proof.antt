@@ -22,7 +22,7 @@ use Rattle.std.specs.contracts.impls.GlobalAllocator.TheImpl.{ghosts}
 use Rattle.std.proofs.raw_atomic.Walks.{proved_at, leaves}
 use Rattle.totem_c.specs.contracts.desk.Desk as desk
 use Rattle.totem_c.proofs.Loosed.{both, Loose, loose_good, loose_out}
-use Rattle.totem_c.proofs.Handled.{pair, handle_in}
+use Rattle.totem_c.proofs.Handled.{handle_in}
 use Rattle.totem_c.specs.Handles.{lies_boxed}
 use Rattle.std.specs.declared.alloc.Global.{Global}
 use Rattle.totem_c.specs.contracts.held.Held as held
@@ -43,7 +43,7 @@ of_spec 𝓤 𝓛 𝓜 𝓡 wired =
     raw ((c z.0.0 z.0.3).requires z.1) ∷ []) ∵
     split ! $ move ! (1 ∷ []) $ fsplit ! $ loose_out R Z LZ ghosts ! l z.0.4.0 (λ b o h e ws fits.
     let w : Val = both (vptr b o) h in let d : (held.the_row).Denot = record { at = block_ptr b o; made = true; value = Some l.value } in
-    let v : Val = pair (vptr b o) (vbool true) in
+    let v : Val = both (vptr b o) (vbool true) in
     fpack ! Global (lies_boxed (block_ptr b o) l.value) l.alloc $ handle_in ! d $
     suffices ! (Run (w ∷ [])) (subst (λ (us : List Val). ent 𝓤 (Run (w ∷ [])) (Run us)) (sym (λ i. ws i ++ [])) (id⊢ 𝓤 (Run (w ∷ [])))) $
     -- [the handle; the heap's handle; nothing; the tokens; nothing]
