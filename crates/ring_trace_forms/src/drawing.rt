@@ -1,9 +1,10 @@
 //! What a trace puts into a picture.
 
-ghost use Rattle.std.specs.Prelude.{◌≡◌, IfErr, OnOk};
+ghost use Rattle.std.specs.Prelude.{◌≡◌, IfErr, OnOk, OnErr, fold, flat_map, map};
 ghost use Rattle.ring_base.specs.declared.fault.Fault.TheVariants.{Memory};
-ghost use Rattle.ring_picture.specs.declared.mark.Mark.TheVariants.{Heal, Lost, Rounds};
+ghost use Rattle.ring_picture.specs.declared.mark.Mark.TheVariants.{Heal, Lost, Rounds, Shade as ShadeMark};
 ghost use Rattle.ring_picture.specs.Strips.{strip_opening, begun, marked};
+ghost use Rattle.ring_trace_forms.specs.Drawings.{submit_mark, change_marks, told_mark, event_marks};
 ghost use Rattle.ring_report.specs.Failures.{IsOutputOrMemory};
 
 use ring_base::{Fault, Fixed, Proc, ProcSet, State};
@@ -31,7 +32,8 @@ impl<A: Allocator + Copy> Drawing<A> {
 
     /// How a node stands where the picture begins, if that is not its opening. Or `Memory`: then a part of it may be drawn.
     pub fn add_standing(&mut self, node: Proc, standing: &[Change]) -> Result<(), Fault>
-        ensures { IfErr result (λ fault. fault ≡ Memory) }
+        ensures ok { OnOk result (self.new.picture ≡ fold marked self.old.picture (flat_map (change_marks node) standing.now)) }
+        ensures refused { IfErr result (λ fault. fault ≡ Memory) }
     {
         for change in standing {
             self.add_change(node, change)?;
@@ -41,7 +43,9 @@ impl<A: Allocator + Copy> Drawing<A> {
 
     /// A call that waits where the picture begins, or that is submitted. Or `Memory`: then it isn't drawn.
     pub fn add_call(&mut self, call: &Waiting) -> Result<(), Fault>
-        ensures { IfErr result (λ fault. fault ≡ Memory) }
+        ensures ok { OnOk result (self.new.picture ≡ marked self.old.picture (submit_mark call.now)) }
+        ensures err { OnErr result (self.new.picture ≡ self.old.picture) }
+        ensures refused { IfErr result (λ fault. fault ≡ Memory) }
     {
         self.picture.add(Mark::Submit {
             node: call.node,
@@ -60,16 +64,24 @@ impl<A: Allocator + Copy> Drawing<A> {
         submitted: &Option<Waiting>,
         told: &[Told<A>],
     ) -> Result<(), Fault>
-        ensures { IfErr result (λ fault. fault ≡ Memory) }
+        ensures ok { OnOk result (self.new.picture ≡
+            fold marked (begun self.old.picture event) (event_marks event node submitted.now changes.now told.now)) }
+        ensures refused { IfErr result (λ fault. fault ≡ Memory) }
     {
         self.picture.begin(event);
         self.picture.add(Mark::Event(event))?;
         if let Some(call) = submitted {
             self.add_call(call)?;
         }
-        for change in changes {
-            self.add_change(node, change)?;
-        }
+        self.add_standing(node, changes)?;
+        self.add_all_told(told)
+    }
+
+    /// What a node told of calls. Or `Memory`.
+    fn add_all_told(&mut self, told: &[Told<A>]) -> Result<(), Fault>
+        ensures ok { OnOk result (self.new.picture ≡ fold marked self.old.picture (map told_mark told.now)) }
+        ensures refused { IfErr result (λ fault. fault ≡ Memory) }
+    {
         for one in told {
             self.add_told(one)?;
         }
@@ -78,7 +90,8 @@ impl<A: Allocator + Copy> Drawing<A> {
 
     /// A change at a node.
     fn add_change(&mut self, node: Proc, change: &Change) -> Result<(), Fault>
-        ensures { IfErr result (λ fault. fault ≡ Memory) }
+        ensures ok { OnOk result (self.new.picture ≡ fold marked self.old.picture (change_marks node change.now)) }
+        ensures refused { IfErr result (λ fault. fault ≡ Memory) }
     {
         match change {
             Change::State(state) => self.shade(node, Shade::State(*state)),
@@ -110,14 +123,16 @@ impl<A: Allocator + Copy> Drawing<A> {
 
     /// A lane is coloured so from here on.
     fn shade(&mut self, node: Proc, shade: Shade) -> Result<(), Fault>
-        ensures { IfErr result (λ fault. fault ≡ Memory) }
+        ensures ok { OnOk result (self.new.picture ≡ marked self.old.picture (ShadeMark node shade)) }
+        ensures refused { IfErr result (λ fault. fault ≡ Memory) }
     {
         self.picture.add(Mark::Shade { node, shade })
     }
 
     /// What a node told of a call: it waits no longer.
     fn add_told(&mut self, told: &Told<A>) -> Result<(), Fault>
-        ensures { IfErr result (λ fault. fault ≡ Memory) }
+        ensures ok { OnOk result (self.new.picture ≡ marked self.old.picture (told_mark told.now)) }
+        ensures refused { IfErr result (λ fault. fault ≡ Memory) }
     {
         match told {
             Told::Answer(node, call, _) => self.picture.add(Mark::Answer {
