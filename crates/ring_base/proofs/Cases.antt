@@ -1,14 +1,11 @@
 -- What a choice, an option or a comparison comes to.
-use Rattle.std.proofs.Common.{◌≡◌, ◌||◌, Bool, true, false, if◌then◌else◌, Option, Some, None, is_some, refl}
+use Rattle.std.proofs.Common.{◌≡◌, Bool, true, false, if◌then◌else◌, Option, Some, None, is_some, refl}
 use Rattle.std.specs.Prelude.{IfSome}
 use Rattle.std.specs.Option.{option_map, option_and_then}
 use Rattle.std.specs.Ordering.{is_lt}
 use Rattle.std.specs.declared.cmp.Ordering.{Ordering}
 use Rattle.std.specs.declared.cmp.Ordering.TheVariants.{Less, Equal, Greater}
-
-pub or-false : (b : Bool) → (b || false) ≡ b
-or-false true = refl
-or-false false = refl
+pub use mathlib.Core.Bool.{and-true, and-false, or-true, or-false}
 
 -- what a test of an option found
 pub some_of : {X : Type 0} (o : Option X) → is_some o ≡ true → (x : X) × (o ≡ Some x)
@@ -27,6 +24,16 @@ none_from (Some x) h = absurd (h x refl)
 pub guarded_some : {A : Type 0} (test : Bool) (found : Option A) (y : A) → (if test then found else None) ≡ Some y → (test ≡ true) × (found ≡ Some y)
 guarded_some true found y is = (refl, is)
 guarded_some false found y is = absurd cc
+
+-- what is left of what is there: something just where the test is passed
+pub some_if : {A : Type 0} (test : Bool) (there : A) → is_some (if test then Some there else None) ≡ test
+some_if true there = refl
+some_if false there = refl
+
+-- and where nothing is left of it, the test failed
+pub guarded_none : {A : Type 0} (test : Bool) (there : A) → (if test then Some there else None) ≡ None → test ≡ false
+guarded_none true there none = absurd cc
+guarded_none false there none = refl
 
 -- what is said of what is there
 pub some_has : {X : Type 0} (P : X → Type 0) (o : Option X) (x : X) → o ≡ Some x → IfSome o P → P x

@@ -1,5 +1,5 @@
 -- What holds of each element of a list, as the list is taken apart or put together.
-use Rattle.std.proofs.Common.{◌≡◌, ℕ, zero, suc, ◌++◌, List, [], ◌∷◌, map, Some, slice_get, refl, subst, ◌+◌, ◌-◌, drop, sym, Bool, true, Option, None}
+use Rattle.std.proofs.Common.{◌≡◌, ℕ, zero, suc, ◌++◌, List, [], ◌∷◌, map, Some, slice_get, refl, subst, drop, sym, Bool, true, Option, None}
 use Rattle.std.specs.List.{AllByRecursion as Each, cons_option}
 use Rattle.std.specs.Prelude.{take, reverse, filter, filter_map}
 use Rattle.std.proofs.lemmas.List.{reverse-append}

@@ -99,14 +99,23 @@ unfolding elements
 votes_parted group set proc =
     weight_parted (votes_of group) (has set) 1 most_processors ∙ (votes_front group most_processors ∙ ap sum (take_all most_processors group.votes proc.1))
 
--- members have more votes than the others just where theirs, doubled, are more than all
-pub most_votes : (group : Group) (set members others : ℕ) → IsProc (length group.votes)
+-- the votes of the members, place by place
+pub votes_inside : (group : Group) (set : ℕ) → sum_by (votes_of group) (passing (has set) 1 most_processors) ≡ votes_in group set
+unfolding elements
+votes_inside group set = refl
+
+-- the votes of members and of others, place by place, are all votes
+pub votes_together : (group : Group) (set members others : ℕ) → IsProc (length group.votes)
     → members ≡ sum_by (votes_of group) (passing (has set) 1 most_processors)
     → others ≡ sum_by (votes_of group) (passing (λ j. not (has set j)) 1 most_processors)
-    → nat_lt others members ≡ nat_lt (sum group.votes) (2 * votes_in group set)
+    → members + others ≡ sum group.votes
 unfolding elements
-most_votes group set members others few m o =
-    let all = votes_parted group set few in
+votes_together group set members others few m o = omega (arith, votes_parted group set few, m, o)
+
+-- members have more votes than the others just where theirs, doubled, are more than all
+pub most_votes : (group : Group) (set members others : ℕ) → members ≡ votes_in group set → members + others ≡ sum group.votes
+    → nat_lt others members ≡ nat_lt (sum group.votes) (2 * votes_in group set)
+most_votes group set members others m all =
     both_ways _ _
-    (λ more. lt-ltb _ _ (omega (arith, ltb-true _ _ more, all, m, o)))
-    (λ more. lt-ltb _ _ (omega (arith, ltb-true _ _ more, all, m, o)))
+    (λ more. lt-ltb _ _ (omega (arith, ltb-true _ _ more, all, m)))
+    (λ more. lt-ltb _ _ (omega (arith, ltb-true _ _ more, all, m)))

@@ -2,6 +2,7 @@ pub mod Elements
 pub mod Fault
 pub mod Fronts
 pub mod Group
+pub mod InLists
 pub mod Members
 pub mod Numbers
 pub mod Passing

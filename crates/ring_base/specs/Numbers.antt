@@ -1,5 +1,5 @@
--- The limits of numbers, as Limits, rule 1 of docs/PROTOCOL.md says them. Also numbers in a row, lists of numbers in order, and numbers as words of bits.
-use Rattle.std.specs.Prelude.{ℕ, zero, suc, ◌+◌, ◌*◌, max, Bool, ◌==◌, nat_lt, if◌then◌else◌, List, [], ◌∷◌}
+-- The limits of numbers, as Limits, rule 1 of docs/PROTOCOL.md says them. Also the number after one, numbers in a row, lists of numbers in order, and numbers as words of bits.
+use Rattle.std.specs.Prelude.{ℕ, zero, suc, ◌+◌, ◌-◌, ◌*◌, ◌^◌, min, max, Bool, ◌==◌, nat_lt, if◌then◌else◌, List, [], ◌∷◌}
 use Rattle.std.specs.Int.{bit_at}
 
 -- the greatest number of a ring, a message, a token or a ticket: 2 ^ 62
@@ -17,6 +17,10 @@ most_frame = 8192
 -- the new messages of one visit are at most
 abbrev pub visit_limit : ℕ
 visit_limit = 8
+
+-- the number after this one, as far as a u64 counts: 2 ^ 64 - 1 stays
+abbrev pub following : ℕ → ℕ
+following n = min (n + 1) (2 ^ 64 - 1)
 
 -- count numbers in a row, from the first on
 abbrev pub numbers_from : ℕ → ℕ → List ℕ

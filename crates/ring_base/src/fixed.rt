@@ -1,12 +1,12 @@
 //! What is fixed for a run.
 
-ghost use Rattle.std.specs.Prelude.{◌≡◌, ℕ, ◌*◌, ◌≤◌, ◌↔◌, IsTrue, IfErr, OkIff, nat_lt, length, replicate};
+ghost use Rattle.std.specs.Prelude.{◌≡◌, ℕ, ◌+◌, ◌*◌, ◌≤◌, ◌↔◌, IsTrue, IfErr, OkIff, nat_lt, length, replicate};
 ghost use Rattle.std.specs.List.{sum};
 ghost use Rattle.ring_base.specs.Group.{AreVotes, votes_in, IsPrimary, is_primary};
 ghost use Rattle.ring_base.specs.Processors.{IsProc, IsMember, everybody};
 
 use crate::fault::Fault;
-use crate::limits::MOST_PROCESSORS;
+use crate::limits::{MOST_PROCESSORS, PROCESSORS};
 use crate::proc_set::ProcSet;
 use crate::processor::Proc;
 use std::marker::Model;
@@ -17,7 +17,7 @@ use std::marker::Model;
 pub struct Fixed {
     count: u8,
     /// Those of the processors, and zeros after them.
-    votes: [u8; 16],
+    votes: [u8; PROCESSORS],
 }
 
 impl Model for Fixed {
@@ -45,7 +45,7 @@ impl Fixed {
         if count > MOST_PROCESSORS {
             return Err(Fault::NotMember);
         }
-        Fixed::with_votes(&[1; 16][..usize::from(count)])
+        Fixed::with_votes(&[1; PROCESSORS][..usize::from(count)])
     }
 
     /// As many processors as there are votes: processor i has the i-th of these votes. `NotMember` unless there
@@ -55,10 +55,10 @@ impl Fixed {
         ensures refused { IfErr result (λ fault. fault ≡ Fault.NotMember) }
     {
         let count = votes.len();
-        if count < 1 || count > usize::from(MOST_PROCESSORS) || votes.contains(&0) {
+        if count < 1 || count > PROCESSORS || votes.contains(&0) {
             return Err(Fault::NotMember);
         }
-        let mut all = [0; 16];
+        let mut all = [0; PROCESSORS];
         all[..count].copy_from_slice(votes);
         Ok(Fixed {
             count: count as u8,
@@ -101,9 +101,35 @@ impl Fixed {
         set.is_subset(self.everybody()) && self.have_most_votes(set)
     }
 
+    /// The votes of all processors together, 1 to 4,080.
+    pub fn all_votes(self) -> u32
+        ensures value { result ≡ sum self.votes }
+    {
+        let (inside, outside) = self.votes_parted(ProcSet::new());
+        inside + outside
+    }
+
+    /// The votes of the set's members together, 0 to 4,080: those that are no processors of this run have none.
+    pub fn votes_in(self, set: ProcSet) -> u32
+        ensures value { result ≡ votes_in self set }
+    {
+        let (inside, _) = self.votes_parted(set);
+        inside
+    }
+
     /// Whether the members of the set have more votes than all others.
     fn have_most_votes(self, set: ProcSet) -> bool
         ensures { result ≡ nat_lt (sum self.votes) (2 * votes_in self set) }
+    {
+        let (inside, outside) = self.votes_parted(set);
+        inside > outside
+    }
+
+    /// The votes of the set's members together, and of all others.
+    fn votes_parted(self, set: ProcSet) -> (u32, u32)
+        ensures members { result.0 ≡ votes_in self set }
+        ensures all { result.0 + result.1 ≡ sum self.votes }
+        ensures fits { result.0 + result.1 ≤ 4080 }
     {
         let (mut inside, mut outside) = (0, 0);
         for (i, votes) in self.votes.iter().enumerate() {
@@ -113,6 +139,6 @@ impl Fixed {
                 outside += u32::from(*votes);
             }
         }
-        inside > outside
+        (inside, outside)
     }
 }

@@ -2,7 +2,7 @@
 
 ghost use Rattle.std.specs.Prelude.{◌≡◌, ℕ, ◌^◌, ◌<◌, ◌≤◌, ◌↔◌, ◌⊎◌, Option, List, length, Contains, IsTrue, Some, None, slice_get};
 ghost use Rattle.std.specs.List.Sorted.{IsStrictlyIncreasing};
-ghost use Rattle.ring_base.specs.declared.limits.TheConstants.{FRAME_BYTES, MOST_PROCESSORS, MAX, WINDOW, MAX_NEW};
+ghost use Rattle.ring_base.specs.declared.limits.TheConstants.{FRAME_BYTES, MOST_PROCESSORS, PROCESSORS, MAX, WINDOW, MAX_NEW};
 ghost use Rattle.ring_base.specs.declared.ring_id.RingId.{RingId};
 ghost use Rattle.ring_base.specs.Fronts.{IsFront};
 ghost use Rattle.ring_base.specs.Group.{Group, IsPrimary, is_primary, PrimariesMeet};
@@ -12,6 +12,7 @@ ghost use Rattle.ring_base.specs.Rings.{IsBelow, IsPrimaryBelow};
 /// What the limits are.
 pub fn limits_law()
     ensures processors { MOST_PROCESSORS ≡ 16 }
+    ensures rows { PROCESSORS ≡ 16 }
     ensures numbers { MAX ≡ 2 ^ 62 }
     ensures window { WINDOW ≡ 256 }
     ensures new_messages { MAX_NEW ≡ 8 }

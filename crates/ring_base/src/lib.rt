@@ -23,7 +23,7 @@ pub use kind::Kind;
 pub use laws::{
     front_law, limits_law, members_law, primary_law, primary_order_law, ring_order_law,
 };
-pub use limits::{FRAME_BYTES, MAX, MAX_NEW, MOST_PROCESSORS, WINDOW};
+pub use limits::{FRAME_BYTES, MAX, MAX_NEW, MOST_PROCESSORS, PROCESSORS, WINDOW};
 pub use members::Members;
 pub use pair::paired;
 pub use past::{Past, past_of, seen, told, told_both};

@@ -3,6 +3,9 @@
 /// No run has more processors.
 pub const MOST_PROCESSORS: u8 = 16;
 
+/// So many places has a row with one for each processor that a run may have.
+pub const PROCESSORS: usize = MOST_PROCESSORS as usize;
+
 /// The greatest number of a ring, a message, a token or a ticket.
 pub const MAX: u64 = 1 << 62;
 

@@ -1,11 +1,11 @@
 -- A book run is the run of its lines' events.
-use Rattle.std.proofs.Common.{◌≡◌, ℕ, ◌-◌, ◌≤◌, ◌++◌, ◌==◌, Bool, true, false, List, [], ◌∷◌, length, take}
+use Rattle.std.proofs.Common.{◌≡◌, ℕ, ◌≤◌, ◌++◌, ◌==◌, Bool, true, false, List, [], ◌∷◌, length, take}
 use Rattle.std.proofs.Common.{Option, None, Some, refl, inl, inr, ap, subst, sym, ◌∙◌, arith, append-nil, append_assoc, eq-eqb}
 use Rattle.std.specs.Prelude.{IsSomeAnd}
 use Rattle.std.specs.List.{AllByRecursion as Each}
 use Rattle.std.proofs.lemmas.Bool.{cases_Bool, eqb-true, cond-true, cond-false, and_from, le-leb}
 use Rattle.std.proofs.lemmas.Bool.Decides.{nat_tests}
-use Rattle.std.proofs.lemmas.List.{map-append, drop_all}
+use Rattle.std.proofs.lemmas.List.{map-append}
 use Rattle.ring_base.specs.Group.{Group}
 use Rattle.ring_base.specs.Processors.{has}
 use Rattle.ring_base.specs.declared.fault.Fault.{Fault}
@@ -24,6 +24,7 @@ use Rattle.ring_rules.specs.Stepping.{NodeStepped, node_step, submit_fault, subm
 use Rattle.ring_rules.specs.WorldLimits.{EventFits}
 use Rattle.ring_rules.specs.Worlds.{World, world_opening, put, is_node, carried, items_of, calls_past, after_step, issued_or, issued_if}
 use Rattle.ring_rules.specs.Worlds.{stopped_if, stepped_if, handed_if, handed, happens, run}
+use Rattle.ring_rules.proofs.NodeChanges.{no_calls_past}
 use Rattle.ring_order_proof.specs.Linear.{EventKeeps}
 use Rattle.ring_book_lines.specs.declared.frame_ref.FrameRef.{FrameRef}
 use Rattle.ring_book_lines.specs.declared.input.LineInput.{LineInput}
@@ -88,12 +89,6 @@ event-keeps before node (Came Noise at) h = tt
 event-keeps before node (Came (Timeout kind) at) h = tt
 event-keeps before node (Came Stop at) h = tt
 
--- nothing that is new makes a log no longer
-no-calls : {A : Type 0} (longest calls : List (Call A)) (all : ℕ) → calls ≡ [] → longest ≡ longest ++ calls_past (length longest) all calls
-no-calls {A} longest calls all e =
-    sym (append-nil longest) ∙ ap (λ (cs : List (Call A)). longest ++ cs)
-    (sym (ap (calls_past (length longest) all) e ∙ drop_all (0 - (all - length longest)) [] (omega arith)))
-
 module _ {O A : Type 0} (object : Sequential O) (group : Group) where
   abbrev machine : Machine (Node A) A
   machine = node_machine object group
@@ -126,7 +121,7 @@ module _ {O A : Type 0} (object : Sequential O) (group : Group) where
     others = λ i apart. ap (λ (x : World A). x.nodes i) e ∙ put-other w node (submitted (w.nodes node) c) i apart;
     frames = ap (λ x. x.frames) e ∙ (sym (append-nil w.frames) ∙ ap (λ fs. w.frames ++ carried node fs) (sym none));
     history = ap (λ x. x.history) e;
-    longest = ap (λ x. x.longest) e ∙ no-calls w.longest l.calls (node_kept u).committed same;
+    longest = ap (λ x. x.longest) e ∙ sym (no_calls_past w.longest (node_kept u).committed l.calls same);
   }
 
   next_done : (w after : World A) (node : ℕ) (input : Input A) (at : FrameRef) (l : StepView A) (u : Node A) (d : NodeStepped A) → after.group ≡ w.group
@@ -195,7 +190,7 @@ module _ {O A : Type 0} (object : Sequential O) (group : Group) where
       others = λ i apart. refl;
       frames = sym (append-nil w.frames) ∙ ap (λ fs. w.frames ++ carried node fs) (sym made.2);
       history = sym (append-nil w.history) ∙ ap (λ (as' : List (Answered A)). w.history ++ items_of as') (sym made.3);
-      longest = no-calls w.longest l.calls (node_kept u).committed made.4;
+      longest = sym (no_calls_past w.longest (node_kept u).committed l.calls made.4);
     };
   }
   follows w before node (Came (Timeout kind) at) l u known e made found =
@@ -217,7 +212,7 @@ module _ {O A : Type 0} (object : Sequential O) (group : Group) where
         next = next_done w (happens object w (event_of before node (Came Stop at))) node Stop at l u (node_step object (w.nodes node) Stop)
             (ap (λ (x : World A). x.group) is) (ap (λ (x : World A). x.nodes) is) (ap (λ (x : World A). x.frames) is ∙ sym (append-nil w.frames))
             (ap (λ (x : World A). x.history) is ∙ sym (append-nil w.history))
-            (ap (λ (x : World A). x.longest) is ∙ no-calls w.longest [] (node_kept n).committed refl) made.1 made.2 made.3 made.4;
+            (ap (λ (x : World A). x.longest) is ∙ sym (no_calls_past w.longest (node_kept n).committed [] refl)) made.1 made.2 made.3 made.4;
       }
 
   -- ---- what the lines say of the world after them

@@ -9,6 +9,7 @@ use Rattle.ring_base.specs.Fronts.{front_get, front_append}
 use Rattle.ring_base.proofs.ListPlaces.{get-last, has-place}
 use Rattle.ring_object.specs.Operations.{Sequential, content_after}
 use Rattle.ring_payload.specs.declared.call.Call.{Call}
+use Rattle.ring_payload.specs.SameCalls.{is_same-self}
 use Rattle.ring_session.specs.Deduplicated.{StandsAt, IsNumbered, operations}
 use Rattle.ring_session.specs.DeduplicatedLaws.{numbered_once}
 use Rattle.ring_session.specs.SessionAnswer.{call_reply}
@@ -17,7 +18,7 @@ use Rattle.ring_checker.specs.declared.check.Place.{Place}
 use Rattle.ring_rules.specs.declared.item.Item.{Item}
 use Rattle.ring_rules.specs.declared.item.Item.TheVariants.{Issue, Reply}
 use Rattle.ring_checker.specs.Checks.{is_issue_of, first_issue, place_in, IsIssuedBefore, AreIssuedBefore, ArePlaces, IsRightAt, IsRightIn, AreRight}
-use Rattle.ring_checker.proofs.Places.{is_same-self, place_in-stands, place_in-numbered}
+use Rattle.ring_checker.proofs.Places.{place_in-stands, place_in-numbered}
 use Rattle.ring_rules.specs.Histories.{IsIssuedAt, IsRepliedAt, IsLinearization}
 use Rattle.ring_rules.proofs.Linear.{all-at}
 use Rattle.ring_rules.proofs.FirstPassing.{all-from_places, take-within, take-get, get-take, position-found, position-least, option-some, some-option}

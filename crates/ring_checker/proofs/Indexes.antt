@@ -10,12 +10,13 @@ use Rattle.std.proofs.lemmas.Option.{slice_get_within}
 use Rattle.ring_base.proofs.ListPlaces.{get-last}
 use Rattle.ring_base.proofs.Rows.{take-more}
 use Rattle.ring_payload.specs.declared.call.Call.{Call}
+use Rattle.ring_payload.specs.SameCalls.{is_same-self}
 use Rattle.ring_session.specs.Deduplicated.{count_of, StandsAt, IsNumbered}
 use Rattle.ring_session.specs.DeduplicatedLaws.{count_of-push_own, count_of-push_other}
 use Rattle.ring_session.specs.SessionAnswer.{is_same}
 use Rattle.ring_session.specs.SessionAnswerLaws.{is_same-true}
 use Rattle.ring_checker.specs.Checks.{place_in, row_of, places_of, by_number, place_at, AddsPlace, IsIndexOf}
-use Rattle.ring_checker.proofs.Places.{none_or_some, is_same-self, place_in-stands, place_in-least}
+use Rattle.ring_checker.proofs.Places.{none_or_some, place_in-stands, place_in-least}
 use Rattle.ring_rules.proofs.FirstPassing.{EachUpTo}
 
 -- a fact of each element up to a place, and of the one there

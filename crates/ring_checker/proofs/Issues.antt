@@ -11,12 +11,13 @@ use Rattle.std.specs.Prelude.{Vec}
 use Rattle.ring_base.proofs.ListPlaces.{get-set, get-set_other}
 use Rattle.ring_object.specs.Operations.{Sequential}
 use Rattle.ring_payload.specs.declared.call.Call.{Call}
+use Rattle.ring_payload.specs.SameCalls.{is_same-self}
 use Rattle.ring_session.specs.Deduplicated.{StandsAt}
 use Rattle.ring_session.specs.SessionAnswer.{is_same, call_reply}
 use Rattle.ring_session.specs.SessionAnswerLaws.{is_same-true}
 use Rattle.ring_checker.specs.declared.check.Place.{Place}
 use Rattle.ring_checker.specs.Checks.{is_issue_of, first_issue, place_in, IsIndexOf, ArePlaces}
-use Rattle.ring_checker.proofs.Places.{is_same-self, place_in-stands, place_in-least}
+use Rattle.ring_checker.proofs.Places.{place_in-stands, place_in-least}
 use Rattle.ring_checker.proofs.Indexes.{index-once}
 use Rattle.ring_rules.specs.declared.item.Item.{Item}
 use Rattle.ring_rules.specs.declared.item.Item.TheVariants.{Issue, Reply}

@@ -1,9 +1,7 @@
 -- The place of one call in an order.
-use Rattle.std.proofs.Common.{◌≡◌, ℕ, ◌==◌, ◌&&◌, ◌⊎◌, true, List, refl, ap, ◌∙◌, Option, Some, None, inl, inr}
-use Rattle.std.specs.Str.{bytes_eq}
-use Rattle.std.proofs.lemmas.Bool.{eq-eqb, and_from}
-use Rattle.std.proofs.lemmas.Slice.Eq.{bytes_eq-Decides}
+use Rattle.std.proofs.Common.{◌≡◌, ℕ, ◌⊎◌, List, refl, ap, ◌∙◌, Option, Some, None, inl, inr}
 use Rattle.ring_payload.specs.declared.call.Call.{Call}
+use Rattle.ring_payload.specs.SameCalls.{is_same-self}
 use Rattle.ring_session.specs.Deduplicated.{StandsAt, IsNumbered}
 use Rattle.ring_session.specs.DeduplicatedLaws.{numbered_once}
 use Rattle.ring_session.specs.SessionAnswer.{is_same}
@@ -15,12 +13,6 @@ use Rattle.ring_rules.proofs.FirstPassing.{position-found, position-least}
 pub none_or_some : {X : Type 0} (o : Option X) → (o ≡ None) ⊎ ((x : X) × (o ≡ Some x))
 none_or_some None = inl refl
 none_or_some (Some x) = inr (x, refl)
-
-pub is_same-self : {A : Type 0} (c : Call A) → is_same c c ≡ true
-is_same-self c =
-    and_from ((c.client == c.client) && (c.number == c.number)) (bytes_eq c.op c.op)
-    (and_from (c.client == c.client) (c.number == c.number) (eq-eqb c.client c.client refl) (eq-eqb c.number c.number refl))
-    ((bytes_eq-Decides c.op c.op).1 refl)
 
 -- the call stands where it is found in the order
 pub place_in-stands : {A : Type 0} (order : List (Call A)) (c : Call A) (p : ℕ) → place_in order c ≡ Some p → StandsAt order p c

@@ -1,6 +1,7 @@
 -- What a client does with a call (docs/PROTOCOL.md, "Clients").
 use Rattle.std.specs.Prelude.{◌≡◌, ℕ, zero, suc, ◌+◌, ◌^◌, ◌<◌, ◌≤◌, ◌⊎◌, List, length, Option, Some, None, IsSome}
 use Rattle.ring_payload.specs.Limits.{most_operation}
+use Rattle.ring_payload.specs.Operations.{OpFits}
 use Rattle.ring_base.specs.declared.fault.Fault.{Fault}
 use Rattle.ring_base.specs.declared.fault.Fault.TheVariants.{OpTooLong, Conflict, Stale, NumberGap, SessionsFull, Memory, NoAnswer}
 use Rattle.ring_session.specs.SessionAnswer.{refusal, reply_in}
@@ -23,10 +24,6 @@ pub record ClientOf (P : Type 0) : Type 0 where
 -- no call is open, and there is a number for the next
 abbrev pub IsReady : {P : Type 0} → ClientOf P → Type 0
 IsReady self = (self.open_call ≡ None) × (self.next < 2 ^ 64)
-
--- an operation that may be called
-abbrev pub IsShort : List ℕ → Type 0
-IsShort op = length op ≤ most_operation
 
 module _ {P : Type 0} (asked : P → Asked) (old new : ClientOf P) (op : List ℕ) where
   -- the call: the client's next number with this operation
@@ -64,8 +61,8 @@ module _ {P : Type 0} (asked : P → Asked) (old new : ClientOf P) (op : List �
   -- why `call` gives no reply
   abbrev pub CallRefused : Fault → Type 0
   CallRefused OpTooLong = IsReady old × (most_operation < length op) × (new ≡ old)
-  CallRefused NoAnswer = ((IsSome old.open_call ⊎ (old.next ≡ 2 ^ 64)) × (new ≡ old)) ⊎ (IsReady old × IsShort op × IsUnanswered)
-  CallRefused fault = IsReady old × IsShort op × AskingRefused fault
+  CallRefused NoAnswer = ((IsSome old.open_call ⊎ (old.next ≡ 2 ^ 64)) × (new ≡ old)) ⊎ (IsReady old × OpFits op × IsUnanswered)
+  CallRefused fault = IsReady old × OpFits op × AskingRefused fault
 
 -- why `again` gives no reply
 abbrev pub AgainRefused : {P : Type 0} → (P → Asked) → ClientOf P → ClientOf P → Fault → Type 0
@@ -91,5 +88,5 @@ AskingRefusedWithin {P = P} asked limit old new op fault = (tries : ℕ) × (bef
 abbrev pub UntilRefused : {P : Type 0} → (P → Asked) → ℕ → ClientOf P → ClientOf P → List ℕ → Fault → Type 0
 UntilRefused asked limit old new op OpTooLong = IsReady old × (most_operation < length op) × (new ≡ old)
 UntilRefused asked limit old new op NoAnswer = ((IsSome old.open_call ⊎ (old.next ≡ 2 ^ 64)) × (new ≡ old))
-    ⊎ (IsReady old × IsShort op × AskingRefusedWithin asked limit old new op NoAnswer)
-UntilRefused asked limit old new op fault = IsReady old × IsShort op × AskingRefusedWithin asked limit old new op fault
+    ⊎ (IsReady old × OpFits op × AskingRefusedWithin asked limit old new op NoAnswer)
+UntilRefused asked limit old new op fault = IsReady old × OpFits op × AskingRefusedWithin asked limit old new op fault

@@ -1,7 +1,8 @@
 //! A client, and what it does with a call.
 
 ghost use Rattle.std.specs.Prelude.{◌≡◌, ℕ, ◌<◌, ◌^◌, nat_lt, List, Some, None, is_some, IfOk, IfErr, if◌then◌else◌};
-ghost use Rattle.ring_client.specs.Calling.{IsReady, IsShort, IsReplied, AskingRefused, CallRefused, AgainRefused};
+ghost use Rattle.ring_payload.specs.Operations.{OpFits};
+ghost use Rattle.ring_client.specs.Calling.{IsReady, IsReplied, AskingRefused, CallRefused, AgainRefused};
 ghost use Rattle.ring_client.specs.Calling.{IsRepliedWithin, AskingRefusedWithin, UntilRefused};
 
 use crate::asked::Op;
@@ -61,7 +62,7 @@ impl<P: Port> Client<P> {
     /// no port answered: the call is open; `Memory` where a port's copy of the call can't be made: the call is open if
     /// a port before it had one. The first two and `Memory` at the first port leave the client as it was.
     pub fn call(&mut self, op: &[u8]) -> Result<Reply, Fault>
-        ensures ready { IfOk result (λ _. IsReady self.old × IsShort op.now) }
+        ensures ready { IfOk result (λ _. IsReady self.old × OpFits op.now) }
         ensures replied { IfOk result (IsReplied P.asked_of self.old self.new op.now) }
         ensures refused { IfErr result (CallRefused P.asked_of self.old self.new op.now) }
     {
@@ -94,7 +95,7 @@ impl<P: Port> Client<P> {
     /// Refused as `call`, with `NoAnswer` where no port answered in all these tries: then the call is open. So it is after
     /// `Memory` in a later try.
     pub fn until_answered(&mut self, op: &[u8], limit: u64) -> Result<Reply, Fault>
-        ensures ready { IfOk result (λ _. IsReady self.old × IsShort op.now) }
+        ensures ready { IfOk result (λ _. IsReady self.old × OpFits op.now) }
         ensures replied { IfOk result (IsRepliedWithin P.asked_of limit self.old self.new op.now) }
         ensures refused { IfErr result (UntilRefused P.asked_of limit self.old self.new op.now) }
     {

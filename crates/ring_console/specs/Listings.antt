@@ -57,13 +57,13 @@ pub record Lists {A : Type 0} (input rest out out' : Option (List ℕ)) (frames 
 abbrev pub IsListed : Type 0 → Option (List ℕ) → Option (List ℕ) → Option (List ℕ) → Option (List ℕ) → Type 0
 IsListed A input input' out out' = (frames : List (Frame A)) × Lists input input' out out' frames × IsAtEnd input'
 
--- why a listing ends before its input does, where that is not for its output: after the lines of the frames so far
+-- why a listing fails, where that is not for its output: after the lines of the frames so far
 abbrev pub IsCut : Type 0 → Option (List ℕ) → Option (List ℕ) → Option (List ℕ) → Failure → Type 0
 IsCut A input out out' Output = Unit {0}
 IsCut A input out out' failure =
     (frames : List (Frame A)) × (rest : Option (List ℕ)) × (state : State) × Lists input rest out out' frames
     × IsStop A rest (u64_saturate (length (spellings_of frames))) state failure
 
--- a listing ended before its input did, and not for its output: just the lines of the frames so far were printed
+-- a listing failed for such a reason, and not for its output: just the lines of the frames so far were printed
 abbrev pub IsCutListing : Type 0 → Option (List ℕ) → Option (List ℕ) → Option (List ℕ) → Type 0
 IsCutListing A input out out' = (failure : Failure) × (failure ≢ Output) × IsCut A input out out' failure

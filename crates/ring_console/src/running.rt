@@ -6,11 +6,11 @@ ghost use Rattle.std.specs.Io.KnownBytes.{Appends, Keeps};
 ghost use Rattle.ring_base.specs.declared.fault.Fault.TheVariants.{Memory};
 ghost use Rattle.ring_script.specs.Fits.{AreFit};
 ghost use Rattle.ring_script.specs.Scripts.{IsAllOf, AnswersInputBy, AnswersInput};
+ghost use Rattle.ring_script.specs.ScriptTexts.{IsNoScript};
 ghost use Rattle.ring_script.specs.ShelfWords.{shelf_forms};
 ghost use Rattle.ring_script.specs.declared.scripts.Script.{Script};
 ghost use Rattle.ring_report.specs.Failures.{IsOutputOrMemory};
 ghost use Rattle.ring_report.specs.declared.failure.Failure.TheVariants.{Output};
-ghost use Rattle.ring_console.specs.NoScripts.{IsNoScript};
 ghost use Rattle.ring_console.specs.Running.{Prints, run_opening, IsTextOf, IsLegal, IsVerdict, legal_line};
 
 use crate::printed::print_legal;

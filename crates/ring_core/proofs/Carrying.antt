@@ -1,6 +1,7 @@
 -- What is sent of two lists; and a frame that is handed over, which is one that was carried and keeps the limits where each does.
-use Rattle.std.proofs.Common.{◌≡◌, List, ℕ, zero, suc, Some, Bool, true, false, if◌then◌else◌, None, Option, refl, subst}
+use Rattle.std.proofs.Common.{◌≡◌, List, ℕ, zero, suc, Some, None, Option, refl, subst}
 use Rattle.std.specs.List.{AllByRecursion as Each}
+use Rattle.std.proofs.lemmas.Option.{cond_some}
 use Rattle.ring_base.specs.Processors.{has}
 use Rattle.ring_base.proofs.Each.{each-get}
 use Rattle.ring_core.specs.State.{Carried, frame_at, frame_for}
@@ -12,12 +13,8 @@ pub at_fits : {A : Type 0} (frames : List (Carried A)) (k : ℕ) (f : Carried A)
 at_fits frames zero f h e = absurd (let x : ⊥ = cc in x)
 at_fits {A} frames (suc k) f h e = each-get (λ (g : Carried A). FrameFits g.frame) frames k f h e
 
-from_if : {A : Type 0} (b : Bool) (f g : Frame A) → (if b then Some f else None) ≡ Some g → f ≡ g
-from_if true f g e = cc e
-from_if false f g e = absurd (let x : ⊥ = cc in x)
-
 -- and so does one that is handed over
 pub one_fits : {A : Type 0} (o : Option (Carried A)) (i : ℕ) (frame : Frame A) → ((f : Carried A) → o ≡ Some f → FrameFits f.frame) → frame_for i o ≡ Some frame →
     FrameFits frame
 one_fits None i frame h e = absurd (let x : ⊥ = cc in x)
-one_fits (Some f) i frame h e = subst FrameFits (from_if (has f.to i) f.frame frame e) (h f refl)
+one_fits (Some f) i frame h e = subst FrameFits (cond_some (has f.to i) f.frame frame e).1 (h f refl)

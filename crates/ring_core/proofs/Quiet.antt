@@ -24,14 +24,14 @@ use Rattle.ring_core.specs.Giving.{ready_then_complete, installs_in, may_install
 use Rattle.ring_core.specs.Stepping.{ring_step}
 
 -- a core with another queue
-abbrev pub queued : {A : Type 0} → Core A → List (Payload A) → Core A
-queued c q = record c { queue = q }
+abbrev pub with_queue : {A : Type 0} → Core A → List (Payload A) → Core A
+with_queue c q = record c { queue = q }
 
-complete_same : {A : Type 0} → (b : Bool) (c : Core A) (q : List (Payload A)) → ready_then_complete b (queued c q) ≡ ready_then_complete b c
+complete_same : {A : Type 0} → (b : Bool) (c : Core A) (q : List (Payload A)) → ready_then_complete b (with_queue c q) ≡ ready_then_complete b c
 complete_same false c q = refl
 complete_same true c q = refl
 
-pub installs_same : {A : Type 0} → (s : State) (c : Core A) (q : List (Payload A)) → installs_in s (queued c q) ≡ installs_in s c
+pub installs_same : {A : Type 0} → (s : State) (c : Core A) (q : List (Payload A)) → installs_in s (with_queue c q) ≡ installs_in s c
 installs_same Gather c q = refl
 installs_same Commit c q = refl
 installs_same Recovery c q = complete_same (is_ready c.held c.running.ring c.running.members (mark c c.running.ring)) c q
@@ -49,19 +49,19 @@ none_agreed {A} c ring =
 pub none_safe : {A : Type 0} → (c : Core A) (ring : RingId) → safe_from c ring (mark c ring) ≡ []
 none_safe c ring = ap (λ b. if b then Safe ring (mark c ring) ∷ [] else []) (le-ltb (mark c ring) (mark c ring) (le_refl (mark c ring)))
 
-nothing_given : {A : Type 0} → (c : Core A) (q : List (Payload A)) → sent [] ++ given c (queued c q) ≡ []
+nothing_given : {A : Type 0} → (c : Core A) (q : List (Payload A)) → sent [] ++ given c (with_queue c q) ≡ []
 nothing_given c q = ap-both (λ xs ys. xs ++ ys) (none_agreed c c.installed.ring) (none_safe c c.installed.ring)
 
 -- the same core with another queue, and no outputs
 pub record IsQuiet {A : Type 0} (c : Core A) (s : Stepped A) : Type 0 where
   pub queue : List (Payload A)
-  pub is : s ≡ record { core = queued c queue; outs = [] }
-  pub ready : may_install (queued c queue) ≡ false
+  pub is : s ≡ record { core = with_queue c queue; outs = [] }
+  pub ready : may_install (with_queue c queue) ≡ false
 
-quiet_with : {A : Type 0} → (c : Core A) → may_install c ≡ false → (q : List (Payload A)) → IsQuiet c (delivered c (silently (queued c q)))
+quiet_with : {A : Type 0} → (c : Core A) → may_install c ≡ false → (q : List (Payload A)) → IsQuiet c (delivered c (silently (with_queue c q)))
 quiet_with c h q =
-    let ready : may_install (queued c q) ≡ false = installs_same c.state c q ∙ h in
-    record { queue = q; is = ap-both (λ b outs. settle b (queued c q) outs) ready (nothing_given c q); ready = ready }
+    let ready : may_install (with_queue c q) ≡ false = installs_same c.state c q ∙ h in
+    record { queue = q; is = ap-both (λ b outs. settle b (with_queue c q) outs) ready (nothing_given c q); ready = ready }
 
 quiet_act : {A : Type 0} → (s : State) (c : Core A) (p : Payload A) → may_install c ≡ false → IsQuiet c (delivered c (done c (decide_payload s p)))
 quiet_act Gather c p h = quiet_with c h c.queue

@@ -6,7 +6,7 @@ use Rattle.ring_base.specs.declared.state.State.{State}
 use Rattle.ring_base.specs.declared.state.State.TheVariants.{Gather, Commit, Recovery, Operational, Stopped}
 use Rattle.ring_base.specs.Rings.{same_ring}
 use Rattle.ring_base.proofs.SameRing.{ring_same}
-use Rattle.ring_core.specs.State.{Core}
+use Rattle.ring_core.specs.State.{Core, is_stopped}
 use Rattle.ring_core.specs.Giving.{installs_in}
 use Rattle.ring_core.specs.Joining.{proposes_in}
 use Rattle.ring_core.specs.Visiting.{accepts, offers}
@@ -14,6 +14,14 @@ use Rattle.ring_core.specs.Views.{plan}
 use Rattle.ring_token.specs.Frames.{Token}
 use Rattle.ring_token.proofs.Packing.{length-packed}
 use Rattle.ring_recover.specs.Wrapping.{wraps_and_end}
+
+-- the state that is tested is Stopped
+pub stopped_state : (s : State) → is_stopped s ≡ true → s ≡ Stopped
+stopped_state Stopped e = refl
+stopped_state Gather e = absurd cc
+stopped_state Commit e = absurd cc
+stopped_state Recovery e = absurd cc
+stopped_state Operational e = absurd cc
 
 -- a ring is installed in Recovery
 pub installs_recovering : {A : Type 0} → (s : State) (c : Core A) → installs_in s c ≡ true → s ≡ Recovery

@@ -64,9 +64,13 @@ send_of (Regular ring set) = None
 abbrev pub users : {A : Type 0} → Core A → RingId → ℕ → ℕ → List (Message A)
 users c ring below upto = filter (λ (x : Message _). is_user x.payload) (filter_map (found c.held ring) (numbers_from (below + 1) (upto - below)))
 
+-- messages of a ring are agreed
+abbrev pub all_agreed : {A : Type 0} → RingId → List (Message A) → List (Out A)
+all_agreed ring xs = map (λ (x : Message _). Agreed ring x.number x) xs
+
 -- what the front newly covers
 abbrev pub agreed_from : {A : Type 0} → Core A → RingId → ℕ → List (Out A)
-agreed_from c ring before = map (λ x. Agreed ring x.number x) (users c ring before (front c ring))
+agreed_from c ring before = all_agreed ring (users c ring before (front c ring))
 
 -- the safe mark, if it rose
 abbrev pub safe_from : {A : Type 0} → Core A → RingId → ℕ → List (Out A)

@@ -55,6 +55,11 @@ put-here cores i c = cond-true (i == i) c (cores i) (eq-eqb i i refl)
 pub node_low : {A : Type 0} (w : World A) (i : ℕ) → is_node w i ≡ true → 1 ≤ i
 node_low w i e = leb-true 1 i (and_parts (nat_le 1 i) (nat_le i w.total) e).0
 
+-- events, one list of them after another
+pub cores-append : {A : Type 0} → (w : World A) (xs ys : List (RingEvent A)) → run w (xs ++ ys) ≡ run (run w xs) ys
+cores-append w [] ys = refl
+cores-append w (x ∷ xs) ys = cores-append (happens w x) xs ys
+
 -- Frames
 
 pub carried-append : {A : Type 0} → (i : ℕ) (xs ys : List (Sent A)) → carried_from i (xs ++ ys) ≡ carried_from i xs ++ carried_from i ys

@@ -1,6 +1,6 @@
 -- What is kept of a life goes on with it: by a message, a safe mark, a new ring, what is handed over and what is dropped.
 -- And a life that is not sound stays so.
-use Rattle.std.proofs.Common.{◌≡◌, ℕ, zero, suc, ◌+◌, ◌-◌, ◌<◌, ◌≤◌, ◌&&◌, max, Bool, true, false, List, [], ◌∷◌, ◌++◌, length, take, drop, inl, inr}
+use Rattle.std.proofs.Common.{◌≡◌, ℕ, zero, suc, ◌+◌, ◌-◌, ◌<◌, ◌≤◌, ◌&&◌, max, Bool, true, false, List, [], ◌∷◌, ◌++◌, take, drop, inl, inr}
 use Rattle.std.proofs.Common.{Option, Some, None, refl, ap, sym, ◌∙◌, subst, arith, append_assoc, if◌then◌else◌}
 use Rattle.std.specs.Prelude.{slice_get, nat_lt, is_some, not, ◌||◌}
 use Rattle.std.proofs.lemmas.Bool.{and_parts, leb-true, lt-ltb, cond-true, cond-false}
@@ -26,6 +26,7 @@ use Rattle.ring_log_proof.proofs.KnownLogs.{known-stay}
 use Rattle.ring_session.specs.declared.pending.Pending.{Pending}
 use Rattle.ring_rules.specs.Dues.{due_when_stated}
 use Rattle.ring_rules.specs.Lives.{lived, lived_through}
+use Rattle.ring_rules.proofs.LivedThrough.{through-append}
 use Rattle.ring_rules.specs.Nodes.{is_closed}
 use Rattle.ring_course.specs.declared.reach.Reach.{Reach}
 use Rattle.ring_course.specs.declared.setting.Setting.{Setting}
@@ -515,10 +516,6 @@ unsound-lived {A} group life o f = by (is_kept_sound group (lived life o)) refl
 
 -- ---- outputs, one after the other
 
-lived-push : {A : Type 0} (life : List (Stay A)) (ys : List (Out A)) (o : Out A) → lived_through life (ys ++ o ∷ []) ≡ lived (lived_through life ys) o
-lived-push life [] o = refl
-lived-push life (y ∷ ys) o = lived-push (lived life y) ys o
-
 dues-push : {A : Type 0} (m : Moment A) (life : List (Stay A)) (ys : List (Out A)) (o : Out A)
     → dues_by m life (ys ++ o ∷ []) ≡ dues_by m life ys ++ dues_at m (lived_through life ys) o
 dues-push m life [] o = append-nil (dues_at m life o)
@@ -578,14 +575,14 @@ walked-on : {A : Type 0} (m : Moment A) (first : List (Stay A)) (begun : Holding
 walked-on {A} m first begun ys o false fine' life life' held held' due-before due due' w at bytes e lives onward handed =
     let never : fine' ≡ true → ⊥ = λ t. (let y = sym e ∙ t in cc y) in
     record {
-      sound = e ∙ sym (ap (is_kept_sound m.group) (lived-push first ys o) ∙ unsound-lived m.group (lived_through first ys) o (sym w.sound));
+      sound = e ∙ sym (ap (is_kept_sound m.group) (through-append first ys (o ∷ [])) ∙ unsound-lived m.group (lived_through first ys) o (sym w.sound));
       lives = λ t. absurd (never t);
       onward = λ t. absurd (never t);
       handed = λ t. absurd (never t);
     }
 walked-on {A} m first begun ys o true fine' life life' held held' due-before due due' w at bytes e lives onward handed =
     let was = w.lives refl in
-    let now = lived-push first ys o in
+    let now : lived_through first (ys ++ o ∷ []) ≡ lived (lived_through first ys) o = through-append first ys (o ∷ []) in
     let g = w.onward refl in
     let k = kept_of m.group life in
     let mid : Moment A = record m { trimmed = held.log.trimmed; snapshot = held.snapshot } in

@@ -49,13 +49,9 @@ after_all-push : {A : Type 0} (e : Exchange A) (xs : List (Message A)) (x : Mess
 after_all-push e [] x = refl
 after_all-push e (y ∷ ys) x = after_all-push (heard_by e y) ys x
 
-wanted-by-case : (b : Bool) (o : Option Wanted) → b ≡ false → (if b then o else None) ≡ None
-wanted-by-case true o e = absurd (cc e)
-wanted-by-case false o e = refl
-
 -- before all Heads are heard nothing is wanted
 unstated-wanted : {A : Type 0} (e : Exchange A) → is_stated e ≡ false → wanted e ≡ None
-unstated-wanted e f = wanted-by-case (e.unheard == nobody) (wanted_by e.heads) f
+unstated-wanted e f = cond-false (e.unheard == nobody) (wanted_by e.heads) None f
 
 relieved-wanted : {A : Type 0} (e : Exchange A) → wanted (relieved e) ≡ wanted e
 relieved-wanted {A} e = cond_both (is_whole e) (record e { bytes = []; brought = [] }) e (λ (r : Exchange A). wanted r ≡ wanted e) (λ t. refl) (λ f. refl)

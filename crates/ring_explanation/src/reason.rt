@@ -1,7 +1,7 @@
 //! Why a line is at fault.
 
 ghost use Rattle.std.specs.Prelude.{◌↔◌, IsNone, IfOk};
-ghost use Rattle.ring_explanation.specs.Scripts.{IsScript};
+ghost use Rattle.ring_script.specs.ScriptTexts.{IsScript};
 
 use crate::form::{LINES, LineForm, Rest, line_form};
 use crate::groups::groups_reason;

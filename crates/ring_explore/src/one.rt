@@ -10,7 +10,7 @@ ghost use Rattle.ring_explore.specs.Explored.{AreTried, illegal_of, is_answer};
 ghost use Rattle.ring_explore.specs.Tried.{IsTried};
 
 use crate::found::Found;
-use ring_base::{Fault, Fixed, Proc, RingId};
+use ring_base::{Fault, Fixed, PROCESSORS, Proc, RingId};
 use ring_console::{
     Event, Line, Pair, Run, Script, ScriptFault, Told, Vocabulary, World, is_legal,
 };
@@ -80,7 +80,7 @@ struct Seen<O: Object> {
     /// The rings that were installed, each once.
     rings: Vec<RingId, O::Alloc>,
     /// The ring that each node had when it was looked at last, before that one that is never installed.
-    last: [RingId; 16],
+    last: [RingId; PROCESSORS],
 }
 
 impl<O: Object> Seen<O> {
@@ -97,7 +97,7 @@ impl<O: Object> Seen<O> {
             run: Run::new(alloc, nodes)?,
             calls: 0,
             rings: Vec::new(alloc),
-            last: [none; 16],
+            last: [none; PROCESSORS],
         })
     }
 

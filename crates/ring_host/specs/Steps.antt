@@ -20,7 +20,7 @@ use Rattle.ring_host.specs.declared.step.Done.{Done}
 abbrev pub LeavesQuiet : {A : Type 0} → Node A → ℕ → Type 0
 LeavesQuiet node sent = (sent ≤ 1) × (node.core.state ≡ Operational) × (node_length node ≡ (node_kept node).committed)
 
--- What a gate is told of a step that found this and sent so many frames, of the node after it: that no more than a timeout came, or no more than a
+-- What is kept for a gate of a step that found this and sent so many frames, of the node after it: that no more than a timeout came, or no more than a
 -- token, and the node is quiet; or that there was something to do, as there always is where it is not quiet, or another frame came.
 abbrev pub IsStir : {A : Type 0} → Node A → Found → ℕ → Stir → Type 0
 IsStir node what sent stirs.Nothing = ⊥
@@ -37,9 +37,9 @@ module _ {O A : Type 0} (object : Sequential O) (group : Group) where
   abbrev pub node_after_lines : List (LineView A) → ℕ → Node A
   node_after_lines lines node = (run object (world_opening group) (events_of lines)).nodes node
 
-  -- What was done of a task. Some run of the group ends with it: its last line is a step of a node, on the timeout that the task is, or on the frame
-  -- that it is and that was read into the place. What is told of it is so: what the task is to a clock and to a gate, how many frames that step sent, how
-  -- many places the node has committed after it, and whether it leaves anything to do.
+  -- What was done of a task. Some run of the group ends with the task: its last line is a step of a node, on the timeout that the task is, or on the
+  -- frame that it is and that was read into the place. What is kept of that step is so: what the task is to a clock and to a gate, how many frames the step
+  -- sent, how many places the node has committed after it, and what is kept for a gate.
   pub record IsDoneOf (place : Option (OneFrame A)) (task : Task A) (done : Done) : Type 0 where
     pub lines : List (LineView A)
     pub step : StepView A

@@ -17,7 +17,7 @@ mod words;
 pub use layout::{Decode, Encode};
 pub use many::{read_in_place, read_many, size_many, write_many};
 pub use reader::Reader;
-pub use ring_base::{Fault, MAX, Past, Proc, ProcSet, RingId, WINDOW, past_of};
+pub use ring_base::{Fault, MAX, PROCESSORS, Past, Proc, ProcSet, RingId, WINDOW, past_of};
 pub use sized::{read_sized, write_sized};
 pub use wire::Wire;
 pub use words::Words;

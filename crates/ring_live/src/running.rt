@@ -8,7 +8,7 @@ ghost use Rattle.ring_seat.specs.Seats.{IsAt};
 
 use crate::caller::{Caller, call};
 use crate::legal::is_legal;
-use ring_base::{Fault, Fixed};
+use ring_base::{Fault, Fixed, MOST_PROCESSORS};
 use ring_host_port::{BookName, Gate, Host, Opening, Seat, take_seats};
 use ring_object::Object;
 use std::alloc::Allocator;
@@ -17,6 +17,9 @@ use std::sync::Wait;
 use std::sync::atomic::{AtomicBool, AtomicU64, Ordering};
 use std::thread;
 use std::thread::Threads;
+
+/// Each client has at most so many seats: one for each node.
+const MOST_SEATS: u16 = MOST_PROCESSORS as u16;
 
 /// What came of a live run.
 #[derive(Clone, Copy, Debug, PartialEq, Eq)]
@@ -193,7 +196,7 @@ where
     ensures lived { IfOk result (λ lived. (lived.nodes ≡ nodes) × (lived.is_legal ≡ true)) }
     ensures refused { IfErr result (λ fault. fault ≡ Memory) }
 {
-    let guests = 16 * u16::from(nodes);
+    let guests = MOST_SEATS * u16::from(nodes);
     let (host, seats) = Host::<O, K>::new(alloc, opening, guests)?;
     let lived = live_on(rt, alloc, &host, seats, nodes, calls);
     // By name, so that the host is let go in a function of any type, and lives at no exit.

@@ -1,51 +1,31 @@
 -- Calls that begin others, compared one by one; and the committed places of a log, as it changes.
-use Rattle.std.proofs.Common.{◌≡◌, ℕ, zero, suc, ◌+◌, ◌-◌, ◌<◌, ◌≤◌, ◌==◌, ◌&&◌, min, max, Bool, true, false, List, []}
+use Rattle.std.proofs.Common.{◌≡◌, ℕ, zero, suc, ◌+◌, ◌-◌, ◌<◌, ◌≤◌, ◌&&◌, min, max, Bool, true, false, List, []}
 use Rattle.std.proofs.Common.{◌∷◌, ◌++◌, length, take, drop, ◌↔◌, IsTrue, Some, refl, ap, sym, ◌∙◌, subst, arith, length-append, inl}
 use Rattle.std.proofs.Common.{inr}
 use Rattle.std.specs.Prelude.{nat_le, nat_lt, is_some, ◌||◌}
 use Rattle.std.specs.Bool.{Decides, one_answer}
-use Rattle.std.specs.Str.{bytes_eq}
 use Rattle.std.specs.Cmp.Lexicographic.{pointwise_decides}
-use Rattle.std.proofs.lemmas.Bool.{cases_lt, eqb-true, eq-eqb, and_parts, and_from, cond_both, ltb-true, leb-true}
+use Rattle.std.proofs.lemmas.Bool.{cases_lt, and_parts, cond_both, ltb-true, leb-true}
 use Rattle.std.proofs.lemmas.List.{append-nil, take-append-drop, take-append-le, length-take, length-take-le, length-drop, drop_all, take_rest}
-use Rattle.std.proofs.lemmas.Slice.Eq.{bytes_eq-Decides}
 use Rattle.ring_base.specs.Fronts.{IsFront}
 use Rattle.ring_base.specs.Numbers.{max_number}
 use Rattle.ring_base.specs.declared.ring_id.RingId.{RingId}
 use Rattle.ring_base.proofs.ListFronts.{take-longer}
-use Rattle.ring_wire.specs.Payloads.{Call as OneCall}
+use Rattle.ring_wire.specs.Payloads.{Call as OneCall, is_same, is_same-true, is_same-self}
 use Rattle.ring_log.specs.declared.base.Base.{Base}
 use Rattle.ring_log.specs.Logs.{Log, log_length, appended, followed, based, restores, restored_log, joined_log, adopted, adopted_if, trimmed_log}
-use Rattle.ring_log.specs.Logs.{committed_upto, committed_calls, same_call, begins, is_log_length, is_adoptable, IsKeptLog, IsLog, KeepsCommitted}
+use Rattle.ring_log.specs.Logs.{committed_upto, committed_calls, begins, is_log_length, is_adoptable, IsKeptLog, IsLog, KeepsCommitted}
 
 -- ---- one call
 
-same_call-true : {A : Type 0} (c d : OneCall A) → same_call c d ≡ true → c ≡ d
-same_call-true {A} c d same =
-    let parts = and_parts ((c.client == d.client) && (c.number == d.number)) (bytes_eq c.op d.op) same in
-    let named = and_parts (c.client == d.client) (c.number == d.number) parts.0 in
-    let client : c.client ≡ d.client = eqb-true c.client d.client named.0 in
-    let number : c.number ≡ d.number = eqb-true c.number d.number named.1 in
-    let op : c.op ≡ d.op = (bytes_eq-Decides c.op d.op).0 parts.1 in
-    let of_client : ℕ → OneCall A = λ k. record { client = k; number = c.number; op = c.op } in
-    let of_number : ℕ → OneCall A = λ k. record { client = d.client; number = k; op = c.op } in
-    let of_op : List ℕ → OneCall A = λ o. record { client = d.client; number = d.number; op = o } in
-    ap of_client client ∙ ap of_number number ∙ ap of_op op
-
-pub same_call-self : {A : Type 0} (c : OneCall A) → same_call c c ≡ true
-same_call-self c =
-    and_from ((c.client == c.client) && (c.number == c.number)) (bytes_eq c.op c.op)
-    (and_from (c.client == c.client) (c.number == c.number) (eq-eqb c.client c.client refl) (eq-eqb c.number c.number refl))
-    ((bytes_eq-Decides c.op c.op).1 refl)
-
-same_call-equal : {A : Type 0} (c d : OneCall A) → c ≡ d → same_call c d ≡ true
-same_call-equal c d e = ap (λ x. same_call c x) (sym e) ∙ same_call-self c
+is_same-equal : {A : Type 0} (c d : OneCall A) → c ≡ d → is_same d c ≡ true
+is_same-equal c d e = ap (λ x. is_same x c) (sym e) ∙ is_same-self c
 
 -- ---- lists of calls
 
 -- the test finds exactly the lists of which the first begins the second
 pub begins-Decides : {A : Type 0} (front calls : List (OneCall A)) → Decides (begins front calls) (front ≡ take (length front) calls)
-begins-Decides front calls = pointwise_decides (λ c d. (same_call-true c d, same_call-equal c d)) front (take (length front) calls)
+begins-Decides front calls = pointwise_decides (λ c d. (is_same-true d c, is_same-equal c d)) front (take (length front) calls)
 
 -- places that a log keeps needn't be compared
 pub begins-kept : {A : Type 0} (committed from : ℕ) (own calls : List (OneCall A))
@@ -57,7 +37,7 @@ begins-kept (suc committed) zero [] calls = refl
 begins-kept (suc committed) zero (c ∷ own) calls = refl
 begins-kept (suc committed) (suc from) [] calls = refl
 begins-kept (suc committed) (suc from) (c ∷ own) calls =
-    ap (λ b. b && begins (take committed own) (take from own ++ calls)) (same_call-self c) ∙ begins-kept committed from own calls
+    ap (λ b. b && begins (take committed own) (take from own ++ calls)) (is_same-self c) ∙ begins-kept committed from own calls
 
 -- what is left behind the places of a list, however many more are left out
 pub drop-min : {X : Type 0} (n : ℕ) (xs : List X) → drop (min (length xs) n) xs ≡ drop n xs
@@ -79,9 +59,9 @@ pub begins_based : {A : Type 0} (n m gone same dropped : ℕ) (own front calls b
     → front ≡ take n own → same ≡ min (length front) m → brought ≡ calls → dropped ≡ min (length brought) gone
     → r ≡ begins (take (length front - same) (drop same front)) (take (length brought - dropped) (drop dropped brought))
     → r ≡ begins (take n own) (take m own ++ drop gone calls)
-begins_based n m gone same dropped own front calls brought r is_front is_same is_brought is_dropped is =
+begins_based n m gone same dropped own front calls brought r is_front is_rest is_brought is_dropped is =
     let rest : take (length front - same) (drop same front) ≡ drop m (take n own) =
-    take_rest front same ∙ ap (λ k. drop k front) is_same ∙ drop-min m front ∙ ap (drop m) is_front in
+    take_rest front same ∙ ap (λ k. drop k front) is_rest ∙ drop-min m front ∙ ap (drop m) is_front in
     let taken : take (length brought - dropped) (drop dropped brought) ≡ drop gone calls =
     take_rest brought dropped ∙ ap (λ k. drop k brought) is_dropped ∙ drop-min gone brought ∙ ap (drop gone) is_brought in
     is ∙ ap (λ w. begins w (take (length brought - dropped) (drop dropped brought))) rest ∙ ap (begins (drop m (take n own))) taken

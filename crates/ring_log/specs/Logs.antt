@@ -1,12 +1,11 @@
 -- A node's log, and what changes it: The replicated log, rules 1, 6, 8, 9, 11 and 12 of docs/PROTOCOL.md.
-use Rattle.std.specs.Prelude.{ℕ, ◌+◌, ◌-◌, ◌≤◌, max, min, Bool, ◌==◌, ◌&&◌, ◌||◌, nat_le, nat_lt, if◌then◌else◌, List, [], ◌∷◌, ◌++◌, length, take, drop}
+use Rattle.std.specs.Prelude.{ℕ, ◌+◌, ◌-◌, ◌≤◌, max, min, Bool, ◌&&◌, ◌||◌, nat_le, nat_lt, if◌then◌else◌, List, [], ◌∷◌, ◌++◌, length, take, drop}
 use Rattle.std.specs.Prelude.{Option, Some, None, is_some}
 use Rattle.std.specs.Cmp.Lexicographic.{pointwise}
-use Rattle.std.specs.Str.{bytes_eq}
 use Rattle.ring_base.specs.Fronts.{IsFront}
 use Rattle.ring_base.specs.Numbers.{max_number}
 use Rattle.ring_base.specs.declared.ring_id.RingId.{RingId}
-use Rattle.ring_wire.specs.Payloads.{Call as OneCall, Head}
+use Rattle.ring_wire.specs.Payloads.{Call as OneCall, Head, is_same}
 use Rattle.ring_log.specs.declared.base.Base.{Base}
 
 -- how many places were dropped, the calls of the others, how many places are committed, and the last primary. Places are counted from the log's beginning
@@ -80,13 +79,9 @@ head_of log = record { last = log.last; length = log_length log; committed = log
 
 -- What stops a node
 
--- the two calls are one: client, number and operation
-abbrev pub same_call : {A : Type 0} → OneCall A → OneCall A → Bool
-same_call c d = (c.client == d.client) && (c.number == d.number) && bytes_eq c.op d.op
-
 -- the first list of calls begins the second
 abbrev pub begins : {A : Type 0} → List (OneCall A) → List (OneCall A) → Bool
-begins front calls = pointwise same_call front (take (length front) calls)
+begins front calls = pointwise (λ (c : OneCall _) (d : OneCall _). is_same d c) front (take (length front) calls)
 
 -- so many places are no more than a log may have
 abbrev pub is_log_length : ℕ → Bool

@@ -6,18 +6,19 @@ use Rattle.std.proofs.lemmas.List.{take_all, take-append-drop}
 use Rattle.ring_base.specs.Fronts.{IsFront}
 use Rattle.ring_base.proofs.ListFronts.{take-front}
 use Rattle.ring_payload.specs.declared.call.Call.{Call as OneCall}
-use Rattle.ring_log.specs.Logs.{same_call, begins}
-use Rattle.ring_log.proofs.Calls.{same_call-self, begins-Decides}
+use Rattle.ring_payload.specs.SameCalls.{is_same, is_same-self}
+use Rattle.ring_log.specs.Logs.{begins}
+use Rattle.ring_log.proofs.Calls.{begins-Decides}
 
-calls-self : {A : Type 0} (cs : List (OneCall A)) → pointwise same_call cs cs ≡ true
+calls-self : {A : Type 0} (cs : List (OneCall A)) → pointwise (λ (c : OneCall A) (d : OneCall A). is_same d c) cs cs ≡ true
 calls-self [] = refl
-calls-self (c ∷ cs) = both_true (same_call-self c) (calls-self cs)
+calls-self (c ∷ cs) = both_true (is_same-self c) (calls-self cs)
 
 -- what is a front passes the test
 pub front-begins : {A : Type 0} (xs ys : List (OneCall A)) → IsFront xs ys → begins xs ys ≡ true
 front-begins xs ys f =
     let whole : take (length xs) ys ≡ xs = take-front xs ys (length xs) f (omega arith) ∙ take_all (length xs) xs (omega arith) in
-    subst (λ l. pointwise same_call xs l ≡ true) (sym whole) (calls-self xs)
+    subst (λ l. pointwise (λ (c : OneCall _) (d : OneCall _). is_same d c) xs l ≡ true) (sym whole) (calls-self xs)
 
 -- and what passes it is a front
 pub front_begins : {A : Type 0} → (front calls : List (OneCall A)) → begins front calls ≡ true → IsFront front calls

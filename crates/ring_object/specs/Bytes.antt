@@ -1,10 +1,20 @@
 -- Lists of bytes.
-use Rattle.std.proofs.Common.{ℕ, ◌<◌, List, All, get_or, Fits, w8, arith}
-use Rattle.std.proofs.lemmas.List.Elements.{All-from_get_or}
+use Rattle.std.proofs.Common.{ℕ, ◌<◌, List, All, length, get_or, Fits, w8, inl, inr, arith}
+use Rattle.std.proofs.lemmas.Bool.{cases_lt}
+use Rattle.std.proofs.lemmas.List.{get_or_past}
+use Rattle.std.proofs.lemmas.List.Elements.{All-get_or, All-from_get_or}
 
 -- each is a byte
 abbrev pub AreBytes : List ℕ → Type 0
 AreBytes bytes = All (λ byte. byte < 256) bytes
+
+-- a byte stands at each place, a zero past the end
+pub bytes_everywhere : (bytes : List ℕ) → AreBytes bytes → (i : ℕ) → get_or bytes i 0 < 256
+bytes_everywhere bytes are i =
+    elim (cases_lt i (length bytes)) [
+      | inl within ↦ All-get_or (λ byte. byte < 256) bytes i 0 within are
+      | inr past ↦ rw (get_or_past bytes i 0 past) (omega arith)
+    ]
 
 -- what a slice of bytes holds
 pub AreBytes-fits : (bytes : List ℕ) → ((i : ℕ) → Fits w8 (get_or bytes i 0)) → AreBytes bytes

@@ -15,6 +15,7 @@ use Rattle.ring_core_proof.specs.declared.event.RingEvent.TheVariants.{Deliver, 
 use Rattle.ring_core_proof.specs.Worlds.{World as RingWorld, after_step, stepped_if, handed_if, handed}
 use Rattle.ring_core_proof.specs.Worlds.{happens, unformed}
 use Rattle.ring_core_proof.proofs.KeptByMoves.{kept_step}
+use Rattle.ring_core_proof.proofs.Lifting.{cores-append}
 use Rattle.ring_synchrony_proof.proofs.Ordered.{Ordered, ordering}
 use Rattle.ring_log.specs.Lives.{whole_life}
 use Rattle.ring_log.specs.Stays.{Stay}
@@ -29,7 +30,6 @@ use Rattle.ring_rules.specs.Worlds.{World, world_opening, put, is_node, run, liv
 use Rattle.ring_order_proof.specs.Projection.{ring_part, by, IsRingRun}
 use Rattle.ring_order_proof.proofs.ProjectedEvents.{ring_run}
 use Rattle.ring_core.proofs.Quiet.{stepped_is}
-use Rattle.ring_order_proof.proofs.ProjectedSends.{run-append}
 use Rattle.ring_order_proof.proofs.ProjectedSteps.{IsOver, becomes_part, becomes_over}
 use Rattle.ring_order_proof.proofs.DisciplinedNodes.{LivesBy, steps_by}
 use Rattle.ring_order_proof.proofs.DisciplinedWorlds.{IsNodeKept, opened_on, run_group, own_keep, own_drop, below_above, tops}
@@ -88,7 +88,7 @@ module _ {O A : Type 0} (object : Sequential O) (group : Group) (events : List (
         events = ring.events ++ c.event ∷ [];
         outs = ring.outs ++ by i outs;
         part =
-            run-append (unformed group.count) ring.events (c.event ∷ [])
+            cores-append (unformed group.count) ring.events (c.event ∷ [])
             ∙ ap (λ (r : RingWorld A). happens r c.event) ring.part
             ∙ c.is
             ∙ becomes_part w ring.outs i n outs after (refl, refl, refl);

@@ -1,10 +1,10 @@
 -- What is due by what a core tells of a ring are pieces of a snapshot, Parts of the log that the node had before the ring, and calls.
 -- Nothing is due but in a primary ring that runs.
-use Rattle.std.proofs.Common.{◌≡◌, ℕ, zero, suc, ◌+◌, ◌*◌, ◌-◌, ◌≤◌, Bool, true, false, ◌==◌, ◌⊎◌, inl, inr, List, [], ◌∷◌, ◌++◌, map, take}
+use Rattle.std.proofs.Common.{◌≡◌, ℕ, zero, suc, ◌+◌, ◌*◌, ◌-◌, ◌≤◌, true, false, ◌==◌, ◌⊎◌, inl, inr, List, [], ◌∷◌, ◌++◌, map, take}
 use Rattle.std.proofs.Common.{length, drop, Option, Some, None, refl, ap, sym, ◌∙◌, subst, arith}
 use Rattle.std.specs.Prelude.{◌&&◌, nat_le, nat_lt, not}
 use Rattle.std.specs.List.{AllByRecursion as Each}
-use Rattle.std.proofs.lemmas.Bool.{cond_both, and_parts, leb-true, eqb-true, eq-eqb}
+use Rattle.std.proofs.lemmas.Bool.{cond_both, and_parts, not-true, leb-true, eqb-true, eq-eqb}
 use Rattle.ring_base.specs.Fronts.{IsFront, front_trans}
 use Rattle.ring_base.specs.Group.{Group, is_primary}
 use Rattle.ring_base.specs.Processors.{nobody}
@@ -210,15 +210,11 @@ module _ {O A : Type 0} (object : Sequential O) where
       let due = owner_due n.core.me (snapshot_kept object k) (log_kept k) (wanted new) in
       cond_both (is_stated new && not (is_stated old)) due [] (Each (FollowsHead before))
       (λ t.
-      let unsaid_is : is_stated old ≡ false = unsaid (is_stated old) (and_parts (is_stated new) (not (is_stated old)) t).1 in
+      let unsaid_is : is_stated old ≡ false = not-true (is_stated old) (and_parts (is_stated new) (not (is_stated old)) t).1 in
       let here : Each (FollowsHead k) due = owner_follows n.core.me (snapshot_kept object k) k new (kept_low n.group (s ∷ older)) in
       each-weaker (FollowsHead (dropped_by s.trimmed before)) (FollowsHead before) (follows_undropped s.trimmed before) due
       (subst (λ (x : Kept A). Each (FollowsHead x) due) (still_known n.group s older unsaid_is) here))
       (λ f. tt)
-    where
-      unsaid : (b : Bool) → not b ≡ true → b ≡ false
-      unsaid true e = absurd (cc e)
-      unsaid false e = refl
 
   pub agreed_due : (n : Node A) (core : Core A) (ring : RingId) (s : Stay A) (older : List (Stay A)) (x : Message A) (life : List (Stay A)) →
       IsDue (RunsPrimary n.group core ring s.members) (kept_of n.group older) (due_at_agreed object n core ring (s ∷ older) x life)

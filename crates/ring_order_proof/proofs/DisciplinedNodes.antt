@@ -47,7 +47,7 @@ use Rattle.ring_log_proof.proofs.Living.{event-dropping, events-dropping}
 use Rattle.ring_synchrony_proof.proofs.Ordered.{Ordered, ordering}
 use Rattle.ring_synchrony_proof.proofs.LivesTold.{keeps_done}
 use Rattle.ring_core_proof.proofs.KeptByMoves.{kept_step, kept_stop}
-use Rattle.ring_core.proofs.Quiet.{queued, installs_same, stepped_is}
+use Rattle.ring_core.proofs.Quiet.{with_queue, installs_same, stepped_is}
 use Rattle.ring_core.proofs.States.{installs_recovering}
 use Rattle.ring_order_proof.proofs.DisciplinedTelling.{events-append, may-append}
 use Rattle.ring_order_proof.proofs.DisciplinedDues.{IsDue, none_due}
@@ -363,7 +363,7 @@ adopted_opened {A} n o e none = by_last (kept_of n.group (o.stay ∷ o.older)).l
         let here : ring ≡ o.stay.ring = sym same ∙ sym o.stands.ring in
         o.stands.opened (operates n.core.state both.0) (last_primary n.group o.stay o.older apart ring l here) none
 
-queued_ready : {A : Type 0} → (c : Core A) (q : List (Payload A)) → may_install c ≡ false → may_install (queued c q) ≡ false
+queued_ready : {A : Type 0} → (c : Core A) (q : List (Payload A)) → may_install c ≡ false → may_install (with_queue c q) ≡ false
 queued_ready c q h = installs_same c.state c q ∙ h
 
 pub node_submits : {A : Type 0} → (n : Node A) (c : OneCall A) → IsOrderlyNode n → Becomes n (submitted n c)

@@ -27,10 +27,11 @@ use Rattle.ring_core.specs.Giving.{install, addressed, sent, given, delivered_fr
 use Rattle.ring_log.specs.Stays.{Stay, stay_in}
 use Rattle.ring_log.specs.Kept.{kept_of, head_kept}
 use Rattle.ring_rules.specs.Lives.{lived, lived_through}
+use Rattle.ring_rules.proofs.LivedThrough.{through-append}
 use Rattle.ring_rules.specs.Nodes.{Node, runs}
 use Rattle.ring_log_proof.specs.Time.{LifeEvent, Regular, MayHandFirst, MayHandAfter, AllMayHappen, all_lived}
 use Rattle.ring_order_proof.proofs.DisciplinedDues.{IsDue, RunsPrimary, none_due}
-use Rattle.ring_order_proof.proofs.DisciplinedTelling.{IsTold, through-append, due-append, events-append, may-append, silent_through, silent_due}
+use Rattle.ring_order_proof.proofs.DisciplinedTelling.{IsTold, due-append, events-append, may-append, silent_through, silent_due}
 use Rattle.ring_order_proof.proofs.DisciplinedTelling.{delivered_told, told_then}
 use Rattle.ring_rules.specs.Dues.{due_at_regular, due_at, due_by}
 

@@ -8,13 +8,14 @@ use Rattle.ring_base.specs.Group.{Group}
 use Rattle.ring_object.specs.Operations.{Sequential}
 use Rattle.ring_wire.specs.declared.message.Message.{Message}
 use Rattle.ring_core.specs.declared.out.Out.{Out}
-use Rattle.ring_core.specs.declared.out.Out.TheVariants.{Agreed as AgreedOut, Safe as SafeOut}
+use Rattle.ring_core.specs.declared.out.Out.TheVariants.{Safe as SafeOut}
 use Rattle.ring_core.specs.State.{Core}
 use Rattle.ring_core.specs.Views.{front, mark}
-use Rattle.ring_core.specs.Giving.{users, agreed_from, safe_from, delivered_from}
+use Rattle.ring_core.specs.Giving.{users, all_agreed, agreed_from, safe_from, delivered_from}
 use Rattle.ring_log.specs.Stays.{Stay}
 use Rattle.ring_log.specs.Kept.{kept_of}
 use Rattle.ring_rules.specs.Lives.{lived, lived_through}
+use Rattle.ring_rules.proofs.LivedThrough.{through-append}
 use Rattle.ring_rules.specs.Nodes.{Node}
 use Rattle.ring_log_proof.specs.Time.{LifeEvent, Agreed, Safe, AllMayHappen, all_lived}
 use Rattle.ring_log_proof.specs.Time.{lived as life_lived}
@@ -22,10 +23,6 @@ use Rattle.ring_order_proof.proofs.DisciplinedDues.{IsDue, RunsPrimary, none_due
 use Rattle.ring_rules.specs.Dues.{due_at, due_by}
 
 -- One list after another
-
-pub through-append : {A : Type 0} → (life : List (Stay A)) (xs ys : List (Out A)) → lived_through life (xs ++ ys) ≡ lived_through (lived_through life xs) ys
-through-append life [] ys = refl
-through-append life (x ∷ xs) ys = through-append (lived life x) xs ys
 
 pub due-append : {O A : Type 0} → (object : Sequential O) (n : Node A) (core : Core A) (life : List (Stay A)) (xs ys : List (Out A)) →
     due_by object n core life (xs ++ ys) ≡ due_by object n core life xs ++ due_by object n core (lived_through life xs) ys
@@ -74,15 +71,12 @@ pub record IsTold {O A : Type 0} (object : Sequential O) (n : Node A) (core : Co
 
 -- what is agreed
 
-abbrev pub agreed_outs : {A : Type 0} → RingId → List (Message A) → List (Out A)
-agreed_outs {A} ring xs = map (λ (x : Message A). AgreedOut ring x.number x) xs
-
 abbrev pub heard_more : {A : Type 0} → Stay A → List (Message A) → Stay A
 heard_more s xs = record s { heard = s.heard ++ xs }
 
 pub agreed_told : {O A : Type 0} → (object : Sequential O) (n : Node A) (core : Core A) (ring : RingId) (s : Stay A) (older : List (Stay A))
     (xs : List (Message A)) →
-    (t : IsTold object n core ring s older (agreed_outs ring xs)) × (t.stay.mark ≡ s.mark)
+    (t : IsTold object n core ring s older (all_agreed ring xs)) × (t.stay.mark ≡ s.mark)
 agreed_told object n core ring s older [] =
     (record { stay = s; life = refl; events = []; may = tt; lived_on = refl; ring_is = refl; members_is = refl; sent_is = refl; due = none_due _ _ }, refl)
 agreed_told object n core ring s older (x ∷ xs) =

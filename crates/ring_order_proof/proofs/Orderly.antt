@@ -21,11 +21,16 @@ pub record IsOrderlyWorld {A : Type 0} (group : Group) (w : World A) : Type 0 wh
   pub facts : RingFacts (lives_of w) members text
   pub discipline : KeepsRules group (lives_of w)
 
+-- events, one list of them after another
+pub run-append : {O A : Type 0} → (object : Sequential O) (w : World A) (xs ys : List (Event A))
+    → run object w (xs ++ ys) ≡ run object (run object w xs) ys
+run-append object w [] ys = refl
+run-append object w (x ∷ xs) ys = run-append object (happens object w x) xs ys
+
 -- one event more
 pub run-more : {O A : Type 0} → (object : Sequential O) (w : World A) (before : List (Event A)) (e : Event A)
     → run object w (before ++ e ∷ []) ≡ happens object (run object w before) e
-run-more object w [] e = refl
-run-more object w (d ∷ before) e = run-more object (happens object w d) before e
+run-more object w before e = run-append object w before (e ∷ [])
 
 module _ {O A : Type 0} (object : Sequential O) (group : Group) (few : group.count ≤ 16) where
   pub orderly : (events : List (Event A)) → IsOrderlyWorld group (run object (world_opening group) events)

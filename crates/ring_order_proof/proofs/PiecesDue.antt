@@ -4,7 +4,7 @@ use Rattle.std.proofs.Common.{◌≡◌, ℕ, ◌+◌, ◌*◌, ◌/◌, ◌-◌
 use Rattle.std.proofs.Common.{Option, Some, None, inr, refl, ap, sym, ◌∙◌, subst, arith, append_assoc}
 use Rattle.std.specs.Prelude.{nat_le, nat_lt, not, is_some, filter}
 use Rattle.std.specs.List.{AllByRecursion as Each}
-use Rattle.std.proofs.lemmas.Bool.{cond_both, cond-false, and_parts, leb-true}
+use Rattle.std.proofs.lemmas.Bool.{cond_both, cond-false, and_parts, not-true, leb-true}
 use Rattle.ring_base.specs.Group.{Group, is_primary}
 use Rattle.ring_base.specs.Numbers.{numbers_from}
 use Rattle.ring_base.specs.declared.ring_id.RingId.{RingId}
@@ -43,6 +43,7 @@ use Rattle.ring_session.specs.Tickets.{Asked}
 use Rattle.ring_rules.specs.Dues.{is_stated, parts_due, snaps_due, is_snapshot_kept, places_due, owner_due, calls_due, places_past, due_when_whole}
 use Rattle.ring_rules.specs.Dues.{stands_in, owner_told, due_at_regular, due_between, due_in_stay, due_at, due_by}
 use Rattle.ring_rules.specs.Lives.{lived, lived_through}
+use Rattle.ring_rules.proofs.LivedThrough.{through-append}
 use Rattle.ring_rules.specs.Nodes.{Node, node_kept, node_pending, snapshot_kept, is_closed, runs}
 use Rattle.ring_synchrony_proof.proofs.Ordered.{Ordered}
 use Rattle.ring_synchrony_proof.proofs.LivesTold.{keeps_done}
@@ -153,10 +154,6 @@ lived-stay s older (SendOut to frame) k = (s, refl)
 lived-stay s older (Trans old new set) k = (s, refl)
 lived-stay s older (Rest ring n x) k = (s, refl)
 
-through-append : {A : Type 0} (life : List (Stay A)) (xs ys : List (Out A)) → lived_through life (xs ++ ys) ≡ lived_through (lived_through life xs) ys
-through-append life [] ys = refl
-through-append life (x ∷ xs) ys = through-append (lived life x) xs ys
-
 module _ {O A : Type 0} (object : Sequential O) (n : Node A) (core : Core A) where
   -- pieces of the snapshot that the node kept as it entered the ring after this life
   abbrev pub P : List (Stay A) → Payload A → Type 0
@@ -169,10 +166,6 @@ module _ {O A : Type 0} (object : Sequential O) (n : Node A) (core : Core A) whe
       (λ t. calls-pieces (snapshot_kept object (kept_of n.group older)) (node_pending n)
       (places_past (node_kept n).committed (log_kept (kept_of n.group life)))) (λ f. tt)
 
-  unstated : (b : Bool) → not b ≡ true → b ≡ false
-  unstated true t = absurd (cc t)
-  unstated false t = refl
-
   stated-pieces : (s : Stay A) (older : List (Stay A)) (new : Exchange A) → is_primary n.group s.members ≡ true → IsFrozen n.group (s ∷ older)
       → Each (P older) (owner_told object n (kept_of n.group (s ∷ older)) (after_all (opened s.members) s.heard) new)
   stated-pieces s older new primary frozen =
@@ -181,7 +174,7 @@ module _ {O A : Type 0} (object : Sequential O) (n : Node A) (core : Core A) whe
       let due = owner_due n.core.me (snapshot_kept object k) (log_kept k) (wanted new) in
       cond_both (is_stated new && not (is_stated old)) due [] (Each (P older))
       (λ t.
-      let none = unstated_none n.group s.members s.heard (unstated (is_stated old) (and_parts (is_stated new) (not (is_stated old)) t).1) in
+      let none = unstated_none n.group s.members s.heard (not-true (is_stated old) (and_parts (is_stated new) (not (is_stated old)) t).1) in
       let unclosed : is_closed n.group (s ∷ older) ≡ false =
       ap (λ b. not b || is_some (exchanged n.group s.members s.heard)) primary ∙ ap is_some none in
       subst (λ (j : Kept A). Each (IsPieceOf (snapshot_kept object j)) due) (kept-open n.group s older none (frozen unclosed))

@@ -21,9 +21,10 @@ use Rattle.ring_rules.specs.Worlds.{happens as node_happens, run as node_run}
 use Rattle.ring_core_proof.specs.declared.event.RingEvent.{RingEvent}
 use Rattle.ring_core_proof.specs.declared.event.RingEvent.TheVariants.{Deliver as RingDeliver, Timeout as RingTimeout}
 use Rattle.ring_core_proof.specs.Worlds.{put, stepped_if, handed_if, handed, run}
+use Rattle.ring_core_proof.proofs.Lifting.{cores-append}
 use Rattle.ring_order_proof.specs.Projection.{ring_part, IsRingRun, Share, share_if, share_handed_if, share_handed, share_issued_or, share_issued_if}
 use Rattle.ring_order_proof.specs.Projection.{share_stopped_if, share, both_shares, share_of, IsProjected}
-use Rattle.ring_order_proof.proofs.ProjectedSends.{run-append, run_sends, handed_is}
+use Rattle.ring_order_proof.proofs.ProjectedSends.{run_sends, handed_is}
 use Rattle.ring_order_proof.proofs.ProjectedSteps.{cores_of, hands_unsent, IsOver, Leads, stays, Becomes, becomes_part, becomes_over, halts, steps}
 
 module _ {O A : Type 0} (object : Sequential O) (w : World A) (outs : List (ℕ × Out A)) (over : IsOver w outs) where
@@ -95,7 +96,7 @@ leads_on w outs x between a y after b =
     let same : (outs ++ x.outs) ++ y.outs ≡ outs ++ (x.outs ++ y.outs) = append_assoc outs x.outs y.outs in
     record {
       part =
-          run-append (ring_part w outs) x.events y.events
+          cores-append (ring_part w outs) x.events y.events
           ∙ ap (λ r. run r y.events) a.part
           ∙ b.part
           ∙ ap (ring_part after) same;

@@ -1,42 +1,37 @@
 -- Payloads handed to a core one after another, as events of a world of ring cores: only that core changes.
-use Rattle.std.proofs.Common.{◌≡◌, ℕ, true, false, List, [], ◌∷◌, ◌++◌, refl, ap, sym, ◌∙◌, subst, append-nil}
+use Rattle.std.proofs.Common.{◌≡◌, ℕ, true, false, List, [], ◌∷◌, ap, sym, ◌∙◌, subst, append-nil}
 use Rattle.ring_payload.specs.declared.content.Payload.{Payload}
 use Rattle.ring_core.specs.declared.input.Input.TheVariants.{Send as SendInput}
 use Rattle.ring_core.specs.State.{Core}
 use Rattle.ring_core.specs.Giving.{may_install}
 use Rattle.ring_core.specs.Stepping.{ring_step}
 use Rattle.ring_rules.specs.Stepping.{handed_over}
-use Rattle.ring_core_proof.specs.declared.event.RingEvent.{RingEvent}
 use Rattle.ring_core_proof.specs.declared.event.RingEvent.TheVariants.{Send}
 use Rattle.ring_core_proof.specs.Worlds.{World as RingWorld, put, after_step, is_node, stepped_if, happens, run}
 use Rattle.ring_core_proof.proofs.Lifting.{put-put, put-own, put-here}
 use Rattle.ring_order_proof.specs.Projection.{sends_to}
-use Rattle.ring_core.proofs.Quiet.{IsQuiet, queued, quiet_send, stepped_is}
+use Rattle.ring_core.proofs.Quiet.{IsQuiet, with_queue, quiet_send, stepped_is}
 use Rattle.ring_base.proofs.TwoEqual.{ap-both}
 
 -- a world with other cores
 abbrev pub with_cores : {A : Type 0} → RingWorld A → (ℕ → Core A) → RingWorld A
 with_cores r cores = record r { cores = cores }
 
-pub run-append : {A : Type 0} → (r : RingWorld A) (xs ys : List (RingEvent A)) → run r (xs ++ ys) ≡ run (run r xs) ys
-run-append r [] ys = refl
-run-append r (x ∷ xs) ys = run-append (happens r x) xs ys
-
 -- a step that gives nothing
 silent_step : {A : Type 0} → (r : RingWorld A) (i : ℕ) (c : Core A) → after_step r i (record { core = c; outs = [] }) ≡ with_cores r (put r.cores i c)
 silent_step r i c = ap-both (λ frames outs. record r { cores = put r.cores i c; frames = frames; outs = outs }) (append-nil r.frames) (append-nil r.outs)
 
 one_send : {A : Type 0} → (r : RingWorld A) (i : ℕ) (p : Payload A) → is_node r i ≡ true → (q : IsQuiet (r.cores i) (ring_step (r.cores i) (SendInput p))) →
-    happens r (Send i p) ≡ with_cores r (put r.cores i (queued (r.cores i) q.queue))
+    happens r (Send i p) ≡ with_cores r (put r.cores i (with_queue (r.cores i) q.queue))
 one_send r i p n q =
-    ap (λ b. stepped_if b r i (SendInput p)) n ∙ ap (after_step r i) q.is ∙ silent_step r i (queued (r.cores i) q.queue)
+    ap (λ b. stepped_if b r i (SendInput p)) n ∙ ap (after_step r i) q.is ∙ silent_step r i (with_queue (r.cores i) q.queue)
 
 pub run_sends : {A : Type 0} → (r : RingWorld A) (i : ℕ) (ps : List (Payload A)) → is_node r i ≡ true → may_install (r.cores i) ≡ false →
     run r (sends_to i ps) ≡ with_cores r (put r.cores i (handed_over (r.cores i) ps))
 run_sends r i [] n h = ap (with_cores r) (sym (put-own r.cores i))
 run_sends {A} r i (p ∷ ps) n h =
     let q = quiet_send (r.cores i) p h in
-    let c = queued (r.cores i) q.queue in
+    let c = with_queue (r.cores i) q.queue in
     let s = with_cores r (put r.cores i c) in
     let here : s.cores i ≡ c = put-here r.cores i c in
     let later : run s (sends_to i ps) ≡ with_cores s (put s.cores i (handed_over (s.cores i) ps)) =

@@ -32,7 +32,7 @@ use Rattle.ring_core_proof.proofs.Lifting.{put-put, put-here}
 use Rattle.ring_order_proof.specs.Projection.{ring_part, heard_life, sends_to, by, Share, no_share, share_settled, share_of_step, share_stopped_if}
 use Rattle.ring_core.proofs.Quiet.{stepped_is}
 use Rattle.ring_order_proof.proofs.ProjectedSends.{with_cores, run_sends, handed_is}
-use Rattle.ring_order_proof.proofs.DisciplinedTelling.{through-append}
+use Rattle.ring_rules.proofs.LivedThrough.{through-append}
 use Rattle.ring_log.specs.Kept.{Kept, kept_of, log_kept, is_kept_sound}
 use Rattle.ring_log.specs.Logs.{committed_calls}
 

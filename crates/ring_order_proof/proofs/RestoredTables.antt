@@ -2,7 +2,7 @@
 -- So from the bytes on each node's table is that of the whole log.
 
 -- By the numbers of rings: a snapshot is sent by a node whose life before that ring is of smaller ones.
-use Rattle.std.proofs.Common.{◌≡◌, ℕ, zero, suc, ◌+◌, ◌-◌, ◌^◌, ◌<◌, ◌≤◌, ◌==◌, ◌&&◌, ◌||◌, Bool, true, false, List, [], ◌∷◌, ◌++◌, length, take, drop}
+use Rattle.std.proofs.Common.{◌≡◌, ℕ, zero, suc, ◌+◌, ◌-◌, ◌^◌, ◌<◌, ◌≤◌, ◌==◌, ◌&&◌, ◌||◌, Bool, true, List, [], ◌∷◌, ◌++◌, length, take, drop}
 use Rattle.std.proofs.Common.{Option, Some, None, ◌⊎◌, inl, inr, refl, ap, sym, ◌∙◌, subst, arith, All}
 use Rattle.std.specs.Prelude.{nat_lt, is_some, fold}
 use Rattle.std.specs.List.{AllByRecursion as Each}
@@ -13,6 +13,7 @@ use Rattle.std.proofs.lemmas.List.Sums.{fold-append}
 use Rattle.ring_base.specs.Fronts.{IsFront, front_length, front_trans}
 use Rattle.ring_base.specs.Group.{Group}
 use Rattle.ring_base.specs.declared.ring_id.RingId.{RingId}
+use Rattle.ring_base.proofs.Cases.{or-true}
 use Rattle.ring_base.proofs.Each.{each-weaker, each-front, each-both, each-take}
 use Rattle.ring_base.proofs.ListFronts.{take-front}
 use Rattle.ring_object.specs.Operations.{Sequential}
@@ -83,10 +84,6 @@ module _ {O A : Type 0} (object : Sequential O) where
             ∙ ap (table_or object) r.restored
       ]
     ]
-
-    or-true : (b : Bool) → (b || true) ≡ true
-    or-true true = refl
-    or-true false = refl
 
     -- the bytes are a snapshot
     pub is-restored : is_restored object k ≡ true

@@ -34,6 +34,7 @@ use Rattle.ring_core_proof.proofs.Guards.{guarded}
 use Rattle.ring_core_proof.proofs.StepsAreMoves.{queue_each}
 use Rattle.ring_core_proof.proofs.OwnRings.{below_first}
 use Rattle.ring_synchrony_proof.proofs.Ordered.{Ordered}
+use Rattle.ring_core.proofs.Quiet.{with_queue}
 use Rattle.ring_core.proofs.States.{proposes_gathering, accepted_ring}
 use Rattle.ring_order_proof.proofs.DisciplinedSteps.{installed_rings}
 use Rattle.ring_order_proof.specs.Spoken.{spoken_at, spoken_in, spoken}
@@ -341,9 +342,6 @@ queue_with Gather queue more = queue
 queue_with Commit queue more = queue
 queue_with Recovery queue more = queue
 queue_with Stopped queue more = queue
-
-abbrev pub with_queue : {A : Type 0} → Core A → List (Payload A) → Core A
-with_queue c queue = record c { queue = queue }
 
 operates_with : {A : Type 0} → (s : State) (queue more : List (Payload A)) → s ≡ Operational → queue_with s queue more ≡ queue ++ more
 operates_with {A} s queue more e = subst (λ (t : State). queue_with t queue more ≡ queue ++ more) (sym e) refl

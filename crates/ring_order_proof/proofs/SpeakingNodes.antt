@@ -52,9 +52,9 @@ use Rattle.ring_rules.specs.Stepping.{submit_fault, submitted}
 use Rattle.ring_log_proof.specs.RingFacts.{IsStay, StayIn}
 use Rattle.ring_log_proof.specs.Discipline.{FollowsHead, OpensWithHead}
 use Rattle.ring_log_proof.proofs.Living.{IsOrderly}
-use Rattle.ring_core.proofs.Quiet.{installs_same, stepped_is}
+use Rattle.ring_core.proofs.Quiet.{with_queue, installs_same, stepped_is}
 use Rattle.ring_core.proofs.States.{installs_recovering}
-use Rattle.ring_order_proof.proofs.DisciplinedTelling.{through-append}
+use Rattle.ring_rules.proofs.LivedThrough.{through-append}
 use Rattle.ring_order_proof.proofs.DisciplinedSteps.{rings_of, installed_rings}
 use Rattle.ring_order_proof.proofs.DisciplinedNodes.{IsOrderlyNode, falls_from, stays_below}
 use Rattle.ring_order_proof.proofs.DisciplinedWorlds.{IsNodeKept, AllKept, run_on, opened_on}
@@ -66,7 +66,7 @@ use Rattle.ring_rules.proofs.QuietHanding.{queued_all}
 use Rattle.ring_order_proof.specs.Spoken.{spoken}
 use Rattle.ring_order_proof.specs.Said.{SpeaksInOrder}
 use Rattle.ring_order_proof.proofs.Speaking.{IsSpeaker, IsSaid, IsNoSend, done_said, done_speaks, install_said, install_new}
-use Rattle.ring_order_proof.proofs.Speaking.{install_speaks, halt_said, halt_speaks, opening_speaks, queue_with, with_queue}
+use Rattle.ring_order_proof.proofs.Speaking.{install_speaks, halt_said, halt_speaks, opening_speaks, queue_with}
 use Rattle.ring_order_proof.proofs.Speaking.{hand_said, hand_other, hand_speaks}
 use Rattle.ring_log.specs.Kept.{Kept, kept_of, log_kept, is_kept_sound}
 

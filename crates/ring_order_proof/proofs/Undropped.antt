@@ -1,7 +1,7 @@
 -- After each event of a run no node has committed places that wait to be dropped, and none knows of more places than a log may have.
 use Rattle.std.proofs.Common.{◌≡◌, ℕ, ◌-◌, ◌≤◌, Bool, true, false, ◌&&◌, List, [], ◌∷◌, length, Option, None, refl, ap, sym, ◌∙◌, arith}
 use Rattle.std.specs.Prelude.{nat_le}
-use Rattle.std.proofs.lemmas.Bool.{cond_both, and_parts, leb-true}
+use Rattle.std.proofs.lemmas.Bool.{cond_both, and_parts, and_left, and_right, leb-true}
 use Rattle.ring_base.specs.Group.{Group, is_primary}
 use Rattle.ring_base.specs.Numbers.{max_number}
 use Rattle.ring_base.specs.Processors.{only}
@@ -56,15 +56,11 @@ born-kept A group me =
     (λ f. refl) in
     ap (λ (o : Option (Whole A)). dropped_by 0 (kept_by (record { seq = 0; rep = me }) nothing_kept o o)) none
 
-and-false : (a b : Bool) → (a && false) && b ≡ false
-and-false true b = refl
-and-false false b = refl
-
 module _ {O A : Type 0} (object : Sequential O) where
   drops-unripe : (closed : Bool) (k : Kept A) → is_ripe (log_kept k) ≡ false → drops object closed k ≡ false
   drops-unripe closed k unripe =
       let short = nat_le (length (snapshot_at object k k.committed)) most_snapshot in
-      ap (λ ripe. (closed && ripe) && short) unripe ∙ and-false closed short
+      and_left (closed && is_ripe (log_kept k)) short (and_right closed (is_ripe (log_kept k)) unripe)
 
   -- a node that would drop nothing now, and whose log is no longer than it may be
   pub record IsUndropping (n : Node A) : Type 0 where

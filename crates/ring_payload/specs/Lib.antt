@@ -7,6 +7,7 @@ pub mod Operations
 pub mod Packs
 pub mod Parts
 pub mod Payloads
+pub mod SameCalls
 pub mod Snaps
 pub mod Versions
 pub mod Packing

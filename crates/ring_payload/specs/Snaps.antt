@@ -73,8 +73,8 @@ is_piece_fits s f =
     let count = eq-eqb (length s.bytes) (piece_length s.total s.offset) f.bytes in
     rw (le-leb _ _ f.at_counted, le-leb _ _ f.at, le-leb _ _ f.total_counted, le-leb _ _ f.total, lt-ltb _ _ f.offset, eq-eqb _ _ f.whole, count) refl
 
--- no piece has more than 7,000 bytes
-pub snap_short : {A : Type 0} (s : Snap A) → SnapFits s → length s.bytes ≤ 7000
+-- no piece has more bytes than a whole one
+pub snap_short : {A : Type 0} (s : Snap A) → SnapFits s → length s.bytes ≤ whole_piece
 snap_short s f = omega (arith, f.bytes)
 
 pub snap_format : {A : Type 0} → IsFormat {A = Snap A} snap_spelling SnapFits snap_at
@@ -83,7 +83,7 @@ snap_format {A} = told_format snap_fields told snap_spelling SnapFits (record {
   spelled = λ p f. rw f.1 refl;
   fits = piece_fits;
   back = λ s f.
-      let short : length s.bytes ≤ 7000 = snap_short s f in (
+      let short : length s.bytes ≤ whole_piece = snap_short s f in (
         ((s.at, (s.total, (s.offset, length s.bytes))), s.bytes),
         (((omega (arith, f.at), (omega (arith, f.total), (omega (arith, f.total, f.offset), omega (arith, short)))), is_piece_fits s f), refl),
         refl,

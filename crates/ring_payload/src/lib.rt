@@ -21,8 +21,8 @@ pub use head::Head;
 pub use operation::{CallOperation, MOST_OPERATION};
 pub use piece::Piece;
 pub use ring_layout::{
-    Decode, Encode, Fault, MAX, Past, Proc, ProcSet, Reader, RingId, WINDOW, Wire, Words, past_of,
-    read_in_place, read_sized, write_many, write_sized,
+    Decode, Encode, Fault, MAX, PROCESSORS, Past, Proc, ProcSet, Reader, RingId, WINDOW, Wire,
+    Words, past_of, read_in_place, read_sized, write_many, write_sized,
 };
 pub use snap::{MOST_SNAPSHOT, Snap, WHOLE_PIECE};
 pub use versions::FIRST_VERSION;

@@ -38,7 +38,7 @@ pub enum Mark {
         client: u32,
         number: u64,
     },
-    /// A call was answered.
+    /// A call was answered or refused: it waits no longer.
     Answer {
         node: Proc,
         client: u32,

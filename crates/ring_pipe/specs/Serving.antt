@@ -35,7 +35,7 @@ IsAtFault left rest = ((r : Record) × Consumes left rest (record_of r.kind r.by
 abbrev pub TakesNoMore : Option (List ℕ) → Option (List ℕ) → Type 0
 TakesNoMore left rest = ((r : Record) × Consumes left rest (record_of r.kind r.bytes)) ⊎ TakesUnfinished left rest
 
--- there are as many records as can be counted, and behind them nothing is taken or told: this is told as an output that failed
+-- there are as many records as can be counted, and behind them nothing is taken or told: the failure is the one of an output that fails
 abbrev pub IsFull : List Record → Option (List ℕ) → Option (List ℕ) → Option (List ℕ) → Option (List ℕ) → Failure → Type 0
 IsFull records left rest out out' failure = (failure ≡ Output) × (length records ≡ 2 ^ 64 - 1) × (rest ≡ left) × (out' ≡ out)
 

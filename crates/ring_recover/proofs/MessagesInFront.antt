@@ -1,5 +1,5 @@
 -- A new ring's messages in the front, as the front rises.
-use Rattle.std.proofs.Common.{◌≡◌, ℕ, zero, suc, ◌+◌, ◌-◌, ◌<◌, ◌≤◌, Bool, true, false, List, [], ◌∷◌, ◌++◌, filter_map}
+use Rattle.std.proofs.Common.{◌≡◌, ℕ, zero, suc, ◌+◌, ◌-◌, ◌<◌, ◌≤◌, true, false, List, [], ◌∷◌, ◌++◌, filter_map}
 use Rattle.std.proofs.Common.{length, Option, Some, None, refl, ap, ◌∙◌, sym, subst, inl, inr, arith, length-append}
 use Rattle.std.specs.List.{cons_option}
 use Rattle.std.specs.Prelude.{nat_lt, ◌==◌, ◌||◌}
@@ -11,6 +11,7 @@ use Rattle.ring_base.specs.Numbers.{numbers_from}
 use Rattle.ring_base.specs.Passing.{length-numbers_from}
 use Rattle.ring_base.specs.Rings.{same_ring}
 use Rattle.ring_base.specs.declared.ring_id.RingId.{RingId}
+use Rattle.ring_base.proofs.Cases.{or-true}
 use Rattle.ring_base.proofs.ListPlaces.{numbers-append}
 use Rattle.ring_window.specs.Messages.{Message}
 use Rattle.ring_window.specs.Held.{is_numbered, found, holds, front_of}
@@ -88,11 +89,7 @@ found_more x held ring n new old =
     ]
 
 holds_more : {A : Type 0} (x : Message A) (held : List (Message A)) (ring : RingId) (n : ℕ) → holds held ring n ≡ true → holds (x ∷ held) ring n ≡ true
-holds_more x held ring n h = ap (λ b. is_numbered ring n x || b) h ∙ or_true (is_numbered ring n x)
-  where
-    or_true : (b : Bool) → (b || true) ≡ true
-    or_true true = refl
-    or_true false = refl
+holds_more x held ring n h = ap (λ b. is_numbered ring n x || b) h ∙ or-true (is_numbered ring n x)
 
 module _ {A : Type 0} (x : Message A) (held : List (Message A)) (ring : RingId) (new : holds held ring x.number ≡ false) where
   same_up_to : (k : ℕ) → k ≤ front_of held ring → up_to (x ∷ held) ring k ≡ up_to held ring k

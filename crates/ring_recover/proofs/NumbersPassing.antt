@@ -5,6 +5,7 @@ use Rattle.std.specs.Prelude.{◌&&◌, nat_lt}
 use Rattle.std.specs.List.{list_all}
 use Rattle.std.proofs.lemmas.Bool.{cases_lt, cases_eq, cases_Bool, cond_both, cond-true, cond-false, and_parts, and_from, lt-ltb, le-ltb, true≢false}
 use Rattle.ring_base.specs.Numbers.{window_size, numbers_from}
+use Rattle.ring_base.proofs.Cases.{and-true, and-false}
 use Rattle.ring_window.specs.Bits.{is_set}
 use Rattle.ring_window.proofs.WordBits.{clear_past}
 use Rattle.ring_recover.specs.Chosen.{is_chosen, chosen, chosen_from, IsFirstSet}
@@ -39,17 +40,9 @@ pub both_on : (p q : ℕ → Bool) (xs : List ℕ) → filter p (filter q xs) �
 both_on p q [] = refl
 both_on p q (x ∷ xs) =
     elim (cases_Bool (q x)) [
-      | inl e ↦ rw (cond-true (q x) (x ∷ filter q xs) (filter q xs) e, both_on p q xs, e, right_true (p x)) refl
-      | inr e ↦ rw (cond-false (q x) (x ∷ filter q xs) (filter q xs) e, both_on p q xs, e, right_false (p x)) refl
+      | inl e ↦ rw (cond-true (q x) (x ∷ filter q xs) (filter q xs) e, both_on p q xs, e, and-true (p x)) refl
+      | inr e ↦ rw (cond-false (q x) (x ∷ filter q xs) (filter q xs) e, both_on p q xs, e, and-false (p x)) refl
     ]
-  where
-    right_true : (b : Bool) → (b && true) ≡ b
-    right_true true = refl
-    right_true false = refl
-
-    right_false : (b : Bool) → (b && false) ≡ false
-    right_false true = refl
-    right_false false = refl
 
 -- ---- bits
 

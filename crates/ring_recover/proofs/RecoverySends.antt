@@ -8,6 +8,7 @@ use Rattle.std.proofs.lemmas.Bool.{cases_Bool, cond-true, cond-false, and_parts,
 use Rattle.std.proofs.lemmas.Option.{same_Some}
 use Rattle.ring_base.specs.Rings.{same_ring}
 use Rattle.ring_base.specs.declared.ring_id.RingId.{RingId}
+use Rattle.ring_base.proofs.Cases.{and-true}
 use Rattle.ring_window.specs.Payloads.{is_user, is_end, content_of, Payload}
 use Rattle.ring_window.specs.PayloadVariants.{Call, Wrapped, End, Head, Part, Pack, Snap}
 use Rattle.ring_window.specs.Messages.{Message}
@@ -58,14 +59,10 @@ module _ {A : Type 0} (r : Recovering A) where
       elim (cases_Bool (not (is_wrapped r.seen r.plan.old x.number))) [
         | inr seen ↦ ap (filter_map wrap) (cond-false (not (is_wrapped r.seen r.plan.old x.number)) (x ∷ rest) rest seen)
         | inl new ↦
-            let other : is_user x.payload ≡ false = sym (right_true (is_user x.payload)) ∙ sym (ap (λ b. is_user x.payload && b) new) ∙ h in
+            let other : is_user x.payload ≡ false = sym (and-true (is_user x.payload)) ∙ sym (ap (λ b. is_user x.payload && b) new) ∙ h in
             ap (filter_map wrap) (cond-true (not (is_wrapped r.seen r.plan.old x.number)) (x ∷ rest) rest new)
             ∙ ap (λ (o : Option (Payload A)). cons_option o (filter_map wrap rest)) (no_user_none x other)
       ]
-    where
-      right_true : (b : Bool) → (b && true) ≡ b
-      right_true true = refl
-      right_true false = refl
 
   sent : (x : Message A) (xs : List (Message A)) (p : Payload A) → not (is_wrapped r.seen r.plan.old x.number) ≡ true → wrap x ≡ Some p
       → sends_of r (x ∷ xs) ≡ p ∷ sends_of r xs

@@ -2,10 +2,11 @@
 use Rattle.std.proofs.Common.{◌≡◌, ℕ, ◌+◌, ◌-◌, ◌^◌, ◌≤◌, ◌<◌, ◌==◌, ◌&&◌, min, max, Bool, true, false, List, [], length, drop, Option, Some, None}
 use Rattle.std.proofs.Common.{inl, inr, refl, ap, sym, ◌∙◌, subst, arith, if◌then◌else◌}
 use Rattle.std.specs.Prelude.{option_map, unwrap_or, nat_le, nat_lt, fold, is_some}
-use Rattle.std.proofs.lemmas.Bool.{and_parts, and_from, cond-true, leb-true, lt-ltb, eq-eqb}
+use Rattle.std.proofs.lemmas.Bool.{and_parts, and_from, and_left, and_right, cond-true, cond-false, leb-true, lt-ltb, eq-eqb}
 use Rattle.std.proofs.lemmas.List.{take-take}
 use Rattle.ring_base.specs.Fronts.{IsFront}
 use Rattle.ring_base.specs.declared.ring_id.RingId.{RingId}
+use Rattle.ring_base.proofs.Cases.{some_if}
 use Rattle.ring_object.specs.Operations.{Sequential}
 use Rattle.ring_payload.specs.Limits.{most_snapshot}
 use Rattle.ring_payload.specs.declared.call.Call.{Call as OneCall}
@@ -267,22 +268,14 @@ pub ripe-if : {O A : Type 0} (object : Sequential O) (b : Bool) (log : Log A) (t
 ripe-if object b log table e =
     let bytes = table_snapshot object.snapshot_of table in
     let small = nat_le (length bytes) most_snapshot in
-    and_parts b (is_ripe log) (and_parts (b && is_ripe log) small (taken-if (b && is_ripe log && small) bytes e)).0
-  where
-    taken-if : (t : Bool) (bs : List ℕ) → is_some (if t then Some bs else None) ≡ true → t ≡ true
-    taken-if true bs e = refl
-    taken-if false bs e = absurd (cc e)
+    and_parts b (is_ripe log) (and_parts (b && is_ripe log) small (sym (some_if (b && is_ripe log && small) bytes) ∙ e)).0
 
 -- nor of one that isn't
 pub not-ripe : {O A : Type 0} (object : Sequential O) (b : Bool) (log : Log A) (table : Table O) → is_ripe log ≡ false → snapshot_if_ripe object b log table ≡ None
 not-ripe object b log table e =
     let bytes = table_snapshot object.snapshot_of table in
     let small = nat_le (length bytes) most_snapshot in
-    ap (λ r. if b && r && small then Some bytes else None) e ∙ none-of b small bytes
-  where
-    none-of : (b t : Bool) (bs : List ℕ) → (if b && false && t then Some bs else None) ≡ None
-    none-of true t bs = refl
-    none-of false t bs = refl
+    cond-false (b && is_ripe log && small) (Some bytes) None (and_left (b && is_ripe log) small (and_right b (is_ripe log) e))
 
 -- ---- what comes of the places that a step commits
 

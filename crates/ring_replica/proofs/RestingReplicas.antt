@@ -1,10 +1,9 @@
 -- A step of which the core tells nothing: it changes nothing of a replica of which no places are to be dropped, and gives nothing.
-use Rattle.std.proofs.Common.{◌≡◌, ℕ, ◌-◌, ◌&&◌, max, Bool, true, false, List, [], ◌++◌, Option, Some, None, refl, ap, sym, ◌∙◌, arith}
+use Rattle.std.proofs.Common.{◌≡◌, ℕ, ◌-◌, ◌&&◌, max, Bool, true, false, List, [], ◌++◌, Option, Some, None, ap, sym, ◌∙◌, arith}
 use Rattle.std.proofs.Common.{append-nil, if◌then◌else◌}
 use Rattle.std.specs.Prelude.{length, nat_le, nat_lt}
-use Rattle.std.proofs.lemmas.Bool.{and_from, cond-false}
+use Rattle.std.proofs.lemmas.Bool.{and_from, and_left, and_right, cond-false}
 use Rattle.std.proofs.lemmas.List.{drop_all, length-take}
-use Rattle.ring_base.specs.declared.ring_id.RingId.{RingId}
 use Rattle.ring_object.specs.Operations.{Sequential}
 use Rattle.ring_payload.specs.Limits.{most_snapshot}
 use Rattle.ring_payload.specs.declared.call.Call.{Call as OneCall}
@@ -33,12 +32,8 @@ module _ {O A : Type 0} (object : Sequential O) (r : Replica A) where
   shut = is_closed r.group (hands [] r.life)
 
   none-dropped : is_ripe (log_kept k) ≡ false → drops object shut k ≡ false
-  none-dropped = by shut (is_ripe (log_kept k)) (nat_le (length (snapshot_at object k k.committed)) most_snapshot)
-    where
-      by : (a b c : Bool) → b ≡ false → (a && b && c) ≡ false
-      by true true c e = absurd (cc e)
-      by true false c e = refl
-      by false b c e = refl
+  none-dropped unripe =
+      and_left (shut && is_ripe (log_kept k)) (nat_le (length (snapshot_at object k k.committed)) most_snapshot) (and_right shut (is_ripe (log_kept k)) unripe)
 
   pub resting : IsDone r → is_kept_sound r.group r.life ≡ true → is_restored object k ≡ true → is_ripe (log_kept k) ≡ false → Rests object r
   resting done sound restored green running =

@@ -1,8 +1,8 @@
 -- A life that goes on by outputs: what its node knows of its log at each of them, by what it knew before them.
-use Rattle.std.proofs.Common.{◌≡◌, ℕ, ◌<◌, ◌==◌, ◌&&◌, max, Bool, true, false, List, [], ◌∷◌, ◌⊎◌, inl, inr, None, refl, ap, sym, ◌∙◌, subst, arith}
+use Rattle.std.proofs.Common.{◌≡◌, ℕ, ◌<◌, ◌==◌, ◌&&◌, max, true, false, List, [], ◌∷◌, ◌⊎◌, inl, inr, None, refl, ap, sym, ◌∙◌, subst, arith}
 use Rattle.std.proofs.Common.{if◌then◌else◌}
 use Rattle.std.specs.Prelude.{nat_lt}
-use Rattle.std.proofs.lemmas.Bool.{and_from, cond-true, cond-false, lt-ltb, eq-eqb, ne_eqb}
+use Rattle.std.proofs.lemmas.Bool.{and_from, and_right, cond-true, cond-false, lt-ltb, eq-eqb, ne_eqb}
 use Rattle.ring_base.specs.Group.{Group}
 use Rattle.ring_base.specs.declared.ring_id.RingId.{RingId}
 use Rattle.ring_object.specs.Operations.{Sequential}
@@ -157,10 +157,5 @@ kept-dropped {A} group life k =
 pub snapshot-dropped : {O A : Type 0} (object : Sequential O) (k : Kept A) → IsKnown k → k.trimmed < k.committed
     → snapshot_kept object (all_dropped k) ≡ snapshot_at object k k.committed
 snapshot-dropped object k is more =
-    ap (λ b. if nat_lt 0 k.from && b then k.snapshot else snapshot_at object k k.committed)
-    (ne_eqb k.committed k.from (λ e. (let l = is.low in omega (arith, l, more, e))))
-    ∙ never (nat_lt 0 k.from) k.snapshot (snapshot_at object k k.committed)
-  where
-    never : {X : Type 0} (b : Bool) (x y : X) → (if b && false then x else y) ≡ y
-    never true x y = refl
-    never false x y = refl
+    cond-false (nat_lt 0 k.from && (k.committed == k.from)) k.snapshot (snapshot_at object k k.committed)
+    (and_right (nat_lt 0 k.from) (k.committed == k.from) (ne_eqb k.committed k.from (λ e. (let l = is.low in omega (arith, l, more, e)))))

@@ -1,16 +1,17 @@
--- A submit commits nothing, and a node that has stopped stays as it is when it stops again.
-use Rattle.std.proofs.Common.{◌≡◌, true, refl, ap}
+-- Where a node commits nothing the longest list of calls stays, and a node that has stopped stays as it is when it stops again.
+use Rattle.std.proofs.Common.{◌≡◌, ℕ, ◌-◌, true, List, [], ◌++◌, length, ap, ◌∙◌, sym, arith, append-nil}
+use Rattle.std.proofs.lemmas.List.{drop_all}
+use Rattle.ring_core.specs.Payloads.{Call}
+use Rattle.ring_core.proofs.States.{stopped_state}
 use Rattle.ring_rules.specs.Nodes.{Node, is_stopped, node_stopped}
-use Rattle.ring_base.specs.declared.state.State.{State}
-use Rattle.ring_base.specs.declared.state.State.TheVariants.{Gather, Commit, Recovery, Operational, Stopped}
+use Rattle.ring_rules.specs.Worlds.{calls_past}
 
-is_state : (state : State) → is_stopped state ≡ true → Stopped ≡ state
-is_state Stopped h = refl
-is_state Gather h = absurd cc
-is_state Commit h = absurd cc
-is_state Recovery h = absurd cc
-is_state Operational h = absurd cc
+-- nothing is newly committed
+pub no_calls_past : {A : Type 0} (longest : List (Call A)) (all : ℕ) (calls : List (Call A)) → calls ≡ []
+    → longest ++ calls_past (length longest) all calls ≡ longest
+no_calls_past longest all calls none =
+    ap (λ xs. longest ++ xs) (ap (calls_past (length longest) all) none ∙ drop_all (0 - (all - length longest)) [] (omega arith)) ∙ append-nil longest
 
 -- a stopped node that stops stays as it is
 pub stopped_same : {A : Type 0} (n : Node A) → is_stopped n.core.state ≡ true → node_stopped n ≡ n
-stopped_same n h = ap (λ state. record n { core = record n.core { state = state } }) (is_state n.core.state h)
+stopped_same n h = ap (λ state. record n { core = record n.core { state = state } }) (sym (stopped_state n.core.state h))

@@ -3,19 +3,19 @@ use Rattle.std.proofs.Common.{◌≡◌, false, List, [], ◌∷◌, refl, ap, �
 use Rattle.ring_core.specs.Payloads.{Payload}
 use Rattle.ring_core.specs.State.{Core, Stepped}
 use Rattle.ring_core.specs.Giving.{may_install}
-use Rattle.ring_core.proofs.Quiet.{queued, quiet_send}
+use Rattle.ring_core.proofs.Quiet.{with_queue, quiet_send}
 use Rattle.ring_rules.specs.Stepping.{handed_over}
 
 -- it is the same but for its queue
 pub record IsQueued {A : Type 0} (c d : Core A) : Type 0 where
   pub queue : List (Payload A)
-  pub is : d ≡ queued c queue
+  pub is : d ≡ with_queue c queue
   pub ready : may_install d ≡ false
 
 pub queued_all : {A : Type 0} → (c : Core A) (ps : List (Payload A)) → may_install c ≡ false → IsQueued c (handed_over c ps)
 queued_all c [] h = record { queue = c.queue; is = refl; ready = h }
 queued_all {A} c (p ∷ ps) h =
     let one = quiet_send c p h in
-    let rest : IsQueued (queued c one.queue) (handed_over (queued c one.queue) ps) = queued_all (queued c one.queue) ps one.ready in
-    let same : handed_over c (p ∷ ps) ≡ handed_over (queued c one.queue) ps = ap (λ (s : Stepped A). handed_over s.core ps) one.is in
+    let rest : IsQueued (with_queue c one.queue) (handed_over (with_queue c one.queue) ps) = queued_all (with_queue c one.queue) ps one.ready in
+    let same : handed_over c (p ∷ ps) ≡ handed_over (with_queue c one.queue) ps = ap (λ (s : Stepped A). handed_over s.core ps) one.is in
     record { queue = rest.queue; is = same ∙ rest.is; ready = ap (λ (d : Core A). may_install d) same ∙ rest.ready }

@@ -7,7 +7,6 @@ use Rattle.ring_base.specs.declared.fault.Fault.TheVariants.{Memory, Stopped as 
 use Rattle.ring_base.proofs.Faults.{was_stopped}
 use Rattle.std.proofs.lemmas.Bool.{cond-true, cond-false, le-leb, eqb-true, eqb-false, cases_Bool}
 use Rattle.std.proofs.lemmas.Bool.Decides.{nat_tests}
-use Rattle.std.proofs.lemmas.List.{append-nil}
 use Rattle.std.proofs.lemmas.List.Elements.{filter_map-append}
 use Rattle.std.proofs.lemmas.Option.{get_or_from_slice_get}
 use Rattle.ring_base.specs.Processors.{has}
@@ -20,10 +19,11 @@ use Rattle.ring_core.specs.declared.out.Out.{Out}
 use Rattle.ring_core.specs.State.{Core, Sent, Carried, halted, is_stopped, frame_at, frame_for}
 use Rattle.ring_core.specs.Stepping.{ring_step}
 use Rattle.ring_core_proof.specs.declared.event.RingEvent.{RingEvent}
-use Rattle.ring_core_proof.specs.Worlds.{World, happens, run, unformed, ring_formed, put, carried_by, after_step, is_node, stepped_if}
+use Rattle.ring_core_proof.specs.Worlds.{World, happens, unformed, ring_formed, put, carried_by, after_step, is_node, stepped_if}
 use Rattle.ring_core_proof.specs.Worlds.{stepped}
 use Rattle.ring_core_proof.specs.Worlds.{stopped_if, handed_if, handed}
 use Rattle.ring_core_proof.specs.Limits.{InputFits, WorldFits}
+use Rattle.ring_core_proof.proofs.Lifting.{cores-append}
 use Rattle.ring_core_proof.proofs.RunLimits.{stepped_fits, stopped_fits}
 use Rattle.ring_core.proofs.Carrying.{at_fits, one_fits}
 use Rattle.ring_srp.specs.Inputs.{InputFits as CoreInputFits}
@@ -145,14 +145,10 @@ handed_is w i (Some f) = hands_if (has f.to i) w i f.frame
 
 -- Runs
 
-run_more : {A : Type 0} (w : World A) (events : List (RingEvent A)) (e : RingEvent A) → run w (events ++ e ∷ []) ≡ happens (run w events) e
-run_more w [] e = refl
-run_more w (f ∷ events) e = run_more (happens w f) events e
-
 ran_more : {A : Type 0} (formed : Bool) (count : ℕ) (events : List (RingEvent A)) (e : RingEvent A) →
     ran_from formed count (events ++ e ∷ []) ≡ happens (ran_from formed count events) e
-ran_more false count events e = run_more (unformed count) events e
-ran_more true count events e = run_more (ring_formed count) events e
+ran_more false count events e = cores-append (unformed count) events (e ∷ [])
+ran_more true count events e = cores-append (ring_formed count) events (e ∷ [])
 
 -- the world after one event more
 pub world_more : {A : Type 0} (r : Ran A) (e : RingEvent A) → world_of (more r e) ≡ happens (world_of r) e

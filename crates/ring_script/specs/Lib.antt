@@ -8,6 +8,7 @@ pub mod Numbers
 pub mod Operations
 pub mod Reading
 pub mod Scripts
+pub mod ScriptTexts
 pub mod ShelfWords
 pub mod ShelfWordsLaws
 pub mod Votes

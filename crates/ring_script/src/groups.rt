@@ -6,13 +6,13 @@ ghost use Rattle.ring_script.specs.Cuts.{apart, cut_at, placed_from, group_of, g
 ghost use Rattle.ring_script.specs.Reading.{Tells};
 
 use crate::words::Words;
-use ring_base::{Fault, Fixed, Proc, ProcSet};
+use ring_base::{Fault, Fixed, PROCESSORS, Proc, ProcSet};
 use std::marker::Model;
 
 /// Groups of nodes, in place. Each node is in exactly one of them. Contracts see the group of each node.
 #[derive(Clone, Copy, Debug, PartialEq, Eq)]
 pub struct Groups {
-    group_of: [ProcSet; 16],
+    group_of: [ProcSet; PROCESSORS],
 }
 
 impl Model for Groups {
@@ -34,7 +34,7 @@ impl Groups {
     {
         let own = ProcSet::only(node);
         let others = ProcSet::from_bits(u16::MAX).less(own);
-        let mut group_of = [others; 16];
+        let mut group_of = [others; PROCESSORS];
         group_of[usize::from(node.number()) - 1] = own;
         Groups { group_of }
     }
@@ -52,7 +52,7 @@ impl Groups {
         ensures { Tells (λ groups. (groups, words.new)) result (cut_at nodes words.old) }
     {
         let mut groups = Groups {
-            group_of: [ProcSet::new(); 16],
+            group_of: [ProcSet::new(); PROCESSORS],
         };
         let mut count = 0u8;
         let mut placed = ProcSet::new();

@@ -20,12 +20,15 @@ use crate::shelf_words::ShelfWords;
 use crate::vocabulary::Vocabulary;
 use crate::votes::read_votes;
 use crate::words::{Words, is};
-use ring_base::{Fault, Fixed};
+use ring_base::{Fault, Fixed, MOST_PROCESSORS};
 use std::alloc::{Allocator, Global};
 use std::io::{ErrorKind, Read};
 
 /// The greatest length of a script, in bytes.
 pub const LONGEST_TEXT: u64 = 1_048_576;
+
+/// A script has at most so many nodes.
+const MOST_NODES: u64 = MOST_PROCESSORS as u64;
 
 /// Why a script is not taken.
 #[derive(Clone, Copy, Debug, PartialEq, Eq)]
@@ -248,7 +251,7 @@ fn counted(words: &mut Words<'_>) -> Result<Fixed, Fault>
     ensures { Tells (λ nodes. nodes) result
         (option_and_then (λ count. option_map nodes_alike (whole count)) (number_at 1 16 words.old)) }
 {
-    match words.number(1, 16) {
+    match words.number(1, MOST_NODES) {
         Ok(count) if words.is_over() => alike(count as u8),
         _ => Err(Fault::BadScript),
     }

@@ -8,7 +8,7 @@ ghost use Rattle.ring_script.specs.Votes.{votes_at, votes_of, is_votes, votes_in
 use crate::lines::Lines;
 use crate::scripts::{ScriptFault, are_ascii, at_line, is_skipped};
 use crate::words::{Words, is};
-use ring_base::{Fault, Fixed};
+use ring_base::{Fault, Fixed, PROCESSORS};
 
 /// The nodes with the votes that the next line tells which is not skipped, where that is a line of votes. Then the
 /// lines after it are left, and else those from the first on that is not skipped.
@@ -67,7 +67,7 @@ fn votes_at(words: &mut Words<'_>, nodes: Fixed) -> Result<Fixed, Fault>
     ensures count { IfOk result (λ voted. voted.count ≡ nodes.count) }
     ensures read { Tells (λ voted. (voted.votes, words.new)) result (votes_at nodes.count words.old) }
 {
-    let mut votes = [0; 16];
+    let mut votes = [0; PROCESSORS];
     let count = usize::from(nodes.count());
     for i in 0..count {
         votes[i] = words.number(1, 255)? as u8;

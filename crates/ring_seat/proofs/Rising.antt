@@ -7,10 +7,11 @@ use Rattle.std.proofs.lemmas.List.{set-get_or, length-replicate}
 use lib.ListN.{get_elem?}
 use Rattle.atomic_table.proofs.Lists.{at_set}
 use Rattle.atomic_table.specs.Table.{Me, Allows, step, keeps, Splits}
+use Rattle.ring_base.specs.InLists.{IsIn}
 use Rattle.ring_base.specs.Numbers.{greatest}
 use Rattle.ring_base.proofs.ListPlaces.{zero_at, greatest-push}
 use Rattle.ring_seat.specs.declared.rule.View.{View}
-use Rattle.ring_seat.specs.Gauges.{IsIn, IsZeroOrIn, seen_of, Fits, Rises, Keeps, published_in, seen_at, Publishes, Looks, made, owner, guest}
+use Rattle.ring_seat.specs.Gauges.{IsZeroOrIn, seen_of, Fits, Rises, Keeps, published_in, seen_at, Publishes, Looks, made, owner, guest}
 use Rattle.ring_seat.specs.Gauges.{first_view}
 
 greater_in : (x : ℕ) (xs : List ℕ) (b : Bool) → nat_le x (greatest xs) ≡ b → IsZeroOrIn (greatest xs) xs → IsZeroOrIn (max x (greatest xs)) (x ∷ xs)

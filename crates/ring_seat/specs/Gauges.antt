@@ -3,13 +3,9 @@ use Rattle.std.specs.Prelude.{ℕ, ◌≡◌, ◌<◌, ◌≤◌, ◌+◌, ◌�
 use mathlib.Core.Option.{some}
 use lib.ListN.{get_elem?}
 use Rattle.atomic_table.specs.Table.{State, Step, Me}
+use Rattle.ring_base.specs.InLists.{IsIn}
 use Rattle.ring_base.specs.Numbers.{greatest}
 use Rattle.ring_seat.specs.declared.rule.View.{View}
-
--- the number stands in the list
-abbrev pub IsIn : ℕ → List ℕ → Type 0
-IsIn n [] = ⊥
-IsIn n (x ∷ xs) = (n ≡ x) ⊎ IsIn n xs
 
 -- the number was published, or is 0
 abbrev pub IsZeroOrIn : ℕ → List ℕ → Type 0

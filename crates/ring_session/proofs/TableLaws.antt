@@ -20,6 +20,7 @@ use Rattle.ring_base.specs.Fronts.{front_get, front_append}
 use Rattle.ring_base.specs.declared.fault.Fault.TheVariants.{Conflict, Stale, NumberGap, SessionsFull}
 use Rattle.ring_base.proofs.ListPlaces.{get-last}
 use Rattle.ring_object.specs.Operations.{Sequential, content_after}
+use Rattle.ring_object.proofs.Contents.{content_after-append}
 use Rattle.ring_payload.specs.declared.call.Call.{Call}
 use Rattle.ring_session.specs.declared.answer.Answer.{Answer}
 use Rattle.ring_session.specs.declared.answer.Answer.TheVariants.{Done, Kept}
@@ -87,11 +88,6 @@ client_count-push {A} (x ∷ cs) c =
           other_client (count_of x.client (cs ++ c ∷ [])) (count_of c.client (x ∷ cs)) (client_count (cs ++ c ∷ []))
           (count_of x.client cs) (count_of c.client cs) (client_count cs) same (omega (arith, none)) rest
     ]
-
-content_after-push : {O : Type 0} (object : Sequential O) (o : O) (ops : List (List ℕ)) (op : List ℕ)
-    → content_after object o (ops ++ op ∷ []) ≡ object.next (content_after object o ops) op
-content_after-push object o [] op = refl
-content_after-push object o (x ∷ ops) op = content_after-push object (object.next o x) ops op
 
 module _ {O A : Type 0} (object : Sequential O) where
   -- the reply to the last call
@@ -194,7 +190,7 @@ module _ {O A : Type 0} (object : Sequential O) where
         ascending = sorted_insert table.sessions c.client new holds.ascending;
         content =
             ap (λ (o : O). object.next o c.op) holds.content
-            ∙ sym (content_after-push object object.initial (operations kept) c.op)
+            ∙ sym (content_after-append object object.initial (operations kept) (c.op ∷ []))
             ∙ ap (content_after object object.initial) (sym (map-append (λ (x : Call A). x.op) kept (c ∷ [])));
         many = known-grown calls table c holds (session_of table c.client) refl
             ∙ ap (λ n. n + (if count_of c.client kept == 0 then 1 else 0)) holds.many ∙ sym (client_count-push kept c);

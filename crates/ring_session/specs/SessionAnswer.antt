@@ -1,14 +1,14 @@
 -- The session table's answer to each call of a list, as a function of the list alone: what was answered before, where
 -- and by whom plays no part.
 -- Sessions, of docs/PROTOCOL.md.
-use Rattle.std.specs.Prelude.{◌≡◌, ℕ, ◌+◌, ◌==◌, ◌&&◌, nat_lt, Bool, true, false, List, length, take, slice_get, Option, Some, None, position, if◌then◌else◌}
+use Rattle.std.specs.Prelude.{◌≡◌, ℕ, ◌+◌, ◌==◌, nat_lt, Bool, true, false, List, length, take, slice_get, Option, Some, None, position, if◌then◌else◌}
 use Rattle.std.specs.Option.{option_map}
-use Rattle.std.specs.Str.{bytes_eq}
 use Rattle.ring_base.specs.Fault.{fault_number}
 use Rattle.ring_base.specs.declared.fault.Fault.{Fault}
 use Rattle.ring_base.specs.declared.fault.Fault.TheVariants.{Conflict, Stale, NumberGap, SessionsFull}
 use Rattle.ring_object.specs.Operations.{Sequential, reply_at}
 use Rattle.ring_payload.specs.declared.call.Call.{Call}
+pub use Rattle.ring_payload.specs.SameCalls.{is_same}
 use Rattle.ring_session.specs.declared.answer.Answer.{Answer}
 use Rattle.ring_session.specs.declared.answer.Answer.TheVariants.{Done, Kept, Refused}
 use Rattle.ring_session.specs.Deduplicated.{count_of, may_call, deduplicated, StandsAt, operations}
@@ -16,10 +16,6 @@ use Rattle.ring_session.specs.Deduplicated.{count_of, may_call, deduplicated, St
 -- the answer that refuses for this reason
 abbrev pub refusal : Fault → Answer
 refusal fault = Refused (fault_number fault)
-
--- whether the two are one call: of one client and number, and with the same operation
-abbrev pub is_same : {A : Type 0} → Call A → Call A → Bool
-is_same c d = (d.client == c.client) && (d.number == c.number) && bytes_eq d.op c.op
 
 -- the answer to a call whose number is its client's last: the reply at its own place, unless another call has that number
 abbrev pub repeated : (ℕ → List ℕ) → Option ℕ → Answer

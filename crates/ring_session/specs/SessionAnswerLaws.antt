@@ -4,19 +4,18 @@ use Rattle.std.proofs.Common.{◌++◌, length, take, drop, Option, Some, None, 
 use Rattle.std.proofs.Common.{◌∙◌, arith, ◌⊎◌, inl, inr, if◌then◌else◌}
 use Rattle.std.specs.Prelude.{slice_index_or}
 use Rattle.std.specs.Option.{option_map}
-use Rattle.std.specs.Str.{bytes_eq}
-use Rattle.std.proofs.lemmas.Bool.{cond-true, eqb-true, and_parts}
+use Rattle.std.proofs.lemmas.Bool.{cond-true}
 use Rattle.std.proofs.lemmas.List.{append-nil, map-append, length-map, length-append, take-append-le, take-append-drop, take-take, take_all, get_or_append_left}
 use Rattle.std.proofs.lemmas.List.Quantifiers.{position-Some}
 use Rattle.std.proofs.lemmas.Option.{slice_get_within, slice_get-get_or}
 use Rattle.ring_base.proofs.Rows.{take-found}
 use Rattle.ring_base.proofs.ListFronts.{taken-front, take-front}
 use Rattle.ring_base.proofs.ListPlaces.{get-last}
-use Rattle.std.proofs.lemmas.Slice.Eq.{bytes_eq-Decides}
 use Rattle.ring_base.specs.Fronts.{IsFront, front_trans, front_length, front_get}
 use Rattle.ring_base.specs.declared.fault.Fault.TheVariants.{Stale, NumberGap, SessionsFull}
 use Rattle.ring_object.specs.Operations.{Sequential, content_after}
 use Rattle.ring_payload.specs.declared.call.Call.{Call}
+pub use Rattle.ring_payload.specs.SameCalls.{is_same-true}
 use Rattle.ring_session.specs.declared.answer.Answer.{Answer}
 use Rattle.ring_session.specs.declared.answer.Answer.TheVariants.{Done, Kept}
 use Rattle.ring_session.specs.Deduplicated.{count_of, may_call, takes_effect, deduplicated, StandsAt, IsNumbered, operations}
@@ -83,19 +82,6 @@ effect_front calls p c at taken = front_trans (deduplicated (take p calls) ++ c 
     (before_front calls (suc p))
 
 -- ---- one call
-
--- what the test of one call finds
-pub is_same-true : {A : Type 0} (c d : Call A) → is_same c d ≡ true → d ≡ c
-is_same-true {A} c d same =
-    let parts = and_parts ((d.client == c.client) && (d.number == c.number)) (bytes_eq d.op c.op) same in
-    let named = and_parts (d.client == c.client) (d.number == c.number) parts.0 in
-    let client : d.client ≡ c.client = eqb-true d.client c.client named.0 in
-    let number : d.number ≡ c.number = eqb-true d.number c.number named.1 in
-    let op : d.op ≡ c.op = (bytes_eq-Decides d.op c.op).0 parts.1 in
-    let of_client : ℕ → Call A = λ k. record { client = k; number = d.number; op = d.op } in
-    let of_number : ℕ → Call A = λ k. record { client = c.client; number = k; op = d.op } in
-    let of_op : List ℕ → Call A = λ o. record { client = c.client; number = c.number; op = o } in
-    ap of_client client ∙ ap of_number number ∙ ap of_op op
 
 -- the place of one call
 pub position-is_same : {A : Type 0} (kept : List (Call A)) (c : Call A) (q : ℕ) → position (is_same c) kept ≡ Some q → StandsAt kept q c

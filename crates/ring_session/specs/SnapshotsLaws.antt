@@ -1,31 +1,24 @@
 -- Exactly the snapshots of tables are restored, each to the table that it is of; and each table after calls that keep the limits is one.
 use Rattle.std.proofs.Common.{◌≡◌, ℕ, zero, suc, ◌^◌, ◌<◌, ◌≤◌, ◌==◌, List, [], ◌∷◌, ◌++◌, length, drop, if◌then◌else◌, Option, Some, None, refl}
-use Rattle.std.proofs.Common.{sym, ap, subst, ◌∙◌, arith, append_assoc, inl, inr, eqb-true}
+use Rattle.std.proofs.Common.{sym, ap, subst, ◌∙◌, arith, append_assoc, eqb-true}
 use Rattle.std.specs.Prelude.{nat_le}
 use Rattle.std.specs.List.{flat_map}
-use Rattle.std.proofs.lemmas.Bool.{leb-true, le-leb, cases_lt}
-use Rattle.std.proofs.lemmas.List.{append-nil, nil_from_length, length-append, get_or_past, drop_at}
+use Rattle.std.proofs.lemmas.Bool.{leb-true, le-leb}
+use Rattle.std.proofs.lemmas.List.{append-nil, nil_from_length, length-append, drop_at}
 use Rattle.std.proofs.lemmas.List.Concat.{flat_map-cons}
-use Rattle.std.proofs.lemmas.List.Elements.{All-get_or, All-from_get_or, All-drop}
+use Rattle.std.proofs.lemmas.List.Elements.{All-from_get_or, All-drop}
 use Rattle.byteorder.specs.Endian.{big_bytes}
 use Rattle.ring_base.proofs.Cases.{map_some}
 use Rattle.ring_payload.specs.Layouts.{IsBytes, IsFormat, IsWord, Takes, number_at, such_at, ◌>>=◌, bind_some, some_is, passed_some, Takes-then}
 use Rattle.ring_payload.specs.Layouts.{such_format, then_format, number_format2, word8, text, followed}
-use Rattle.ring_object.specs.Bytes.{AreBytes}
+use Rattle.ring_object.specs.Bytes.{AreBytes, bytes_everywhere}
 use Rattle.ring_object.specs.Snapshots.{Restores}
 use Rattle.ring_session.specs.Deduplicated.{most_clients}
 use Rattle.ring_session.specs.Table.{LastCall, Table, table_of}
 use Rattle.ring_session.specs.Snapshots.{ClientFits, client_spelling, client_at, client_format, AreFrom, next_at, clients_at, table_snapshot}
 use Rattle.ring_session.specs.Snapshots.{sessions_at, object_at, parts_at, table_with, restored_table, HasSnapshot}
 
--- ---- the two ways to say bytes
-
-bytes_everywhere : (bytes : List ℕ) → AreBytes bytes → IsBytes bytes
-bytes_everywhere bytes are i =
-    elim (cases_lt i (length bytes)) [
-      | inl within ↦ All-get_or (λ byte. byte < 256) bytes i 0 within are
-      | inr past ↦ rw (get_or_past bytes i 0 past) (omega arith)
-    ]
+-- ---- bytes
 
 bytes_each : (bytes : List ℕ) → IsBytes bytes → AreBytes bytes
 bytes_each bytes are = All-from_get_or (λ byte. byte < 256) bytes 0 (λ i within. are i)

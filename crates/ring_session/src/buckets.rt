@@ -19,8 +19,8 @@ const MODULUS: u64 = BUCKETS as u64;
 /// its bucket alone, which are few.
 #[derive(Drop)]
 pub(crate) struct Buckets {
-    first: [u8; 256],
-    next: [u8; 64],
+    first: [u8; BUCKETS],
+    next: [u8; MAX_UNANSWERED],
 }
 
 impl Buckets {
@@ -79,7 +79,7 @@ fn bucket_of<A: Allocator + Copy>(call: &Call<A>) -> usize
 /// At which of 64 places a ticket stands whose call was committed.
 #[derive(Drop)]
 pub(crate) struct Gone {
-    places: [bool; 64],
+    places: [bool; MAX_UNANSWERED],
 }
 
 impl Gone {

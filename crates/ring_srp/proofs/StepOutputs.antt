@@ -66,9 +66,9 @@ settled_core : {A : Type 0} (b : Bool) (c : Core A) (outs : List (Out A)) → (s
 settled_core true c outs = refl
 settled_core false c outs = refl
 
-settled_outs : {A : Type 0} (b : Bool) (c : Core A) (outs : List (Out A)) → outs ++ (settle b c []).outs ≡ (settle b c outs).outs
-settled_outs true c outs = refl
-settled_outs false c outs = append-nil outs
+settled_behind : {A : Type 0} (b : Bool) (c : Core A) (outs : List (Out A)) → outs ++ (settle b c []).outs ≡ (settle b c outs).outs
+settled_behind true c outs = refl
+settled_behind false c outs = append-nil outs
 
 pub delivered_core : {A : Type 0} (c mid : Core A) (a : Act A) → mid ≡ (done c a).core
     → (settle (may_install mid) mid []).core ≡ (delivered c (done c a)).core
@@ -94,7 +94,7 @@ is_given {A} c mid a sends told e s t =
     ap (λ (xs : List (Sent A)). map (λ (s : Sent A). Send s.to s.frame) xs ++ (given c did.core ++ later)) (sym s)
     ∙ ap (λ (xs : List (Out A)). map (λ (s : Sent A). Send s.to s.frame) sends ++ xs) (sym behind) in
     record {
-      outs = sym (settled_outs (may_install did.core) did.core (sent did.sends ++ given c did.core))
+      outs = sym (settled_behind (may_install did.core) did.core (sent did.sends ++ given c did.core))
           ∙ append_assoc (sent did.sends) (given c did.core) later
           ∙ joined;
       told = ap (λ (xs : List (Out A)). filter_map send_of xs) behind

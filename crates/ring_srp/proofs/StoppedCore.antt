@@ -3,7 +3,7 @@ use Rattle.std.proofs.Common.{◌≡◌, Bool, true, false, ◌&&◌, refl, ap, 
 use Rattle.std.proofs.lemmas.Bool.{cond_both}
 use Rattle.ring_base.specs.Processors.{has}
 use Rattle.ring_base.specs.declared.state.State.{State}
-use Rattle.ring_base.specs.declared.state.State.TheVariants.{Gather, Commit, Recovery, Operational, Stopped}
+use Rattle.ring_base.specs.declared.state.State.TheVariants.{Stopped}
 use Rattle.ring_wire.specs.declared.frame.Frame.{Frame}
 use Rattle.ring_wire.specs.declared.frame.Frame.TheVariants.{Message as MessageFrame, Token as TokenFrame, Join as JoinFrame}
 use Rattle.ring_wire.specs.declared.frame.Frame.TheVariants.{Commit as CommitFrame}
@@ -17,14 +17,8 @@ use Rattle.ring_core.specs.Deciding.{Act, Ignore, Take, takes_of, members_of, de
 use Rattle.ring_core.specs.Deciding.{decide_time, decide_payload, decide}
 use Rattle.ring_core.specs.Giving.{installs_in}
 use Rattle.ring_core.specs.Stepping.{ring_step}
+use Rattle.ring_core.proofs.States.{stopped_state}
 use Rattle.ring_srp.proofs.PayloadSent.{GaveNothing, ignored}
-
-pub stopped_state : (s : State) → is_stopped s ≡ true → s ≡ Stopped
-stopped_state Stopped e = refl
-stopped_state Gather e = absurd (let q : false ≡ true = e in cc)
-stopped_state Commit e = absurd (let q : false ≡ true = e in cc)
-stopped_state Recovery e = absurd (let q : false ≡ true = e in cc)
-stopped_state Operational e = absurd (let q : false ≡ true = e in cc)
 
 decides_frame : {A : Type 0} (b : Bool) (c : Core A) (frame : Frame A) → c.state ≡ Stopped → decide_if_named b c frame ≡ Ignore
 decides_frame false c frame e = refl

@@ -4,7 +4,7 @@ use Rattle.std.proofs.Common.{filter_map, length, Option, Some, None, refl, ap, 
 use denote.Enum.Bare.{sameb, same_false}
 use mathlib.Core.Path.{fun_ext}
 use Rattle.std.specs.Prelude.{◌&&◌, ◌==◌}
-use Rattle.std.proofs.lemmas.Bool.{cases_Bool, cond-true, cond-false, and_parts, and_from}
+use Rattle.std.proofs.lemmas.Bool.{cases_Bool, cond-true, cond-false, and_parts, and_from, or_right}
 use Rattle.ring_base.specs.Fronts.{IsFront, front_trans, front_shorter, front_whole}
 use Rattle.ring_base.specs.Numbers.{numbers_from, greatest}
 use Rattle.ring_base.specs.Rings.{same_ring}
@@ -28,7 +28,6 @@ use Rattle.ring_recover.specs.Installing.{in_front}
 use Rattle.ring_recover.specs.Recovering.{with_seen, Recovering as Seen}
 use Rattle.ring_recover.specs.Wrapping.{unwrapped}
 use Rattle.ring_recover.proofs.AllRings.{in_front_of_ring, inner_of_ring}
-use Rattle.ring_recover.proofs.EndsCounted.{or_right}
 use Rattle.ring_recover.proofs.MessagesInFront.{up_to, up_to_all, up_to_front, front_with}
 use Rattle.ring_join.specs.Gatherers.{Gatherer}
 use Rattle.ring_commit.specs.declared.configuration.Configuration.{Configuration}

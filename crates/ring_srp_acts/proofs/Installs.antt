@@ -6,12 +6,14 @@ use Rattle.std.specs.Option.{IsSome}
 use Rattle.std.specs.Result.{OnOk}
 use Rattle.std.specs.List.{AllByRecursion}
 use Rattle.std.proofs.lemmas.Bool.{true≢false}
+use Rattle.std.proofs.lemmas.Option.{cond_some}
 use Rattle.std.proofs.lemmas.List.{map-append}
 use Rattle.std.proofs.lemmas.List.Elements.{filter-append, filter_map-append}
 use Rattle.ring_base.specs.Numbers.{numbers_from}
 use Rattle.ring_base.specs.declared.ring_id.RingId.{RingId}
 use Rattle.ring_base.specs.declared.state.State.{State}
 use Rattle.ring_base.specs.declared.state.State.TheVariants.{Gather, Commit, Recovery, Operational, Stopped}
+use Rattle.ring_base.proofs.Cases.{guarded_none}
 use Rattle.ring_base.proofs.Each.{each-filter}
 use Rattle.ring_base.proofs.ListPlaces.{numbers-append}
 use Rattle.ring_payload.specs.Kinds.{is_user}
@@ -33,11 +35,11 @@ use Rattle.ring_core.specs.declared.out.Out.{Out}
 use Rattle.ring_core.specs.declared.out.Out.TheVariants.{Agreed, Trans, Rest, Regular}
 use Rattle.ring_core.specs.State.{Core, floor}
 use Rattle.ring_core.specs.Views.{front, mark, plan}
-use Rattle.ring_core.specs.Giving.{may_install, installs_in, ready_then_complete, install, settle, users, safe_from, delivered_from}
+use Rattle.ring_core.specs.Giving.{may_install, installs_in, ready_then_complete, install, settle, users, all_agreed, safe_from, delivered_from}
 use Rattle.ring_srp_acts.specs.Machines.{window_of, Recovers, IsRecovering, IsMachine}
 use Rattle.ring_srp_state.specs.declared.recovering.Recovering.{Recovering}
 use Rattle.ring_srp_acts.specs.Installs.{given_first, given_all}
-use Rattle.ring_srp_state.specs.Rests.{rest_of, all_agreed}
+use Rattle.ring_srp_state.specs.Rests.{rest_of}
 use Rattle.ring_core.proofs.States.{installs_recovering}
 use Rattle.ring_srp_acts.proofs.Held.{recovering_some}
 use Rattle.ring_srp_acts.proofs.KeptByActs.{part_as, below_wider, bound_short}
@@ -95,14 +97,13 @@ told c = if may_install c then Some (delivery (plan c) c.held) else None
 pub told_none : {A : Type 0} (c : Core A) → (c.state ≡ Recovery → ⊥) → None ≡ told c
 told_none c f = ap (λ (b : Bool). if b then Some (delivery (plan c) c.held) else None) (sym (not_due_in c f))
 
--- what is told of a value that is there where a test passes
-pub passed_there : {X : Type 0} (b : Bool) (x y : X) → Some y ≡ (if b then Some x else None) → (b ≡ true) × (y ≡ x)
-passed_there true x y h = (refl, cc)
-passed_there false x y h = absurd cc
+-- where it delivers something, a ring is to be installed, and that is what it delivers
+pub told_some : {A : Type 0} (c : Core A) (d : Delivery) → Some d ≡ told c → (may_install c ≡ true) × (d ≡ delivery (plan c) c.held)
+told_some c d h = (let is = cond_some (may_install c) (delivery (plan c) c.held) d (sym h) in (is.0, sym is.1))
 
-pub failed_there : {X : Type 0} (b : Bool) (x : X) → None ≡ (if b then Some x else None) → b ≡ false
-failed_there true x h = absurd cc
-failed_there false x h = refl
+-- where it delivers nothing, none is
+pub told_nothing : {A : Type 0} (c : Core A) → None ≡ told c → may_install c ≡ false
+told_nothing c h = guarded_none (may_install c) (delivery (plan c) c.held) (sym h)
 
 -- a state is no other
 
@@ -270,8 +271,8 @@ pub on_ok : {T E : Type 0} {P : Type 0} (r : Result T E) → P → OnOk r P
 on_ok (Ok x) p = p
 on_ok (Err e) p = tt
 
--- all that an installation gives
-pub settled_outs : {A T E : Type 0} (c : Core A) (r : Result T E) (outs all : List (Out A)) → may_install c ≡ true → OnOk r (all ≡ outs ++ given_all c)
+-- all that an installation gives, where it is due
+pub settled_due : {A T E : Type 0} (c : Core A) (r : Result T E) (outs all : List (Out A)) → may_install c ≡ true → OnOk r (all ≡ outs ++ given_all c)
     → OnOk r (all ≡ outs ++ (settle (may_install c) c []).outs)
 unfolding given_all
-settled_outs c r outs all due h = subst (λ (b : Bool). OnOk r (all ≡ outs ++ (settle b c []).outs)) (sym due) h
+settled_due c r outs all due h = subst (λ (b : Bool). OnOk r (all ≡ outs ++ (settle b c []).outs)) (sym due) h

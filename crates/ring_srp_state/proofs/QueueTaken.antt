@@ -45,18 +45,18 @@ run-long (suc more) bytes b (Part part) queue e l = refl
 run-long (suc more) bytes b (Pack pack) queue e l = refl
 run-long (suc more) bytes b (Snap snap) queue e l = refl
 
-run-more : {A : Type 0} (more bytes b : ℕ) (x : Payload A) (queue : List (Payload A)) → bytes_of x ≡ Some b
+room-more : {A : Type 0} (more bytes b : ℕ) (x : Payload A) (queue : List (Payload A)) → bytes_of x ≡ Some b
     → b ≤ bytes → length (run_within (suc more) bytes (x ∷ queue)) ≡ suc (length (run_within more (bytes - b) queue))
-run-more more bytes b (Call c) queue e l =
+room-more more bytes b (Call c) queue e l =
     let same : call_bytes c ≡ b = cc in
     ap length (cond-true (nat_le (call_bytes c) bytes) (c ∷ run_within more (bytes - call_bytes c) queue) [] (le-leb (call_bytes c) bytes (omega arith)))
     ∙ ap (λ n. suc (length (run_within more (bytes - n) queue))) same
-run-more more bytes b (Wrapped old) queue e l = absurd cc
-run-more more bytes b End queue e l = absurd cc
-run-more more bytes b (Head head) queue e l = absurd cc
-run-more more bytes b (Part part) queue e l = absurd cc
-run-more more bytes b (Pack pack) queue e l = absurd cc
-run-more more bytes b (Snap snap) queue e l = absurd cc
+room-more more bytes b (Wrapped old) queue e l = absurd cc
+room-more more bytes b End queue e l = absurd cc
+room-more more bytes b (Head head) queue e l = absurd cc
+room-more more bytes b (Part part) queue e l = absurd cc
+room-more more bytes b (Pack pack) queue e l = absurd cc
+room-more more bytes b (Snap snap) queue e l = absurd cc
 
 -- what was counted of a queue's run, and what is left of it
 abbrev pub IsCounted : {A : Type 0} → List (Payload A) → ℕ → ℕ → Type 0
@@ -96,7 +96,7 @@ module _ {A : Type 0} (queue : List (Payload A)) (count left : ℕ) where
       (length (run_within (most_pack - (count + 1)) (left - b) (drop (count + 1) queue))) =
       ap (λ q. length (run_within (most_pack - count) left q)) d
       ∙ ap (λ m. length (run_within m left (x ∷ drop (count + 1) queue))) n
-      ∙ run-more (most_pack - (count + 1)) left b x (drop (count + 1) queue) s near in
+      ∙ room-more (most_pack - (count + 1)) left b x (drop (count + 1) queue) s near in
       omega arith
 
   pub counted-all : most_pack ≤ count → count ≤ most_pack → IsCounted queue count left → most_pack ≡ length (front_run queue)
@@ -123,8 +123,8 @@ call-at queue i l =
     (n.0, subst (λ q. drop i q ≡ Call n.0 ∷ drop (suc i) q) b.1 n.1, n.2)
 
 -- a Call of the run stands at the front of what is left
-pub some-left : {A : Type 0} (queue now : List (Payload A)) (i : ℕ) → i < length (front_run queue) → now ≡ drop i queue → length now ≡ 0 → ⊥
-some-left queue now i l e z =
+pub queue-left : {A : Type 0} (queue now : List (Payload A)) (i : ℕ) → i < length (front_run queue) → now ≡ drop i queue → length now ≡ 0 → ⊥
+queue-left queue now i l e z =
     let c = call-at queue i l in
     let n : length now ≡ suc (length (drop (suc i) queue)) = ap length (e ∙ c.1) in
     absurd (omega arith)

@@ -1,15 +1,10 @@
 -- What an installation gives of messages, message by message: Outputs of docs/PROTOCOL.md.
 use Rattle.std.specs.Prelude.{ℕ, List, [], ◌∷◌, map, filter, filter_map}
-use Rattle.ring_base.specs.declared.ring_id.RingId.{RingId}
 use Rattle.ring_payload.specs.Kinds.{is_user}
 use Rattle.ring_wire.specs.declared.message.Message.{Message}
 use Rattle.ring_window.specs.Windows.{Windowed, kept}
 use Rattle.ring_core.specs.declared.out.Out.{Out}
-use Rattle.ring_core.specs.declared.out.Out.TheVariants.{Agreed, Rest}
-
--- messages of a ring are agreed
-abbrev pub all_agreed : {A : Type 0} → RingId → List (Message A) → List (Out A)
-all_agreed ring xs = map (λ (x : Message _). Agreed ring x.number x) xs
+use Rattle.ring_core.specs.declared.out.Out.TheVariants.{Rest}
 
 -- what a message gives in the transitional configuration
 abbrev pub rest_one : {A : Type 0} → Message A → List (Out A)

@@ -3,8 +3,9 @@
 ghost use Rattle.std.specs.Prelude.{◌≡◌, ◌++◌, ◌∷◌, [], ◌≤◌, IfErr, OnOk};
 ghost use Rattle.ring_base.specs.declared.fault.Fault.TheVariants.{Memory};
 ghost use Rattle.ring_window.specs.Held.{front_of};
+ghost use Rattle.ring_core.specs.Giving.{all_agreed};
 ghost use Rattle.ring_core.specs.declared.out.Out.TheVariants.{Agreed, Safe};
-ghost use Rattle.ring_srp_state.specs.Rests.{rest_one, rest_of, all_agreed};
+ghost use Rattle.ring_srp_state.specs.Rests.{rest_one, rest_of};
 ghost use Rattle.ring_srp_state.specs.Users.{agreed_in, agreed_of, safe_to};
 
 use ring_base::{Fault, RingId};

@@ -1,7 +1,10 @@
 //! The script of a variant: the text of the script itself, with a line more.
 
-ghost use Rattle.std.specs.Prelude.{◌≡◌, ◌≤◌};
+ghost use Rattle.std.specs.Prelude.{◌≡◌, ◌≤◌, ◌⊎◌, IfErr};
 ghost use Rattle.ring_script.specs.Fits.{AreFit};
+ghost use Rattle.ring_script.specs.ScriptTexts.{IsNoScript};
+ghost use Rattle.ring_script.specs.ShelfWords.{shelf_forms};
+ghost use Rattle.ring_report.specs.declared.failure.Failure.TheVariants.{Output};
 
 use crate::gap::{Gap, gap_of};
 use crate::upset::{Blow, ToldUpset, Upset};
@@ -29,6 +32,9 @@ pub fn print_variant<A: Allocator + Copy + Drop, O: Write, E: Write>(
 ) -> u8
     ensures status { result ≤ 2 }
     ensures quiet { result ≡ 0 → err.new ≡ err.old }
+    ensures none { IsNoScript shelf_forms text.now → (result ≡ 1) × (out.new ≡ out.old) }
+    ensures absent { result ≡ 2 → out.new ≡ out.old }
+    ensures kept { result ≡ 1 → (out.new ≡ out.old) ⊎ (err.new ≡ err.old) }
 {
     print_variant_of::<Things<A>, ShelfWords, O, E>(alloc, text, place, out, err)
 }
@@ -43,6 +49,9 @@ pub fn print_variant_of<T: Object, V: Vocabulary, O: Write, E: Write>(
 ) -> u8
     ensures status { result ≤ 2 }
     ensures quiet { result ≡ 0 → err.new ≡ err.old }
+    ensures none { IsNoScript V.forms text.now → (result ≡ 1) × (out.new ≡ out.old) }
+    ensures absent { result ≡ 2 → out.new ≡ out.old }
+    ensures kept { result ≡ 1 → (out.new ≡ out.old) ⊎ (err.new ≡ err.old) }
 {
     let mut rest = text;
     match Script::read_by::<V, _>(alloc, &mut rest) {
@@ -63,6 +72,8 @@ fn print_variant_in<T: Object, O: Write, E: Write>(
     requires { AreFit script.now.lines.items }
     ensures status { result ≤ 2 }
     ensures quiet { result ≡ 0 → err.new ≡ err.old }
+    ensures absent { result ≡ 2 → out.new ≡ out.old }
+    ensures kept { result ≡ 1 → (out.new ≡ out.old) ⊎ (err.new ≡ err.old) }
 {
     let upset = Upset::at(script.nodes.count(), place.saturating_sub(1));
     let gap = match gap_of::<T>(alloc, script, upset.before) {
@@ -86,7 +97,9 @@ fn print_with<A: Allocator + Copy, O: Write>(
     gap: Gap,
     upset: Upset,
     out: &mut O,
-) -> Result<(), Failure> {
+) -> Result<(), Failure>
+    ensures failed { IfErr result (λ failure. failure ≡ Output) }
+{
     let count = script.nodes.count();
     match script.lines.get(gap.lines) {
         Some(next) => print_among(
@@ -100,14 +113,16 @@ fn print_with<A: Allocator + Copy, O: Write>(
     }
 }
 
-/// Prints a text with what is put in before one of its lines, or behind so many turns of that.
+/// Prints a text with what is put in before one of its lines, or behind so many turns of that. Otherwise `Output`.
 fn print_among<A: Allocator + Copy, O: Write>(
     text: &[u8],
     next: &Numbered<A>,
     taken: u32,
     put_in: &PutIn,
     out: &mut O,
-) -> Result<(), Failure> {
+) -> Result<(), Failure>
+    ensures failed { IfErr result (λ failure. failure ≡ Output) }
+{
     let mut number = 0u64;
     for line in text.split_inclusive(|byte| *byte == b'\n') {
         number = number.saturating_add(1);
@@ -117,13 +132,15 @@ fn print_among<A: Allocator + Copy, O: Write>(
     Ok(())
 }
 
-/// Prints a text, and behind it what is put in.
-fn print_behind<O: Write>(text: &[u8], put_in: &PutIn, out: &mut O) -> Result<(), Failure> {
+/// Prints a text, and behind it what is put in. Otherwise `Output`.
+fn print_behind<O: Write>(text: &[u8], put_in: &PutIn, out: &mut O) -> Result<(), Failure>
+    ensures failed { IfErr result (λ failure. failure ≡ Output) }
+{
     print_text(text, out)?;
-    or_output(write!(out, "{put_in}"))
+    print_put_in(put_in, out)
 }
 
-/// Prints a line of the text, with what is put in where it is the one.
+/// Prints a line of the text, with what is put in where it is the one. Otherwise `Output`.
 fn print_line<A: Allocator + Copy, O: Write>(
     text: &[u8],
     is_next: bool,
@@ -131,40 +148,60 @@ fn print_line<A: Allocator + Copy, O: Write>(
     taken: u32,
     put_in: &PutIn,
     out: &mut O,
-) -> Result<(), Failure> {
+) -> Result<(), Failure>
+    ensures failed { IfErr result (λ failure. failure ≡ Output) }
+{
     if !is_next {
         return print_text(text, out);
     }
     print_parted(text, line, taken, put_in, out)
 }
 
-/// Prints what is put in before a line, or behind so many turns of it, which is printed as two pumps then.
+/// Prints what is put in before a line, or behind so many turns of it, which is printed as two pumps then. Otherwise `Output`.
 fn print_parted<A: Allocator + Copy, O: Write>(
     text: &[u8],
     line: &Line<A>,
     taken: u32,
     put_in: &PutIn,
     out: &mut O,
-) -> Result<(), Failure> {
+) -> Result<(), Failure>
+    ensures failed { IfErr result (λ failure. failure ≡ Output) }
+{
     match line {
         Line::Pump { turns } if taken > 0 => {
             let left = turns.saturating_sub(taken);
             or_output(write!(out, "pump {taken}\n{put_in}pump {left}\n"))
         }
         _ => {
-            or_output(write!(out, "{put_in}"))?;
+            print_put_in(put_in, out)?;
             print_text(text, out)
         }
     }
 }
 
-/// Prints a text as it is, and ends its last line where that has no end.
-fn print_text<O: Write>(text: &[u8], out: &mut O) -> Result<(), Failure> {
-    or_output(out.write_all(text))?;
+/// Prints a text as it is, and ends its last line where that has no end. Otherwise `Output`.
+fn print_text<O: Write>(text: &[u8], out: &mut O) -> Result<(), Failure>
+    ensures failed { IfErr result (λ failure. failure ≡ Output) }
+{
+    print_bytes(text, out)?;
     if text.ends_with(b"\n") {
         return Ok(());
     }
     or_output(writeln!(out))
+}
+
+/// Prints bytes as they are. Otherwise `Output`.
+fn print_bytes<O: Write>(bytes: &[u8], out: &mut O) -> Result<(), Failure>
+    ensures failed { IfErr result (λ failure. failure ≡ Output) }
+{
+    or_output(out.write_all(bytes))
+}
+
+/// Prints what is put in. Otherwise `Output`.
+fn print_put_in<O: Write>(put_in: &PutIn, out: &mut O) -> Result<(), Failure>
+    ensures failed { IfErr result (λ failure. failure ≡ Output) }
+{
+    or_output(write!(out, "{put_in}"))
 }
 
 /// What is put into a script of so many nodes and a run of so many events, as lines of it: a comment, and the line. Where there is nobody

@@ -1,11 +1,13 @@
 //! What the program prints of a sweep.
 
-ghost use Rattle.std.specs.Prelude.{◌≡◌, ℕ, ◌+◌, ◌*◌, ◌≤◌, ◌↔◌, true, List, None, Ok, IfOk, IfErr, OnOk};
+ghost use Rattle.std.specs.Prelude.{◌≡◌, ℕ, ◌+◌, ◌*◌, ◌≤◌, ◌↔◌, true, List, Some, None, Ok, Err, IfOk, IfErr, OnOk};
 ghost use Rattle.std.specs.Io.KnownBytes.{Appends, Keeps};
 ghost use Rattle.std.specs.declared.alloc.Global.{Global as OneGlobal};
 ghost use Rattle.ring_base.specs.declared.fault.Fault.TheVariants.{Memory};
 ghost use Rattle.ring_script.specs.Fits.{AreFit};
 ghost use Rattle.ring_script.specs.Scripts.{IsAllOf, AnswersInputBy, AnswersInput};
+ghost use Rattle.ring_script.specs.ScriptTexts.{IsNoScript};
+ghost use Rattle.ring_script.specs.ShelfWords.{shelf_forms};
 ghost use Rattle.ring_script.specs.declared.scripts.Script.{Script};
 ghost use Rattle.ring_report.specs.declared.failure.Failure.TheVariants.{Output};
 ghost use Rattle.ring_console.specs.Running.{Prints, run_opening};
@@ -59,6 +61,7 @@ pub fn sweep<A: Allocator + Copy + Drop, R: Read, O: Write, E: Write>(
     ensures printed { let object = ⟦<Things<A> as Object>⟧ in
         result ≡ 0 → (script : Script A) × (bytes : List ℕ) × IsAllOf (R.remaining input.old) bytes × AnswersInput (Ok script) bytes
         × Prints (O.contents out.old) (O.contents out.new) (IsSweptText object.sequential script.nodes script.lines.items true) }
+    ensures no_script { (bytes : List ℕ) → R.remaining input.old ≡ Some bytes → IsNoScript shelf_forms bytes → (result ≡ 1) × (out.new ≡ out.old) }
 {
     sweep_of::<Things<A>, ShelfWords, R, O, E>(alloc, input, out, err)
 }
@@ -74,6 +77,7 @@ pub fn sweep_of<T: Object, V: Vocabulary, R: Read, O: Write, E: Write>(
     ensures quiet { result ≡ 0 → Keeps (E.contents err.old) (E.contents err.new) }
     ensures printed { result ≡ 0 → (script : Script T.Alloc) × (bytes : List ℕ) × IsAllOf (R.remaining input.old) bytes
         × AnswersInputBy V.forms (Ok script) bytes × Prints (O.contents out.old) (O.contents out.new) (IsSweptText T.sequential script.nodes script.lines.items true) }
+    ensures no_script { (bytes : List ℕ) → R.remaining input.old ≡ Some bytes → IsNoScript V.forms bytes → (result ≡ 1) × (out.new ≡ out.old) }
 {
     match Script::read_by::<V, R>(alloc, input) {
         Ok(script) => sweep_script::<T, O, E>(alloc, &script, out, err),
@@ -115,6 +119,7 @@ pub fn sweep_by_threads<R: Threads + Clock + Sync, I: Read, O: Write, E: Write, 
     ensures printed { let object = ⟦<Things<Global> as Object>⟧ in
         result ≡ 0 → (script : Script OneGlobal) × (bytes : List ℕ) × IsAllOf (I.remaining input.old) bytes × AnswersInput (Ok script) bytes
         × Prints (O.contents out.old) (O.contents out.new) (IsSweptText object.sequential script.nodes script.lines.items true) }
+    ensures no_script { (bytes : List ℕ) → I.remaining input.old ≡ Some bytes → IsNoScript shelf_forms bytes → (result ≡ 1) × (out.new ≡ out.old) }
 {
     sweep_of_by_threads::<Things<Global>, ShelfWords, R, I, O, E, P>(
         rt, alloc, input, threads, out, err, progress,
@@ -143,6 +148,7 @@ pub fn sweep_of_by_threads<
     ensures quiet { result ≡ 0 → Keeps (E.contents err.old) (E.contents err.new) }
     ensures printed { result ≡ 0 → (script : Script OneGlobal) × (bytes : List ℕ) × IsAllOf (I.remaining input.old) bytes
         × AnswersInputBy V.forms (Ok script) bytes × Prints (O.contents out.old) (O.contents out.new) (IsSweptText T.sequential script.nodes script.lines.items true) }
+    ensures no_script { (bytes : List ℕ) → I.remaining input.old ≡ Some bytes → IsNoScript V.forms bytes → (result ≡ 1) × (out.new ≡ out.old) }
 {
     let script = match Script::read_by::<V, I>(alloc, input) {
         Ok(script) => script,
@@ -178,6 +184,7 @@ pub fn verdict_status<E: Write>(err: &mut E, done: Result<Swept, Failure>) -> u8
     ensures status { result ≤ 1 }
     ensures ok { result ≡ 0 ↔ AllLegal done }
     ensures quiet { result ≡ 0 → err.new ≡ err.old }
+    ensures output { done ≡ Err Output → err.new ≡ err.old }
 {
     match done {
         Ok(swept) => swept_status(err, &swept),

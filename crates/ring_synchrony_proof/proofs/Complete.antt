@@ -55,8 +55,8 @@ at_in (x ∷ xs) zero l = inl refl
 at_in (x ∷ xs) (suc k) l = inr (at_in xs k (omega (arith, l)))
 
 -- the member at a position is one of the members
-pub member_at : (set k : ℕ) → k < size set → IsIn (at set k) (elements set)
-member_at set k l = at_in (elements set) k l
+pub member_place : (set k : ℕ) → k < size set → IsIn (at set k) (elements set)
+member_place set k l = at_in (elements set) k l
 
 got_low : {X : Type 0} (xs : List X) (k : ℕ) (x : X) → slice_get xs k ≡ Some x → k < length xs
 got_low [] k x e = absurd (let n : ⊥ = cc in n)
@@ -117,7 +117,7 @@ sender_in members ring [] some h x s = absurd s
 sender_in {A} members ring (v ∷ vs) some h x (inl i) =
     let sender : x.sender ≡ v.who = (numbered_in ring v.who v.turn.came.seq v.turn.fresh x i).sender_is in
     let who : v.who ≡ at members (length vs % size members) = h.0.turn in
-    subst (λ q. IsIn q (elements members)) (sym (sender ∙ who)) (member_at members (length vs % size members) (mod-lt (length vs) some))
+    subst (λ q. IsIn q (elements members)) (sym (sender ∙ who)) (member_place members (length vs % size members) (mod-lt (length vs) some))
 sender_in members ring (v ∷ vs) some h x (inr s) = sender_in members ring vs some h.1 x s
 
 under_then : (a b c : ℕ) → a < b → b ≤ c → a ≤ c
@@ -293,7 +293,7 @@ module _ {A : Type 0} (cores : ℕ → Core A) (frames : List (Carried A)) (a : 
         let g = in_got k.entries e from.0 in
         let m = at k.members g.0 in
         let member : IsIn m (elements c.running.members) =
-        subst (λ ms. IsIn m (elements ms)) o.members (member_at k.members g.0 (subst (λ n. g.0 < n) is_plan.count (got_low k.entries g.0 e g.1))) in
+        subst (λ ms. IsIn m (elements ms)) o.members (member_place k.members g.0 (subst (λ n. g.0 < n) is_plan.count (got_low k.entries g.0 e g.1))) in
         by_end u e g.0 g.1 j (ring_same e.old old from.1) r above (ready_ends c ready m member)
       where
         by_end : (u : ℕ) (e : CommitEntry) (g : ℕ) → slice_get k.entries g ≡ Some e → IsIn e p.reports → e.old ≡ old → is_reported u e ≡ true → low p < u →

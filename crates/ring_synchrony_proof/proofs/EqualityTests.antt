@@ -19,9 +19,9 @@ use Rattle.ring_payload.specs.declared.content.Content.TheVariants.{Snap as Snap
 use Rattle.ring_payload.specs.declared.content.Payload.{Payload}
 use Rattle.ring_payload.specs.declared.content.Payload.TheVariants.{Call, Wrapped, End, Head, Part, Pack, Snap}
 use Rattle.ring_payload.specs.declared.content.Wrapped.{Wrapped as WrappedMessage}
+use Rattle.ring_payload.specs.SameCalls.{is_same}
 use Rattle.ring_wire.specs.declared.message.Message.{Message}
 use Rattle.ring_core.specs.Commits.{Configuration}
-use Rattle.ring_log.specs.Logs.{same_call}
 use Rattle.ring_synchrony_proof.specs.Same.{same_calls, same_last, same_head, same_part, same_snap, same_content, same_wrapped, same_payload, same_message}
 use Rattle.ring_synchrony_proof.specs.Same.{same_messages}
 use Rattle.ring_synchrony_proof.specs.Changes.{Change}
@@ -49,7 +49,7 @@ configuration_decides a b =
     both (same_ring a.ring b.ring) (a.members == b.members) (ring_decides a.ring b.ring) (Decides-eqb a.members b.members)
     (λ p i. record { ring = p.0 i; members = p.1 i }) (λ e. (ap (λ (r : Configuration). r.ring) e, ap (λ (r : Configuration). r.members) e))
 
-call_decides : {A : Type 0} → (a b : OneCall A) → Decides (same_call a b) (a ≡ b)
+call_decides : {A : Type 0} → (a b : OneCall A) → Decides (is_same b a) (a ≡ b)
 call_decides a b =
     both ((a.client == b.client) && (a.number == b.number)) (bytes_eq a.op b.op)
     (Decides-and (a.client == b.client) (a.number == b.number) (Decides-eqb a.client b.client) (Decides-eqb a.number b.number)) (bytes_decides a.op b.op)
@@ -91,7 +91,7 @@ snap_decides a b =
     (λ e. (ap (λ (h : OneSnap _). h.at) e, (ap (λ (h : OneSnap _). h.total) e, (ap (λ (h : OneSnap _). h.offset) e, ap (λ (h : OneSnap _). h.bytes) e))))
 
 content_decides : {A : Type 0} → (a b : Content A) → Decides (same_content a b) (a ≡ b)
-content_decides (CallContent a) (CallContent b) = through CallContent (same_call a b) a b (call_decides a b) (λ e. cc)
+content_decides (CallContent a) (CallContent b) = through CallContent (is_same b a) a b (call_decides a b) (λ e. cc)
 content_decides (HeadContent a) (HeadContent b) = through HeadContent (same_head a b) a b (head_decides a b) (λ e. cc)
 content_decides (PartContent a) (PartContent b) = through PartContent (same_part a b) a b (part_decides a b) (λ e. cc)
 content_decides (PackContent a) (PackContent b) = through PackContent (same_calls a.calls b.calls) a b (pack_decides a b) (λ e. cc)
@@ -113,7 +113,7 @@ wrapped_decides a b =
     ))
 
 payload_decides : {A : Type 0} → (a b : Payload A) → Decides (same_payload a b) (a ≡ b)
-payload_decides (Call a) (Call b) = through Call (same_call a b) a b (call_decides a b) (λ e. cc)
+payload_decides (Call a) (Call b) = through Call (is_same b a) a b (call_decides a b) (λ e. cc)
 payload_decides (Wrapped a) (Wrapped b) = through Wrapped (same_wrapped a b) a b (wrapped_decides a b) (λ e. cc)
 payload_decides End End = (λ h. refl, λ e. refl)
 payload_decides (Head a) (Head b) = through Head (same_head a b) a b (head_decides a b) (λ e. cc)

@@ -1,10 +1,9 @@
--- Reports are exact, and of what mates report, what is known reaches no further, and the greatest mark is below each front.
+-- Reports are exact, and of what mates report, what is known reaches no further.
 
 -- A core's own report says what it holds of its last installed ring and nothing past the window.
 use Rattle.std.proofs.Common.{◌≡◌, ℕ, ◌+◌, ◌-◌, ◌<◌, ◌≤◌, inl, inr, true, ◌&&◌, ◌==◌, List, [], ◌∷◌, map, Option}
 use Rattle.std.proofs.Common.{Some, None, refl, ap, sym, ◌∙◌, subst, arith}
 use Rattle.std.specs.Prelude.{filter, nat_lt, nat_le, nat_eq, max}
-use Rattle.std.specs.List.{AllByRecursion as Each}
 use Rattle.std.specs.Cmp.Lexicographic.{pointwise, bytes_decides}
 use Rattle.std.proofs.lemmas.Bool.{cond_both, cond-true, cases_lt, and_parts, or_cases, or_right, false≢true, eqb-true, leb-true, le-leb, lt-ltb, ltb-true}
 use Rattle.ring_base.specs.Numbers.{window_size, greatest}
@@ -16,8 +15,8 @@ use Rattle.ring_core.specs.Windows.{holds, front_of, held_bits}
 use Rattle.ring_core.proofs.Windows.{held_bit, front_is}
 use Rattle.ring_base.proofs.SameRing.{ring_same, same-self}
 use Rattle.ring_core.specs.Tokens.{Turn, Raise, raised_to, safe_mark, mark_by, forwarded_in}
-use Rattle.ring_core.specs.Commits.{same_entry, reports_of, safe_of, none_behind, is_own}
-use Rattle.ring_core.specs.Recoveries.{Plan, safe, low, least, is_reported, is_known}
+use Rattle.ring_core.specs.Commits.{same_entry, reports_of, safe_of, is_own}
+use Rattle.ring_core.specs.Recoveries.{Plan, safe, is_reported, is_known}
 use Rattle.ring_core.specs.State.{Core}
 use Rattle.ring_core.specs.Views.{front, mark, own_entry}
 use Rattle.ring_core_proof.specs.FactWords.{IsIn}
@@ -113,24 +112,6 @@ known_reach p reach n h =
     let a : n ≤ (s.0).mark + window_size = reach s.0 s.1 n s.2 in
     let b : (s.0).mark ≤ safe p = safe_most s.0 p.reports s.1 in
     omega (arith, a, b)
-
--- the greatest mark is at most each front
-least_above : (s x : ℕ) (xs : List ℕ) → s ≤ x → Each (λ y. s ≤ y) xs → s ≤ least (x ∷ xs)
-least_above s x [] l h = l
-least_above s x (y ∷ xs) l h = (let m : s ≤ least (y ∷ xs) = least_above s y xs h.0 h.1 in omega (arith, l, m))
-
-behind_each : (s : ℕ) (reports : List CommitEntry) → none_behind s reports ≡ true → Each (λ y. s ≤ y) (map (λ (e : CommitEntry). e.front) reports)
-behind_each s [] h = tt
-behind_each s (e ∷ reports) h =
-    let p = and_parts (nat_le s e.front) (none_behind s reports) h in
-    (leb-true s e.front p.0, behind_each s reports p.1)
-
-pub safe_low : (p : Plan) → none_behind (safe_of p.reports) p.reports ≡ true → safe p ≤ low p
-safe_low p h = go p.reports (safe_of p.reports) (λ e. ap safe_of e) h
-  where
-    go : (es : List CommitEntry) (s : ℕ) → (es ≡ [] → s ≡ 0) → none_behind s es ≡ true → s ≤ least (map (λ (e : CommitEntry). e.front) es)
-    go [] s z h = (let q : s ≡ 0 = z refl in omega (arith, q))
-    go (e ∷ es) s z h = (let b = behind_each s (e ∷ es) h in least_above s e.front (map (λ (e : CommitEntry). e.front) es) b.0 b.1)
 
 -- a raise that no mark is above is the mark
 pub raised_is : {A : Type 0} → (x : Raise) (turns : List (Turn A)) (raises : List Raise)

@@ -7,7 +7,7 @@
 -- LivesTold: What a step gives makes of the life that a core's facts tell the life that they tell after it.
 -- LivesOfWorlds: In every world each processor's life is what its core's facts tell, and each of its outputs stands where it belongs.
 -- MatesReported: Who comes from an old ring: a member whose report names it is one of the mates.
--- KnownReports: Reports are exact, and of what mates report, what is known reaches no further, and the greatest mark is below each front.
+-- KnownReports: Reports are exact, and of what mates report, what is known reaches no further.
 -- Planned: The plan by which a core goes from one ring to another is among the core's, with the core as a mate, its mark, and what it holds.
 -- Recovering: In every world a core in Recovery has a plan, and of each change of rings that a core went through all is held that was reported.
 -- Heard: Lists of what is heard of a ring: up to a number, and what a plan's rest has.

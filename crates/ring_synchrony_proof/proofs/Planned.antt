@@ -21,13 +21,14 @@ use Rattle.ring_core.specs.Commits.{safe_of, position_of_hop, Configuration}
 use Rattle.ring_core.specs.Recoveries.{Plan, plan_of, safe, low, is_known, known_above_safe, is_complete}
 use Rattle.ring_core.specs.State.{Core}
 use Rattle.ring_core.specs.Views.{mark, own_entry, entries_for}
+use Rattle.ring_core.proofs.Recoveries.{safe_low}
 use Rattle.ring_core_proof.specs.FactWords.{IsIn}
 use Rattle.ring_core_proof.specs.Moves.{Learns, moved, MayLearn}
 use Rattle.ring_core_proof.proofs.WithinWindow.{Fit}
 use Rattle.ring_synchrony_proof.specs.Tales.{plan_into}
 use Rattle.ring_synchrony_proof.proofs.Keeps.{IsSameOf}
 use Rattle.ring_synchrony_proof.proofs.MatesReported.{is_mate, got_in}
-use Rattle.ring_synchrony_proof.proofs.KnownReports.{own_is, IsReach, held_reported, safe_most, in_reports, reports_in, known_by, known_reach, safe_low, raised_is}
+use Rattle.ring_synchrony_proof.proofs.KnownReports.{own_is, IsReach, held_reported, safe_most, in_reports, reports_in, known_by, known_reach, raised_is}
 
 pub record HasPlan {A : Type 0} (c : Core A) (next old : Configuration) : Type 0 where
   pub commit : CommitToken
@@ -85,7 +86,7 @@ module _ {A : Type 0} (c : Core A) (came : Frame A → Type 0) (k : CommitToken)
             (known_by p n own own_in (held_reported c fit n (held_low c.held c.installed.ring n positive t) t));
         reach = subst (λ (q : Plan). (n : ℕ) → is_known q n ≡ true → n ≤ safe q + window_size) (sym plan_is)
             (known_reach p (λ e i. reaches e (reports_in c.installed.ring e k.entries i)));
-        sound = subst (λ (q : Plan). safe q ≤ low q) (sym plan_is) (safe_low p h.sound);
+        sound = subst (λ (q : Plan). safe q ≤ low q) (sym plan_is) (safe_low p.reports h.sound);
       }
     where
       held_low : (held : List (Message A)) (ring : RingId) (n : ℕ) → ((x : Message A) → IsIn x held → 1 ≤ x.number) → holds held ring n ≡ true → 1 ≤ n

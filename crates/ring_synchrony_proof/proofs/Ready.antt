@@ -39,7 +39,7 @@ use Rattle.ring_core_proof.proofs.OwnRings.{newest_in}
 use Rattle.ring_synchrony_proof.proofs.Keeps.{IsSameOf, IsStill, all_same, visited_same, found_past, other_not, still_of}
 use Rattle.ring_synchrony_proof.proofs.Unwrapped.{ready_ends}
 use Rattle.ring_synchrony_proof.specs.Ready.{ReadyIsComplete, ReadyIsInstalled}
-use Rattle.ring_synchrony_proof.proofs.Complete.{member_at}
+use Rattle.ring_synchrony_proof.proofs.Complete.{member_place}
 
 -- a ring that is ready is installed, or it is the one that recovers
 abbrev pub ReadyOrRecovers : {A : Type 0} → Core A → Type 0
@@ -93,7 +93,7 @@ module _ {A : Type 0} (came : Frame A → Type 0) (c : Core A) (me : 1 ≤ c.me)
       let d = moved c (Enters k) in
       let first = h.first me in
       let some : 0 < size k.members = omega (arith, first) in
-      let end = ready_ends d t (at k.members (position_of_hop k)) (member_at k.members (position_of_hop k) (mod-lt k.hop some)) in
+      let end = ready_ends d t (at k.members (position_of_hop k)) (member_place k.members (position_of_hop k) (mod-lt k.hop some)) in
       let among = in-each _ end.message c.held ((local.facts).held) end.held in
       let low : (end.message).ring.seq ≤ floor c = below_floor c rises (record { ring = (end.message).ring; members = among.0 }) among.1 in
       let q : (end.message).ring.seq ≡ k.ring.seq = ap (λ (r : RingId). r.seq) end.ring_is in

@@ -15,12 +15,12 @@ use Rattle.ring_payload.specs.declared.content.Content.TheVariants.{Snap as Snap
 use Rattle.ring_payload.specs.declared.content.Payload.{Payload}
 use Rattle.ring_payload.specs.declared.content.Payload.TheVariants.{Call, Wrapped, End, Head, Part, Pack, Snap}
 use Rattle.ring_payload.specs.declared.content.Wrapped.{Wrapped as WrappedMessage}
+use Rattle.ring_payload.specs.SameCalls.{is_same}
 use Rattle.ring_wire.specs.declared.message.Message.{Message}
-use Rattle.ring_log.specs.Logs.{same_call}
 
 -- Each test says of two values that they are the same in all that they tell; of two lists, that they are as long, and the same one by one
 abbrev pub same_calls : {A : Type 0} → List (OneCall A) → List (OneCall A) → Bool
-same_calls cs ds = pointwise same_call cs ds
+same_calls cs ds = pointwise (λ (c : OneCall _) (d : OneCall _). is_same d c) cs ds
 
 abbrev pub same_last : Option RingId → Option RingId → Bool
 same_last None None = true
@@ -38,7 +38,7 @@ abbrev pub same_snap : {A : Type 0} → OneSnap A → OneSnap A → Bool
 same_snap a b = (a.at == b.at) && ((a.total == b.total) && ((a.offset == b.offset) && bytes_eq a.bytes b.bytes))
 
 abbrev pub same_content : {A : Type 0} → Content A → Content A → Bool
-same_content (CallContent a) (CallContent b) = same_call a b
+same_content (CallContent a) (CallContent b) = is_same b a
 same_content (HeadContent a) (HeadContent b) = same_head a b
 same_content (PartContent a) (PartContent b) = same_part a b
 same_content (PackContent a) (PackContent b) = same_calls a.calls b.calls
@@ -49,7 +49,7 @@ abbrev pub same_wrapped : {A : Type 0} → WrappedMessage A → WrappedMessage A
 same_wrapped a b = same_ring a.ring b.ring && ((a.number == b.number) && ((a.sender == b.sender) && same_content a.payload b.payload))
 
 abbrev pub same_payload : {A : Type 0} → Payload A → Payload A → Bool
-same_payload (Call a) (Call b) = same_call a b
+same_payload (Call a) (Call b) = is_same b a
 same_payload (Wrapped a) (Wrapped b) = same_wrapped a b
 same_payload End End = true
 same_payload (Head a) (Head b) = same_head a b

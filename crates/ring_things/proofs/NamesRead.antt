@@ -36,10 +36,6 @@ front_there : {A B : Type 0} (f : A → Option B) (front : Option A) → is_some
 front_there f (Some x) is = refl
 front_there f None is = absurd cc
 
-pub some_if : {A : Type 0} (test : Bool) (x : A) → is_some (if test then Some x else None) ≡ test
-some_if true x = refl
-some_if false x = refl
-
 -- where something can be read, a name stands at the front
 pub next_there : (count i : ℕ) (last bytes : List ℕ) → i < count → is_some (names_of (count - i) last bytes) ≡ true → IsSome (next_name last bytes)
 unfolding names_of

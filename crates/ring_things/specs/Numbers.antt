@@ -1,15 +1,14 @@
 -- Numbers of a width in bytes, big-endian, one after the other; and that they read back.
-use Rattle.std.proofs.Common.{◌≡◌, ℕ, zero, suc, ◌*◌, ◌^◌, ◌<◌, ◌≤◌, List, [], ◌∷◌, ◌++◌, length, get_or, take, drop, All, refl, sym, ap, ◌∙◌, arith, inl, inr}
+use Rattle.std.proofs.Common.{◌≡◌, ℕ, zero, suc, ◌*◌, ◌^◌, ◌<◌, ◌≤◌, List, [], ◌∷◌, ◌++◌, length, take, drop, All, refl, sym, ap, ◌∙◌, arith}
 use Rattle.std.proofs.Common.{append-nil}
 use Rattle.std.specs.List.{flat_map}
-use Rattle.std.proofs.lemmas.Bool.{cases_lt}
-use Rattle.std.proofs.lemmas.List.{drop_at, take-append-drop, length-append, length-take, length-drop, get_or_past, nil_from_length}
+use Rattle.std.proofs.lemmas.List.{drop_at, take-append-drop, length-append, length-take, length-drop, nil_from_length}
 use Rattle.std.proofs.lemmas.List.Concat.{flat_map-cons}
-use Rattle.std.proofs.lemmas.List.Elements.{All-take, All-drop, All-cons, All-nil, All-head, All-tail, All-get_or}
+use Rattle.std.proofs.lemmas.List.Elements.{All-take, All-drop, All-cons, All-nil, All-head, All-tail}
 use Rattle.std.proofs.lemmas.Nat.{be_bytes_2, be_bytes_8}
 use Rattle.byteorder.specs.Endian.{big_bytes, big_number}
 use Rattle.byteorder.specs.Numbers.{big_number-reads_back, big_from-append, big_from-lt, length-bytes_high_first}
-use Rattle.ring_object.specs.Bytes.{AreBytes}
+use Rattle.ring_object.specs.Bytes.{AreBytes, bytes_everywhere}
 
 -- the bytes of the numbers
 abbrev pub spelled : ℕ → List ℕ → List ℕ
@@ -23,13 +22,6 @@ numbers_of width (suc count) bytes = big_number width bytes ∷ numbers_of width
 -- numbers of the width
 abbrev pub AreNumbers : ℕ → List ℕ → Type 0
 AreNumbers width numbers = All (λ number. number < 256 ^ width) numbers
-
-bytes_everywhere : (bytes : List ℕ) → AreBytes bytes → (i : ℕ) → get_or bytes i 0 < 256
-bytes_everywhere bytes are i =
-    elim (cases_lt i (length bytes)) [
-      | inl within ↦ All-get_or (λ byte. byte < 256) bytes i 0 within are
-      | inr past ↦ rw (get_or_past bytes i 0 past) (omega arith)
-    ]
 
 -- the number that bytes make fits them
 pub big_number-lt : (width : ℕ) (bytes : List ℕ) → AreBytes bytes → big_number width bytes < 256 ^ width

@@ -1,2 +1,3 @@
 pub mod Selections
 pub mod Sendings
+pub mod Standings

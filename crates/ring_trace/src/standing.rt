@@ -1,7 +1,12 @@
 //! How nodes stand.
 
-use ring_base::{Fault, Proc, ProcSet, RingId, State};
-use ring_trace_forms::{Change, NodeVotes, Why};
+ghost use Rattle.std.specs.Prelude.{◌≡◌, ◌++◌, OnOk, OnErr, IfErr};
+ghost use Rattle.ring_base.specs.declared.fault.Fault.TheVariants.{Memory};
+ghost use Rattle.ring_base.specs.Fronts.{IsFront};
+ghost use Rattle.ring_trace.specs.Standings.{is_new_ring, is_new_state, ring_change, change_if, changes_of};
+
+use ring_base::{Fault, Fixed, Proc, ProcSet, RingId, State};
+use ring_trace_forms::{Change, Share, Why};
 use std::alloc::Allocator;
 
 /// What was last seen of a node.
@@ -32,9 +37,9 @@ impl Standing {
     }
 
     /// How the node stands, as changes since its opening.
-    pub fn changes(&self, votes: &NodeVotes) -> [Change; 3] {
+    pub fn changes(&self, nodes: Fixed) -> [Change; 3] {
         let first = match self.state {
-            State::Operational => self.ring_change(votes),
+            State::Operational => self.ring_change(nodes),
             state => Change::State(state),
         };
         [
@@ -44,44 +49,60 @@ impl Standing {
         ]
     }
 
-    /// Adds what changed at the node, which stood as `before` and stands so now. Or `Memory`: then a part of it may be added.
+    /// Adds what changed at the node, which stood as `before` and stands so now. Or `Memory`: then no more than a front of it is added.
     ///
     /// A new ring tells its state: a node that installs one is operational.
     pub fn add_changes<A: Allocator>(
         &self,
         before: &Standing,
-        votes: &NodeVotes,
+        nodes: Fixed,
         changes: &mut Vec<Change, A>,
-    ) -> Result<(), Fault> {
-        let is_new_ring = self.ring != before.ring;
-        if is_new_ring {
-            changes.push(self.ring_change(votes))?;
-        }
-        if self.state != before.state && !(is_new_ring && self.state == State::Operational) {
-            changes.push(Change::State(self.state))?;
-        }
-        if self.committed != before.committed {
-            changes.push(Change::Committed(self.committed))?;
-        }
-        if self.trimmed != before.trimmed {
-            changes.push(Change::Trimmed(self.trimmed))?;
-        }
-        Ok(())
+    ) -> Result<(), Fault>
+        ensures ok { OnOk result (changes.new.items ≡ changes.old.items ++ changes_of nodes before.now self.now) }
+        ensures err { OnErr result (IsFront changes.old.items changes.new.items
+            × IsFront changes.new.items (changes.old.items ++ changes_of nodes before.now self.now)) }
+        ensures refused { IfErr result (λ fault. fault ≡ Memory) }
+    {
+        let is_ring = self.is_new_ring(before);
+        let is_state = self.is_new_state(before);
+        let is_committed = self.committed != before.committed;
+        let is_trimmed = self.trimmed != before.trimmed;
+        add_if(changes, is_ring, self.ring_change(nodes))?;
+        add_if(changes, is_state, Change::State(self.state))?;
+        add_if(changes, is_committed, Change::Committed(self.committed))?;
+        add_if(changes, is_trimmed, Change::Trimmed(self.trimmed))
+    }
+
+    /// Whether the node installed another ring.
+    fn is_new_ring(&self, before: &Standing) -> bool
+        ensures { result ≡ is_new_ring before.now self.now }
+    {
+        self.ring != before.ring
+    }
+
+    /// Whether the node's state is another one, and no new ring tells it.
+    fn is_new_state(&self, before: &Standing) -> bool
+        ensures { result ≡ is_new_state before.now self.now }
+    {
+        let is_told = self.is_new_ring(before) && self.state == State::Operational;
+        self.state != before.state && !is_told
     }
 
     /// That the node installed its ring.
-    fn ring_change(&self, votes: &NodeVotes) -> Change {
+    fn ring_change(&self, nodes: Fixed) -> Change
+        ensures { result ≡ ring_change nodes self.now }
+    {
         Change::Ring {
             ring: self.ring,
             members: self.members,
-            share: votes.share(self.members),
+            share: Share::of(nodes, self.members),
         }
     }
 
     /// Why a call waits at the node, which has sent it or not.
-    pub fn reason(&self, votes: &NodeVotes, is_sent: bool) -> Why {
+    pub fn reason(&self, nodes: Fixed, is_sent: bool) -> Why {
         let members = self.members;
-        let share = votes.share(members);
+        let share = Share::of(nodes, members);
         match self.state {
             State::Stopped => Why::Stopped,
             State::Operational if !share.is_primary => Why::Minority { members, share },
@@ -90,4 +111,20 @@ impl Standing {
             state => Why::State(state),
         }
     }
+}
+
+/// Adds a change where it is told. Or `Memory`: then it isn't added.
+fn add_if<A: Allocator>(
+    changes: &mut Vec<Change, A>,
+    is_told: bool,
+    change: Change,
+) -> Result<(), Fault>
+    ensures ok { OnOk result (changes.new.items ≡ changes.old.items ++ change_if is_told change) }
+    ensures err { OnErr result (changes.new.items ≡ changes.old.items) }
+    ensures refused { IfErr result (λ fault. fault ≡ Memory) }
+{
+    if is_told {
+        changes.push(change)?;
+    }
+    Ok(())
 }

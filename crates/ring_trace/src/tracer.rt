@@ -11,12 +11,12 @@ use crate::sent::{frames_behind, sent_of, write_frames};
 use crate::sides::sides_of;
 use crate::sight::{Sight, sight_of, write_turn, write_what};
 use crate::standing::Standing;
-use ring_base::{Fault, MOST_PROCESSORS, Proc, ProcSet};
+use ring_base::{Fault, Fixed, PROCESSORS, Proc, ProcSet};
 use ring_console::{Failure, Groups, Line, Pair, Run, Script};
 use ring_object::Object;
 use ring_trace_forms::{
-    Change, Counts, Drawing, Fold, Format, Happening, NodeVotes, Told, TraceForm, Waiting,
-    WaitingCalls, Why, Wording,
+    Change, Counts, Drawing, Fold, Format, Happening, Told, TraceForm, Waiting, WaitingCalls, Why,
+    Wording,
 };
 use std::alloc::Allocator;
 use std::io::Write;
@@ -30,7 +30,7 @@ pub(crate) struct Tracer<O: Object> {
     form: TraceForm,
     wording: Wording,
     drawing: Drawing<O::Alloc>,
-    votes: NodeVotes,
+    nodes: Fixed,
     /// The sides of the cut, if there is one.
     sides: Vec<ProcSet, O::Alloc>,
     selection: Selection,
@@ -55,7 +55,6 @@ impl<O: Object> Tracer<O> {
         form: TraceForm,
         wording: Wording,
         script: &Script<O::Alloc>,
-        votes: NodeVotes,
         selection: Selection,
     ) -> Result<Tracer<O>, Fault>
         ensures { IfOk result (λ tracer. tracer.run ≡ run_opening script.now.nodes) }
@@ -71,7 +70,7 @@ impl<O: Object> Tracer<O> {
             form,
             wording,
             drawing: Drawing::new(alloc, script.nodes, selection.node),
-            votes,
+            nodes: script.nodes,
             sides: Vec::new(alloc),
             selection,
             standings,
@@ -269,10 +268,8 @@ impl<O: Object> Tracer<O> {
         ensures { self.new.run ≡ self.old.run }
     {
         for (before, standing) in self.standings.iter().enumerate() {
-            if before < usize::from(MOST_PROCESSORS)
-                && self.selection.has(event, Some(Proc::new(before as u8 + 1)))
-            {
-                let changes = standing.changes(&self.votes);
+            if before < PROCESSORS && self.selection.has(event, Some(Proc::new(before as u8 + 1))) {
+                let changes = standing.changes(self.nodes);
                 self.drawing
                     .add_standing(Proc::new(before as u8 + 1), changes.as_slice())?;
             }
@@ -321,7 +318,7 @@ impl<O: Object> Tracer<O> {
             trimmed: node.trimmed(),
         };
         let before = mem::replace(standing, now);
-        now.add_changes(&before, &self.votes, &mut self.changes)
+        now.add_changes(&before, self.nodes, &mut self.changes)
     }
 
     /// Takes the calls that were answered or refused from those that wait.
@@ -422,7 +419,7 @@ impl<O: Object> Tracer<O> {
         let place = usize::from(node.number()) - 1;
         match self.standings.get(place) {
             Some(standing) => standing.reason(
-                &self.votes,
+                self.nodes,
                 is_sent || (standing.is_alone() && is_logged),
             ),
             None => Why::NotSent,

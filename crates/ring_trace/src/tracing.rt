@@ -13,7 +13,7 @@ use ring_base::Fault;
 use ring_console::{Failure, Script, ShelfWords, Things, Vocabulary, report};
 use ring_object::Object;
 use ring_report::{Lent, exit_status};
-use ring_trace_forms::{Format, NodeVotes, Replies, TraceForm, Wording};
+use ring_trace_forms::{Format, Replies, TraceForm, Wording};
 use std::alloc::Global;
 use std::io::{BufWriter, Write};
 
@@ -85,17 +85,14 @@ fn trace_text<T: Object<Alloc = Global>, V: Vocabulary + Replies, W: Write, F: W
 {
     let mut rest = text;
     let script = Script::read_by::<V, &[u8]>(alloc, &mut rest)?;
-    let words = str::from_utf8(text).unwrap_or("");
-    let votes = NodeVotes::told(script.nodes, words);
-    trace_script::<T, V, W, F>(alloc, script, votes, asked, out, frames)?;
+    trace_script::<T, V, W, F>(alloc, script, asked, out, frames)?;
     Ok(())
 }
 
-/// Runs a script whose nodes have these votes, prints what its events did, and writes the frames that were sent.
+/// Runs a script, prints what its events did, and writes the frames that were sent.
 fn trace_script<O: Object<Alloc = Global>, V: Vocabulary + Replies, W: Write, F: Write>(
     alloc: Global,
     script: Script,
-    votes: NodeVotes,
     asked: TraceOptions,
     out: &mut W,
     frames: &mut F,
@@ -108,7 +105,7 @@ fn trace_script<O: Object<Alloc = Global>, V: Vocabulary + Replies, W: Write, F:
         format: asked.format,
     };
     let wording = Wording::of::<V>();
-    let mut tracer = Tracer::<O>::new(alloc, form, wording, &script, votes, asked.selection)?;
+    let mut tracer = Tracer::<O>::new(alloc, form, wording, &script, asked.selection)?;
     let told = tracer.tell(script, out, frames);
     // By name, so that the run is let go in a function of any type, and lives at no exit.
     drop(tracer);

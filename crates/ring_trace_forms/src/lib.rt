@@ -9,6 +9,6 @@ mod text;
 pub use drawing::Drawing;
 pub use form::{Format, TraceForm};
 pub use ring_trace_words::{
-    CallWords, Change, Counts, Fold, Happening, NodeVotes, Replies, ReplyForm, Told, Waiting,
+    CallWords, Change, Counts, Fold, Happening, Replies, ReplyForm, Share, Told, Waiting,
     WaitingCalls, Why, Wording,
 };

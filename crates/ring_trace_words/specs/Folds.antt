@@ -1,11 +1,8 @@
 -- Events in which nothing changes, told together.
 -- Trace, of docs/FORMATS.md.
-use Rattle.std.specs.Prelude.{◌≡◌, ℕ, ◌+◌, ◌==◌, ◌^◌, ◌-◌, min, if◌then◌else◌}
+use Rattle.std.specs.Prelude.{◌≡◌, ℕ, ◌==◌, if◌then◌else◌}
+use Rattle.ring_base.specs.Numbers.{following}
 use Rattle.ring_trace_words.specs.declared.fold.Fold.{Fold}
-
--- one more, as far as a u64 counts
-abbrev pub counted : ℕ → ℕ
-counted n = min (n + 1) (2 ^ 64 - 1)
 
 -- nothing came, and nothing was lost
 abbrev pub IsEmpty : Fold → Type 0
@@ -16,6 +13,6 @@ pub record HasFrame (event at : ℕ) (old new : Fold) : Type 0 where
   pub first : new.first ≡ (if old.frames == 0 then event else old.first)
   pub node : new.node ≡ (if old.frames == 0 then at else old.node)
   pub last : new.last ≡ event
-  pub frames : new.frames ≡ counted old.frames
-  pub rounds : new.rounds ≡ (if new.node == at then counted old.rounds else old.rounds)
+  pub frames : new.frames ≡ following old.frames
+  pub rounds : new.rounds ≡ (if new.node == at then following old.rounds else old.rounds)
   pub lost : new.lost ≡ old.lost

@@ -1,6 +1,6 @@
 //! What an event changed.
 
-use crate::votes::Share;
+use crate::share::Share;
 use ring_base::{ProcSet, RingId, State};
 use ring_report::state_word;
 use std::fmt;

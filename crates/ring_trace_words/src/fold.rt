@@ -1,7 +1,8 @@
 //! Events in which nothing changes but that frames go round.
 
 ghost use Rattle.std.specs.Prelude.{◌≡◌, ◌↔◌, IsTrue};
-ghost use Rattle.ring_trace_words.specs.Folds.{counted, IsEmpty, HasFrame};
+ghost use Rattle.ring_base.specs.Numbers.{following};
+ghost use Rattle.ring_trace_words.specs.Folds.{IsEmpty, HasFrame};
 
 use ring_base::Proc;
 use std::fmt;
@@ -61,7 +62,7 @@ impl Fold {
 
     /// A copy is lost.
     pub fn add_lost(&mut self)
-        ensures { self.new ≡ record self.old { lost = counted self.old.lost } }
+        ensures { self.new ≡ record self.old { lost = following self.old.lost } }
     {
         self.lost = self.lost.saturating_add(1);
     }

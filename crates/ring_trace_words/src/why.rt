@@ -1,6 +1,6 @@
 //! Why a call has no answer.
 
-use crate::votes::Share;
+use crate::share::Share;
 use ring_base::{ProcSet, State};
 use ring_report::state_word;
 use std::fmt;

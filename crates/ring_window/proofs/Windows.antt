@@ -8,6 +8,7 @@ use Rattle.std.proofs.lemmas.Bool.{cases_lt, cases_eq, and_parts, and_from, or_p
 use Rattle.std.proofs.lemmas.Bool.{ltb-true, leb-true, eq-eqb, ne_eqb, cond-true, cond-false, both_ways}
 use Rattle.ring_base.specs.Rings.{same_ring}
 use Rattle.ring_base.specs.declared.ring_id.RingId.{RingId}
+use Rattle.ring_base.proofs.Cases.{and-false}
 use Rattle.ring_wire.specs.declared.message.Message.{Message}
 use Rattle.ring_window.specs.Bits.{is_set, IsFirstClear}
 use Rattle.ring_window.specs.Held.{is_numbered, found, holds, of_ring, highest, is_new, IsFrontIn}
@@ -36,11 +37,7 @@ found_this x held ring h = cond-true (is_numbered ring x.number x) (Some x) (fou
 
 found_other : {A : Type 0} (x : Message A) (held : List (Message A)) (ring : RingId) (n : ℕ) → x.number ≢ n → found (x ∷ held) ring n ≡ found held ring n
 found_other x held ring n other = cond-false (is_numbered ring n x) (Some x) (found held ring n)
-    (let e : (x.number == n) ≡ false = ne_eqb x.number n other in rw e (and_no (same_ring x.ring ring)))
-  where
-    and_no : (b : Bool) → (b && false) ≡ false
-    and_no true = refl
-    and_no false = refl
+    (let e : (x.number == n) ≡ false = ne_eqb x.number n other in rw e (and-false (same_ring x.ring ring)))
 
 holds_this : {A : Type 0} (x : Message A) (held : List (Message A)) (ring : RingId) → same_ring x.ring ring ≡ true → holds (x ∷ held) ring x.number ≡ true
 holds_this x held ring h = holds_more x held ring x.number h ∙ ap (λ b. b || holds held ring x.number) (eq-eqb x.number x.number refl)

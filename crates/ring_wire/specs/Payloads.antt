@@ -6,6 +6,7 @@ pub use Rattle.ring_payload.specs.Kinds.{is_user, is_end, payload_of, content_of
 pub use Rattle.ring_payload.specs.declared.content.Content.{Content}
 pub use Rattle.ring_payload.specs.declared.call.Call.{Call}
 pub use Rattle.ring_payload.specs.Calls.{CallFits}
+pub use Rattle.ring_payload.specs.SameCalls.{is_same, is_same-true, is_same-self}
 pub use Rattle.ring_payload.specs.declared.content.Wrapped.{Wrapped}
 pub use Rattle.ring_payload.specs.declared.calls.Part.{Part}
 pub use Rattle.ring_payload.specs.declared.head.Head.{Head}

@@ -8,7 +8,9 @@ ghost use Rattle.ring_payload.specs.Base.{window_size};
 use crate::valid::only_if;
 use arrayvec::ArrayVec;
 use bytes::BytesMut;
-use ring_payload::{Decode, Encode, Fault, MAX, Proc, Reader, RingId, WINDOW, read_in_place};
+use ring_payload::{
+    Decode, Encode, Fault, MAX, PROCESSORS, Proc, Reader, RingId, WINDOW, read_in_place,
+};
 use std::alloc::{AllocError, Allocator};
 use std::marker::Model;
 
@@ -159,7 +161,7 @@ fn are_zero(bytes: &[u8]) -> bool
 /// At most 16 entries, in place. Contracts see the list.
 #[derive(Drop)]
 pub struct Entries {
-    entries: ArrayVec<CommitEntry, 16>,
+    entries: ArrayVec<CommitEntry, PROCESSORS>,
 }
 
 impl Model for Entries {

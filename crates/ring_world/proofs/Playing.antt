@@ -6,7 +6,8 @@ use Rattle.ring_object.specs.Operations.{Sequential}
 use Rattle.ring_rules.specs.declared.event.Event.{Event}
 use Rattle.ring_rules.specs.declared.event.Event.TheVariants.{Stop}
 use Rattle.ring_rules.specs.declared.told.Told.{Told}
-use Rattle.ring_rules.specs.Worlds.{World, world_opening, happens, run}
+use Rattle.ring_rules.specs.Worlds.{World, world_opening, run}
+use Rattle.ring_order_proof.proofs.Orderly.{run-append}
 use Rattle.ring_world.specs.Played.{Played, world_of, Goes, Plays}
 
 module _ {O A : Type 0} (object : Sequential O) where
@@ -80,12 +81,8 @@ module _ {O A : Type 0} (object : Sequential O) where
         events = rest.events ∙ ap (λ xs. xs ++ rest.later) one.events ∙ append_assoc p.events one.later rest.later;
       }
 
-  run-append : (w : World A) (xs ys : List (Event A)) → run object w (xs ++ ys) ≡ run object (run object w xs) ys
-  run-append w [] ys = refl
-  run-append w (x ∷ xs) ys = run-append (happens object w x) xs ys
-
   -- so the world after it is a later one of the same run
   pub world_later : (p q : Played A) (l : IsLonger p q) → world_of object q ≡ run object (world_of object p) l.later
   world_later p q l =
       let at : Group → World A = λ group. run object (world_opening group) q.events in
-      ap at l.group ∙ ap (run object (world_opening p.group)) l.events ∙ run-append (world_opening p.group) p.events l.later
+      ap at l.group ∙ ap (run object (world_opening p.group)) l.events ∙ run-append object (world_opening p.group) p.events l.later

@@ -174,10 +174,10 @@ module _ {O A : Type 0} (object : Sequential O) where
 
 -- A ticket more
 
-pub holds-more : {A : Type 0} (calls : List (Option (Call A))) (tickets : List (Asked A)) (done : List (Call A))
+pub copies-more : {A : Type 0} (calls : List (Option (Call A))) (tickets : List (Asked A)) (done : List (Call A))
     (t : Asked A) → Holds calls tickets done →
     Holds (calls ++ Some t.call ∷ []) (tickets ++ t ∷ []) done
-holds-more {A} calls tickets done t h = record {
+copies-more {A} calls tickets done t h = record {
   many = push-length calls (Some t.call) ∙ ap suc h.many ∙ sym (push-length tickets t);
   each = λ k u e w. elim (get-push tickets t k u e) [
     | inl there ↦ get-left calls (Some t.call ∷ []) k (Some u.call) (h.each k u there w)

@@ -1,11 +1,14 @@
 -- One frame more is kept, and the frame of a number is found.
-use Rattle.std.proofs.Common.{◌≡◌, ℕ, zero, suc, ◌+◌, ◌-◌, ◌≤◌, Bool, true, false, if◌then◌else◌, List, [], ◌∷◌, ◌++◌}
+use Rattle.std.proofs.Common.{◌≡◌, ℕ, zero, suc, ◌+◌, ◌-◌, ◌≤◌, true, false, List, [], ◌∷◌, ◌++◌}
 use Rattle.std.proofs.Common.{length, take, Option, Some, None, slice_get, refl, ap, ◌∙◌, sym, subst}
 use Rattle.std.proofs.Common.{arith, append-nil, append_assoc, length-append, inl, inr}
 use Rattle.std.specs.Prelude.{slice_range, option_map, drop, IfSome, IsSome, ◌↔◌}
 use Rattle.std.specs.List.{AllByRecursion as Each}
+use Rattle.std.proofs.lemmas.Bool.{cond-true, cond-false}
 use Rattle.std.proofs.lemmas.List.{take_at, drop_at, take-append-drop}
+use Rattle.std.proofs.lemmas.Option.{cond_some}
 use Rattle.ring_core.proofs.Carrying.{at_fits}
+use Rattle.ring_base.proofs.Cases.{guarded_none}
 use Rattle.ring_base.proofs.Each.{each-push}
 use Rattle.ring_base.specs.Processors.{has}
 use Rattle.ring_base.specs.declared.fault.Fault.{Fault}
@@ -79,14 +82,6 @@ range_at before text after =
     (drop_at before (text ++ after) (length before) refl) ∙ ap (λ k. take k (text ++ after)) n
     ∙ take_at text after (length text) refl
 
-from_if : (b : Bool) (m n : Mark) → (if b then Some m else None) ≡ Some n → (m ≡ n) × (b ≡ true)
-from_if true m n e = (cc e, refl)
-from_if false m n e = absurd (let q : ⊥ = cc e in q)
-
-not_if : (b : Bool) (m : Mark) → (if b then Some m else None) ≡ None → b ≡ false
-not_if true m e = absurd (let q : ⊥ = cc e in q)
-not_if false m e = refl
-
 module _ {A : Type 0} where
   first_mark : (before : List ℕ) (f : Carried A) (fs : List (Carried A)) (m : Mark) → mark_of (length before) f ≡ m
       → IsMarkOf (before ++ text_of (f ∷ fs)) m (Some f)
@@ -128,14 +123,6 @@ module _ {A : Type 0} where
   number_missing frames bytes marks zero h e = refl
   number_missing frames bytes marks (suc k) h e = mark_missing 0 frames k (ap (λ ms. slice_get ms k) (sym h.marks_are) ∙ e)
 
-  if_so : (b : Bool) (f : Frame A) → b ≡ true → (if b then Some f else None) ≡ Some f
-  if_so true f e = refl
-  if_so false f e = absurd (let q : ⊥ = cc e in q)
-
-  if_not : (b : Bool) (f : Frame A) → b ≡ false → (if b then Some f else None) ≡ None
-  if_not false f e = refl
-  if_not true f e = absurd (let q : ⊥ = cc e in q)
-
   -- the frame that is asked for, where it was sent to the processor
   pub record IsFor (bytes : List ℕ) (m : Mark) (o : Option (Frame A)) : Type 0 where
     pub frame : Frame A
@@ -149,12 +136,12 @@ module _ {A : Type 0} where
       (node number : ℕ) (n m : Mark) → mark_at marks number ≡ Some n →
       mark_for node (Some n) ≡ Some m → IsFor bytes m (frame_for node (frame_at frames number))
   for_mark frames bytes marks h node number n m at e =
-      let one = from_if (has n.to node) n m e in
-      let is = number_found frames bytes marks number m h (at ∙ ap Some one.0) in
-      let to : has is.sent.to node ≡ true = ap (λ s. has s node) (sym is.to ∙ ap (λ (x : Mark). x.to) (sym one.0)) ∙ one.1 in
+      let one = cond_some (has n.to node) n m e in
+      let is = number_found frames bytes marks number m h (at ∙ ap Some one.1) in
+      let to : has is.sent.to node ≡ true = ap (λ s. has s node) (sym is.to ∙ ap (λ (x : Mark). x.to) (sym one.1)) ∙ one.0 in
       record {
         frame = is.sent.frame;
-        there = ap (frame_for node) is.there ∙ if_so (has is.sent.to node) is.sent.frame to;
+        there = ap (frame_for node) is.there ∙ cond-true (has is.sent.to node) (Some is.sent.frame) None to;
         fits = at_fits frames number is.sent h.fit is.there;
         order = is.order;
         within = is.within;
@@ -173,8 +160,8 @@ module _ {A : Type 0} where
   for_missing frames bytes marks h node number None at e = ap (frame_for node) (number_missing frames bytes marks number h at)
   for_missing frames bytes marks h node number (Some n) at e =
       let is = number_found frames bytes marks number n h at in
-      let to : has is.sent.to node ≡ false = ap (λ s. has s node) (sym is.to) ∙ not_if (has n.to node) n e in
-      ap (frame_for node) is.there ∙ if_not (has is.sent.to node) is.sent.frame to
+      let to : has is.sent.to node ≡ false = ap (λ s. has s node) (sym is.to) ∙ guarded_none (has n.to node) n e in
+      ap (frame_for node) is.there ∙ cond-false (has is.sent.to node) (Some is.sent.frame) None to
 
   pub ends_are : (bytes : List ℕ) (m : Mark) (o : Option (Carried A)) → IsMarkOf bytes m o → ◌≡◌ {A = Option (ℕ × ℕ)}
       (Some (m.from, m.to)) (option_map (λ (f : Carried A). (f.from, f.to)) o)

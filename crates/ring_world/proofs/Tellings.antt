@@ -1,6 +1,6 @@
 -- Answers are told one after the other, each with the copy of its call that is left.
 use Rattle.std.proofs.Common.{◌≡◌, ℕ, ◌+◌, ◌≤◌, List, [], ◌∷◌, ◌++◌, length, take, Option, Some, slice_get, refl, ap}
-use Rattle.std.proofs.Common.{◌∙◌, sym, subst, arith, append-nil, append_assoc}
+use Rattle.std.proofs.Common.{◌∙◌, sym, subst, arith, append-nil, append_assoc, length-append}
 use Rattle.std.proofs.lemmas.List.{map-append}
 use Rattle.ring_payload.specs.declared.call.Call.{Call}
 use Rattle.ring_session.specs.SessionAnswer.{reply_in}
@@ -61,14 +61,10 @@ pub one_taken : {X : Type 0} (xs : List X) (x : X) (len len1 len2 capacity capac
     HasTaken (length (xs ++ x ∷ [])) len len2 capacity capacity2
 one_taken xs x len len1 len2 capacity capacity1 capacity2 h a b =
     record {
-      len_is = (let l = h.len_is in let n = length-push xs x in omega (arith, l, a, n));
+      len_is = (let l = h.len_is in let n = length-append xs (x ∷ []) in omega (arith, l, a, n));
       capacity_is = b
           ∙ h.capacity_is;
     }
-  where
-    length-push : {X : Type 0} (xs : List X) (x : X) → length (xs ++ x ∷ []) ≡ length xs + 1
-    length-push [] x = refl
-    length-push (y ∷ xs) x = (let n = length-push xs x in omega (arith, n))
 
 -- the next answer's copy is left
 pub left_at : {A : Type 0} (calls : List (Option (Call A))) (answers before : List (Answered A)) (x : Answered A)

@@ -1,10 +1,9 @@
 -- What the code keeps goes on telling the world, event by event.
-use Rattle.std.proofs.Common.{◌≡◌, ◌⊎◌, ℕ, ◌-◌, ◌≤◌, ◌==◌, Bool, true, false, List, [], ◌∷◌, ◌++◌, length, drop, arith, length-set}
+use Rattle.std.proofs.Common.{◌≡◌, ◌⊎◌, ℕ, ◌≤◌, ◌==◌, Bool, true, false, List, [], ◌∷◌, ◌++◌, length, drop, length-set}
 use Rattle.std.proofs.Common.{Option, Some, None, Ok, get_or, refl, ap, ◌∙◌, sym, subst, inl, inr, append-nil}
 use Rattle.std.specs.Prelude.{not, slice_set, MatchOption, if◌then◌else◌}
 use Rattle.std.specs.List.{AllByRecursion}
 use Rattle.std.proofs.Math.Seq.{drop-append_seam}
-use Rattle.std.proofs.lemmas.List.{drop_all}
 use Rattle.std.proofs.lemmas.Bool.{and_from}
 use Rattle.ring_base.specs.Group.{Group}
 use Rattle.ring_base.proofs.Each.{each-push}
@@ -29,7 +28,7 @@ use Rattle.ring_rules.specs.declared.told.Told.{Told}
 use Rattle.ring_rules.specs.declared.told.Told.TheVariants.{Refused as ToldRefused}
 use Rattle.ring_rules.specs.Worlds.{World, world_opening, run, happens, put, after_step, stepped, stepped_if}
 use Rattle.ring_rules.specs.Worlds.{stopped_if, issued_or, issued_if, carried, items_of, told_by, calls_past}
-use Rattle.ring_rules.proofs.NodeChanges.{stopped_same}
+use Rattle.ring_rules.proofs.NodeChanges.{no_calls_past, stopped_same}
 use Rattle.ring_order_proof.specs.Linear.{EventKeeps}
 use Rattle.ring_order_proof.proofs.Orderly.{run-more}
 use Rattle.ring_order_proof.proofs.Undropped.{all-undropping}
@@ -38,7 +37,7 @@ use Rattle.ring_node.specs.declared.outs.Outs.{Outs}
 use Rattle.ring_world.specs.Steps.{HasStepped}
 use Rattle.ring_world.specs.Spares.{Spares, AllLeft, Holds, after_answers}
 use Rattle.ring_world.specs.Keeping.{KeepsCopies, IsWorldKept, IsWorld}
-use Rattle.ring_world.proofs.Spared.{holds-more}
+use Rattle.ring_world.proofs.Spared.{copies-more}
 use Rattle.ring_world.proofs.EventLimits.{step_keeps}
 use Rattle.ring_world.proofs.Events.{tells_answers, tells_refusal, tells_memory}
 use Rattle.ring_world.proofs.StoppedNode.{silent}
@@ -95,11 +94,6 @@ module _ {O A : Type 0} {object : Sequential O} where
 
     pub idle_goes : {done : ℕ} → Goes object e old (record { group = p.group; events = es; told = p.told; done = done })
     idle_goes = is_done e d [] was copy (idle_is object e was same) (sym (append-nil (world_of object p).told)) es_is (sym (append-nil p.told))
-
--- nothing is newly committed
-none_past : {A : Type 0} (longest : List (Call A)) (all : ℕ) (calls : List (Call A)) → calls ≡ [] → longest ++ calls_past (length longest) all calls ≡ longest
-none_past longest all calls none =
-    ap (λ xs. longest ++ xs) (ap (calls_past (length longest) all) none ∙ drop_all (0 - (all - length longest)) [] (omega arith)) ∙ append-nil longest
 
 -- what the step of a node gives, and the node after it
 pub record IsStep {O A : Type 0} (object : Sequential O) (n : Node A) (input : Input A) (after : Node A)
@@ -229,7 +223,7 @@ module _ {O A : Type 0} {object : Sequential O} {p old : Played A} {nodes : List
           ∙ ap (λ is. made stopped_now w.frames is (w.told ++ told_by i st.answers) calls)
           (ap (λ xs. w.history ++ items_of xs) g.answers ∙ append-nil w.history)
           ∙ ap (λ ts. made stopped_now w.frames w.history ts calls) (ap (λ xs. w.told ++ told_by i xs) g.answers ∙ append-nil w.told)
-          ∙ ap (made stopped_now w.frames w.history w.told) (none_past w.longest (node_kept st.node).committed st.committed g.committed)
+          ∙ ap (made stopped_now w.frames w.history w.told) (no_calls_past w.longest (node_kept st.node).committed st.committed g.committed)
 
       pub silent_world : {after : Node A} {es : List (Event A)} → after ≡ node_stopped n → step_in (world_of object old) e ≡ Some i
           → es ≡ p.events ++ d ∷ [] → IsWorld object p.group es (slice_set nodes m after) spares frames history p.told longest
@@ -307,7 +301,7 @@ module _ {O A : Type 0} {object : Sequential O} {p old : Played A} {nodes : List
         let now : after ≡ submitted node c = after_is ∙ ap (λ (x : Node A). submitted x c) (node_is here found) in
         let calls : s'.calls ≡ s.calls ++ Some c ∷ [] = s_is ∙ ap (λ x. s.calls ++ Some x ∷ []) a_is in
         let holds : Holds (s.calls ++ Some c ∷ []) (submitted node c).tickets node.done =
-        holds-more s.calls node.tickets node.done t (copies_are here spare) in
+        copies-more s.calls node.tickets node.done t (copies_are here spare) in
         let keeps : KeepsCopies after s' = subst (λ cs. Holds cs after.tickets after.done) (sym calls)
         (subst (λ (x : Node A). Holds (s.calls ++ Some c ∷ []) x.tickets x.done) (sym now) holds) in
         tells (Issue i c) d here.world copy (subst EventKeeps event fits) (issue_is None free) refl

@@ -1,8 +1,9 @@
 -- A network over a world, and what its calls do. Clients, rule 8, of docs/PROTOCOL.md.
-use Rattle.std.specs.Prelude.{◌≡◌, ℕ, ◌+◌, ◌-◌, ◌/◌, ◌%◌, ◌^◌, ◌<◌, ◌≤◌, ◌==◌, ◌&&◌, ◌⊎◌, min, if◌then◌else◌}
+use Rattle.std.specs.Prelude.{◌≡◌, ℕ, ◌/◌, ◌%◌, ◌<◌, ◌≤◌, ◌==◌, ◌&&◌, ◌⊎◌, if◌then◌else◌}
 use Rattle.std.specs.Prelude.{Bool, true, false, List, [], ◌∷◌, ◌++◌, length, drop, Option, Some, None}
 use Rattle.ring_payload.specs.Limits.{most_operation}
 use Rattle.ring_base.specs.Fault.{fault_number}
+use Rattle.ring_base.specs.Numbers.{following}
 use Rattle.ring_base.specs.Processors.{has, size, at}
 use Rattle.ring_base.specs.declared.fault.Fault.{Fault}
 use Rattle.ring_base.specs.declared.fault.Fault.TheVariants.{NotMember, PendingFull, OpTooLong, NumberGap, Stopped as StoppedFault, Memory, NoAnswer}
@@ -63,10 +64,6 @@ timeout_at w i round = Timeout i (kind_in (w.nodes i).core.state round)
 -- there is one where the group has a member
 abbrev pub timeout_in : {A : Type 0} → World A → ℕ → ℕ → Option (Event A)
 timeout_in w group timeouts = if size group == 0 then None else Some (timeout_at w (at group (timeouts % size group)) (timeouts / size group))
-
--- the number after this one; 2^64 - 1 stays
-abbrev pub following : ℕ → ℕ
-following n = min (n + 1) (2 ^ 64 - 1)
 
 -- ---- what a submit tells
 

@@ -1,6 +1,7 @@
 //! A network over a world.
 
 ghost use Rattle.std.specs.Prelude.{◌≡◌, ◌<◌, ◌≤◌, ◌⊎◌, drop, Some, None, IfOk, IfErr, IfSome, IfNone, OnOk, OnErr, length, slice_get};
+ghost use Rattle.ring_base.specs.Numbers.{following};
 ghost use Rattle.ring_base.specs.Processors.{everybody, common};
 ghost use Rattle.ring_base.specs.declared.fault.Fault.TheVariants.{Memory};
 ghost use Rattle.ring_client.specs.Asking.{submitted, IsTold};
@@ -10,7 +11,7 @@ ghost use Rattle.ring_world.specs.Pumping.{Happens, Rests};
 ghost use Rattle.ring_world.specs.Played.{world_of};
 ghost use Rattle.ring_world_port.specs.Answers.{answer_in, submitted_call_of, IsToldSince, HasTold};
 ghost use Rattle.ring_world_port.specs.Network.{Stays, IsIssuable, IsIssued, IsNotIssued, HappensIf, HasTurned, LosesTurn};
-ghost use Rattle.ring_world_port.specs.Network.{following, fault_of, hears, arrival, kind_in, timeout_in, refusal_in};
+ghost use Rattle.ring_world_port.specs.Network.{fault_of, hears, arrival, kind_in, timeout_in, refusal_in};
 
 use crate::answers::SubmittedCall;
 use ring_base::{Fault, Kind, Proc, ProcSet, State};

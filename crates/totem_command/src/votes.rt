@@ -1,9 +1,10 @@
 //! The votes that a command line names.
 
 use arrayvec::ArrayVec;
+use ring_base::PROCESSORS;
 
 /// The votes of all nodes, in order: as many as there are nodes.
-pub(crate) type VoteList = ArrayVec<u8, 16>;
+pub(crate) type VoteList = ArrayVec<u8, PROCESSORS>;
 
 /// The votes that a word names, parted by commas, or one each where there is no word. None unless there are as many as nodes, each
 /// 1 to 255.

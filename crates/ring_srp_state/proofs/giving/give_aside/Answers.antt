@@ -6,7 +6,7 @@ use Rattle.std.proofs.lemmas.Iterator.Consumers.{YieldsList-end}
 use Rattle.ring_wire.specs.declared.message.Message.{Message}
 use Rattle.ring_core.specs.declared.out.Out.{Out}
 use Rattle.ring_core.specs.declared.out.Out.TheVariants.{Agreed}
-use Rattle.ring_srp_state.specs.Rests.{all_agreed}
+use Rattle.ring_core.specs.Giving.{all_agreed}
 use Rattle.ring_srp_state.proofs.giving.give_aside.Goals as goal
 
 pub returns-clause-ok : goal.returns-clause-ok

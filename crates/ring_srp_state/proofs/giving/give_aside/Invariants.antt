@@ -1,6 +1,6 @@
 -- The messages so far are agreed.
 use Rattle.std.proofs.Common.{◌≡◌, ◌++◌}
-use Rattle.ring_srp_state.specs.Rests.{all_agreed}
+use Rattle.ring_core.specs.Giving.{all_agreed}
 use Rattle.ring_srp_state.proofs.giving.give_aside.Given as goal
 
 abbrev pub invariant-loop-message : goal.invariant-loop-message

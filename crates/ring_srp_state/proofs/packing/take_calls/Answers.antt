@@ -1,14 +1,14 @@
 use Rattle.std.proofs.Common.{◌≡◌, ◌+◌, ◌<◌, length, drop, subst, sym, ap, ◌∙◌, arith}
 use Rattle.std.proofs.lemmas.List.{take_all}
 use Rattle.ring_payload.specs.Packing.{front_run}
-use Rattle.ring_srp_state.proofs.QueueTaken.{some-left, call-left, call-moved, left-drop}
+use Rattle.ring_srp_state.proofs.QueueTaken.{queue-left, call-left, call-moved, left-drop}
 use Rattle.ring_base.proofs.Results.{on-err}
 use Rattle.ring_srp_state.proofs.packing.take_calls.Goals as goal
 
 pub unreachable-requires : goal.unreachable-requires
 unreachable-requires g c =
     let inside : c.loop.counter < length (front_run c.args.queue.now.items) = subst (λ n. c.loop.counter < n) c.requires c.loop-test.true in
-    some-left c.args.queue.now.items c.loop.queue.items c.loop.counter inside c.loop.invariant.left
+    queue-left c.args.queue.now.items c.loop.queue.items c.loop.counter inside c.loop.invariant.left
     (omega (arith, c.loop.queue.ok.0, c.in_default.ensures.cases.0))
 
 pub unreachable-requires-in_default-call_of : goal.unreachable-requires-in_default-call_of

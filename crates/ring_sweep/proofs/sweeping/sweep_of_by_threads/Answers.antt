@@ -1,3 +1,4 @@
+use Rattle.ring_console.proofs.NotRead.{no_script_read}
 use Rattle.ring_sweep.proofs.Trying.{all_legal}
 use Rattle.ring_sweep.proofs.sweeping.sweep_of_by_threads.Goals as goal
 
@@ -10,3 +11,8 @@ returns-clause-printed g c = λ zero_is. (
   all_legal _ _ _ c.print_all-done.result _ _ (c.verdict_status.ensures.ok.0 zero_is) c.print_all-done.ensures.swept
       c.print_all-done.ensures.printed,
 )
+
+pub returns-clause-no_script : goal.returns-clause-no_script
+returns-clause-no_script g c = λ bytes known none.
+    absurd (no_script_read g.V.Vocabulary.forms c.in-Ok.script (g.I.Read.remaining c.args.input.now) c.in-Ok.ensures.read.0 bytes
+    c.in-Ok.ensures.read.1 c.in-Ok.ensures.read.2 known none)

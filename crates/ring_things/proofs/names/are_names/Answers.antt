@@ -1,5 +1,6 @@
 use Rattle.std.proofs.Common.{◌∙◌, sym, ap, is_some}
-use Rattle.ring_things.proofs.NamesRead.{names_of-next, names_of-none, names_of-end, is_some-option_map, some_if}
+use Rattle.ring_base.proofs.Cases.{some_if}
+use Rattle.ring_things.proofs.NamesRead.{names_of-next, names_of-none, names_of-end, is_some-option_map}
 use Rattle.ring_things.proofs.names.are_names.Goals as goal
 
 pub returns-in_default : goal.returns-in_default

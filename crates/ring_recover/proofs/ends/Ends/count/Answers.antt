@@ -1,8 +1,9 @@
 -- An End is counted as its sender's, a users' message as one, and any other as none of these.
 use Rattle.std.proofs.Common.{true, sym, ◌∙◌, ap}
 use Rattle.std.specs.Prelude.{◌||◌}
+use Rattle.std.proofs.lemmas.Bool.{or_right}
 use Rattle.ring_base.proofs.Cases.{or-false}
-use Rattle.ring_recover.proofs.EndsCounted.{or_right, end_no_user, counted_end, counted_other}
+use Rattle.ring_recover.proofs.EndsCounted.{end_no_user, counted_end, counted_other}
 use Rattle.ring_recover.proofs.ends.Ends.count.Goals.{then-is_end, else-is_end+then-is_user, else-is_end+else-is_user}
 use Rattle.ring_recover.proofs.ends.Ends.count.Goals as goal
 

@@ -3,7 +3,7 @@ use Rattle.std.specs.List.{sum_by}
 use Rattle.ring_base.specs.Group.{votes_of}
 use Rattle.ring_base.specs.Passing.{passing}
 use Rattle.ring_base.specs.Processors.{has}
-use Rattle.ring_base.proofs.fixed.Fixed.have_most_votes.Given as goal
+use Rattle.ring_base.proofs.fixed.Fixed.votes_parted.Given as goal
 
 -- the votes so far of members, and of others
 abbrev pub invariant-loop-i : goal.invariant-loop-i
