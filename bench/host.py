@@ -3,6 +3,7 @@
 
     bench/host.py [--runs N] [--program FILE | --save FILE]    calls and lines a second, of this host and of the plain ones; and an idle host
     bench/host.py --soak [--program FILE | --save FILE]        hosts under stops and cramped inboxes, for a minute
+    bench/host.py --settle [--program FILE | --save FILE]      40 such hosts under `PacedGate`, and 40 at full speed: how many settle
     bench/host.py --build --save FILE                          proves and builds the program, and measures nothing
 
 The program promises nothing, so it is no crate of the repository: its text is bench/host/, each file with `.txt` behind its
@@ -23,6 +24,10 @@ The soak ends with status 1 if a host's history was not legal; if a call at a no
 client wasn't told why; or if memory grew: if the process held more than 1.1 times as much after a host of the last quarter as
 after one of the second. The process has one heap for all threads (MALLOC_ARENA_MAX of glibc), so that what one host gave back
 serves the next. With a heap for each thread it would hold more and more of them half empty.
+
+A host settles if all calls at nodes that were not stopped are answered and its history is legal; under `PacedGate` also within
+20,000 lines and 10 seconds. Each host runs in a process of its own, for at most two minutes. --settle ends with status 1 if fewer
+than 39 of the 40 settle under `PacedGate` or at full speed.
 """
 import argparse
 import os
@@ -41,6 +46,9 @@ LINE = ("host_bench: ring_base ring_payload ring_wire ring_object ring_things ri
 CASES = [(3, 1, 2_000), (16, 1, 100), (3, 64, 20_000), (16, 64, 2_000)]
 IDLE_NODES, IDLE_MILLIS = 3, 10_000
 SOAK_SECONDS = 60
+SETTLE_HOSTS, SETTLE_WANTED, SETTLE_SECONDS = 40, 39, 120
+# The gate, the program's word for it, and the most lines and seconds of a host that settles.
+SETTLE_CASES = [("PacedGate", "soak", 20_000, 10), ("full speed", "settle", 262_144, SETTLE_SECONDS)]
 HEADS = ["Nodes", "In flight a client", "Calls a second: best", "median", "Lines a second", "Plain host of the same nodes: best", "median",
          "The first by that: best", "median", "Plain host in Rust: best"]
 
@@ -168,9 +176,39 @@ def soak(program):
     return int(not holds or wrong > 0 or lost > 0 or late > 1.1 * early)
 
 
+def settling(program, word):
+    """The lines and seconds of one host, and whether it answered all and is legal; nothing of one that does not end in time."""
+    try:
+        done = subprocess.run([str(program), word, "1"], stdout=subprocess.PIPE, text=True, timeout=SETTLE_SECONDS, check=True)
+    except subprocess.TimeoutExpired:
+        return None
+    line = done.stdout.split()
+    told = dict(zip(line[::2], line[1::2]))
+    is_whole = told["missed"] == "0" and told["legal"] == "true"
+    return int(told["lines"]), int(told["nanos"]) / 1e9, is_whole
+
+
+def settle(program):
+    """Hosts with cramped inboxes whose nodes are stopped: how many settle, by gate. The status."""
+    status = 0
+    for gate, word, most_lines, most_seconds in SETTLE_CASES:
+        load = os.getloadavg()[0]
+        hosts = [settling(program, word) for _ in range(SETTLE_HOSTS)]
+        whole = [host for host in hosts if host and host[2]]
+        settled = [host for host in whole if host[0] <= most_lines and host[1] <= most_seconds]
+        lines, seconds = ([host[at] for host in whole] or [0] for at in (0, 1))
+        print(f"{gate}: {len(settled)} of {SETTLE_HOSTS} hosts settled, {len(whole)} answered all, {hosts.count(None)} did not end; "
+              f"lines of those that answered all: median {statistics.median(lines):,.0f}, most {max(lines):,}; "
+              f"seconds: median {statistics.median(seconds):.2f}, most {max(seconds):.2f}; "
+              f"load {load:.0f} to {os.getloadavg()[0]:.0f}", flush=True)
+        status |= len(settled) < SETTLE_WANTED
+    return int(status)
+
+
 def main():
     parser = argparse.ArgumentParser(description=__doc__, formatter_class=argparse.RawDescriptionHelpFormatter)
     parser.add_argument("--soak", action="store_true")
+    parser.add_argument("--settle", action="store_true")
     parser.add_argument("--build", action="store_true")
     parser.add_argument("--runs", type=int, default=9)
     parser.add_argument("--program", type=Path)
@@ -183,6 +221,8 @@ def main():
             return
         if words.soak:
             sys.exit(soak(program.resolve()))
+        if words.settle:
+            sys.exit(settle(program.resolve()))
         table(program.resolve(), plain_built(folder), words.runs)
         idle(program.resolve())
 

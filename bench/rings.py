@@ -22,7 +22,7 @@ import sys
 import tempfile
 
 NAME = "ring_bench"
-LINE = f"{NAME}: ring_base ring_payload ring_wire ring_core ring_srp ring_core_proof\n"
+LINE = f"{NAME}: ring_base ring_payload ring_wire ring_core_spec ring_srp ring_core_proof\n"
 CASES = [("idle", 3), ("idle", 16), ("load", 3), ("load", 16), ("change", 3), ("change", 16)]
 FEW = 100_000
 MANY = 1_000_000

@@ -7,8 +7,10 @@ PROGRAM is the built program. Each file of the folders whose name ends with `.sc
 the trace, as text and as JSON, has to tell the same answers and refusals in the same order, reply by reply; after the last `show`, if
 nothing stands behind it, also the state, the installed ring and the committed length that it prints of each node. A call has to wait at
 the end where, and only where, it was taken and `script` prints no reply to it. The frames that the trace writes are listed again: there
-have to be as many as it counts, and the members told of each ring have to be those of its commit tokens. Where a file is no script,
-both commands have to end alike. Prints what was compared, and ends with 1 where anything differs.
+have to be as many as it counts, the JSON has to say of each what the listing says, and the members told of each ring have to be those
+of its commit tokens. Each frame that is heard was sent before to its hearer, a fold has as many turns as it counts, and the places at
+the end are those that a node has committed. Where a file is no script, both commands have to end alike. Prints what was compared, and
+ends with 1 where anything differs.
 """
 import collections
 import glob
@@ -156,6 +158,39 @@ def committed_rings(listing):
     return {(word[1], word[3]) for word in words}
 
 
+def inputs_and_sends(lines):
+    """Of each event, and of each turn of a fold: the node, the frame that a turn gives it, and the frames that it sends."""
+    for line in lines:
+        if line["kind"] == "event":
+            yield line["node"], line["input"].get("turn", {}).get("frame"), line["sends"]
+        elif line["kind"] == "fold":
+            for turn in line["turns"]:
+                yield turn["node"], turn["frame"], turn["sends"]
+
+
+def wrong_details(lines, listing):
+    """What is wrong with the details that programs read."""
+    to = {}
+    for node, heard, sends in inputs_and_sends(lines):
+        if heard is not None and node not in to.get(heard, []):
+            return "a frame that is heard"
+        for sent in sends:
+            if sent["frame"] != len(to) + 1 or sent["says"] != listing[len(to)]:
+                return "what a frame says"
+            to[sent["frame"]] = sent["to"]
+    if len(to) != len(listing):
+        return "which frames are sent"
+    for fold in (line for line in lines if line["kind"] == "fold"):
+        heard = [turn for turn in fold["turns"] if "event" in turn]
+        if (len(heard), len(fold["turns"])) != (fold["frames"], fold["frames"] + fold["lost"]):
+            return "the turns of a fold"
+    places = [line["place"] for line in lines if line["kind"] == "place"]
+    committed = [change["committed"] for line in lines for change in line.get("changes", []) if "committed" in change]
+    if places != list(range(max(committed, default=0))):
+        return "the committed places"
+    return None
+
+
 def compare(program, path, sent):
     """What differs, and how many outcomes, nodes and waiting calls were compared."""
     status, out, err = run(program, "script", path)
@@ -182,6 +217,8 @@ def compare(program, path, sent):
     listed, listing, _ = run(program, "frames", sent)
     if listed != 0 or f"\nframes {len(listing.splitlines())}\n" not in text:
         return "how many frames were sent", 0, 0, 0
+    if wrong := wrong_details(lines, listing.splitlines()):
+        return wrong, 0, 0, 0
     if not told_rings(lines) <= committed_rings(listing):
         return "the members of rings", 0, 0, 0
     left = waiting(script, printed)

@@ -1,35 +1,54 @@
-/* The node is a program beside this one, `totem node`, and its records go over two pipes. */
-#include <errno.h>
-#include <fcntl.h>
+/* The node is another program, `totem node`; its records cross two pipes. */
 #include <sys/wait.h>
 
 static int to_node;
 static FILE *from_node;
+static pid_t node;
 
-static void write_whole(const unsigned char *bytes, size_t length) {
+/* Ends the node's input and waits for its end. A status other than 0 is reported, and ends this program too. */
+static void end_node(void) {
+    int status = -1;
+    close(to_node);
+    waitpid(node, &status, 0);
+    if (status == 0) return;
+    if (WIFEXITED(status)) fprintf(stderr, "udp_node %d: the node ended with status %d\n", options.me, WEXITSTATUS(status));
+    else fprintf(stderr, "udp_node %d: the node ended by signal %d\n", options.me, WTERMSIG(status));
+    exit(1);
+}
+
+static void end_early(void) {
+    end_node();
+    end("the node ended before its input");
+}
+
+static void write_record(const unsigned char *bytes, size_t length) {
     while (length > 0) {
         ssize_t count = write(to_node, bytes, length);
         if (count < 0 && errno == EINTR) continue;
-        if (count <= 0) end("the node takes no records any more");
+        if (count <= 0) end_early();
         bytes += count;
-        length -= count;
+        length -= (size_t)count;
     }
 }
 
-static void read_whole(unsigned char *bytes, size_t length) {
-    if (fread(bytes, 1, length, from_node) != length) end("the node has ended");
+static void read_bytes(unsigned char *bytes, size_t length) {
+    if (fread(bytes, 1, length, from_node) != length) end_early();
 }
 
 static void start_node(void) {
     int in[2], out[2];
-    char me[12], of[12];
+    char me[12], of[12], times[48];
     if (pipe2(in, O_CLOEXEC) || pipe2(out, O_CLOEXEC)) end("no pipes");
     snprintf(me, sizeof me, "%d", options.me);
     snprintf(of, sizeof of, "%d", options.of);
-    if (fork() == 0) {
+    snprintf(times, sizeof times, "%u,%u,%u,%u", periods[JOIN], periods[RETRANSMIT], periods[CONSENSUS], periods[LOSS]);
+    node = fork();
+    if (node < 0) end("no process for the node");
+    if (node == 0) {
         dup2(in[0], 0);
         dup2(out[1], 1);
-        execlp(options.totem, "totem", "node", "--me", me, "--of", of, (char *)NULL);
+        execlp(options.totem, "totem", "node", "--me", me, "--of", of, "--periods", times, (char *)NULL);
+        perror(options.totem);
         _exit(127);
     }
     close(in[0]);
@@ -37,9 +56,4 @@ static void start_node(void) {
     to_node = in[1];
     from_node = fdopen(out[0], "r");
     if (!from_node) end("no memory for a pipe");
-}
-
-static void end_node(void) {
-    close(to_node);
-    wait(NULL);
 }

@@ -1,8 +1,8 @@
-/* What serves to try the example out, and no user needs: a bad network, and a log with a line for each call, answer and
- * committed call, which bench/udp.py reads. */
+/* Used only to try the example out: a bad network, and a log with a line for each call, answer and committed call, which
+ * bench/udp.py reads. */
 
 static FILE *call_log;
-static struct frame held; /* a frame that came, and is swapped with the next */
+static struct frame swapped; /* a datagram that waits for the next, to be taken after it */
 
 static void open_log(void) {
     if (!options.log) return;
@@ -11,7 +11,7 @@ static void open_log(void) {
     setvbuf(call_log, NULL, _IOLBF, 1 << 16);
 }
 
-/* When, what, the client and the number of the call, for an answer its kind, and the bytes. */
+/* The time, what it is, the client and the number of the call, of an answer its kind, and the bytes. */
 static void log_call(const char *what, uint64_t client, uint64_t number, const char *kind, const unsigned char *bytes, size_t length) {
     if (!call_log) return;
     fprintf(call_log, "%.6f %s %llu %llu %s", now(), what, (unsigned long long)client, (unsigned long long)number, kind);
@@ -19,21 +19,21 @@ static void log_call(const char *what, uint64_t client, uint64_t number, const c
     fputc('\n', call_log);
 }
 
-/* Whether one of so many percent comes up. */
-static int comes_up(int percent) { return rand() % 100 < percent; }
+/* Draws with this chance, in percent. */
+static int is_hit(int percent) { return rand() % 100 < percent; }
 
-/* A frame came from the network, which may be made a bad one: it is lost, comes twice, or is swapped with the next. */
-static void take_frame(const unsigned char *bytes, size_t length) {
-    if (comes_up(options.lose)) return;
-    if (held.length == 0 && comes_up(options.swap)) {
-        keep_frame(&held, bytes, length);
+/* Takes a datagram from the network, which may be made a bad one: it loses, repeats, or swaps it with the next. */
+static void take_from_network(const unsigned char *bytes, size_t length) {
+    if (is_hit(options.lose)) return;
+    if (swapped.length == 0 && is_hit(options.swap)) {
+        keep_frame(&swapped, bytes, length);
         return;
     }
-    hear_frame(bytes, length);
-    if (comes_up(options.repeat)) hear_frame(bytes, length);
-    if (held.length > 0) {
-        size_t count = held.length;
-        held.length = 0;
-        hear_frame(held.bytes, count);
+    take_datagram(bytes, length);
+    if (is_hit(options.repeat)) take_datagram(bytes, length);
+    if (swapped.length > 0) {
+        size_t count = swapped.length;
+        swapped.length = 0;
+        take_datagram(swapped.bytes, count);
     }
 }

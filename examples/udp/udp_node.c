@@ -1,18 +1,9 @@
-/* One node of a group over UDP on this machine. This program owns the socket and the clock, and runs `totem node` beside
- * it, with which it speaks in records on two pipes (docs/FORMATS.md, Records). Clients of its own count: each adds 1 to
- * counter 0, or at every tenth call reads it, and hands a call over again, under its number, where it has waited half a
- * second. Once a second it prints how many calls were answered.
+/* One node of a group over UDP. This program owns the socket, and runs `totem node` beside it. It brings that the time, and
+ * exchanges records with it over two pipes (docs/FORMATS.md, Records). Its clients count: each adds 1 to counter 0, and every
+ * tenth call reads it. A client that has waited for half a second tries its call again, under its number, at another process.
  *
- * The periods are a choice, and no rule: join every 10 ms; retransmit after 20 ms, consensus after 100 ms and loss after
- * 300 ms, each since it was last told or a token was last taken.
- *
- * It is an example, and no part of what is proved. Build it with `cc -O2 -o udp_node udp_node.c`. A run: README.md. With
- * -DTOTEM_LIBRARY and the library for C the node is in this program, and no other runs beside it.
- *
- * usage: udp_node --me I --of N [--totem FILE] [--port P] [--seconds S] [--clients C] [--log FILE]
- *                 [--lose PERCENT] [--repeat PERCENT] [--swap PERCENT] [--seed X]
- * Processor i listens on port P + i. Of the frames that come, so many percent are lost, repeated, or swapped with the
- * next (trial.h): to try out what the group makes of a bad network. */
+ * It is an example, and no part of what is proved. README.md says how to run it and what it relies on. Build it with
+ * `cc -O2 -o udp_node udp_node.c`; with -DTOTEM_LIBRARY and the library for C the node is in this program. */
 #define _GNU_SOURCE
 #include <arpa/inet.h>
 #include <poll.h>
@@ -25,63 +16,60 @@
 #include <time.h>
 #include <unistd.h>
 
-enum { FRAME_BYTES = 8192, RECORD_BYTES = 65535, MOST_CLIENTS = 60, OWN_FRAMES = 4096 };
-enum timeout { RETRANSMIT, JOIN, CONSENSUS, LOSS, TIMEOUTS };
+enum { MAX_NODES = 16, MAX_CLIENTS = 60, MAX_CALLS = 128, FRAME_BYTES = 8192, RECORD_BYTES = 65535 };
+enum { KIND_AT = 3, TOKEN = 2 };          /* the place of a frame's kind, and that of a token */
+enum { ENVELOPE = 14, REPLY_BYTES = 64 }; /* the head of a call or answer between processes: below */
+enum timeout { JOIN, RETRANSMIT, CONSENSUS, LOSS, TIMEOUTS };
 enum state { OPERATIONAL = 3, STOPPED = 4 };
 
-/* How long each timeout takes, in seconds. */
-static const double PERIODS[TIMEOUTS] = {[RETRANSMIT] = 0.020, [JOIN] = 0.010, [CONSENSUS] = 0.100, [LOSS] = 0.300};
-/* How long a client waits before it hands its call over again, in seconds. */
-static const double PATIENCE = 0.500;
-/* Of several that are due the first in this order is told. */
-static const enum timeout DUE_ORDER[TIMEOUTS] = {JOIN, RETRANSMIT, CONSENSUS, LOSS};
+/* The periods of the node's timeouts, in milliseconds: a choice, and no rule. */
+static uint32_t periods[TIMEOUTS] = {10, 20, 100, 300};
+/* How long a client waits before it tries its call again, and how long a token rests at most, in seconds. */
+static const double PATIENCE = 0.500, REST = 0.005;
+/* A ring is idle when this number of tokens in a row brought nothing. */
+static const unsigned IDLE_TOKENS = 8;
 
 struct frame {
     size_t length;
     unsigned char bytes[FRAME_BYTES];
 };
 
+/* A call at this node: of a client here, or of another process whose own node is late. A client has at most one call open,
+ * so that it knows which number comes next. */
+struct call {
+    int is_waiting;
+    int other;                       /* the processor that asked, or at which the client here tried it last */
+    uint64_t client, number, ticket; /* the ticket of the last try at this node */
+    double asked_at;
+};
+
+static int sock;
+static struct sockaddr_in peers[MAX_NODES];
+static struct call calls[MAX_CALLS]; /* those of the clients here come first */
+static uint64_t next_time; /* when the node wants the time again, in milliseconds */
+static struct frame resting; /* the token of an idle ring, if its length is above 0 */
+static double rests_until;
+static unsigned quiet_tokens;
+static unsigned long answered, refused; /* calls that were answered, and those of them that took no effect */
+static uint64_t counter;
+static int state;
+
+#include "options.h"
+
+static double now(void) {
+    struct timespec time;
+    clock_gettime(CLOCK_MONOTONIC, &time);
+    return (double)time.tv_sec + (double)time.tv_nsec * 1e-9;
+}
+
 static void keep_frame(struct frame *frame, const unsigned char *bytes, size_t length) {
     frame->length = length;
     memcpy(frame->bytes, bytes, length);
 }
 
-/* A client has at most one call under way, so that it knows which number comes next. */
-struct client {
-    uint64_t number;
-    uint64_t ticket; /* of the newest try */
-    double asked_at;
-    int is_waiting;
-};
-
-static struct options {
-    int me, of, port, seconds, clients, lose, repeat, swap, seed;
-    const char *totem, *log;
-} options = {.port = 47100, .clients = 1, .seed = 1, .seconds = 30, .totem = "totem"};
-
-static int sock;
-static struct client clients[MOST_CLIENTS];
-static double begun_at[TIMEOUTS];
-static struct frame own[OWN_FRAMES]; /* frames that the node sent to itself */
-static unsigned own_first, own_count;
-static unsigned long answered, refused, refusals; /* calls that were answered, answered without effect, not taken */
-static uint64_t counter;
-static int state;
-
-static double now(void) {
-    struct timespec time;
-    clock_gettime(CLOCK_MONOTONIC, &time);
-    return time.tv_sec + time.tv_nsec * 1e-9;
-}
-
-static void end(const char *why) {
-    fprintf(stderr, "udp_node %d: %s\n", options.me, why);
-    exit(1);
-}
-
 /* Big-endian numbers. */
 static void put_number(unsigned char *at, uint64_t number, int bytes) {
-    for (int i = 0; i < bytes; i++) at[i] = number >> (8 * (bytes - 1 - i));
+    for (int i = 0; i < bytes; i++) at[i] = (unsigned char)(number >> (8 * (bytes - 1 - i)));
 }
 
 static uint64_t number_at(const unsigned char *at, int bytes) {
@@ -90,194 +78,256 @@ static uint64_t number_at(const unsigned char *at, int bytes) {
     return number;
 }
 
-static void hear_frame(const unsigned char *bytes, size_t length);
+static void take_datagram(const unsigned char *bytes, size_t length);
 #include "trial.h"
 
-/* How the node is reached: `start_node`, `write_whole` of a record, `read_whole` of what it told, and `end_node`. */
+/* How the node is reached: `start_node`, `write_record`, `read_bytes` of its records, and `end_node`. */
 #ifdef TOTEM_LIBRARY
 #include "by_library.h"
 #else
 #include "by_pipes.h"
 #endif
 
-static struct sockaddr_in address_of(int processor) {
-    return (struct sockaddr_in){
-        .sin_family = AF_INET, .sin_port = htons(options.port + processor), .sin_addr.s_addr = htonl(INADDR_LOOPBACK)};
+/* Sends a datagram, which the network may lose. */
+static void send_to(int processor, const unsigned char *bytes, size_t length) {
+    const struct sockaddr_in *address = &peers[processor - 1];
+    sendto(sock, bytes, length, 0, (const struct sockaddr *)address, sizeof *address);
 }
 
-/* A frame goes out to each of its receivers: bit i - 1 stands for processor i. */
-static void send_frame(unsigned receivers, const unsigned char *bytes, size_t length) {
-    for (int to = 1; to <= options.of; to++) {
-        if (!(receivers >> (to - 1) & 1)) continue;
-        if (to == options.me) {
-            if (own_count == OWN_FRAMES) continue; /* lost */
-            keep_frame(&own[(own_first + own_count++) % OWN_FRAMES], bytes, length);
+/* Sends a frame to each of its receivers, this node among them in a ring of one: bit i - 1 stands for processor i. */
+static void send_frame(uint64_t receivers, const unsigned char *bytes, size_t length) {
+    for (int to = 1; to <= options.of; to++)
+        if (receivers >> (to - 1) & 1) send_to(to, bytes, length);
+}
+
+/* A client's call was answered, by the node here or by another process. */
+static void finish_call(struct call *call, unsigned char kind, const unsigned char *reply, size_t length) {
+    call->is_waiting = 0;
+    if (kind == 'R') refused++;
+    else answered++;
+    if (kind != 'R' && length == 9 && reply[0] == 0) counter = number_at(reply + 1, 8);
+    log_call("answer", call->client, call->number++, (const char[]){(char)kind, ' ', 0}, reply, length);
+}
+
+/* The node answered a ticket. The call of another process is answered by a datagram: `A`, the answer's kind, the client u32,
+ * the number u64, and the reply. */
+static void handle_answer(unsigned char kind, const unsigned char *bytes, size_t length) {
+    uint64_t ticket = number_at(bytes, 8);
+    for (struct call *call = calls; call < calls + MAX_CALLS; call++) {
+        if (!call->is_waiting || call->ticket != ticket) continue;
+        if (call < calls + options.clients) {
+            finish_call(call, kind, bytes + 8, length - 8);
             continue;
         }
-        struct sockaddr_in address = address_of(to);
-        sendto(sock, bytes, length, 0, (struct sockaddr *)&address, sizeof address); /* or lost */
+        unsigned char answer[ENVELOPE + REPLY_BYTES] = {'A', kind};
+        put_number(answer + 2, call->client, 4);
+        put_number(answer + 6, call->number, 8);
+        memcpy(answer + ENVELOPE, bytes + 8, length - 8);
+        send_to(call->other, answer, ENVELOPE + length - 8);
+        call->is_waiting = 0;
     }
 }
 
-/* The answer to a ticket came. */
-static void take_answer(unsigned char kind, const unsigned char *bytes, size_t length) {
-    uint64_t ticket = number_at(bytes, 8);
-    for (int i = 0; i < options.clients; i++) {
-        struct client *client = &clients[i];
-        if (!client->is_waiting || client->ticket != ticket) continue;
-        client->is_waiting = 0;
-        if (kind == 'R') {
-            refused++;
-        } else {
-            answered++;
-            if (length == 17 && bytes[8] == 0) counter = number_at(bytes + 9, 8);
-        }
-        log_call("answer", options.me * 100 + i, client->number++, (const char[]){kind, ' ', 0}, bytes + 8, length - 8);
-    }
+/* Prints a ring that the node installed, with its members. */
+static void print_ring(const unsigned char *bytes) {
+    printf("node %d is operational in ring %llu.%d of", options.me, (unsigned long long)number_at(bytes, 8), bytes[8]);
+    for (int member = 1; member <= MAX_NODES; member++)
+        if (number_at(bytes + 9, 2) >> (member - 1) & 1) printf(" %d", member);
+    puts(bytes[11] ? ", primary" : ", not primary");
 }
 
-/* A record that the node told. `asking` is the client whose call was handed over, if one was. */
-static void take_record(unsigned char kind, const unsigned char *bytes, size_t length, struct client *asking) {
+/* Handles a record of the node. `call` is the one that was submitted, if one was. */
+static void handle_record(unsigned char kind, const unsigned char *bytes, size_t length, struct call *call) {
     if (kind == 'F') send_frame(number_at(bytes, 2), bytes + 2, length - 2);
-    if (kind == 'D' || kind == 'K' || kind == 'R') take_answer(kind, bytes, length);
-    if (kind == 'X') refusals++;
-    if (kind == 'T' && asking) {
-        asking->ticket = number_at(bytes, 8);
-        asking->asked_at = now();
-        asking->is_waiting = 1;
+    if (kind == 'D' || kind == 'K' || kind == 'R') handle_answer(kind, bytes, length);
+    if (kind == 'T' && call) {
+        call->ticket = number_at(bytes, 8);
+        call->asked_at = now();
+        call->is_waiting = 1;
     }
     if (kind == 'G') log_call("restored", number_at(bytes, 8), 0, "", bytes, 0);
     if (kind == 'C') log_call("committed", number_at(bytes, 4), number_at(bytes + 4, 8), "", bytes + 12, length - 12);
+    if (kind == 'M') print_ring(bytes);
 }
 
-/* Hands the node an input, and does all that it tells, up to the record that ends it. */
-static void tell_node(unsigned char kind, const unsigned char *bytes, size_t length, struct client *asking) {
-    static unsigned char record[3 + FRAME_BYTES], told[RECORD_BYTES];
+/* Ends the program where a record is shorter than the fields that are read of it, or longer than the room for it. */
+static void check_length(unsigned char kind, size_t length) {
+    static const size_t LEAST[256] = {
+        ['F'] = 2 + KIND_AT + 1, ['D'] = 8, ['K'] = 8, ['R'] = 9, ['G'] = 8, ['C'] = 12, ['T'] = 8, ['M'] = 12, ['E'] = 11};
+    size_t most = kind == 'F' ? 2 + FRAME_BYTES : kind == 'D' || kind == 'K' || kind == 'R' ? 8 + REPLY_BYTES : RECORD_BYTES;
+    if (length < LEAST[kind] || length > most) end("a record of the node has a wrong length");
+}
+
+/* Gives the node an input, and handles all its records up to the one that ends them. */
+static void give_node(unsigned char kind, const unsigned char *bytes, size_t length, struct call *call) {
+    static unsigned char record[3 + FRAME_BYTES], out[RECORD_BYTES];
+    if (kind == 'C') quiet_tokens = 0;
     record[0] = kind;
     put_number(record + 1, length, 2);
     memcpy(record + 3, bytes, length);
-    write_whole(record, 3 + length);
+    write_record(record, 3 + length);
     for (;;) {
         unsigned char head[3];
-        read_whole(head, 3);
-        size_t count = number_at(head + 1, 2);
-        read_whole(told, count);
-        if (head[0] != 'E') {
-            take_record(head[0], told, count, asking);
+        read_bytes(head, 3);
+        size_t count = (size_t)number_at(head + 1, 2);
+        read_bytes(out, count);
+        check_length(head[0], count);
+        if (head[0] == 'E') break;
+        handle_record(head[0], out, count, call);
+    }
+    if (state == OPERATIONAL && out[0] != OPERATIONAL) printf("node %d is forming a ring\n", options.me);
+    state = out[0];
+    if (state == STOPPED) end("the node has stopped");
+    if (out[1] == 1) quiet_tokens = out[2] ? 0 : quiet_tokens + 1; /* a token was taken; it brought something, or nothing */
+    next_time = number_at(out + 3, 8);
+}
+
+/* Brings the node the time once it wants it: the timeouts that are due then come. */
+static void bring_time(void) {
+    unsigned char bytes[8];
+    uint64_t time = (uint64_t)(now() * 1e3);
+    put_number(bytes, time, 8);
+    if (time >= next_time) give_node('N', bytes, 8, NULL);
+}
+
+static void release_token(void) {
+    size_t length = resting.length;
+    resting.length = 0;
+    if (length > 0) give_node('F', resting.bytes, length, NULL);
+}
+
+/* Gives the node a frame; the token of an idle ring only after a rest, which any datagram or call ends. A round of rests takes
+ * at most three quarters of the retransmit timeout. */
+static void take_frame(const unsigned char *bytes, size_t length) {
+    double rest = 0.75e-3 * periods[RETRANSMIT] / options.of;
+    int is_token = length > KIND_AT && bytes[KIND_AT] == TOKEN;
+    rests_until = now() + (rest < REST ? rest : REST);
+    keep_frame(&resting, bytes, length);
+    if (!is_token || state != OPERATIONAL || quiet_tokens <= IDLE_TOKENS) release_token();
+}
+
+/* Submits a call that another process tries here: `C`, its processor, the client u32, the number u64, and the operation. One
+ * that waits here already isn't submitted again. */
+static void take_call(const unsigned char *bytes, size_t length) {
+    uint64_t client = number_at(bytes + 2, 4), number = number_at(bytes + 6, 8);
+    struct call *call = NULL;
+    if (bytes[1] < 1 || bytes[1] > options.of || bytes[1] == options.me || state != OPERATIONAL) return;
+    for (struct call *place = calls + options.clients; place < calls + MAX_CALLS; place++) {
+        if (place->is_waiting && place->client != client) continue;
+        if (place->is_waiting && place->number >= number) return;
+        if (place->is_waiting || !call) call = place;
+    }
+    if (!call) return;
+    *call = (struct call){.other = bytes[1], .client = client, .number = number};
+    give_node('C', bytes + 2, length - 2, call);
+}
+
+/* The first byte shows what a datagram is: a frame begins with 54. */
+static void take_datagram(const unsigned char *bytes, size_t length) {
+    release_token();
+    if (length < ENVELOPE || (bytes[0] != 'A' && bytes[0] != 'C')) {
+        take_frame(bytes, length);
+    } else if (bytes[0] == 'C') {
+        take_call(bytes, length);
+    } else {
+        for (struct call *call = calls; call < calls + options.clients; call++)
+            if (call->is_waiting && call->client == number_at(bytes + 2, 4) && call->number == number_at(bytes + 6, 8))
+                finish_call(call, bytes[1], bytes + ENVELOPE, length - ENVELOPE);
+    }
+}
+
+/* Makes the next call of each client that waits for nothing, and tries again at the next other process what has waited long:
+ * the node here still has it. A shelf's operations begin with the object's place, 1. */
+static void make_calls(void) {
+    for (struct call *call = calls; call < calls + options.clients; call++) {
+        if (call->is_waiting ? options.of == 1 || now() - call->asked_at < PATIENCE : state != OPERATIONAL) continue;
+        int is_read = call->number % 10 == 0;
+        unsigned char bytes[ENVELOPE + 11] = {'C', (unsigned char)options.me, [ENVELOPE] = 1, is_read ? 2 : 1, [ENVELOPE + 10] = 1};
+        size_t length = ENVELOPE + (is_read ? 3 : 11); /* a read has no amount */
+        put_number(bytes + 2, call->client, 4);
+        put_number(bytes + 6, call->number, 8);
+        log_call("call", call->client, call->number, "", bytes + ENVELOPE, length - ENVELOPE);
+        if (call->is_waiting) {
+            call->other = call->other % options.of + 1;
+            if (call->other == options.me) call->other = call->other % options.of + 1;
+            call->asked_at = now();
+            send_to(call->other, bytes, length);
             continue;
         }
-        state = told[0];
-        if (told[1] == 1) begun_at[RETRANSMIT] = begun_at[CONSENSUS] = begun_at[LOSS] = now();
-        if (state == STOPPED) end("the node has stopped");
-        return;
+        give_node('C', bytes + 2, length - 2, call);
+        if (!call->is_waiting) return; /* the node refused it: too many calls have no answer yet */
     }
 }
 
-/* The node hears a frame. */
-static void hear_frame(const unsigned char *bytes, size_t length) { tell_node('F', bytes, length, NULL); }
-
-/* Each timeout whose period is over is told. */
-static void tell_timeouts(void) {
-    for (int i = 0; i < TIMEOUTS; i++) {
-        enum timeout due = DUE_ORDER[i];
-        if (now() - begun_at[due] < PERIODS[due]) continue;
-        begun_at[due] = now();
-        tell_node('T', (const unsigned char[]){due}, 1, NULL);
-    }
+/* After a pause (this process was stopped, or had no processor) what waits in the socket is old, and the others have gone on:
+ * it is dropped. */
+static void drop_after_pause(unsigned char *bytes) {
+    static double last;
+    if (last > 0 && now() - last > 0.5e-3 * periods[LOSS])
+        while (recv(sock, bytes, FRAME_BYTES, 0) >= 0) continue;
+    last = now();
 }
 
-/* Each client that waits for nothing makes its next call, and each that has waited long tries its call again. A shelf's
- * operations begin with the object's place, 1. */
-static void make_calls(void) {
-    for (int i = 0; i < options.clients && state == OPERATIONAL; i++) {
-        if (clients[i].is_waiting && now() - clients[i].asked_at < PATIENCE) continue;
-        unsigned char call[] = {0, 0, 0, 0, 0, 0, 0, 0, 0, 0, 0, 0, 1, 1, 0, 0, 0, 0, 0, 0, 0, 0, 1};
-        size_t length = sizeof call;
-        put_number(call, options.me * 100 + i, 4);
-        put_number(call + 4, clients[i].number, 8);
-        if (clients[i].number % 10 == 0) {
-            call[13] = 2; /* read, and no amount */
-            length = 15;
-        }
-        log_call("call", options.me * 100 + i, clients[i].number, "", call + 12, length - 12);
-        unsigned long before = refusals;
-        tell_node('C', call, length, &clients[i]);
-        if (refusals != before) return; /* too many calls have no answer yet */
-    }
-}
-
-/* Takes what came: first what the node had sent to itself before this, then what the network has, and waits a millisecond
- * where that is nothing. What the node sends to itself meanwhile is left for the next time: the token of a ring of one
- * never rests, and others would not be heard. */
-static void take_frames(void) {
+/* Takes what waits in the socket, but not without end: timeouts may be due. */
+static void take_datagrams(void) {
     static unsigned char bytes[FRAME_BYTES];
-    for (unsigned left = own_count; left > 0; left--) {
-        struct frame *frame = &own[own_first];
-        own_first = (own_first + 1) % OWN_FRAMES;
-        own_count--;
-        hear_frame(frame->bytes, frame->length);
-    }
-    int came = 0;
-    for (; came < 64; came++) {
-        ssize_t length = recv(sock, bytes, sizeof bytes, 0);
+    for (int i = 0; i < 64; i++) {
+        drop_after_pause(bytes);
+        ssize_t length = recv(sock, bytes, FRAME_BYTES, 0);
         if (length < 0) break;
-        take_frame(bytes, length);
+        take_from_network(bytes, (size_t)length);
     }
+}
+
+/* Waits until a datagram is there, or something is due, and never so long that it looks like a pause. */
+static void wait_for_event(void) {
+    double until = now() + (periods[LOSS] < 800 ? 0.125e-3 * periods[LOSS] : 0.1);
+    if ((double)next_time * 1e-3 < until) until = (double)next_time * 1e-3;
+    if (resting.length > 0 && rests_until < until) until = rests_until;
+    double left = until - now();
     struct pollfd waits = {.fd = sock, .events = POLLIN};
-    if (came == 0) poll(&waits, 1, 1);
+    ppoll(&waits, 1, &(struct timespec){.tv_nsec = left > 0 ? (long)(left * 1e9) : 0}, NULL);
 }
 
 static void open_socket(void) {
     int room = 4 << 20;
-    struct sockaddr_in address = address_of(options.me);
+    const struct sockaddr_in *address = &peers[options.me - 1];
     sock = socket(AF_INET, SOCK_DGRAM | SOCK_NONBLOCK | SOCK_CLOEXEC, 0);
     setsockopt(sock, SOL_SOCKET, SO_RCVBUF, &room, sizeof room);
-    if (bind(sock, (struct sockaddr *)&address, sizeof address)) end("its port can't be had");
+    if (bind(sock, (const struct sockaddr *)address, sizeof *address)) end("its address can't be had");
 }
 
-/* Each option is a word and its value. */
-static void read_options(int count, char **words) {
-    const struct {
-        const char *word;
-        int *number;
-        const char **text;
-    } KNOWN[] = {
-        {"--me", &options.me, 0},           {"--of", &options.of, 0},           {"--port", &options.port, 0},
-        {"--seconds", &options.seconds, 0}, {"--clients", &options.clients, 0}, {"--lose", &options.lose, 0},
-        {"--repeat", &options.repeat, 0},   {"--swap", &options.swap, 0},       {"--seed", &options.seed, 0},
-        {"--totem", 0, &options.totem},     {"--log", 0, &options.log}};
-    enum { MANY = sizeof KNOWN / sizeof *KNOWN };
-    for (int at = 1; at < count; at += 2) {
-        int i = 0;
-        while (i < MANY && strcmp(words[at], KNOWN[i].word)) i++;
-        if (i == MANY || at + 1 == count) end("bad options");
-        if (KNOWN[i].text) *KNOWN[i].text = words[at + 1];
-        else *KNOWN[i].number = atoi(words[at + 1]);
-    }
-    if (options.me < 1 || options.me > options.of || options.of > 16 || options.clients < 0 || options.clients > MOST_CLIENTS) end("bad options");
+/* Prints once a second how many calls were answered. */
+static void report(void) {
+    static double reported_at;
+    static unsigned long before;
+    if (reported_at == 0) reported_at = now();
+    if (now() - reported_at < 1) return;
+    printf("node %d %s: %lu calls a second, counter %llu\n", options.me, state == OPERATIONAL ? "operational" : "forming", answered - before,
+           (unsigned long long)counter);
+    before = answered;
+    reported_at += 1;
 }
 
 int main(int count, char **words) {
     read_options(count, words);
-    srand(options.seed * 100 + options.me);
+    srand((unsigned)(options.seed * 100 + options.me));
     signal(SIGPIPE, SIG_IGN);
-    start_node();
+    setvbuf(stdout, NULL, _IOLBF, BUFSIZ);
     open_socket();
     open_log();
-    for (int i = 0; i < options.clients; i++) clients[i].number = 1;
-    double begun = now(), told = begun;
-    unsigned long before = 0;
-    for (int i = 0; i < TIMEOUTS; i++) begun_at[i] = begun;
-    while (now() - begun < options.seconds) {
-        tell_timeouts();
-        if (now() - begun < options.seconds - 1) make_calls();
-        take_frames();
-        if (now() - told < 1) continue;
-        printf("node %d %s: %lu calls a second, counter %llu\n", options.me, state == OPERATIONAL ? "operational" : "forming",
-               answered - before, (unsigned long long)counter);
-        fflush(stdout);
-        before = answered;
-        told += 1;
+    start_node();
+    bring_time(); /* the first time: nothing is due, and the node runs */
+    make_marker();
+    for (int i = 0; i < options.clients; i++) calls[i] = (struct call){.other = options.me, .client = (uint64_t)(options.me * 100 + i), .number = 1};
+    double end_at = now() + options.seconds;
+    while (now() < end_at) {
+        wait_for_event();
+        take_datagrams();
+        bring_time();
+        if (now() < end_at - 1) make_calls();
+        if (quiet_tokens == 0 || now() >= rests_until) release_token();
+        report();
     }
     printf("node %d ends: %lu calls answered, %lu refused\n", options.me, answered, refused);
     end_node();

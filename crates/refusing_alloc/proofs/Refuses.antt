@@ -1,5 +1,5 @@
--- Who has a `&` to the requests and a token of its lifetime may call `refuses_next`, and has the token and a truth value behind it.
--- Assumes `Logic`.
+-- A caller with a `&` to the requests and a token of its lifetime may call `refuses_next`. It has the token and a
+-- truth value afterwards. Assumes `Logic`.
 use Rattle.std.proofs.Common.{◌≡◌, ℕ, Bool, List, [], ◌∷◌, refl, ap}
 use seplogic.Ra.Ura.{Ura}
 use mir.Val.{Val, vbool, vptr}

@@ -1,50 +1,52 @@
-//! An allocator that refuses one request for memory, to test what a function does when memory runs
-//! out. A test lends it as `&heap` wherever an allocator is wanted: a `&` to an allocator is one too,
-//! and is `Copy`.
+//! An allocator that refuses one request for memory, so that a test sees how a function behaves when memory runs out.
+//! A test passes it as `&heap` wherever an allocator is wanted: a `&` to an allocator is one too, and is `Copy`.
 #![tactic(auto)]
 
 ghost use Rattle.std.specs.Prelude.{◌≡◌, ◌<◌, ℕ, IfSome, alloc_error};
-ghost use Rattle.refusing_alloc.specs.Refusing.{passed_before, MayAnswer};
+ghost use Rattle.refusing_alloc.specs.RefusingHeap.{refused_index, MayAnswer};
 
 mod requests;
 
 use requests::Requests;
 use std::alloc::{AllocError, Allocator, Global};
 
-/// Passes each request on to `inner`, except for one, which it refuses.
+/// An allocator that refuses one request, and passes every other on to `inner`.
 ///
-/// A request is a call of `allocate`. To grow or to shrink a block is a request too, since the block
-/// is moved to a new one; to give one back is none. Threads may share a `&` to it: each request has a
-/// number of its own, so just one of them is refused, whichever thread made it.
+/// A request is a call of `allocate`. Growing or shrinking a block is a request too, since the block moves to a new
+/// one. Freeing a block isn't a request. Threads may share a `&` to the allocator: each request has its own number, so
+/// exactly one is refused, whichever thread makes it.
 #[derive(Drop)]
-pub struct Refusing<B: Allocator = Global> {
+pub struct RefusingHeap<B: Allocator = Global> {
     inner: B,
     requests: Requests,
 }
 
-impl<B: Allocator> Refusing<B> {
-    /// Refuses the request that comes after `passed` others, and no other.
-    pub fn new(inner: B, passed: u64) -> Refusing<B>
-        ensures { passed_before result ≡ passed }
+impl<B: Allocator> RefusingHeap<B> {
+    /// Returns an allocator that refuses the request after the first `passed` requests, and no other.
+    /// With `passed` 0 it refuses the first. It passes all other requests on to `inner`.
+    pub fn new(inner: B, passed: u64) -> RefusingHeap<B>
+        ensures { refused_index result ≡ passed }
     {
-        Refusing {
+        RefusingHeap {
             inner,
             requests: Requests::refusing(passed),
         }
     }
 
-    /// How many requests were made so far, the refused one among them.
+    /// Returns the number of requests that all threads have made so far, the refused one included.
     pub fn requests(&self) -> u64 {
         self.requests.made()
     }
 
-    /// Whether it has refused a request.
+    /// Returns whether this allocator has refused a request yet: whether more requests have been made than `new` was told
+    /// to let pass.
     pub fn has_refused(&self) -> bool {
-        self.requests.have_met_refused()
+        self.requests.has_reached_refused()
     }
 
-    /// What `refuse_in_turn` asks of work over it: `Err` where it has refused a request, else `Ok`. Where
-    /// the work did not come out right, the other of these.
+    /// Returns the result that [`refuse_in_turn`] expects of its work: `Err` if a request has been refused, else `Ok`.
+    /// If `is_right` is false, returns the other of the two, so that `refuse_in_turn` ends with `None`. Work calls it
+    /// last, with the outcome of its own checks.
     pub fn answer(&self, is_right: bool) -> Result<(), AllocError> {
         if is_right == self.has_refused() {
             Err(AllocError)
@@ -54,8 +56,9 @@ impl<B: Allocator> Refusing<B> {
     }
 }
 
-// Sound where `inner` is: each block that is given is one of `inner`'s, and goes back to it as it came. A refused request gives none.
-unsafe impl<B: Allocator> Allocator for Refusing<B> {
+// Sound if `inner` is: each block comes from `inner`, and goes back to it unchanged. A refused request gives no
+// block.
+unsafe impl<B: Allocator> Allocator for RefusingHeap<B> {
     // A block is freed by the allocator that gave it.
     ghost dealloc_token = { λ heap ty ptr. B.dealloc_token heap.inner ty ptr };
 
@@ -71,13 +74,13 @@ unsafe impl<B: Allocator> Allocator for Refusing<B> {
     }
 }
 
-/// Calls `work` over an allocator that refuses the first request, then over one that refuses the
-/// second, and so on, up to the first call that makes too few requests to be refused one.
+/// Calls `work` with an allocator that refuses the first request, then with one that refuses the second, and so on.
+/// The last call is the first that makes too few requests to meet the refused one.
 ///
-/// The answer is how many calls were refused, and so how many requests `work` makes where memory is
-/// left. It is `None` if a call did not answer as it should, `Err` where it was refused a request and
-/// `Ok` where it was not, or if `alloc` itself had no memory.
-pub fn refuse_in_turn<F: Fn(&Refusing) -> Result<(), AllocError>>(
+/// Returns the number of calls in which a request was refused: the number of requests that `work` makes while memory
+/// lasts. Returns `None` if a call returned the wrong result, or if `alloc` itself ran out of memory. The right result
+/// is `Err` if the call was refused a request, and `Ok` if not.
+pub fn refuse_in_turn<F: Fn(&RefusingHeap) -> Result<(), AllocError>>(
     alloc: Global,
     work: &F,
 ) -> Option<u64>
@@ -87,7 +90,7 @@ pub fn refuse_in_turn<F: Fn(&Refusing) -> Result<(), AllocError>>(
     ensures succeeded { IfSome result (λ n. MayAnswer (F.post work.now) n (Ok tt)) }
 {
     for passed in 0..u64::MAX {
-        let heap = Refusing::new(alloc, passed);
+        let heap = RefusingHeap::new(alloc, passed);
         match (work(&heap), heap.has_refused()) {
             (Ok(()), false) => return Some(passed),
             (Err(AllocError), true) => {}

@@ -3,7 +3,8 @@ ghost use Rattle.std.specs.Prelude.{◌≡◌, ◌<◌, ◌↔◌, IsTrue};
 
 use std::sync::atomic::{AtomicU64, Ordering};
 
-/// How many requests have come, and the number of the one to refuse.
+/// A counter of requests that threads may share: the number of requests so far, and the number of the one to refuse.
+/// Requests are numbered from 0.
 #[derive(Drop)]
 pub struct Requests {
     made: AtomicU64,
@@ -11,7 +12,7 @@ pub struct Requests {
 }
 
 impl Requests {
-    /// No request has come, and the one numbered `refused` is to be refused.
+    /// Returns a counter that has seen no request, and refuses the one numbered `refused`, counted from 0.
     pub fn refusing(refused: u64) -> Requests
         ensures { result.refused ≡ refused }
     {
@@ -21,32 +22,32 @@ impl Requests {
         }
     }
 
-    /// Takes the number of a request that comes now, and answers whether to refuse it.
+    /// Counts a request. Returns whether it is the one to refuse. Exactly one call returns true, whichever thread makes
+    /// it.
     pub fn refuses_next(&self) -> bool {
         let number = self.made.fetch_add(1, Ordering::SeqCst);
         is_refused(number, self.refused)
     }
 
-    /// How many requests have come.
+    /// Returns the number of requests that have been counted so far, the refused one included.
     pub fn made(&self) -> u64 {
         self.made.load(Ordering::SeqCst)
     }
 
-    /// Whether the request to refuse has come.
-    pub fn have_met_refused(&self) -> bool {
-        has_come(self.refused, self.made())
+    /// Returns whether the request to refuse has been counted.
+    pub fn has_reached_refused(&self) -> bool {
+        is_counted(self.refused, self.made())
     }
 }
 
-/// Whether the request of this number is refused: only the one numbered `refused` is.
 fn is_refused(number: u64, refused: u64) -> bool
     ensures { IsTrue result ↔ (number ≡ refused) }
 {
     number == refused
 }
 
-/// Whether the request of this number is among the first `made`.
-fn has_come(number: u64, made: u64) -> bool
+/// Returns whether the request of this number is among the first `made`.
+fn is_counted(number: u64, made: u64) -> bool
     ensures { IsTrue result ↔ (number < made) }
 {
     made > number

@@ -1,4 +1,4 @@
--- Of a refusal that is Stopped or Memory: which of the two it is.
+-- A refusal that is Stopped or Memory: which of the two it is.
 use Rattle.std.proofs.Common.{◌≡◌, Bool, true, false, if◌then◌else◌, refl, ◌∙◌, sym}
 use Rattle.ring_base.specs.declared.fault.Fault.{Fault}
 use Rattle.ring_base.specs.declared.fault.Fault.TheVariants.{Memory, Stopped as StoppedFault}

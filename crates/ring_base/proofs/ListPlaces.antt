@@ -1,13 +1,14 @@
--- What stands at a list's places: with one more at its end, behind it or written over, and in a row of numbers or of zeros; the greatest of a list with one more.
+-- The elements at a list's places: with one more at the end, with more after it, or overwritten; in a range or a row
+-- of zeros; and the greatest of a list with one more.
 use Rattle.std.proofs.Common.{◌≡◌, ℕ, zero, suc, ◌+◌, List, [], ◌∷◌, ◌++◌, length, Some, slice_get, refl, arith, ◌⊎◌, inl, inr, ◌<◌, slice_set, ◌≤◌}
 use Rattle.std.proofs.Common.{None, ap, map, ◌∙◌, sym, Bor, option_copied, Option, max, replicate, slice_index}
 use Rattle.std.proofs.lemmas.List.{map-append}
 use Rattle.std.proofs.lemmas.Option.{slice_get_read, slice_get_past}
 use Rattle.std.specs.Slice.{IsItemAt}
-use Rattle.ring_base.specs.Fronts.{front_append, front_get}
+use Rattle.ring_base.specs.Prefixes.{prefix_append, prefix_get}
 use Rattle.ring_base.specs.Numbers.{numbers_from, greatest}
 
--- what stands in a list with one more at its end stood there before, or is the last
+-- an element of a list with one more at its end was there before, or is the last
 pub get-push : {X : Type 0} (xs : List X) (y : X) (k : ℕ) (z : X) → slice_get (xs ++ y ∷ []) k ≡ Some z
     → (slice_get xs k ≡ Some z) ⊎ ((k ≡ length xs) × (y ≡ z))
 get-push [] y zero z e = inr (refl, cc e)
@@ -15,7 +16,7 @@ get-push [] y (suc k) z e = absurd (cc e)
 get-push (x ∷ xs) y zero z e = inl e
 get-push (x ∷ xs) y (suc k) z e = elim (get-push xs y k z e) [ inl h ↦ inl h | inr h ↦ inr (omega (arith, h.0), h.1) ]
 
--- each place of a row of zeros, and each behind it, has 0
+-- each place of a row of zeros, and each after it, has 0
 pub zero_at : (n k : ℕ) → slice_index (replicate n 0) k ≡ 0
 zero_at zero k = refl
 zero_at (suc n) zero = refl
@@ -31,17 +32,17 @@ pub get-last : {X : Type 0} (xs : List X) (y : X) → slice_get (xs ++ y ∷ [])
 get-last [] y = refl
 get-last (x ∷ xs) y = get-last xs y
 
--- what stands in a list stands there with more behind it
+-- an element of a list is there with more after it
 pub get-left : {X : Type 0} (xs ys : List X) (k : ℕ) (x : X) → slice_get xs k ≡ Some x → slice_get (xs ++ ys) k ≡ Some x
-get-left xs ys k x h = front_get xs (xs ++ ys) k x (front_append xs ys) h
+get-left xs ys k x h = prefix_get xs (xs ++ ys) k x (prefix_append xs ys) h
 
--- what is written at a place stands there
+-- the element written at a place is there
 pub get-set : {X : Type 0} (xs : List X) (i : ℕ) (x : X) → i < length xs → slice_get (slice_set xs i x) i ≡ Some x
 get-set [] i x within = absurd (omega arith)
 get-set (y ∷ xs) zero x within = refl
 get-set (y ∷ xs) (suc i) x within = get-set xs i x (omega arith)
 
--- what stands at another place stays
+-- the element at another place stays
 pub get-set_other : {X : Type 0} (xs : List X) (i j : ℕ) (x : X) → (j ≡ i → ⊥) → slice_get (slice_set xs i x) j ≡ slice_get xs j
 get-set_other [] i j x n = refl
 get-set_other (z ∷ xs) zero zero x n = absurd (n refl)
@@ -49,32 +50,32 @@ get-set_other (z ∷ xs) zero (suc j) x n = refl
 get-set_other (z ∷ xs) (suc i) zero x n = refl
 get-set_other (z ∷ xs) (suc i) (suc j) x n = get-set_other xs i j x (λ e. n (ap suc e))
 
--- where nothing stands the list has ended
+-- a place without an element is past the end
 pub none-length : {X : Type 0} (xs : List X) (i : ℕ) → slice_get xs i ≡ None → length xs ≤ i
 none-length [] i h = omega arith
 none-length (x ∷ xs) zero h = absurd cc
 none-length (x ∷ xs) (suc i) h = let k = none-length xs i h in omega (arith, k)
 
--- a list with one more is one longer
+-- a list with one element more is longer by one
 pub push-length : {X : Type 0} (xs : List X) (x : X) → length (xs ++ x ∷ []) ≡ suc (length xs)
 push-length [] x = refl
 push-length (y ∷ xs) x = ap suc (push-length xs x)
 
--- two rows of numbers, one behind the other, are one
+-- two ranges, one after the other, are one range
 pub numbers-append : (first m k : ℕ) → numbers_from first m ++ numbers_from (first + m) k ≡ numbers_from first (m + k)
 numbers-append first zero k = (let e : first + 0 ≡ first = omega arith in let f : 0 + k ≡ k = omega arith in rw (e, f) refl)
 numbers-append first (suc m) k =
     (let e : first + suc m ≡ suc first + m = omega arith in let f : suc m + k ≡ suc (m + k) = omega arith in rw (e, f)
     (ap (λ ns. first ∷ ns) (numbers-append (suc first) m k)))
 
--- what a function makes of a number in a row
+-- the image of a number of a range under a function
 pub get-numbers : {X : Type 0} (f : ℕ → X) (first n i : ℕ) → i < n → slice_get (map f (numbers_from first n)) i ≡ Some (f (first + i))
 get-numbers f first zero i l = absurd (omega (arith, l))
 get-numbers f first (suc n) zero l = ap (λ k. Some (f k)) (let e : first ≡ first + 0 = omega arith in e)
 get-numbers f first (suc n) (suc i) l =
     get-numbers f (suc first) n i (omega (arith, l)) ∙ ap (λ k. Some (f k)) (let e : suc first + i ≡ first + suc i = omega arith in e)
 
--- a row that a function makes gets one more
+-- the images of a range with one number more
 pub row-push : {X : Type 0} (f : ℕ → X) (xs ys : List X) (k : ℕ) (x : X) (me : ℕ) → xs ≡ map f (numbers_from 1 k) → ys ≡ xs ++ x ∷ [] → x ≡ f me
     → me ≡ k + 1 → ys ≡ map f (numbers_from 1 (k + 1))
 row-push f xs ys k x me a b c d =
@@ -82,12 +83,12 @@ row-push f xs ys k x me a b c d =
     b ∙ ap (λ zs. zs ++ x ∷ []) a ∙ ap (λ y. map f (numbers_from 1 k) ++ y ∷ []) (c ∙ ap f last)
     ∙ sym (map-append f (numbers_from 1 k) ((1 + k) ∷ [])) ∙ ap (map f) (numbers-append 1 k 1)
 
--- an item that is lent from its place, copied
+-- an item borrowed from its place and copied
 pub item_copied : {X : Type 0} (xs : List X) (i : ℕ) (r : Option (Bor X)) → IsItemAt xs i r → option_copied r ≡ slice_get xs i
 item_copied xs i None h = sym (slice_get_past xs i h.3)
 item_copied xs i (Some x) h = sym (slice_get_read xs (length xs) i x.now refl h.3.0 h.1)
 
--- what stands in a list after a write
+-- the elements of a list after a write
 pub set_cases : {X : Type 0} (xs : List X) (k i : ℕ) (y x : X) → slice_get (slice_set xs k y) i ≡ Some x
     → ((i ≡ k) × (x ≡ y)) ⊎ ((i ≡ k → ⊥) × (slice_get xs i ≡ Some x))
 set_cases [] k i y x h = cc
@@ -116,7 +117,7 @@ has-place [] k within = absurd (omega (arith, within))
 has-place (x ∷ xs) zero within = (x, refl)
 has-place (x ∷ xs) (suc k) within = has-place xs k (omega (arith, within))
 
--- what stands in a list with one more
+-- the elements of a list with one more at its end
 pub added_cases : {X : Type 0} (xs : List X) (y : X) (i : ℕ) (x : X) → slice_get (xs ++ y ∷ []) i ≡ Some x
     → ((i ≡ length xs) × (x ≡ y)) ⊎ (slice_get xs i ≡ Some x)
 added_cases [] y zero x h = inl (refl, cc)

@@ -1,9 +1,9 @@
--- One element more of a list that is gone through.
+-- One step of a loop over a list.
 use Rattle.std.proofs.Common.{◌≡◌, ℕ, zero, suc, ◌+◌, ◌<◌, List, [], ◌∷◌, ◌++◌, length, take, drop, get_or, slice_get, Some, ap, sym, ◌∙◌, add-one, arith}
 use Rattle.std.proofs.Common.{◌-◌, All}
 use Rattle.std.proofs.lemmas.List.Elements.{All-push}
 
--- what is left of a list begins with the element at the place
+-- the rest of a list begins with the element at the place
 pub drop-next : {X : Type 0} (xs : List X) (i : ℕ) (x : X) → i < length xs → x ≡ get_or xs i x → drop i xs ≡ x ∷ drop (i + 1) xs
 drop-next [] i x lt is = absurd (omega arith)
 drop-next (y ∷ xs) zero x lt is = ap (λ w. w ∷ xs) (sym is)
@@ -11,7 +11,7 @@ drop-next (y ∷ xs) (suc i) x lt is =
     let same : suc (i + 1) ≡ suc i + 1 = omega arith in
     drop-next xs i x (omega arith) is ∙ ap (λ k. x ∷ drop k (y ∷ xs)) same
 
--- what is gone through ends with it
+-- the visited part ends with that element
 pub take-next : {X : Type 0} (xs : List X) (i : ℕ) (x : X) → i < length xs → x ≡ get_or xs i x → take (i + 1) xs ≡ take i xs ++ x ∷ []
 take-next [] i x lt is = absurd (omega arith)
 take-next (y ∷ xs) zero x lt is = ap (λ w. w ∷ []) (sym is)
@@ -19,7 +19,7 @@ take-next (y ∷ xs) (suc i) x lt is =
     let same : suc i + 1 ≡ suc (i + 1) = omega arith in
     ap (λ k. take k (y ∷ xs)) same ∙ ap (λ w. y ∷ w) (take-next xs i x (omega arith) is)
 
--- the same of the element that is found there
+-- the same for the element that is found there
 pub take-found : {X : Type 0} (xs : List X) (i : ℕ) (x : X) → slice_get xs i ≡ Some x → take (suc i) xs ≡ take i xs ++ x ∷ []
 take-found [] i x e = absurd (cc e)
 take-found (y ∷ xs) zero x e = cc e
@@ -28,10 +28,10 @@ take-found (y ∷ xs) (suc i) x e = ap (λ w. y ∷ w) (take-found xs i x e)
 pub take-more : {X : Type 0} (xs : List X) (i : ℕ) (x : X) → slice_get xs i ≡ Some x → take (i + 1) xs ≡ take i xs ++ x ∷ []
 take-more xs i x e = ap (λ n. take n xs) (add-one i) ∙ take-found xs i x e
 
--- how many are left: one, and what is left after it
+-- the number of elements left: one, and those after it
 pub left-next : (most counter : ℕ) → counter < most → most - counter ≡ suc (most - (counter + 1))
 left-next most counter l = omega arith
 
--- what holds of all that a list has, and of what is pushed, holds of all that it has then
+-- a fact about all elements of a list and about the pushed one holds of all elements afterwards
 pub pushed : {X : Type 0} (P : X → Type 0) (xs ys : List X) (x : X) → All P xs → P x → ys ≡ xs ++ x ∷ [] → All P ys
 pushed P xs ys x all one e = rw e (All-push P xs x all one)

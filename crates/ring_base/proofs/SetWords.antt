@@ -1,4 +1,4 @@
--- What the code computes on words of 16 bits, as sets.
+-- The code's computations on words of 16 bits, as sets.
 use Rattle.std.proofs.Common.{◌≡◌, ◌≢◌, ℕ, ◌+◌, ◌-◌, ◌*◌, ◌^◌, ◌/◌, ◌%◌, ◌<◌, ◌≤◌, arith, ◌∙◌, sym, inl, inr}
 use Rattle.std.specs.Prelude.{bit_and, count_ones}
 use Rattle.std.specs.Int.{w16, trailing_zeros}
@@ -9,7 +9,7 @@ use Rattle.std.proofs.lemmas.Nat.Bits.{bit_at-lt, bit_at_and, bit_at_not, ones_s
 use lib.Bits.{and_le_l, and_lt}
 use Rattle.ring_base.specs.Processors.{IsProc, IsMember, only, everybody, less, smallest, position_of}
 use Rattle.ring_base.specs.Members.{member_at, bit_at_less}
-use Rattle.ring_base.specs.Elements.{smallest-least, size-ones, position_of-common}
+use Rattle.ring_base.specs.Elements.{smallest-least, size-ones, position_of-intersection}
 
 -- `1 << (i - 1)`
 pub shl_only : (i : ℕ) → IsProc i → 1 * 2 ^ (i - 1) % 65536 ≡ only i
@@ -58,4 +58,4 @@ trailing-smallest set lt some =
 pub ones-position_of : (set i : ℕ) → set < 2 ^ 16 → IsProc i → count_ones (bit_and set (1 * 2 ^ (i - 1) % 65536 - 1)) ≡ position_of set i
 ones-position_of set i lt proc =
     let small : bit_and set (everybody (i - 1)) < 2 ^ 16 = omega (arith, and_le_l set (everybody (i - 1))) in
-    rw (shl_only i proc) (sym (position_of-common set i proc.0 ∙ size-ones (bit_and set (everybody (i - 1))) small))
+    rw (shl_only i proc) (sym (position_of-intersection set i proc.0 ∙ size-ones (bit_and set (everybody (i - 1))) small))

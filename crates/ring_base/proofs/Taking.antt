@@ -1,4 +1,4 @@
--- One step over the members of a set: the smallest is taken out, and a set that has one has a member.
+-- One step over the members of a set: the smallest is taken out, and a set with a smallest member has a member.
 use Rattle.std.proofs.Common.{◌≡◌, ℕ, ◌<◌, ◌≤◌, List, [], ◌∷◌, length, slice_index, arith, ap}
 use Rattle.ring_base.specs.Processors.{IsProc, IsMember, only, less, elements, size, smallest}
 use Rattle.ring_base.specs.Elements.{elements-first, position_of-inside}
@@ -12,11 +12,11 @@ elements-taken set first one rest least m alone left =
 pub fewer : (set first rest : ℕ) → elements set ≡ first ∷ elements rest → length (elements rest) < length (elements set)
 fewer set first rest taken = omega (arith, ap length taken)
 
--- a list whose first number is no zero has one
+-- a list whose first number, 0 if there is none, is not 0 has an element
 some_first : (xs : List ℕ) (n : ℕ) → 1 ≤ n → slice_index xs 0 ≡ n → 0 < length xs
 some_first [] n low e = absurd (omega arith)
 some_first (x ∷ xs) n low e = omega arith
 
--- a set that has a smallest member has one
+-- a set with a smallest member has a member
 pub smallest_some : (set me : ℕ) → 1 ≤ me → smallest set ≡ me → 0 < size set
 smallest_some set me low e = some_first (elements set) me low e

@@ -1,11 +1,11 @@
--- Turns round a ring of m members: whose turn a number is.
+-- Turns round a ring of m members: which member has the turn of a number.
 use Rattle.std.proofs.Common.{◌≡◌, ℕ, suc, ◌+◌, ◌-◌, ◌*◌, ◌/◌, ◌%◌, ◌<◌, ◌≤◌, inl, inr, ap, sym, ◌∙◌, arith, mod-lt, mod-eq_of_lt, mul-le-mul_left, mul-suc}
 use Rattle.std.proofs.Math.Nat.{add-mod_right, div-add-mod, mul-add-mod_self_left}
 use Rattle.std.proofs.lemmas.Bool.{cases_lt}
 use Rattle.ring_base.specs.Processors.{IsProc, IsMember, at, size, position_of, next}
 use Rattle.ring_base.specs.Elements.{at_member, position_of-inside, at-position_of, position_of-at}
 
--- less than m apart, two numbers leave different rests
+-- two numbers less than m apart have different remainders
 rests_differ : (m a d : ℕ) → 0 < d → d < m → (a + d) % m ≡ a % m → ⊥
 rests_differ m a d p q e =
     let x : m * (a / m) + a % m ≡ a = div-add-mod a m in
@@ -18,7 +18,7 @@ rests_differ m a d p q e =
       | inr l ↦ (let k : m * v ≤ m * u = mul-le-mul_left m l in omega arith)
     ]
 
--- of m numbers in a row one leaves a given rest
+-- one of m successive numbers has a given remainder
 rest_reached : (m a p : ℕ) → p < m → (j : ℕ) × (j < m) × ((a + j) % m ≡ p)
 rest_reached m a p l =
     let r : a % m < m = mod-lt a (omega arith) in
@@ -34,15 +34,15 @@ rest_reached m a p l =
       | inr k ↦ (let e : a + (p - a % m) ≡ m * (a / m) + p = omega arith in (p - a % m, omega arith, rw (e, mul-add-mod_self_left) (mod-eq_of_lt l)))
     ]
 
--- the member whose turn a number is
+-- the member that has the turn of a number
 abbrev pub member_of : ℕ → ℕ → ℕ
 member_of members n = at members (n % size members)
 
--- at two positions stand two members
+-- the members at two positions differ
 at_same : (members j k : ℕ) → j < size members → k < size members → at members j ≡ at members k → j ≡ k
 at_same members j k l m e = sym (position_of-at members j l) ∙ ap (position_of members) e ∙ position_of-at members k m
 
--- two turns less than m apart are two members'
+-- two turns less than m apart belong to different members
 pub turns_differ : (members a d : ℕ) → 0 < size members → 0 < d → d < size members → member_of members (a + d) ≡ member_of members a → ⊥
 turns_differ members a d some p q e =
     rests_differ (size members) a d p q (at_same members ((a + d) % size members) (a % size members) (mod-lt (a + d) some) (mod-lt a some) e)
@@ -52,7 +52,7 @@ turns_differ_at members a n j some p q e =
     let k : a + n ≡ (a + j) + (n - j) = omega arith in
     turns_differ members (a + j) (n - j) some (omega arith) (omega arith) (sym (ap (member_of members) k) ∙ e)
 
--- m turns on it is the same member's
+-- the turn m later belongs to the same member
 pub turns_return : (members a : ℕ) → member_of members (a + size members) ≡ member_of members a
 turns_return members a = ap (at members) (add-mod_right a (size members))
 
@@ -68,7 +68,7 @@ mod-next n m =
     let f : n + 1 ≡ m * (n / m) + (n % m + 1) = omega arith in
     sym (ap (λ k. k % m) f ∙ mul-add-mod_self_left m (n / m) (n % m + 1))
 
--- the member after the one whose turn it is has the next turn
+-- the next member after the one with this turn has the next turn
 pub next-turn : (members n : ℕ) → 0 < size members → next members (at members (n % size members)) ≡ at members ((n + 1) % size members)
 next-turn members n some =
     let p : position_of members (at members (n % size members)) ≡ n % size members = position_of-at members (n % size members) (mod-lt n some) in

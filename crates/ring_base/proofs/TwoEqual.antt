@@ -1,4 +1,4 @@
--- A function of two arguments gives the same of equal ones.
+-- A function of two arguments gives equal results for equal arguments.
 use Rattle.std.proofs.Common.{◌≡◌, ap, ◌∙◌}
 
 pub ap-both : {A B C : Type 0} → (f : A → B → C) {x y : A} {u v : B} → x ≡ y → u ≡ v → f x u ≡ f y v

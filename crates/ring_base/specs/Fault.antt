@@ -1,11 +1,12 @@
--- The numbers and the texts of the refusals: Refusals, rule 1 of docs/PROTOCOL.md.
+-- The numbers and the texts of the refusals.
+-- Rules: Refusals 1
 use Rattle.std.specs.Prelude.{ℕ, List, codes}
 use Rattle.ring_base.specs.declared.fault.Fault.{Fault}
 use Rattle.ring_base.specs.declared.fault.Fault.TheVariants.{NotMember, PendingFull, OpTooLong, Conflict, Stale}
 use Rattle.ring_base.specs.declared.fault.Fault.TheVariants.{NumberGap, SessionsFull, Stopped, BookFull, Stranger}
 use Rattle.ring_base.specs.declared.fault.Fault.TheVariants.{Memory, BadFrame, BadScript, NoAnswer, BadSnapshot}
 
--- a refusal's number, 1 to 15
+-- the number of a refusal, 1 to 15
 abbrev pub fault_number : Fault → ℕ
 fault_number NotMember = 1
 fault_number PendingFull = 2
@@ -23,7 +24,7 @@ fault_number BadScript = 13
 fault_number NoAnswer = 14
 fault_number BadSnapshot = 15
 
--- a refusal's text
+-- the text of a refusal, as its characters' codes
 abbrev pub fault_text : Fault → List ℕ
 fault_text NotMember = codes "not a member"
 fault_text PendingFull = codes "too many pending calls"

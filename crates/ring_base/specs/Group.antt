@@ -1,19 +1,20 @@
--- What is fixed for a run, and the sets of processors that are primary in it: Processors and sets, rules 1 and 4 of docs/PROTOCOL.md.
+-- The group's configuration, fixed for a run, and the sets of processors that are primary in it.
+-- Rules: Processors and sets 1 and 4
 use Rattle.std.specs.Prelude.{ℕ, ◌-◌, ◌*◌, ◌≡◌, ◌<◌, ◌≤◌, Bool, nat_lt, ◌&&◌, List, ◌++◌, length, take, replicate, slice_index, All}
 use Rattle.std.specs.List.{sum, sum_by}
-use Rattle.ring_base.specs.Processors.{most_processors, IsProc, IsMember, within, everybody, elements}
+use Rattle.ring_base.specs.Processors.{max_processors, IsProc, IsMember, within, everybody, elements}
 
--- the processors of a run, those numbered 1 to `count`, and the votes of each, the first processor's first
+-- a configuration: the processors 1 to `count`, and their votes in order
 pub record Group : Type 0 where
   pub count : ℕ
   pub votes : List ℕ
 
--- votes for 1 to 16 processors, for each at least one
+-- valid votes: 1 to 16 of them, each at least 1
 pub record AreVotes (votes : List ℕ) : Type 0 where
   pub processors : IsProc (length votes)
   pub each : All (λ vote. 1 ≤ vote) votes
 
--- this is one of the group's processors
+-- the number is that of a processor of the group
 abbrev pub IsInGroup : Group → ℕ → Type 0
 IsInGroup group number = (1 ≤ number) × (number ≤ group.count)
 
@@ -21,16 +22,16 @@ IsInGroup group number = (1 ≤ number) × (number ≤ group.count)
 abbrev pub votes_of : Group → ℕ → ℕ
 votes_of group i = slice_index group.votes (i - 1)
 
--- the votes of a set's members, together
+-- the sum of the votes of a set's members
 abbrev pub votes_in : Group → ℕ → ℕ
 votes_in group set = sum_by (votes_of group) (elements set)
 
--- a set of the group's processors whose votes, doubled, are more than all votes together
+-- the set is primary: its members are processors of the group, and their votes, doubled, are more than all votes
 pub record IsPrimary (group : Group) (set : ℕ) : Type 0 where
   pub within : (i : ℕ) → IsMember set i → i ≤ group.count
   pub majority : sum group.votes < 2 * votes_in group set
 
--- the test of `IsPrimary`
+-- whether the set is primary, as a test
 abbrev pub is_primary : Group → ℕ → Bool
 is_primary group set = within set (everybody group.count) && nat_lt (sum group.votes) (2 * votes_in group set)
 
@@ -38,11 +39,11 @@ is_primary group set = within set (everybody group.count) && nat_lt (sum group.v
 abbrev pub PrimariesMeet : Type 0
 PrimariesMeet = (group : Group) (a b : ℕ) → IsPrimary group a → IsPrimary group b → (i : ℕ) × (i ≤ group.count) × IsMember a i × IsMember b i
 
--- the votes with zeros after them, to 16 places
+-- the votes, followed by zeros up to 16 places
 abbrev pub filled : List ℕ → List ℕ
-filled votes = votes ++ replicate (most_processors - length votes) 0
+filled votes = votes ++ replicate (max_processors - length votes) 0
 
--- 16 places have the votes of this many processors, and zeros after them
+-- the 16 places hold the votes of `count` processors, followed by zeros
 pub record IsFilled (count : ℕ) (places : List ℕ) : Type 0 where
   pub processors : IsProc count
   pub whole : length (take count places) ≡ count

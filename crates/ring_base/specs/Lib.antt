@@ -1,6 +1,6 @@
 pub mod Elements
 pub mod Fault
-pub mod Fronts
+pub mod Prefixes
 pub mod Group
 pub mod InLists
 pub mod Members

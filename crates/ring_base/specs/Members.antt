@@ -1,4 +1,5 @@
--- Laws of sets of processors by their members: Processors and sets, rule 3 of docs/PROTOCOL.md.
+-- Laws of sets of processors by their members.
+-- Rules: Processors and sets 3
 use Rattle.std.proofs.Common.{◌≡◌, ◌≢◌, ℕ, ◌⊎◌, ◌+◌, ◌-◌, ◌^◌, ◌<◌, ◌≤◌, true, arith, inl, inr, ap, eq-eqb}
 use Rattle.std.specs.Prelude.{◌↔◌, bit_and, bit_xor}
 use Rattle.std.specs.Int.{bit_at}
@@ -6,9 +7,9 @@ use Rattle.std.proofs.lemmas.Bool.{cases_lt, eqb-true}
 use Rattle.std.proofs.lemmas.Nat.Bits.{bit_at-lt, bit_at_and, bit_at_or, bit_at_xor, bit_at-pow_same, bit_at-pow_other}
 use Rattle.std.proofs.lemmas.Nat.Bits.{bit_at_ones, bit_at_ones_above, bit_at_above, same_from_bits}
 use lib.Bits.{xor_add_and, and_le_l}
-use Rattle.ring_base.specs.Processors.{IsProc, IsMember, IsSubset, has, within, nobody, only, everybody, union, common, less}
+use Rattle.ring_base.specs.Processors.{IsProc, IsMember, IsSubset, has, within, nobody, only, everybody, union, intersection, less}
 
--- the place of a bit, and the processor that it is
+-- a bit that is 1 is the member of the next number
 pub member_at : (set k : ℕ) → bit_at set k ≡ 1 → IsMember set (k + 1)
 member_at set k h =
     let e : k + 1 - 1 ≡ k = omega arith in
@@ -22,7 +23,7 @@ has_member set i m = eq-eqb _ _ m.1
 pub member_had : (set i : ℕ) → 1 ≤ i → has set i ≡ true → IsMember set i
 member_had set i low h = (low, eqb-true _ _ h)
 
--- a word of 16 bits has processors alone
+-- the members of a word of 16 bits are processors
 pub member_proc : (set i : ℕ) → set < 2 ^ 16 → IsMember set i → IsProc i
 member_proc set i lt m =
     elim (cases_lt 16 i) [
@@ -36,7 +37,7 @@ member_proc set i lt m =
 pub nobody_member : (i : ℕ) → IsMember nobody i → ⊥
 nobody_member i m = let none = bit_at_above 0 0 (i - 1) (omega arith) (omega arith) in omega (arith, m.1)
 
--- the set of one processor alone has just that member
+-- the set of one processor has just that member
 pub only_members : (j i : ℕ) → 1 ≤ j → IsMember (only j) i ↔ (i ≡ j)
 only_members j i low = (
   λ m. elim (cases_lt i j) [
@@ -67,7 +68,7 @@ everybody_members n i = (
   λ p. (p.0, bit_at_ones n (i - 1) (omega (arith, p.0, p.1))),
 )
 
--- the members of a union are those of either set
+-- the members of a union are the members of either set
 pub union_members : (a b i : ℕ) → IsMember (union a b) i ↔ (IsMember a i ⊎ IsMember b i)
 union_members a b i =
     let e = bit_at_or a b (i - 1) in
@@ -83,9 +84,9 @@ union_members a b i =
       ],
     )
 
--- the members in common are those of both sets
-pub common_members : (a b i : ℕ) → IsMember (common a b) i ↔ (IsMember a i × IsMember b i)
-common_members a b i =
+-- the members of an intersection are the members of both sets
+pub intersection_members : (a b i : ℕ) → IsMember (intersection a b) i ↔ (IsMember a i × IsMember b i)
+intersection_members a b i =
     let e = bit_at_and a b (i - 1) in
     let al = bit_at-lt a (i - 1) in
     let bl = bit_at-lt b (i - 1) in (
@@ -93,7 +94,7 @@ common_members a b i =
       λ p. (p.0.0, omega (arith, p.0.1, p.1.1)),
     )
 
--- what is left of a word without the bits of another
+-- the difference of two words by bit operations
 pub less-xor : (a b : ℕ) → less a b ≡ bit_xor a (bit_and a b)
 less-xor a b =
     let inner : bit_and a (bit_and a b) ≡ bit_and a b = same_from_bits _ _ (λ k.
@@ -104,7 +105,7 @@ less-xor a b =
     let le = and_le_l a b in
     omega arith
 
--- a bit of a word is left where the other word lacks it
+-- the difference has a bit where the first word has it and the second does not
 pub bit_at_less : (a b k : ℕ) → bit_at (less a b) k ≡ bit_at a k - bit_at b k
 bit_at_less a b k =
     let e : bit_at (less a b) k ≡ bit_at (bit_xor a (bit_and a b)) k = ap (λ (x : ℕ). bit_at x k) (less-xor a b) in
@@ -114,7 +115,7 @@ bit_at_less a b k =
     let bl = bit_at-lt b k in
     omega arith
 
--- the members that are left of a set are those that the other lacks
+-- the members of a difference are the members of the first set that the second lacks
 pub less_members : (a b i : ℕ) → IsMember (less a b) i ↔ (IsMember a i × (IsMember b i → ⊥))
 less_members a b i =
     let e = bit_at_less a b (i - 1) in
@@ -127,7 +128,7 @@ less_members a b i =
       ],
     )
 
--- the test of a subset holds just of subsets
+-- the test of a subset holds of just the subsets
 pub within_members : (a b : ℕ) → (within a b ≡ true) ↔ IsSubset a b
 within_members a b = (
   λ h i m.

@@ -1,10 +1,11 @@
--- Laws of the numbers in a row that pass a test: which they are, where each stands, how many there are.
+-- Laws of the numbers of a range that pass a test: which they are, the place of each, and how many there are.
 use Rattle.std.proofs.Common.{◌≡◌, ◌≢◌, ℕ, zero, suc, ◌+◌, ◌<◌, ◌≤◌, Bool, true, false, List, ◌∷◌, length, arith, inl, inr, refl, ap, sym, ◌∙◌}
 use Rattle.std.specs.Prelude.{◌&&◌, nat_lt, filter, slice_index}
 use Rattle.std.specs.List.Sorted.{IsStrictlyIncreasing}
 use Rattle.std.proofs.lemmas.Bool.{cases_lt, cases_Bool, le-ltb, lt-ltb}
 use Rattle.ring_base.specs.Numbers.{numbers_from}
 
+-- a range of n numbers has length n
 pub length-numbers_from : (first n : ℕ) → length (numbers_from first n) ≡ n
 length-numbers_from first zero = refl
 length-numbers_from first (suc n) = ap suc (length-numbers_from (suc first) n)
@@ -14,20 +15,21 @@ slice_index-numbers_from first zero k lt = absurd (omega arith)
 slice_index-numbers_from first (suc n) zero lt = omega arith
 slice_index-numbers_from first (suc n) (suc k) lt = omega (arith, slice_index-numbers_from (suc first) n k (omega arith))
 
+-- a range ascends strictly
 pub IsStrictlyIncreasing-numbers_from : (first n : ℕ) → IsStrictlyIncreasing (numbers_from first n)
 IsStrictlyIncreasing-numbers_from first n k lt =
     let below : k + 1 < n = omega (arith, length-numbers_from first n) in
     omega (arith, slice_index-numbers_from first n k (omega arith), slice_index-numbers_from first n (k + 1) below)
 
--- those of n numbers from the first on that pass
+-- the numbers of a range that pass the test
 abbrev pub passing : (ℕ → Bool) → ℕ → ℕ → List ℕ
 passing p first n = filter p (numbers_from first n)
 
--- how many stand before i
+-- the number of elements below i
 abbrev pub before : List ℕ → ℕ → ℕ
 before xs i = length (filter (λ j. nat_lt j i) xs)
 
--- of n numbers at most n pass
+-- at most n of n numbers pass
 pub few : (p : ℕ → Bool) (first n : ℕ) → length (passing p first n) ≤ n
 few p first zero = omega arith
 few p first (suc n) =
@@ -36,7 +38,7 @@ few p first (suc n) =
       | inr fail ↦ rw fail (omega (arith, few p (suc first) n))
     ]
 
--- what stands at a place
+-- the number is in the range and passes the test
 pub record Stands (p : ℕ → Bool) (first n i : ℕ) : Type 0 where
   pub low : first ≤ i
   pub high : i < first + n
@@ -45,7 +47,7 @@ pub record Stands (p : ℕ → Bool) (first n i : ℕ) : Type 0 where
 later : (p : ℕ → Bool) (first n i : ℕ) → Stands p (suc first) n i → Stands p first (suc n) i
 later p first n i s = record { low = omega (arith, s.low); high = omega (arith, s.high); passes = s.passes }
 
--- each that stands in the list is one of the numbers, and passes
+-- each element of the list is in the range and passes
 pub stands : (p : ℕ → Bool) (first n k : ℕ) → k < length (passing p first n) → Stands p first n (slice_index (passing p first n) k)
 stands p first zero k lt = absurd (omega arith)
 stands p first (suc n) zero lt =
@@ -70,12 +72,12 @@ none_before p first (suc n) i le =
       | inr fail ↦ rw fail (none_before p (suc first) n i (omega arith))
     ]
 
--- the place of a number that passes
+-- the number is in the list, at the place given by the number of elements below it
 pub record IsPlace (xs : List ℕ) (i : ℕ) : Type 0 where
   pub inside : before xs i < length xs
   pub there : slice_index xs (before xs i) ≡ i
 
--- each of the numbers that passes has its place in the list
+-- each number of the range that passes has its place in the list
 pub place : (p : ℕ → Bool) (first n i : ℕ) → first ≤ i → i < first + n → p i ≡ true → IsPlace (passing p first n) i
 place p first zero i low high pass = absurd (omega arith)
 place p first (suc n) i low high passes =
@@ -95,7 +97,7 @@ place p first (suc n) i low high passes =
           rw pass (record { inside = rw (not_below, none) (omega arith); there = rw (not_below, none) same })
     ]
 
--- how many stand before what stands at a place
+-- the number of elements below the element at place k is k
 pub before-at : (p : ℕ → Bool) (first n k : ℕ) → k < length (passing p first n) → before (passing p first n) (slice_index (passing p first n) k) ≡ k
 before-at p first zero k lt = absurd (omega arith)
 before-at p first (suc n) zero lt =
@@ -116,7 +118,7 @@ before-at p first (suc n) (suc k) lt =
       | inr fail ↦ rw fail (before-at p (suc first) n (suc k) (rw fail at lt))
     ]
 
--- tests that agree let the same numbers pass
+-- tests that agree pass the same numbers
 pub passing_same : (p q : ℕ → Bool) (first n : ℕ) → ((j : ℕ) → first ≤ j → p j ≡ q j) → passing p first n ≡ passing q first n
 passing_same p q first zero same = refl
 passing_same p q first (suc n) same =
@@ -124,7 +126,7 @@ passing_same p q first (suc n) same =
     let rest = passing_same p q (suc first) n (λ j le. same j (omega arith)) in
     rw (here, rest) refl
 
--- those before i pass both tests
+-- the elements below i are the numbers that pass the test and are below i
 pub passing_before : (p : ℕ → Bool) (first n i : ℕ) → before (passing p first n) i ≡ length (passing (λ j. p j && nat_lt j i) first n)
 passing_before p first zero i = refl
 passing_before p first (suc n) i =
@@ -137,7 +139,7 @@ passing_before p first (suc n) i =
       | inr fail ↦ rw fail rest
     ]
 
--- the least that passes, and then those that also differ from it
+-- the numbers that pass are the least of them, then those that also differ from it
 pub passing_first : (p q : ℕ → Bool) (first n i : ℕ) → Stands p first n i → ((j : ℕ) → first ≤ j → p j ≡ true → i ≤ j)
     → q i ≡ false → ((j : ℕ) → first ≤ j → j ≢ i → p j ≡ q j) → passing p first n ≡ i ∷ passing q first n
 passing_first p q first zero i s least not_i others = absurd (omega (arith, s.low, s.high))

@@ -1,23 +1,25 @@
--- Why two primary sets share a processor, and the test of a primary set: Processors and sets, rule 4 of docs/PROTOCOL.md.
+-- Two primary sets share a processor; the test of a primary set is exact.
+-- Rules: Processors and sets 4
 use Rattle.std.proofs.Common.{◌≡◌, ℕ, zero, suc, ◌+◌, ◌-◌, ◌<◌, ◌≤◌, Bool, true, false, List, [], ◌∷◌, take, arith, inl, inr, refl}
 use Rattle.std.specs.Prelude.{◌↔◌, IsTrue, slice_index}
 use Rattle.std.specs.List.{sum, sum_by}
 use Rattle.std.proofs.lemmas.Bool.{cases_Bool, and_parts, and_from, ltb-true, lt-ltb}
 use Rattle.std.proofs.lemmas.List.Sums.{sum_by-cons, sum_by-take-le}
 use Rattle.ring_base.specs.Numbers.{numbers_from}
-use Rattle.ring_base.specs.Processors.{most_processors, has, elements}
+use Rattle.ring_base.specs.Processors.{max_processors, has, elements}
 use Rattle.ring_base.specs.Members.{member_had, within_members, everybody_members}
 use Rattle.ring_base.specs.Passing.{passing}
 use Rattle.ring_base.specs.Group.{Group, votes_of, IsPrimary, is_primary, PrimariesMeet}
 
--- the first of numbers in a row weighs with those that pass, or does not
+-- the first number of a range adds its weight if it passes
 pub weight_more : (w : ℕ → ℕ) (p : ℕ → Bool) (first n : ℕ) → p first ≡ true → sum_by w (passing p first (suc n)) ≡ w first + sum_by w (passing p (suc first) n)
 weight_more w p first n pass = rw pass (sum_by-cons w first (passing p (suc first) n))
 
+-- the first number of a range adds nothing if it fails
 pub weight_same : (w : ℕ → ℕ) (p : ℕ → Bool) (first n : ℕ) → p first ≡ false → sum_by w (passing p first (suc n)) ≡ sum_by w (passing p (suc first) n)
 weight_same w p first n fail = rw fail refl
 
--- a number that passes both
+-- a number, from `first` on, that passes both tests
 record Shared (p q : ℕ → Bool) (first : ℕ) : Type 0 where
   number : ℕ
   low : first ≤ number
@@ -27,7 +29,7 @@ record Shared (p q : ℕ → Bool) (first : ℕ) : Type 0 where
 later : (p q : ℕ → Bool) (first : ℕ) → Shared p q (suc first) → Shared p q first
 later p q first s = record { number = s.number; low = omega (arith, s.low); passes_first = s.passes_first; passes_second = s.passes_second }
 
--- If those that pass the two tests weigh more than all numbers do, one number passes both.
+-- If the numbers of a range that pass two tests weigh more in sum than the whole range, one number passes both.
 shared : (w : ℕ → ℕ) (p q : ℕ → Bool) (first n : ℕ) → sum_by w (numbers_from first n) < sum_by w (passing p first n)
     + sum_by w (passing q first n) → Shared p q first
 shared w p q first zero more = absurd (omega arith)
@@ -48,7 +50,7 @@ none_in_front : (n : ℕ) → sum (take n []) ≡ 0
 none_in_front zero = refl
 none_in_front (suc n) = refl
 
--- numbers in a row that weigh what a list has at their places weigh what its front sums up to
+-- a range whose weights are the elements of a list weighs as much as the sum of the list's prefix
 weight_front : (w : ℕ → ℕ) (first n : ℕ) (votes : List ℕ) → ((k : ℕ) → w (first + k) ≡ slice_index votes k)
     → sum_by w (numbers_from first n) ≡ sum (take n votes)
 weight_front w first zero votes weighs = refl
@@ -69,13 +71,13 @@ votes_front group n = weight_front (votes_of group) 1 n group.votes (λ k. let e
 pub primaries_share : PrimariesMeet
 unfolding elements
 primaries_share group a b p q =
-    let all = votes_front group most_processors in
-    let le = sum_by-take-le (λ (x : ℕ). x) group.votes most_processors in
-    let s = shared (votes_of group) (has a) (has b) 1 most_processors (omega (arith, all, le, p.majority, q.majority)) in
+    let all = votes_front group max_processors in
+    let le = sum_by-take-le (λ (x : ℕ). x) group.votes max_processors in
+    let s = shared (votes_of group) (has a) (has b) 1 max_processors (omega (arith, all, le, p.majority, q.majority)) in
     let member = member_had a s.number s.low s.passes_first in
     (s.number, p.within s.number member, member, member_had b s.number s.low s.passes_second)
 
--- the test holds just for primary sets
+-- the test holds of just the primary sets
 pub primary_tested : (group : Group) (set : ℕ) → IsTrue (is_primary group set) ↔ IsPrimary group set
 primary_tested group set = (
   λ h.

@@ -1,29 +1,30 @@
--- Processors, and sets of them: Processors and sets, rules 2 and 3 of docs/PROTOCOL.md. A set is a word: processor i is its bit of value 2 ^ (i - 1).
+-- Processors, and sets of them. A set is a word: processor i is the bit of value 2 ^ (i - 1).
+-- Rules: Processors and sets 2 and 3
 use Rattle.std.specs.Prelude.{◌≡◌, ℕ, ◌+◌, ◌-◌, ◌%◌, ◌^◌, ◌≤◌, Bool, ◌==◌, nat_lt, List, length, filter, bit_and, bit_or, slice_index}
 use Rattle.std.specs.Int.{bit_at}
 use Rattle.ring_base.specs.Numbers.{numbers_from, has_bit}
 
--- no run has more processors
-abbrev pub most_processors : ℕ
-most_processors = 16
+-- the most processors of a run
+abbrev pub max_processors : ℕ
+max_processors = 16
 
--- a processor's number
+-- the number is a processor's: 1 to 16
 abbrev pub IsProc : ℕ → Type 0
-IsProc i = (1 ≤ i) × (i ≤ most_processors)
+IsProc i = (1 ≤ i) × (i ≤ max_processors)
 
--- processor i belongs to the set
+-- processor i is a member of the set
 abbrev pub IsMember : ℕ → ℕ → Type 0
 IsMember set i = (1 ≤ i) × (bit_at set (i - 1) ≡ 1)
 
--- each member of the one is one of the other
+-- each member of the first set is a member of the second
 abbrev pub IsSubset : ℕ → ℕ → Type 0
 IsSubset a b = (i : ℕ) → IsMember a i → IsMember b i
 
--- the test of `IsMember`, for a processor
+-- whether processor i is a member, as a test
 abbrev pub has : ℕ → ℕ → Bool
 has set i = has_bit set (i - 1)
 
--- the test of `IsSubset`
+-- whether the first set is a subset of the second, as a test
 abbrev pub within : ℕ → ℕ → Bool
 within a b = bit_and a b == a
 
@@ -35,27 +36,27 @@ nobody = 0
 abbrev pub only : ℕ → ℕ
 only i = 2 ^ (i - 1)
 
--- processors 1 to n
+-- the set of the processors 1 to n
 abbrev pub everybody : ℕ → ℕ
 everybody n = 2 ^ n - 1
 
--- the processors of either
+-- the union
 abbrev pub union : ℕ → ℕ → ℕ
 union a b = bit_or a b
 
--- the processors of both
-abbrev pub common : ℕ → ℕ → ℕ
-common a b = bit_and a b
+-- the intersection
+abbrev pub intersection : ℕ → ℕ → ℕ
+intersection a b = bit_and a b
 
--- the processors of the first that the second lacks
+-- the difference: the members of the first set that the second lacks
 abbrev pub less : ℕ → ℕ → ℕ
 less a b = a - bit_and a b
 
--- the members, ascending. To compute with it, name it in an `unfolding` line.
+-- the members, in ascending order. To compute with it, name it in an `unfolding` line.
 unfoldable pub elements : ℕ → List ℕ
-elements set = filter (has set) (numbers_from 1 most_processors)
+elements set = filter (has set) (numbers_from 1 max_processors)
 
--- how many members there are
+-- the number of members
 abbrev pub size : ℕ → ℕ
 size set = length (elements set)
 
@@ -63,14 +64,14 @@ size set = length (elements set)
 abbrev pub at : ℕ → ℕ → ℕ
 at set position = slice_index (elements set) position
 
--- how many members are below processor i: the position of i, if it is one
+-- the number of members below processor i: its position, if it is a member
 abbrev pub position_of : ℕ → ℕ → ℕ
 position_of set i = length (filter (λ j. nat_lt j i) (elements set))
 
--- the smallest member, 0 where there is none
+-- the smallest member, 0 if there is none
 abbrev pub smallest : ℕ → ℕ
 smallest set = at set 0
 
--- the member after i, round the set
+-- the next member after i, cyclically
 abbrev pub next : ℕ → ℕ → ℕ
 next set i = at set ((position_of set i + 1) % size set)

@@ -1,4 +1,5 @@
--- Laws of the order of rings and of last primaries: irreflexive, transitive, total, and none below every ring. Rings and states, rule 1 of docs/PROTOCOL.md.
+-- Laws of the order of rings and of last primaries: irreflexive, transitive, total, and none below every ring.
+-- Rules: Rings and states 1
 use Rattle.std.proofs.Common.{◌≡◌, ℕ, ◌⊎◌, ◌<◌, Option, Some, None, refl, inl, inr, arith, ap, sym}
 use Rattle.std.specs.Prelude.{◌↔◌}
 use Rattle.std.specs.Cmp.{IsTotalOrder}
@@ -11,15 +12,19 @@ use Rattle.std.specs.Cmp.Lexicographic.{options_total}
 use Rattle.ring_base.specs.declared.ring_id.RingId.{RingId}
 use Rattle.ring_base.specs.Rings.{ring_cmp, primary_cmp, IsBelow, IsPrimaryBelow}
 
+-- the comparison of rings is a total order
 pub ring_cmp_total : IsTotalOrder ring_cmp
 ring_cmp_total = then_total (on_total (λ (r : RingId). r.seq) nat_cmp_total) (on_total (λ (r : RingId). r.rep) nat_cmp_total)
 
+-- the comparison of last primaries is a total order
 pub primary_cmp_total : IsTotalOrder primary_cmp
 primary_cmp_total = options_total ring_cmp_total
 
+-- no ring is below itself
 pub below_irrefl : (a : RingId) → IsBelow a a → ⊥
 below_irrefl a h = let tied = tied_itself ring_cmp_total a in cc
 
+-- the order of rings is transitive
 pub below_trans : (a b c : RingId) → IsBelow a b → IsBelow b c → IsBelow a c
 below_trans a b c p q = ring_cmp_total.trans a b c p q
 
@@ -45,6 +50,7 @@ then_Less Greater s h = absurd cc
 one_name : (a b : RingId) → a.seq ≡ b.seq → a.rep ≡ b.rep → a ≡ b
 one_name a b seqs reps = λ i. record { seq = seqs i; rep = reps i }
 
+-- a ring is below another exactly by number, then by representative
 pub below_numbers : (a b : RingId) → IsBelow a b ↔ ((a.seq < b.seq) ⊎ ((a.seq ≡ b.seq) × (a.rep < b.rep)))
 below_numbers a b = (
   λ h. elim (then_Less (nat_cmp a.seq b.seq) (nat_cmp a.rep b.rep) h) [
@@ -59,6 +65,7 @@ below_numbers a b = (
 
 -- ---- the laws
 
+-- any two rings are equal, or one is below the other
 pub below_total : (a b : RingId) → IsBelow a b ⊎ ((a ≡ b) ⊎ IsBelow b a)
 below_total a b =
     elim (cases_order a.seq b.seq) [
@@ -75,12 +82,15 @@ below_total a b =
       ]
     ]
 
+-- no last primary is below itself
 pub primary_below_irrefl : (a : Option RingId) → IsPrimaryBelow a a → ⊥
 primary_below_irrefl a h = let tied = tied_itself primary_cmp_total a in cc
 
+-- the order of last primaries is transitive
 pub primary_below_trans : (a b c : Option RingId) → IsPrimaryBelow a b → IsPrimaryBelow b c → IsPrimaryBelow a c
 primary_below_trans a b c p q = primary_cmp_total.trans a b c p q
 
+-- any two last primaries are equal, or one is below the other
 pub primary_below_total : (a b : Option RingId) → IsPrimaryBelow a b ⊎ ((a ≡ b) ⊎ IsPrimaryBelow b a)
 primary_below_total None None = inr (inl refl)
 primary_below_total None (Some b) = inl refl

@@ -1,6 +1,6 @@
--- The order of the names of rings, by number, then by representative: Rings and states, rule 1 of docs/PROTOCOL.md. A
--- last primary may be none, which is below every ring.
--- Also how a ring is printed.
+-- The order of the names of rings, by number, then by representative, and how a ring is printed.
+-- A last primary may be none, which is below every ring.
+-- Rules: Rings and states 1
 use Rattle.std.specs.Prelude.{◌≡◌, ℕ, ◌==◌, ◌&&◌, Bool, Option, List, ◌++◌, codes}
 use Rattle.std.specs.declared.cmp.Ordering.{Ordering}
 use Rattle.std.specs.declared.cmp.Ordering.TheVariants.{Less}
@@ -9,15 +9,15 @@ use Rattle.std.specs.Option.{option_cmp}
 use Rattle.std.specs.Ordering.{nat_cmp, ordering_then}
 use Rattle.ring_base.specs.declared.ring_id.RingId.{RingId}
 
--- the two names are of one ring
+-- whether the two names are of the same ring
 abbrev pub same_ring : RingId → RingId → Bool
 same_ring a b = (a.seq == b.seq) && (a.rep == b.rep)
 
--- how two rings compare
+-- the comparison of two rings
 abbrev pub ring_cmp : RingId → RingId → Ordering
 ring_cmp a b = ordering_then (nat_cmp a.seq b.seq) (nat_cmp a.rep b.rep)
 
--- how two last primaries compare
+-- the comparison of two last primaries
 abbrev pub primary_cmp : Option RingId → Option RingId → Ordering
 primary_cmp a b = option_cmp ring_cmp a b
 
@@ -29,6 +29,6 @@ IsBelow a b = ring_cmp a b ≡ Less
 abbrev pub IsPrimaryBelow : Option RingId → Option RingId → Type 0
 IsPrimaryBelow a b = primary_cmp a b ≡ Less
 
--- how a ring is printed: its number, a full stop, its representative
+-- the printed form of a ring: its number, a full stop, its representative
 abbrev pub ring_text : RingId → List ℕ
 ring_text r = (decimal r.seq ++ codes ".") ++ decimal r.rep

@@ -1,4 +1,5 @@
-//! Why a call is refused.
+//! The one type of refusals: why a call is refused.
+//! Rules: Refusals 1
 
 ghost use Rattle.std.specs.Prelude.{◌≡◌};
 ghost use Rattle.ring_base.specs.Fault.{fault_number, fault_text};
@@ -8,51 +9,52 @@ use std::alloc::{AllocError, AllocFailed};
 use std::fmt::{self, Display};
 use thiserror::Error;
 
-/// A refusal. Its text is what a user is shown, its [`number`](Fault::number) what stands in a file or an
-/// exit line.
+/// `Fault`: the error type of all calls: the fifteen reasons for a refusal.
+/// It displays as its text. Files and exit lines hold its [`number`](Fault::number).
+/// Rules: Refusals 1
 #[derive(Clone, Copy, Debug, PartialEq, Eq, Error)]
 pub enum Fault {
-    /// A number of processors, a processor's number, or a vote is out of range.
+    /// A number of processors or ports, a processor's number or a vote is out of range, or no seat is left.
     NotMember = 1,
-    /// As many calls as a node may have unanswered are unanswered, or its tickets are used up.
+    /// The node has 64 unanswered tickets, or it has given all ticket numbers.
     PendingFull = 2,
-    /// An operation has more bytes than one may have.
+    /// An operation has more than 1,024 bytes, or a name for an operation has more than 64.
     OpTooLong = 3,
-    /// The call's number was used for another operation.
+    /// The call's number was used for another operation of the same client.
     Conflict = 4,
-    /// The call's number is below the client's last.
+    /// The call's number is below the number of the client's last call.
     Stale = 5,
-    /// The call's number is 0, or above the next after the client's last.
+    /// The call's number is 0, or more than one above the number of the client's last call.
     NumberGap = 6,
-    /// As many clients as may be known are known.
+    /// The call is of an unknown client, and 1,024 clients are known already.
     SessionsFull = 7,
-    /// The node has stopped.
+    /// The node has stopped or is gone, or a run of callers names a node to stop twice.
     Stopped = 8,
-    /// Each place of the book is used or reserved.
+    /// All 262,144 places of the book are used or reserved.
     BookFull = 9,
-    /// The book has no such frame for this node, or nothing to enter.
+    /// Unknown frame: the book has no such frame for this node, or the call has nothing to enter.
     Stranger = 10,
-    /// Memory was refused, or a thread can't be started.
+    /// A request for memory was refused, or a thread could not be started.
     Memory = 11,
-    /// The bytes are no frame.
+    /// The bytes aren't a frame or a record, or their file can't be read.
     BadFrame = 12,
-    /// The text is no script, or its file can't be read.
+    /// The text isn't a script, or its file can't be read.
     BadScript = 13,
-    /// A client has no answer, or no call that it could make now.
+    /// The client's ports gave no answer, or the client can't make this call now.
     NoAnswer = 14,
-    /// The bytes are no snapshot.
+    /// The bytes aren't a snapshot.
     BadSnapshot = 15,
 }
 
 impl Fault {
-    /// The refusal's number, 1 to 15.
+    /// Returns the refusal's number, 1 to 15, as files and exit lines hold it. It is the enum's discriminant.
+    /// Rules: Refusals 1
     pub fn number(&self) -> u8
         ensures { result ≡ fault_number self.now }
     {
         *self as u8
     }
 
-    /// The refusal's text.
     fn text(&self) -> &'static str
         ensures { result.now ≡ fault_text self.now }
     {
@@ -76,7 +78,8 @@ impl Fault {
     }
 }
 
-/// The refusal's text, without its number.
+/// Prints the refusal's text, as in `not a member`, without its number.
+/// Rules: Refusals 1
 impl Display for Fault {
     ghost use Rattle.std.specs.Prelude.{Some};
 

@@ -1,4 +1,5 @@
-//! What is fixed for a run.
+//! The group's configuration, fixed for a run: the processors and their votes.
+//! Rules: Processors and sets 1, 2 and 4
 
 ghost use Rattle.std.specs.Prelude.{◌≡◌, ℕ, ◌+◌, ◌*◌, ◌≤◌, ◌↔◌, IsTrue, IfErr, OkIff, nat_lt, length, replicate};
 ghost use Rattle.std.specs.List.{sum};
@@ -6,17 +7,18 @@ ghost use Rattle.ring_base.specs.Group.{AreVotes, votes_in, IsPrimary, is_primar
 ghost use Rattle.ring_base.specs.Processors.{IsProc, IsMember, everybody};
 
 use crate::fault::Fault;
-use crate::limits::{MOST_PROCESSORS, PROCESSORS};
+use crate::limits::{MAX_PROCESSORS, PROCESSORS};
 use crate::proc_set::ProcSet;
 use crate::processor::Proc;
 use std::marker::Model;
 
-/// The processors of a run, numbered from 1 on, and how many votes each has. Contracts see how many they are,
-/// and the list of the votes.
+/// `Fixed`: the group's configuration, which never changes in a run: how many processors there are, numbered from 1,
+/// and the votes of each. Contracts see the number of processors and the list of votes.
+/// Rules: Processors and sets 1
 #[derive(Clone, Copy, Debug, PartialEq, Eq)]
 pub struct Fixed {
     count: u8,
-    /// Those of the processors, and zeros after them.
+    /// The votes of the processors in order, followed by zeros.
     votes: [u8; PROCESSORS],
 }
 
@@ -36,20 +38,23 @@ impl Model for Fixed {
 }
 
 impl Fixed {
-    /// The processors 1 to `count` with one vote each, or `NotMember` unless there are 1 to
-    /// [`MOST_PROCESSORS`].
+    /// Returns the configuration of the processors 1 to `count` with one vote each. `count` is 1 to [`MAX_PROCESSORS`].
+    /// Errors: `NotMember` if `count` is 0 or above [`MAX_PROCESSORS`].
+    /// Rules: Processors and sets 1
     pub fn new(count: u8) -> Result<Fixed, Fault>
         ensures ok { OkIff result (IsProc count) (record { count = count; votes = replicate count 1 }) }
         ensures refused { IfErr result (λ fault. fault ≡ Fault.NotMember) }
     {
-        if count > MOST_PROCESSORS {
+        if count > MAX_PROCESSORS {
             return Err(Fault::NotMember);
         }
         Fixed::with_votes(&[1; PROCESSORS][..usize::from(count)])
     }
 
-    /// As many processors as there are votes: processor i has the i-th of these votes. `NotMember` unless there
-    /// are 1 to [`MOST_PROCESSORS`], each with a vote at least.
+    /// Returns the configuration that has a processor for each vote: processor 1 has the first of `votes`, and so on.
+    /// There are 1 to [`MAX_PROCESSORS`] votes, each 1 to 255.
+    /// Errors: `NotMember` if `votes` is empty or too long, or a vote is 0.
+    /// Rules: Processors and sets 1
     pub fn with_votes(votes: &[u8]) -> Result<Fixed, Fault>
         ensures ok { OkIff result (AreVotes votes.now) (record { count = length votes.now; votes = votes.now }) }
         ensures refused { IfErr result (λ fault. fault ≡ Fault.NotMember) }
@@ -66,7 +71,8 @@ impl Fixed {
         })
     }
 
-    /// How many processors there are, 1 to 16.
+    /// Returns the number of processors of the group, 1 to 16. It is also the greatest processor's number.
+    /// Rules: Processors and sets 1
     pub fn count(self) -> u8
         ensures value { result ≡ self.count }
         ensures in_range { IsProc result }
@@ -74,7 +80,9 @@ impl Fixed {
         self.count
     }
 
-    /// The processor of this number, or `NotMember` unless it is one of this run's.
+    /// Returns the group's processor of this number.
+    /// Errors: `NotMember` unless `number` is 1 to the number of processors.
+    /// Rules: Processors and sets 2
     pub fn proc(self, number: u8) -> Result<Proc, Fault>
         ensures ok { OkIff result ((1 ≤ number) × (number ≤ self.count)) number }
         ensures refused { IfErr result (λ fault. fault ≡ Fault.NotMember) }
@@ -85,7 +93,8 @@ impl Fixed {
         Ok(Proc::new(number))
     }
 
-    /// All processors.
+    /// Returns the set of all processors of the group, 1 to [`count`](Fixed::count). It is never empty.
+    /// Rules: Processors and sets 1 to 3
     pub fn everybody(self) -> ProcSet
         ensures members { (i : ℕ) → IsMember result i ↔ ((1 ≤ i) × (i ≤ self.count)) }
         ensures value { result ≡ everybody self.count }
@@ -93,40 +102,44 @@ impl Fixed {
         ProcSet::from_bits(u16::MAX >> (16 - self.count))
     }
 
-    /// Whether the set is of this run's processors, and has more than half of all votes.
+    /// Returns whether the set is primary: its members are processors of this group, and together they have more than
+    /// half of all votes. Half of the votes isn't enough.
+    /// Rules: Processors and sets 4
     pub fn is_primary(self, set: ProcSet) -> bool
         ensures primary { IsTrue result ↔ IsPrimary self set }
         ensures value { result ≡ is_primary self set }
     {
-        set.is_subset(self.everybody()) && self.have_most_votes(set)
+        set.is_subset(self.everybody()) && self.has_majority(set)
     }
 
-    /// The votes of all processors together, 1 to 4,080.
+    /// Returns the sum of the votes of all processors of the group, 1 to 4,080.
+    /// Rules: Processors and sets 1 and 4
     pub fn all_votes(self) -> u32
         ensures value { result ≡ sum self.votes }
     {
-        let (inside, outside) = self.votes_parted(ProcSet::new());
+        let (inside, outside) = self.split_votes(ProcSet::new());
         inside + outside
     }
 
-    /// The votes of the set's members together, 0 to 4,080: those that are no processors of this run have none.
+    /// Returns the sum of the votes of the set's members, 0 to 4,080. A member outside the group has no votes.
+    /// Rules: Processors and sets 4
     pub fn votes_in(self, set: ProcSet) -> u32
         ensures value { result ≡ votes_in self set }
     {
-        let (inside, _) = self.votes_parted(set);
+        let (inside, _) = self.split_votes(set);
         inside
     }
 
-    /// Whether the members of the set have more votes than all others.
-    fn have_most_votes(self, set: ProcSet) -> bool
+    /// Returns whether the members of the set have more votes than all others.
+    fn has_majority(self, set: ProcSet) -> bool
         ensures { result ≡ nat_lt (sum self.votes) (2 * votes_in self set) }
     {
-        let (inside, outside) = self.votes_parted(set);
+        let (inside, outside) = self.split_votes(set);
         inside > outside
     }
 
-    /// The votes of the set's members together, and of all others.
-    fn votes_parted(self, set: ProcSet) -> (u32, u32)
+    /// Returns the sum of the votes of the set's members, and that of all others.
+    fn split_votes(self, set: ProcSet) -> (u32, u32)
         ensures members { result.0 ≡ votes_in self set }
         ensures all { result.0 + result.1 ≡ sum self.votes }
         ensures fits { result.0 + result.1 ≤ 4080 }

@@ -1,33 +1,39 @@
-//! Laws of the definitions: each clause holds of all values that it names.
+//! Laws of the definitions: each clause holds for all values that it names.
+//! Rules: Processors and sets 3 and 4; Rings and states 1; Limits 1
 
 ghost use Rattle.std.specs.Prelude.{◌≡◌, ℕ, ◌^◌, ◌<◌, ◌≤◌, ◌↔◌, ◌⊎◌, Option, List, length, Contains, IsTrue, Some, None, slice_get};
 ghost use Rattle.std.specs.List.Sorted.{IsStrictlyIncreasing};
-ghost use Rattle.ring_base.specs.declared.limits.TheConstants.{FRAME_BYTES, MOST_PROCESSORS, PROCESSORS, MAX, WINDOW, MAX_NEW};
+ghost use Rattle.ring_base.specs.declared.limits.TheConstants.{MAX_FRAME_BYTES, MAX_PROCESSORS, PROCESSORS, MAX, WINDOW_SIZE, VISIT_LIMIT};
 ghost use Rattle.ring_base.specs.declared.ring_id.RingId.{RingId};
-ghost use Rattle.ring_base.specs.Fronts.{IsFront};
+ghost use Rattle.ring_base.specs.Prefixes.{IsListPrefix};
 ghost use Rattle.ring_base.specs.Group.{Group, IsPrimary, is_primary, PrimariesMeet};
 ghost use Rattle.ring_base.specs.Processors.{IsProc, IsMember, elements, size, at, position_of};
 ghost use Rattle.ring_base.specs.Rings.{IsBelow, IsPrimaryBelow};
 
-/// What the limits are.
+/// States that the limits that all of Totem keeps have these values, one clause for each constant.
+/// Rules: Limits 1
 pub fn limits_law()
-    ensures processors { MOST_PROCESSORS ≡ 16 }
+    ensures processors { MAX_PROCESSORS ≡ 16 }
     ensures rows { PROCESSORS ≡ 16 }
     ensures numbers { MAX ≡ 2 ^ 62 }
-    ensures window { WINDOW ≡ 256 }
-    ensures new_messages { MAX_NEW ≡ 8 }
-    ensures frame { FRAME_BYTES ≡ 8192 }
+    ensures window { WINDOW_SIZE ≡ 256 }
+    ensures new_messages { VISIT_LIMIT ≡ 8 }
+    ensures frame { MAX_FRAME_BYTES ≡ 8192 }
 {}
 
-/// Any two primary sets share a processor, and the test that a definition computes with holds of just these
-/// sets.
+/// States that, for every group, any two primary sets share a processor of the group.
+/// A set is primary if its members are of the group and have more than half of all votes. The test `is_primary` holds
+/// of exactly the primary sets.
+/// Rules: Processors and sets 4
 pub fn primary_law()
     ensures meet { PrimariesMeet }
     ensures tested { (group : Group) (set : ℕ) → IsTrue (is_primary group set) ↔ IsPrimary group set }
 {}
 
-/// The members of a set stand once each, in ascending order, in its list of elements, and each is found at
-/// its position.
+/// States that, for every set of processors, the list of its elements has each member exactly once, in ascending order.
+/// Each member is found at its position, counted from 0, and each position below the number of members belongs to one
+/// member. A set that is a word of 16 bits has only members from 1 to 16.
+/// Rules: Processors and sets 3
 pub fn members_law()
     ensures ascending { (set : ℕ) → IsStrictlyIncreasing (elements set) }
     ensures members { (set i : ℕ) → Contains (elements set) i ↔ (IsProc i × IsMember set i) }
@@ -36,7 +42,9 @@ pub fn members_law()
     ensures processors { (set i : ℕ) → set < 2 ^ 16 → IsMember set i → IsProc i }
 {}
 
-/// Rings are ordered by number, then by representative.
+/// States that all rings are totally ordered: of two different rings exactly one is below the other.
+/// The number decides; between equal numbers the representative does.
+/// Rules: Rings and states 1
 pub fn ring_order_law()
     ensures irreflexive { (a : RingId) → ¬ IsBelow a a }
     ensures transitive { (a b c : RingId) → IsBelow a b → IsBelow b c → IsBelow a c }
@@ -44,7 +52,9 @@ pub fn ring_order_law()
     ensures numbers { (a b : RingId) → IsBelow a b ↔ ((a.seq < b.seq) ⊎ ((a.seq ≡ b.seq) × (a.rep < b.rep))) }
 {}
 
-/// Last primaries are ordered as rings are, and none is below every ring.
+/// States that all last primaries, each a ring or none, are totally ordered.
+/// Two rings are ordered as [`ring_order_law`] says, and none is below every ring.
+/// Rules: Rings and states 1
 pub fn primary_order_law()
     ensures irreflexive { (a : Option RingId) → ¬ IsPrimaryBelow a a }
     ensures transitive { (a b c : Option RingId) → IsPrimaryBelow a b → IsPrimaryBelow b c → IsPrimaryBelow a c }
@@ -53,13 +63,14 @@ pub fn primary_order_law()
     ensures none { (a : RingId) → IsPrimaryBelow None (Some a) }
 {}
 
-/// A front of a list is a beginning of it. Fronts are ordered, two of one list by their lengths, and hold
-/// what the list holds at the same places.
-pub fn front_law<T>()
-    ensures reflexive { (xs : List T) → IsFront xs xs }
-    ensures transitive { (xs ys zs : List T) → IsFront xs ys → IsFront ys zs → IsFront xs zs }
-    ensures comparable { (xs ys zs : List T) → IsFront xs zs → IsFront ys zs → length xs ≤ length ys → IsFront xs ys }
-    ensures lengths { (xs ys : List T) → IsFront xs ys → length xs ≤ length ys }
-    ensures whole { (xs ys : List T) → IsFront xs ys → length ys ≤ length xs → xs ≡ ys }
-    ensures places { (xs ys : List T) (k : ℕ) (x : T) → IsFront xs ys → slice_get xs k ≡ Some x → slice_get ys k ≡ Some x }
+/// States that, for every list, the prefixes of it are ordered by their lengths: the shorter of two is a prefix of the
+/// longer. A prefix has the elements of the list at the same places, counted from 0. A prefix that is as long as the
+/// list is the list itself.
+pub fn prefix_law<T>()
+    ensures reflexive { (xs : List T) → IsListPrefix xs xs }
+    ensures transitive { (xs ys zs : List T) → IsListPrefix xs ys → IsListPrefix ys zs → IsListPrefix xs zs }
+    ensures comparable { (xs ys zs : List T) → IsListPrefix xs zs → IsListPrefix ys zs → length xs ≤ length ys → IsListPrefix xs ys }
+    ensures lengths { (xs ys : List T) → IsListPrefix xs ys → length xs ≤ length ys }
+    ensures whole { (xs ys : List T) → IsListPrefix xs ys → length ys ≤ length xs → xs ≡ ys }
+    ensures places { (xs ys : List T) (k : ℕ) (x : T) → IsListPrefix xs ys → slice_get xs k ≡ Some x → slice_get ys k ≡ Some x }
 {}

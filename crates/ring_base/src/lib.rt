@@ -1,16 +1,15 @@
-//! The names that all of Totem speaks with: processors and sets of them, rings, what is fixed for a run,
-//! and the one type of refusals. Beside these, a value that only contracts read, and the laws of lists that
-//! begin one another.
+//! The names that all of Totem uses: processors and sets of them, rings, the group's configuration, and the one type
+//! of refusals. Also ghost values, which only contracts read, and the laws of prefixes of lists.
 #![tactic(auto)]
 
 mod fault;
 mod fixed;
+mod ghost_value;
 mod kind;
 mod laws;
 mod limits;
 mod members;
 mod pair;
-mod past;
 mod primary;
 mod proc_set;
 mod processor;
@@ -19,14 +18,14 @@ mod state;
 
 pub use fault::Fault;
 pub use fixed::Fixed;
+pub use ghost_value::{Ghost, ghost_now, ghost_of, ghost_step, ghost_step_of_two};
 pub use kind::Kind;
 pub use laws::{
-    front_law, limits_law, members_law, primary_law, primary_order_law, ring_order_law,
+    limits_law, members_law, prefix_law, primary_law, primary_order_law, ring_order_law,
 };
-pub use limits::{FRAME_BYTES, MAX, MAX_NEW, MOST_PROCESSORS, PROCESSORS, WINDOW};
+pub use limits::{MAX, MAX_FRAME_BYTES, MAX_PROCESSORS, PROCESSORS, VISIT_LIMIT, WINDOW_SIZE};
 pub use members::Members;
-pub use pair::paired;
-pub use past::{Past, past_of, seen, told, told_both};
+pub use pair::pair_result;
 pub use primary::is_primary_below;
 pub use proc_set::ProcSet;
 pub use processor::Proc;

@@ -1,19 +1,25 @@
-//! Limits that all of Totem keeps.
+//! The limits that all of Totem keeps.
+//! Rules: Limits 1
 
-/// No run has more processors.
-pub const MOST_PROCESSORS: u8 = 16;
+/// The most processors of a group, which is also the greatest processor's number.
+/// Rules: Limits 1
+pub const MAX_PROCESSORS: u8 = 16;
 
-/// So many places has a row with one for each processor that a run may have.
-pub const PROCESSORS: usize = MOST_PROCESSORS as usize;
+/// The length of an array that has a place for each processor that a group may have: [`MAX_PROCESSORS`] as a `usize`.
+pub const PROCESSORS: usize = MAX_PROCESSORS as usize;
 
-/// The greatest number of a ring, a message, a token or a ticket.
+/// The greatest number of a ring, a message, a token or a ticket: 2^62. A log has at most this many places.
+/// Rules: Limits 1 and 2
 pub const MAX: u64 = 1 << 62;
 
-/// A node takes messages of so many numbers after its safe mark.
-pub const WINDOW: u64 = 256;
+/// The length of the window: a node takes messages of the 256 numbers after its safe mark.
+/// Rules: Token and window 4
+pub const WINDOW_SIZE: u64 = 256;
 
-/// At most so many new messages go out in a visit of the token.
-pub const MAX_NEW: u64 = 8;
+/// The most new messages that a node sends in one visit of the token. Repeated messages don't count.
+/// Rules: Token and window 9
+pub const VISIT_LIMIT: u64 = 8;
 
-/// A frame has at most so many bytes.
-pub const FRAME_BYTES: usize = 8192;
+/// The most bytes of a frame's encoding, its head included.
+/// Rules: Limits 1
+pub const MAX_FRAME_BYTES: usize = 8192;

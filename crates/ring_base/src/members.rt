@@ -1,4 +1,5 @@
-//! The members of a set, one after another.
+//! Iteration over the members of a set.
+//! Rules: Processors and sets 3
 
 ghost use Rattle.std.specs.Prelude.{◌≡◌, ℕ};
 ghost use Rattle.std.specs.Iterator.{YieldsFirst, item_count};
@@ -8,10 +9,11 @@ use crate::proc_set::ProcSet;
 use crate::processor::Proc;
 use std::marker::Model;
 
-/// Gives the members of a set in ascending order. Contracts see the set of those that are left.
+/// An iterator over the members of a set, in ascending order.
+/// [`ProcSet::iter`] makes it. Contracts see the set of the members not yet visited.
 #[derive(Clone, Copy, Debug)]
 pub struct Members {
-    left: ProcSet,
+    unvisited: ProcSet,
 }
 
 impl Model for Members {
@@ -19,9 +21,9 @@ impl Model for Members {
 
     ghost Value = { ℕ };
 
-    ghost view = { λ members. members.left };
+    ghost view = { λ members. members.unvisited };
 
-    ghost inverse = { λ word. record { left = word } };
+    ghost inverse = { λ word. record { unvisited = word } };
 }
 
 impl Iterator for Members {
@@ -32,17 +34,19 @@ impl Iterator for Members {
     ghost remaining = { item_count elements };
 
     fn next(&mut self) -> Option<Proc> {
-        let first = self.left.smallest()?;
-        self.left = self.left.less(ProcSet::only(first));
+        let first = self.unvisited.smallest()?;
+        self.unvisited = self.unvisited.less(ProcSet::only(first));
         Some(first)
     }
 }
 
 impl ProcSet {
-    /// The members in ascending order.
+    /// Returns an iterator over the members of the set, in ascending order, each once.
+    /// It yields nothing for the empty set.
+    /// Rules: Processors and sets 3
     pub fn iter(self) -> Members
         ensures { result ≡ self }
     {
-        Members { left: self }
+        Members { unvisited: self }
     }
 }

@@ -1,9 +1,10 @@
-//! A pair of what is there already and of what may be refused.
+//! A pair of a value and the value of a result.
 
 ghost use Rattle.std.specs.Prelude.{◌≡◌, Ok, Err, IfOk, IfErr};
 
-/// Both, where the second is there; else what refused it.
-pub fn paired<T: Drop, U, E>(first: T, second: Result<U, E>) -> Result<(T, U), E>
+/// Returns the pair of `first` and the value of `second`, if `second` has a value.
+/// Errors: the error of `second`; `first` is then dropped.
+pub fn pair_result<T: Drop, U, E>(first: T, second: Result<U, E>) -> Result<(T, U), E>
     ensures first { IfOk result (λ pair. pair.0 ≡ first) }
     ensures second { IfOk result (λ pair. second ≡ Ok pair.1) }
     ensures refused { IfErr result (λ error. second ≡ Err error) }

@@ -1,15 +1,18 @@
-//! Sets of processors.
+//! Sets of processors, as words of 16 bits.
+//! Rules: Processors and sets 3
 
 ghost use Rattle.std.specs.Prelude.{◌≡◌, ◌≢◌, ℕ, ◌^◌, ◌<◌, ◌≤◌, ◌↔◌, ◌⊎◌, IsTrue, IsSome, IsNone, IfSome};
-ghost use Rattle.ring_base.specs.Processors.{most_processors, IsProc, IsMember, IsSubset, has, within, nobody, only};
-ghost use Rattle.ring_base.specs.Processors.{union, common, less, size, smallest, position_of, at, next};
+ghost use Rattle.ring_base.specs.Processors.{max_processors, IsProc, IsMember, IsSubset, has, within, nobody, only};
+ghost use Rattle.ring_base.specs.Processors.{union, intersection, less, size, smallest, position_of, at, next};
 
-use crate::limits::MOST_PROCESSORS;
+use crate::limits::MAX_PROCESSORS;
 use crate::processor::Proc;
 use std::fmt::{self, Display};
 use std::marker::Model;
 
-/// A set of processors. Contracts see a word: processor i is its bit of value 2 ^ (i - 1).
+/// `ProcSet`: a set of processors, as a word of 16 bits: processor i is the bit of value 2^(i - 1).
+/// Contracts see the word.
+/// Rules: Processors and sets 3
 #[derive(Clone, Copy, Debug, Default, PartialEq, Eq)]
 pub struct ProcSet {
     bits: u16,
@@ -24,14 +27,14 @@ impl Model for ProcSet {
 }
 
 impl ProcSet {
-    /// The empty set.
+    /// Returns the empty set, whose word is 0.
     pub fn new() -> ProcSet
         ensures { result ≡ nobody }
     {
         ProcSet { bits: 0 }
     }
 
-    /// The set of one processor.
+    /// Returns the set that has `proc` as its one member.
     pub fn only(proc: Proc) -> ProcSet
         ensures members { (i : ℕ) → IsMember result i ↔ (i ≡ proc) }
         ensures value { result ≡ only proc }
@@ -41,14 +44,17 @@ impl ProcSet {
         }
     }
 
-    /// The set whose word this is. Each word of 16 bits is a set.
+    /// Returns the set that this word encodes: processor i is a member if the bit of value 2^(i - 1) is set.
+    /// Every word of 16 bits is a set.
+    /// Rules: Processors and sets 3
     pub fn from_bits(bits: u16) -> ProcSet
         ensures { result ≡ bits }
     {
         ProcSet { bits }
     }
 
-    /// The set's word.
+    /// Returns the set as a word: the bit of value 2^(i - 1) is set if processor i is a member.
+    /// Rules: Processors and sets 3
     pub fn bits(self) -> u16
         ensures value { result ≡ self }
         ensures in_range { result < 2 ^ 16 }
@@ -56,22 +62,23 @@ impl ProcSet {
         self.bits
     }
 
-    /// Whether there is no member.
+    /// Returns whether the set has no members.
     pub fn is_empty(self) -> bool
         ensures { IsTrue result ↔ (self ≡ nobody) }
     {
         self.bits == 0
     }
 
-    /// How many members there are, at most 16.
+    /// Returns the number of members, 0 to 16.
+    /// Rules: Processors and sets 3
     pub fn len(self) -> u32
         ensures value { result ≡ size self }
-        ensures bound { result ≤ most_processors }
+        ensures bound { result ≤ max_processors }
     {
         self.bits.count_ones()
     }
 
-    /// The smallest member.
+    /// Returns the member with the smallest number, or `None` if the set is empty.
     pub fn smallest(self) -> Option<Proc>
         ensures found { IfSome result (λ proc. proc ≡ smallest self) }
         ensures member { IfSome result (λ proc. IsProc proc × IsMember self proc) }
@@ -83,7 +90,9 @@ impl ProcSet {
         Some(Proc::new(self.bits.trailing_zeros() as u8 + 1))
     }
 
-    /// How many members are below the processor: its position, counted from 0, if it is a member.
+    /// Returns the number of members below `proc`, 0 to 15.
+    /// If `proc` is a member, it is the position of `proc` among the members in ascending order, counted from 0.
+    /// Rules: Processors and sets 3
     pub fn position_of(self, proc: Proc) -> u32
         ensures value { result ≡ position_of self proc }
         ensures inside { IsMember self proc → result < size self }
@@ -92,7 +101,9 @@ impl ProcSet {
         (self.bits & below).count_ones()
     }
 
-    /// The member at a position, counted from 0.
+    /// Returns the member at a position in ascending order, counted from 0.
+    /// Returns `None` for a position that isn't below the number of members.
+    /// Rules: Processors and sets 3
     pub fn at(self, position: u32) -> Option<Proc>
         ensures found { IfSome result (λ proc. proc ≡ at self position) }
         ensures some { IsSome result ↔ (position < size self) }
@@ -100,7 +111,9 @@ impl ProcSet {
         self.iter().nth(position as usize)
     }
 
-    /// The member after this one, round the set.
+    /// Returns the member that follows `proc` in ascending order; after the greatest member the smallest follows.
+    /// In a set of one it is `proc` itself. That `proc` is a member is the caller's condition.
+    /// Rules: Rings and states 2
     pub fn next(self, proc: Proc) -> Proc
         requires { IsMember self proc }
         ensures value { result ≡ next self proc }
@@ -111,7 +124,7 @@ impl ProcSet {
         self.at(following % size).unwrap()
     }
 
-    /// Whether the processor is a member.
+    /// Returns whether `proc` is a member of the set.
     pub fn contains(self, proc: Proc) -> bool
         ensures member { IsTrue result ↔ IsMember self proc }
         ensures value { result ≡ has self proc }
@@ -119,7 +132,8 @@ impl ProcSet {
         (self.bits >> (proc.number() - 1)) & 1 == 1
     }
 
-    /// Whether each member is one of the other set.
+    /// Returns whether each member of this set is a member of `other` too.
+    /// The empty set and `other` itself are subsets.
     pub fn is_subset(self, other: ProcSet) -> bool
         ensures members { IsTrue result ↔ IsSubset self other }
         ensures value { result ≡ within self other }
@@ -127,7 +141,7 @@ impl ProcSet {
         self.bits & other.bits == self.bits
     }
 
-    /// Adds the processor, and answers whether it was no member before.
+    /// Adds the processor to the set. Returns whether it was not a member before; else the set is unchanged.
     pub fn insert(&mut self, proc: Proc) -> bool
         ensures members { (i : ℕ) → IsMember self.new i ↔ (IsMember self.old i ⊎ (i ≡ proc)) }
         ensures value { self.new ≡ union self.old (only proc) }
@@ -138,7 +152,7 @@ impl ProcSet {
         is_new
     }
 
-    /// The members of either.
+    /// Returns the union: the set of the members of either set.
     pub fn union(self, other: ProcSet) -> ProcSet
         ensures members { (i : ℕ) → IsMember result i ↔ (IsMember self i ⊎ IsMember other i) }
         ensures value { result ≡ union self other }
@@ -148,17 +162,17 @@ impl ProcSet {
         }
     }
 
-    /// The members of both.
+    /// Returns the intersection: the set of the members of both sets.
     pub fn intersection(self, other: ProcSet) -> ProcSet
         ensures members { (i : ℕ) → IsMember result i ↔ (IsMember self i × IsMember other i) }
-        ensures value { result ≡ common self other }
+        ensures value { result ≡ intersection self other }
     {
         ProcSet {
             bits: self.bits & other.bits,
         }
     }
 
-    /// The members that the other set lacks.
+    /// Returns the difference: the set of the members of this set that aren't members of `other`.
     pub fn less(self, other: ProcSet) -> ProcSet
         ensures members { (i : ℕ) → IsMember result i ↔ (IsMember self i × ¬ IsMember other i) }
         ensures value { result ≡ less self other }
@@ -169,15 +183,16 @@ impl ProcSet {
     }
 }
 
-/// The numbers of its members, ascending, parted by commas.
+/// Prints the numbers of the members in ascending order, separated by commas, as in `1,2,3`.
+/// Prints nothing for the empty set.
 impl Display for ProcSet {
     fn fmt<W: fmt::Write>(&self, f: &mut fmt::Formatter<W>) -> fmt::Result {
-        let mut parting = "";
-        for before in 0..MOST_PROCESSORS {
+        let mut separator = "";
+        for before in 0..MAX_PROCESSORS {
             let node = Proc::new(before + 1);
             if self.contains(node) {
-                write!(f, "{parting}{node}")?;
-                parting = ",";
+                write!(f, "{separator}{node}")?;
+                separator = ",";
             }
         }
         Ok(())

@@ -1,4 +1,5 @@
-//! Processors, by their numbers.
+//! Processors, as their numbers.
+//! Rules: Processors and sets 2
 
 ghost use Rattle.std.specs.Fmt.{decimal};
 ghost use Rattle.std.specs.Prelude.{◌≡◌, ℕ, Some};
@@ -7,7 +8,8 @@ ghost use Rattle.ring_base.specs.Processors.{IsProc};
 use std::fmt::{self, Display};
 use std::marker::Model;
 
-/// A processor: its number, 1 to 16. Contracts see the number.
+/// `Proc`: a processor of the group, as its number, 1 to 16. Contracts see the number.
+/// Rules: Processors and sets 2
 #[derive(Clone, Copy, Debug, PartialEq, Eq, PartialOrd, Ord)]
 pub struct Proc {
     number: u8,
@@ -24,7 +26,8 @@ impl Model for Proc {
 }
 
 impl Proc {
-    /// The processor of this number. [`Fixed::proc`](crate::Fixed::proc) tests a number for a run.
+    /// Returns the processor of this number. That `number` is 1 to 16 is the caller's condition.
+    /// [`Fixed::proc`](crate::Fixed::proc) checks a number against the group.
     pub fn new(number: u8) -> Proc
         requires { IsProc number }
         ensures { result ≡ number }
@@ -32,7 +35,8 @@ impl Proc {
         Proc { number }
     }
 
-    /// Its number, 1 to 16.
+    /// Returns the processor's number, 1 to 16.
+    /// Rules: Processors and sets 2
     pub fn number(self) -> u8
         ensures value { result ≡ self }
         ensures in_range { IsProc result }
@@ -44,7 +48,7 @@ impl Proc {
 impl Display for Proc {
     ghost output = { λ proc. Some (decimal proc) };
 
-    /// Prints the number.
+    /// Prints the number in decimal.
     fn fmt<W: fmt::Write>(&self, f: &mut fmt::Formatter<W>) -> fmt::Result {
         write!(f, "{}", self.number)
     }

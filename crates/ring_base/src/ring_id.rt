@@ -1,22 +1,28 @@
 //! The names of rings, and their order.
+//! Rules: Rings and states 1
 
 ghost use Rattle.std.specs.Prelude.{◌≡◌, ◌↔◌, IsTrue};
 
 use crate::processor::Proc;
 use std::fmt::{self, Display};
 
-/// The name of a ring: its number, and its representative, which is its smallest member. Rings are ordered
-/// by number, then by representative.
+/// `RingId`: the name of a ring: its number and its representative.
+/// Rings are ordered by number, then by representative.
+/// Rules: Rings and states 1
 #[derive(Clone, Copy, Debug, PartialEq, Eq, PartialOrd, Ord)]
 pub struct RingId {
+    /// The ring's number, 0 to `MAX`. Only the ring of a node's opening has number 0.
     pub seq: u64,
+    /// The representative: the smallest member of the ring.
     pub rep: Proc,
 }
 
 impl RingId {
     ghost use Rattle.ring_base.specs.Rings.{IsBelow};
 
-    /// Whether the ring is below another.
+    /// Returns whether this ring is below `other`: it has a smaller number, or the same number and a smaller
+    /// representative.
+    /// Rules: Rings and states 1
     pub fn is_below(&self, other: &RingId) -> bool
         ensures { IsTrue result ↔ IsBelow self.now other.now }
     {
@@ -30,7 +36,7 @@ impl Display for RingId {
 
     ghost output = { λ ring. Some (ring_text ring) };
 
-    /// Prints number and representative, as `3.1`.
+    /// Prints the number, a dot and the representative, as in `3.1`.
     fn fmt<W: fmt::Write>(&self, f: &mut fmt::Formatter<W>) -> fmt::Result {
         write!(f, "{}.{}", self.seq, self.rep)
     }

@@ -1,16 +1,18 @@
 //! The states of a node.
+//! Rules: Rings and states 6
 
-/// A node's state.
+/// The state of a node. It decides what the node does with an input.
+/// Rules: Rings and states 6 and 8
 #[derive(Clone, Copy, Debug, PartialEq, Eq)]
 pub enum State {
-    /// It agrees with others on the members of a new ring.
+    /// The node looks for the members of a next ring.
     Gather,
-    /// It has written its report, and waits for those of the other members.
+    /// The node has proposed a ring, or added its entry to a commit token, and waits for the other members.
     Commit,
-    /// The new ring runs, and hands on what its members hold of their old rings.
+    /// The new ring runs but isn't installed yet: its members bring the messages of their old rings together.
     Recovery,
-    /// The ring is installed.
+    /// The node has installed the ring that runs, and sends user messages.
     Operational,
-    /// It has stopped for good.
+    /// The node has stopped for good: it refuses every step and every submit.
     Stopped,
 }

@@ -8,7 +8,7 @@ use Rattle.ring_book.specs.Openings.{Writer}
 use Rattle.ring_book_lines.specs.Runs.{IsStep}
 use Rattle.ring_book_lines.specs.Steps.{StepView}
 use Rattle.ring_book_lines.proofs.Leading.{Leads-snoc}
-use Rattle.ring_base.specs.Numbers.{most_frame}
+use Rattle.ring_base.specs.Numbers.{max_frame_bytes}
 
 pub ring_stays : {A : Type 0} (p q : Writer A) → SameProducer p q → ring_of_producer q ≡ ring_of_producer p
 ring_stays p q h = cc
@@ -24,7 +24,7 @@ AllOf-last i (x ∷ ls) l h = AllOf-last i ls l h.1
 
 pub cell_adds : {S A : Type 0} (m : Machine S A) (IsSound : S → Type 0) (name : Name A) (me : ℕ) (ahead : Bool) (node node' : S)
     (p q : Writer A) (space space' : ℕ) (l : StepView A)
-    → IsCell m IsSound name me ahead node p space → l.node ≡ me → IsStep m node l node' → IsSound node' → most_frame ≤ space'
+    → IsCell m IsSound name me ahead node p space → l.node ≡ me → IsStep m node l node' → IsSound node' → max_frame_bytes ≤ space'
     → SameProducer p q → sent q ≡ sent p ++ l ∷ [] → IsCell m IsSound name me true node' q space'
 cell_adds m IsSound name me ahead node node' p q space space' l k mine step sound text same e = record {
   counted = k.counted;

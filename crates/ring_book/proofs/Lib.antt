@@ -1,9 +1,9 @@
--- NodeFrameLimits: What keeps the limits of frames: a node does along its steps.
--- Stops: What it means that a node's step was refused.
+-- NodeFrameLimits: A node stays within the limits of frames along its steps.
+-- Stops: The cases in which a node's step is refused.
 -- Journaling: A cell whose journal got one more step.
 -- Entering: A step goes from a cell's journal to the book.
 -- Looking: What the book finds at the end of a cell's ring.
--- Opened: An opening stays one with each node more, and what it gives is a cell of each node and a book without lines.
+-- Opened: An opening with one more node is an opening, and it gives a cell for each node and a book without lines.
 pub mod NodeFrameLimits
 pub mod Stops
 pub mod Journaling

@@ -1,17 +1,17 @@
--- An opening stays one with each node more, and what it gives is a cell of each node and a book without lines.
+-- An opening with one more node is an opening, and it gives a cell for each node and a book without lines.
 use Rattle.std.proofs.Common.{◌≡◌, ℕ, zero, suc, ◌+◌, ◌-◌, ◌++◌, ◌≤◌, ◌<◌, List, [], ◌∷◌, refl, ap}
 use Rattle.std.proofs.Common.{subst, sym, ◌∙◌, length, arith, drop, Some, slice_get, false}
 use Rattle.rtrb.specs.Ring.{received, consumer_capacity, IsPair}
 use Rattle.std.specs.List.{AllByRecursion as Each}
 use Rattle.ring_base.proofs.Each.{each-get}
-use Rattle.ring_book_lines.specs.Logs.{no_log}
-use Rattle.ring_book.specs.Books.{End, IsBook}
-use Rattle.ring_book.specs.Told.{ToldView}
+use Rattle.ring_book_lines.specs.Logs.{empty_log}
+use Rattle.ring_book.specs.Books.{ReadingEnd, IsBook}
+use Rattle.ring_book.specs.AnswerIndex.{AnswerIndexView}
 use Rattle.ring_book.specs.Cells.{IsCell}
 use Rattle.ring_book.specs.Ends.{Name, Ring, ring_of_producer, ring_of_consumer}
 use Rattle.ring_book_lines.specs.Machines.{Machine}
 use Rattle.ring_book.specs.Openings.{Writer, IsStart, IsStartEnd, AllStart, AllStartEnds, rings_of}
-use Rattle.ring_base.specs.Numbers.{most_frame}
+use Rattle.ring_base.specs.Numbers.{max_frame_bytes}
 
 pub AllStart-snoc : {S A : Type 0} (m : Machine S A) (i j : ℕ) (ns : List S) (ps : List (Writer A)) (n : S)
     (p : Writer A) → i + length ns ≡ j → AllStart m i ns ps → IsStart m j n p → AllStart m i (ns ++ n ∷ []) (ps ++ p ∷ [])
@@ -20,14 +20,14 @@ AllStart-snoc m i j [] (q ∷ ps) n p e h s = absurd h
 AllStart-snoc m i j (k ∷ ns) [] n p e h s = absurd h
 AllStart-snoc m i j (k ∷ ns) (q ∷ ps) n p e h s = (h.0, AllStart-snoc m (suc i) j ns ps n p (omega arith) h.1 s)
 
-pub AllStartEnds-snoc : {A : Type 0} (ps : List (Writer A)) (cs : List (End A)) (p : Writer A) (c : End A)
+pub AllStartEnds-snoc : {A : Type 0} (ps : List (Writer A)) (cs : List (ReadingEnd A)) (p : Writer A) (c : ReadingEnd A)
     → AllStartEnds ps cs → IsStartEnd p c → AllStartEnds (ps ++ p ∷ []) (cs ++ c ∷ [])
 AllStartEnds-snoc [] [] p c h s = (s, tt)
 AllStartEnds-snoc [] (d ∷ cs) p c h s = absurd h
 AllStartEnds-snoc (q ∷ ps) [] p c h s = absurd h
 AllStartEnds-snoc (q ∷ ps) (d ∷ cs) p c h s = (h.0, AllStartEnds-snoc ps cs p c h.1 s)
 
-pub pair_ring : {A : Type 0} (p : Writer A) (c : End A) → IsPair p c → ring_of_consumer c ≡ ring_of_producer p
+pub pair_ring : {A : Type 0} (p : Writer A) (c : ReadingEnd A) → IsPair p c → ring_of_consumer c ≡ ring_of_producer p
 pair_ring p c h = cc
 
 -- the next of a list
@@ -38,7 +38,7 @@ drop_next (suc i) [] y ys h = cc
 drop_next (suc i) (x ∷ xs) y ys h = drop_next i xs y ys h
 
 pub start_cell : {S A : Type 0} (m : Machine S A) (IsSound : S → Type 0) (name : Name A) (i me : ℕ) (n : S) (p : Writer A) (space : ℕ) (rings : List (Ring A))
-    → me - 1 ≡ i → 1 ≤ me → me ≤ name.group.count → drop i name.rings ≡ ring_of_producer p ∷ rings → IsStart m me n p → IsSound n → most_frame ≤ space
+    → me - 1 ≡ i → 1 ≤ me → me ≤ name.group.count → drop i name.rings ≡ ring_of_producer p ∷ rings → IsStart m me n p → IsSound n → max_frame_bytes ≤ space
     → IsCell m IsSound name me false n p space
 start_cell m IsSound name i me n p space rings is low high d s sound text = record {
   counted = low;
@@ -52,8 +52,8 @@ start_cell m IsSound name i me n p space rings is low high d s sound text = reco
   text = text;
 }
 
--- the ends and the writers by place
-ends_at : {A : Type 0} (ps : List (Writer A)) (cs : List (End A)) (i : ℕ) (c : End A) → AllStartEnds ps cs
+-- the ends and the writers by index
+ends_at : {A : Type 0} (ps : List (Writer A)) (cs : List (ReadingEnd A)) (i : ℕ) (c : ReadingEnd A) → AllStartEnds ps cs
     → slice_get cs i ≡ Some c → (slice_get (rings_of ps) i ≡ Some (ring_of_consumer c)) × (received c ≡ [])
     × (consumer_capacity c ≡ 1)
 ends_at [] [] i c h e = cc
@@ -61,11 +61,11 @@ ends_at [] (d ∷ cs) i c h e = absurd h
 ends_at (p ∷ ps) [] i c h e = absurd h
 ends_at {A} (p ∷ ps) (d ∷ cs) zero c h e =
     let same : d ≡ c = cc in
-    subst (λ (x : End A). (Some (ring_of_producer p) ≡ Some (ring_of_consumer x)) × (received x ≡ []) × (consumer_capacity x ≡ 1)) same
+    subst (λ (x : ReadingEnd A). (Some (ring_of_producer p) ≡ Some (ring_of_consumer x)) × (received x ≡ []) × (consumer_capacity x ≡ 1)) same
     (ap (λ r. Some r) (sym h.0.ring_is), h.0.received_is, h.0.one)
 ends_at (p ∷ ps) (d ∷ cs) (suc i) c h e = ends_at ps cs i c h.1 e
 
-ends_length : {A : Type 0} (ps : List (Writer A)) (cs : List (End A)) → AllStartEnds ps cs → length cs ≡ length ps
+ends_length : {A : Type 0} (ps : List (Writer A)) (cs : List (ReadingEnd A)) → AllStartEnds ps cs → length cs ≡ length ps
 ends_length [] [] h = refl
 ends_length [] (d ∷ cs) h = absurd h
 ends_length (p ∷ ps) [] h = absurd h
@@ -77,23 +77,23 @@ starts_length m i [] (p ∷ ps) h = absurd h
 starts_length m i (n ∷ ns) [] h = absurd h
 starts_length m i (n ∷ ns) (p ∷ ps) h = ap suc (starts_length m (suc i) ns ps h.1)
 
--- answers of nodes that were given no ticket
-abbrev pub AreNone : List ToldView → Type 0
-AreNone told = Each (λ (t : ToldView). t.answers ≡ []) told
+-- answers of nodes that have given no ticket
+abbrev pub AreNone : List AnswerIndexView → Type 0
+AreNone answer_indexes = Each (λ (t : AnswerIndexView). t.answers ≡ []) answer_indexes
 
-none-at : (told : List ToldView) (i : ℕ) (t : ToldView) → AreNone told → slice_get told i ≡ Some t → t.answers ≡ []
-none-at told i t none h = each-get (λ (x : ToldView). x.answers ≡ []) told i t none h
+none-at : (answer_indexes : List AnswerIndexView) (i : ℕ) (t : AnswerIndexView) → AreNone answer_indexes → slice_get answer_indexes i ≡ Some t → t.answers ≡ []
+none-at answer_indexes i t none h = each-get (λ (x : AnswerIndexView). x.answers ≡ []) answer_indexes i t none h
 
-pub start_book : {S A : Type 0} (m : Machine S A) (name : Name A) (ns : List S) (ps : List (Writer A)) (cs : List (End A)) (told : List ToldView) (room : ℕ)
+pub start_book : {S A : Type 0} (m : Machine S A) (name : Name A) (ns : List S) (ps : List (Writer A)) (cs : List (ReadingEnd A)) (answer_indexes : List AnswerIndexView) (room : ℕ)
     → AllStart m 1 ns ps → AllStartEnds ps cs → name.group.count ≤ 16 → name.group.count ≡ length ns
-    → name.rings ≡ rings_of ps → length told ≡ name.group.count → AreNone told
-    → most_frame ≤ room → IsBook m name [] 0 cs told no_log 0 0 room
-start_book m name ns ps cs told room a b few n r many none text = record {
+    → name.rings ≡ rings_of ps → length answer_indexes ≡ name.group.count → AreNone answer_indexes
+    → max_frame_bytes ≤ room → IsBook m name [] 0 cs answer_indexes empty_log 0 0 room
+start_book m name ns ps cs answer_indexes room a b few n r many none text = record {
   few = few;
   count = ends_length ps cs b ∙ (sym (starts_length m 1 ns ps a) ∙ sym n);
   told_count = many;
-  each = λ i c h. (let e = ends_at ps cs i c b h in record { ring = rw r e.0; came = e.1; one = e.2 });
-  tells = λ i t h. (let e = none-at told i t none h in record { told_is = e; room = (let k = ap length e in omega (arith, k)) });
+  each = λ i c h. (let e = ends_at ps cs i c b h in record { ring = rw r e.0; received_steps = e.1; one = e.2 });
+  tells = λ i t h. (let e = none-at answer_indexes i t none h in record { told_is = e; room = (let k = ap length e in omega (arith, k)) });
   run = record { nodes = λ i h k. (m.opening i, refl); inside = tt; found = tt };
   numbered = λ i l h. cc;
   room = omega arith;
@@ -114,5 +114,5 @@ all_counted i n k c all same past = omega (arith, all, same, past)
 pub some_more : (n m w len : ℕ) → n ≡ w → n ≡ suc m → len ≡ w → 0 < len
 some_more n m w len same more is = omega (arith, same, more, is)
 
-pub text_room : (a b : ℕ) → most_frame ≤ b → most_frame ≤ a + b
+pub text_room : (a b : ℕ) → max_frame_bytes ≤ b → max_frame_bytes ≤ a + b
 text_room a b h = omega (arith, h)

@@ -1,5 +1,5 @@
--- The rings of the journals, and what names a book by them.
--- The book and the threads, of docs/PROTOCOL.md.
+-- The rings of the journals, and the name of a book that consists of them.
+-- Rules: The book and the threads 12
 use Rattle.std.specs.Prelude.{List}
 use denote.RawPtr.{Ptr}
 use Rattle.ring_base.specs.Group.{Group}
@@ -8,14 +8,14 @@ use Rattle.rtrb.specs.declared.producer.Producer.{Producer}
 use Rattle.rtrb.specs.declared.consumer.Consumer.{Consumer}
 use Rattle.rtrb.specs.declared.AnyItems.{AnyItems}
 
--- What tells a journal's ring from every other one.
+-- the identity of a journal's ring
 pub record Ring (A : Type 0) : Type 0 where
   pub words : Ptr
   pub slots : Ptr
   pub names : Names
   pub heap : A
 
--- A book's name: the group of its nodes, and the ring of each.
+-- a book's name: the group of its nodes, and the ring of each
 pub record Name (A : Type 0) : Type 0 where
   pub group : Group
   pub rings : List (Ring A)
@@ -25,6 +25,6 @@ module _ {T A : Type 0} where
   abbrev pub ring_of_producer : Producer T A AnyItems → Ring A
   ring_of_producer p = record { words = p.end.words; slots = p.end.slots; names = p.end.names; heap = p.end.heap }
 
-  -- and by the reading end
+  -- a journal's ring, by the reading end
   abbrev pub ring_of_consumer : Consumer T A AnyItems → Ring A
   ring_of_consumer c = record { words = c.end.words; slots = c.end.slots; names = c.end.names; heap = c.end.heap }

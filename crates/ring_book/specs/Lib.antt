@@ -1,6 +1,6 @@
 pub mod Ends
 pub mod Seen
-pub mod Told
+pub mod AnswerIndex
 pub mod Cells
 pub mod Books
 pub mod Entered

@@ -1,16 +1,16 @@
--- What an opening keeps.
--- The book and the threads, of docs/PROTOCOL.md.
+-- The invariant of an opening, and the new book and cells.
+-- Rules: The book and the threads 12
 use Rattle.std.specs.Prelude.{ℕ, zero, suc, ◌≡◌, ◌<◌, false, List, [], ◌∷◌, ◌++◌, map}
 use Rattle.rtrb.specs.declared.producer.Producer.{Producer}
 use Rattle.rtrb.specs.declared.AnyItems.{AnyItems}
 use Rattle.rtrb.specs.Ring.{sent, known_free, producer_capacity, received, consumer_capacity}
-use Rattle.ring_book.specs.Books.{End}
+use Rattle.ring_book.specs.Books.{ReadingEnd}
 use Rattle.ring_book.specs.Ends.{Ring, ring_of_producer, ring_of_consumer}
 use Rattle.ring_book_lines.specs.Machines.{Machine}
 use Rattle.ring_book.specs.Seen.{CellView, BookView}
 use Rattle.ring_book_lines.specs.Steps.{StepView}
 
--- the writing end of a journal, as each node's cell has one
+-- the writing end of a journal; each cell has one
 abbrev pub Writer : Type 0 → Type 0
 Writer A = Producer (StepView A) A AnyItems
 
@@ -18,25 +18,25 @@ Writer A = Producer (StepView A) A AnyItems
 abbrev pub rings_of : {A : Type 0} → List (Writer A) → List (Ring A)
 rings_of {A} ps = map (λ (p : Writer A). ring_of_producer p) ps
 
--- The reading end of a journal that was never used.
-pub record IsStartEnd {A : Type 0} (p : Writer A) (c : End A) : Type 0 where
+-- the reading end of a journal that was never used
+pub record IsStartEnd {A : Type 0} (p : Writer A) (c : ReadingEnd A) : Type 0 where
   pub ring_is : ring_of_consumer c ≡ ring_of_producer p
   pub received_is : received c ≡ []
   pub one : consumer_capacity c ≡ 1
 
--- these are the reading ends of these journals, one by one, and as many
-abbrev pub AllStartEnds : {A : Type 0} → List (Writer A) → List (End A) → Type 0
+-- these are the reading ends of these journals, in order and in the same number
+abbrev pub AllStartEnds : {A : Type 0} → List (Writer A) → List (ReadingEnd A) → Type 0
 AllStartEnds [] [] = Unit {0}
 AllStartEnds [] (c ∷ cs) = ⊥
 AllStartEnds (p ∷ ps) [] = ⊥
 AllStartEnds (p ∷ ps) (c ∷ cs) = IsStartEnd p c × AllStartEnds ps cs
 
--- a book without lines, with no place reserved
-abbrev pub new_book : {A : Type 0} → BookView A
-new_book = record { lines = []; reserved = 0 }
+-- a book without lines and without reserved places
+abbrev pub empty_book : {A : Type 0} → BookView A
+empty_book = record { lines = []; reserved = 0 }
 
 module _ {S A : Type 0} (m : Machine S A) where
-  -- A node that has done nothing, and its journal's empty ring.
+  -- a node at its opening, and the empty ring of its journal
   pub record IsStart (me : ℕ) (node : S) (p : Writer A) : Type 0 where
     pub node_is : node ≡ m.opening me
     pub sent_is : sent p ≡ []
@@ -50,7 +50,7 @@ module _ {S A : Type 0} (m : Machine S A) where
   AllStart me (n ∷ ns) [] = ⊥
   AllStart me (n ∷ ns) (p ∷ ps) = IsStart me n p × AllStart (suc me) ns ps
 
-  -- a processor's cell: its node has done nothing, and its journal is empty
+  -- a processor's cell with its node at its opening and an empty journal
   abbrev pub new_cell : ℕ → CellView S A
   new_cell me = record { me = me; ahead = false; node = m.opening me; journal = [] }
 

@@ -1,4 +1,5 @@
-//! What the book's lock holds.
+//! The book: the list of all lines, which is the content of the book's lock.
+//! Rules: The book and the threads 11, 15 to 18 and 36; Refusals 2, 4 and 5
 
 ghost use Rattle.std.specs.Prelude.{⊤, ℕ, Some, slice_get, ◌-◌, ◌≡◌, ◌+◌, ◌<◌, ◌≤◌, ◌⊎◌, MatchOption, MatchResult, OnOk};
 ghost use Rattle.std.specs.Prelude.{OnErr, IfOk, IfErr, IsOk, IsSomeAnd, ◌↔◌, [], ◌∷◌, ◌++◌, length, vec_len};
@@ -6,43 +7,50 @@ ghost use Rattle.std.specs.Prelude.{vec_capacity};
 ghost use Rattle.std.specs.List.{AllByRecursion};
 ghost use Rattle.std.specs.Option.{option_copied};
 ghost use Rattle.ring_base.specs.declared.fault.Fault.TheVariants.{BookFull, Memory, Stranger};
-ghost use Rattle.ring_book.specs.Told.{AreRoomier};
-ghost use Rattle.ring_book_lines.specs.Lines.{Stands};
+ghost use Rattle.ring_book.specs.AnswerIndex.{AreRoomier};
+ghost use Rattle.ring_book_lines.specs.Lines.{HasBytesAt};
 
 use crate::PLACES;
+use crate::answer_indexes::AnswerIndex;
 use crate::cell::Cell;
 use crate::name::BookName;
-use crate::told::Told;
 use bytes::BytesMut;
 use ring_base::{Fault, Proc};
 use ring_book_lines::laws::lines_law;
-use ring_book_lines::{FrameRef, Line, Segment, Step, history, is_found, note, order, stands};
+use ring_book_lines::{
+    FrameRef, Line, LogSegment, Step, extend_log, has_bytes_at, history, is_deliverable,
+    linear_law, order,
+};
+use ring_node_spec::Item;
 use ring_object::Object;
 use ring_payload::Call;
-use ring_rules::Item;
 use ring_session::{Answer, Ticket};
 use rtrb::Consumer;
 use std::alloc::Allocator;
 use std::marker::{Model, PhantomData};
 
-/// A reserved place of the book. It is a count and no position: any reserved place serves.
+/// A reserved place of the book, which `enter` uses up or `release` gives back. It is a count, not a position: any
+/// reserved place serves.
+/// Rules: The book and the threads 16 and 17
 #[derive(Clone, Copy, Debug, PartialEq, Eq)]
-pub struct ReservedPlace {
+pub struct Place {
     _private: (),
 }
 
-/// The list of all lines, and the receiving ends of the journals.
+/// The book: the list of all lines, and the receiving ends of the journals.
+/// Its list is always a run of the group, which `run_law` states. A book can't be copied.
+/// Rules: The book and the threads 11, 12 and 15 to 17
 #[derive(Drop)]
 pub struct Book<O: Object, K: BookName<O::Alloc>> {
     lines: Vec<Line<O::Alloc>, O::Alloc>,
     reserved: u32,
     ends: Vec<Consumer<Step<O::Alloc>, O::Alloc>, O::Alloc>,
     /// The answers of each node's tickets.
-    told: Vec<Told<O::Alloc>, O::Alloc>,
-    /// How long the longest committed log is, and of which lines it is made.
+    answer_indexes: Vec<AnswerIndex<O::Alloc>, O::Alloc>,
+    /// The length of the longest committed log, and the segments of lines that make it up.
     total: usize,
-    segments: Vec<Segment, O::Alloc>,
-    /// Room to spell a frame in.
+    segments: Vec<LogSegment, O::Alloc>,
+    /// A buffer to encode a frame in.
     text: BytesMut<O::Alloc>,
     of: PhantomData<(O, K)>,
 }
@@ -58,7 +66,7 @@ impl<O: Object, K: BookName<O::Alloc>> Model for Book<O, K> {
     ghost view = { λ b. record { lines = b.lines.items; reserved = b.reserved } };
 
     ghost invariant = { λ b. IsBook (node_machine O.sequential K.name.group) K.name b.lines.items b.reserved
-        b.ends.items b.told.items (record { total = b.total; segments = b.segments.items }) (vec_capacity b.lines)
+        b.ends.items b.answer_indexes.items (record { total = b.total; segments = b.segments.items }) (vec_capacity b.lines)
         (vec_capacity b.segments) (length b.text.items + b.text.spare) };
 }
 
@@ -67,33 +75,39 @@ impl<O: Object, K: BookName<O::Alloc>> Book<O, K> {
     ghost use mathlib.Core.Option.{none};
     ghost use denote.Follow.{follows_so};
     ghost use Rattle.ring_book.specs.contracts.book.Book.{the_row};
-    ghost use Rattle.ring_book_lines.specs.Answers.{answer_in, told_to};
-    ghost use Rattle.ring_book.specs.Books.{most_places, Enters, IsStrange, IsBook};
-    ghost use Rattle.ring_book.specs.Entered.{EnterGives};
+    ghost use Rattle.ring_book_lines.specs.Answers.{answer_in, answers_of_node};
+    ghost use Rattle.ring_book.specs.Books.{max_places, HasEntered, IsStrange, IsBook};
+    ghost use Rattle.ring_book.specs.Entered.{IsEnterResult};
     ghost use Rattle.ring_book_lines.specs.Events.{IsRun, events_of, history_of};
+    ghost use Rattle.ring_base.specs.Prefixes.{IsListPrefix};
+    ghost use Rattle.ring_session.specs.Deduplicated.{deduplicated};
+    ghost use Rattle.ring_order_proof.specs.Linear.{HasCommittedPlaces, FollowsOrder};
+    ghost use Rattle.ring_book_lines.specs.Logs.{committed_calls_of};
     ghost use Rattle.ring_book_lines.specs.Lines.{sent_at, steps_of};
     ghost use Rattle.ring_book_lines.specs.Puts.{IsPut};
     ghost use Rattle.ring_book_lines.specs.Steps.{LineView};
     ghost use Rattle.ring_book_lines.specs.Machines.{node_machine};
-    ghost use Rattle.ring_book.specs.Openings.{new_book};
-    ghost use Rattle.ring_rules.specs.Worlds.{run, world_opening, order as order_in};
+    ghost use Rattle.ring_book.specs.Openings.{empty_book};
+    ghost use Rattle.ring_node_spec.specs.Worlds.{run, world_opening, order as order_in};
 
-    /// A book without lines.
+    /// Returns a book without lines and without reserved places. It takes no memory.
+    /// `ends` are the receiving ends of the journals and `answer_indexes` the empty indexes, both of processor 1 first.
+    /// `text` has room for every frame.
     pub(crate) fn new(
         alloc: O::Alloc,
         ends: Vec<Consumer<Step<O::Alloc>, O::Alloc>, O::Alloc>,
-        told: Vec<Told<O::Alloc>, O::Alloc>,
+        answer_indexes: Vec<AnswerIndex<O::Alloc>, O::Alloc>,
         text: BytesMut<O::Alloc>,
     ) -> Book<O, K>
-        requires { IsBook (node_machine O.sequential K.name.group) K.name [] 0 ends.items told.items
+        requires { IsBook (node_machine O.sequential K.name.group) K.name [] 0 ends.items answer_indexes.items
             (record { total = 0; segments = [] }) 0 0 (length text.items + text.spare) }
-        ensures { result ≡ new_book }
+        ensures { result ≡ empty_book }
     {
         Book {
             lines: Vec::new(alloc),
             reserved: 0,
             ends,
-            told,
+            answer_indexes,
             total: 0,
             segments: Vec::new(alloc),
             text,
@@ -101,10 +115,12 @@ impl<O: Object, K: BookName<O::Alloc>> Book<O, K> {
         }
     }
 
-    /// Law: the list is a run of the group. Its inputs are the events of a run of a world of nodes, with just these frames,
-    /// answers and committed calls: of the very run of which `linear_law` of ring_order_proof speaks. So `order` and `history` are
-    /// that run's, and `answer` tells what the session table answers to the ticket, a place among its node's calls
-    /// (`calls`), along the node's committed log (`answers`). Each line bears the number of its place.
+    /// States that this book's list is a run of the group. The inputs of its lines are the events of a run of `World`,
+    /// with exactly these frames, answers and committed calls; `linear_law` of ring_order_proof covers that run.
+    /// `order` and `history` are those of the run. `answer` is the answer of the sessions to the ticket's call along
+    /// the node's committed log. Each line has the number of its place, counted from 0, and the group has at most 16
+    /// processors.
+    /// Rules: The book and the threads 10 and 11
     pub fn run_law(&self)
         ensures run { IsRun O.sequential K.name.group self.now.lines }
         ensures numbered { (i : ℕ) (l : LineView O.Alloc) → slice_get self.now.lines i ≡ Some l → l.number ≡ i }
@@ -112,38 +128,53 @@ impl<O: Object, K: BookName<O::Alloc>> Book<O, K> {
     {
         // A law: no effect at run time. The proof takes from it that such lines are a run of the group.
         lines_law::<O>();
-        // No effect at run time. The proof sees what `Book` promises of itself only where the body reads a field.
+        // No effect at run time. The proof sees the invariant of `Book` only where the body reads a field.
         let _lines = &self.lines;
     }
 
-    /// Law: a cell's processor is of the group. Where all steps of the cell are entered, its node is the node of the list's
-    /// run.
+    /// States of this book and each of its cells that the cell's processor is in the group, and that its committed log by
+    /// the book, duplicates removed, is a prefix of the book's order.
+    /// Where all steps of the cell are entered, its node is the node of that processor in the run of the book's list. The
+    /// node's snapshot is then the object's state after a prefix of the book's order, and the committed calls that it
+    /// keeps, duplicates removed, come next in that order.
+    /// Rules: Sessions 11; The book and the threads 18
     pub fn node_law(&self, cell: &Cell<O, K>)
         ensures member { (1 ≤ cell.now.me) × (cell.now.me ≤ K.name.group.count) }
         ensures node { cell.now.journal ≡ steps_of cell.now.me self.now.lines →
             cell.now.node ≡ (run O.sequential (world_opening K.name.group) (events_of self.now.lines)).nodes cell.now.me }
+        ensures prefix { IsListPrefix (deduplicated (committed_calls_of cell.now.me self.now.lines))
+            (order_in (run O.sequential (world_opening K.name.group) (events_of self.now.lines))) }
+        ensures follows { cell.now.journal ≡ steps_of cell.now.me self.now.lines →
+            HasCommittedPlaces O.sequential cell.now.node (committed_calls_of cell.now.me self.now.lines)
+            × FollowsOrder O.sequential cell.now.node (committed_calls_of cell.now.me self.now.lines)
+            (order_in (run O.sequential (world_opening K.name.group) (events_of self.now.lines))) }
     {
-        // A law: no effect at run time. The proof takes from it that such lines are a run of the group.
+        // Laws: no effect at run time. The proof takes from them that such lines are a run of the group, and how a node's
+        // committed log and its snapshot relate to the run's order.
         lines_law::<O>();
-        // No effect at run time. The proof sees what the book and the cell promise of themselves only where the body reads fields.
+        linear_law::<O>();
+        // No effect at run time. The proof sees the invariants of the book and of the cell only where the body reads
+        // fields.
         let _lines = &self.lines;
         let _me = cell.me;
     }
 
-    /// How many places are used or reserved.
+    /// Returns the number of places used and reserved, 0 to 262,144. Each line uses one.
+    /// Rules: The book and the threads 15
     pub fn places(&self) -> u32
         ensures { result ≡ length self.now.lines + self.now.reserved }
     {
         self.lines.len() as u32 + self.reserved
     }
 
-    /// Reserves a place for a line, so that `enter` needs no memory. Refused with `BookFull` at exactly 262,144 places
-    /// used or reserved, then with `Memory`; nothing is changed then.
-    pub fn reserve(&mut self) -> Result<ReservedPlace, Fault>
+    /// Reserves a place for a line, so that `enter` takes no memory. Returns the place, for `enter` or `release`.
+    /// Errors: `BookFull` exactly where 262,144 places are used or reserved, then `Memory`; nothing has changed.
+    /// Rules: The book and the threads 15 and 17; Refusals 3 and 4
+    pub fn reserve(&mut self) -> Result<Place, Fault>
         ensures lines { self.new.lines ≡ self.old.lines }
         ensures ok { OnOk result (self.new.reserved ≡ self.old.reserved + 1) }
         ensures err { IfErr result (λ e. (self.new ≡ self.old) × ((e ≡ Memory) ⊎ (e ≡ BookFull))) }
-        ensures full { (result ≡ Err BookFull) ↔ (length self.old.lines + self.old.reserved ≡ most_places) }
+        ensures full { (result ≡ Err BookFull) ↔ (length self.old.lines + self.old.reserved ≡ max_places) }
     {
         if self.places() == PLACES {
             return Err(Fault::BookFull);
@@ -151,15 +182,17 @@ impl<O: Object, K: BookName<O::Alloc>> Book<O, K> {
         make_room(
             &mut self.lines,
             &mut self.segments,
-            &mut self.told,
+            &mut self.answer_indexes,
             self.reserved + 1,
         )?;
         self.reserved += 1;
-        Ok(ReservedPlace { _private: () })
+        Ok(Place { _private: () })
     }
 
-    /// Gives a reserved place back. Where none is reserved, it changes nothing.
-    pub fn release(&mut self, _place: ReservedPlace)
+    /// Gives one reserved place back: the number of reserved places falls by one. It changes nothing where none is
+    /// reserved.
+    /// Rules: The book and the threads 15 and 17
+    pub fn release(&mut self, _place: Place)
         ensures lines { self.new.lines ≡ self.old.lines }
         ensures none { self.old.reserved ≡ 0 → self.new.reserved ≡ 0 }
         ensures some { 0 < self.old.reserved → self.old.reserved ≡ self.new.reserved + 1 }
@@ -169,41 +202,49 @@ impl<O: Object, K: BookName<O::Alloc>> Book<O, K> {
         }
     }
 
-    /// Refuses, with `Stranger`, exactly where these bytes don't stand there for this node.
+    /// Checks that the frame at this place has these bytes and that the node is one of its receivers. The book is
+    /// unchanged.
+    /// Errors: `Stranger` exactly where that is false, also where the book has no frame at this place.
+    /// Rules: The book and the threads 15; Refusals 2
     pub fn check(&mut self, node: Proc, at: FrameRef, bytes: &[u8]) -> Result<(), Fault>
         ensures same { self.new ≡ self.old }
-        ensures ok { IsOk result ↔ Stands self.old.lines at node bytes.now }
+        ensures ok { IsOk result ↔ HasBytesAt self.old.lines at node bytes.now }
         ensures err { IfErr result (λ e. e ≡ Stranger) }
     {
-        if stands(self.lines.as_slice(), at, node, bytes, &mut self.text) {
+        if has_bytes_at(self.lines.as_slice(), at, node, bytes, &mut self.text) {
             Ok(())
         } else {
             Err(Fault::Stranger)
         }
     }
 
-    /// The answer that the list gives to a node's ticket, if it gives one.
+    /// Returns the answer to this ticket of the node in the book's list. Returns `None` while the ticket has no answer
+    /// there, also for a ticket that the node didn't give and a processor outside the group.
+    /// Rules: The book and the threads 15
     pub fn answer(&self, node: Proc, ticket: Ticket) -> Option<Answer>
         ensures { result ≡ answer_in self.now.lines node ticket }
     {
-        match told_of(self.told.as_slice(), node) {
-            Some(told) => told.answer(ticket),
+        match answer_index_of(self.answer_indexes.as_slice(), node) {
+            Some(answer_indexes) => answer_indexes.answer(ticket),
             None => None,
         }
     }
 
-    /// The answers to the node's tickets, in the order of tickets, each if the list gives one. There are none of a processor outside
-    /// the group.
+    /// Returns the answers of the node's tickets, in the order of tickets, from ticket 0 on; `None` for a ticket that
+    /// the list doesn't answer. The result is empty for a processor outside the group.
+    /// Rules: The book and the threads 15
     pub fn answers(&self, node: Proc) -> &[Option<Answer>]
-        ensures { result.now ≡ told_to node self.now.lines }
+        ensures { result.now ≡ answers_of_node node self.now.lines }
     {
-        match told_of(self.told.as_slice(), node) {
-            Some(told) => told.answers(),
+        match answer_index_of(self.answer_indexes.as_slice(), node) {
+            Some(answer_indexes) => answer_indexes.answers(),
             None => &[],
         }
     }
 
-    /// What clients saw: the history of the list's run, or `Memory`.
+    /// Returns the history of the list's run: copies of the issued calls and the replies, in order.
+    /// Errors: `Memory` where an allocation fails.
+    /// Rules: The book and the threads 15; Sessions 9
     pub fn history(&self) -> Result<Vec<Item<O::Alloc>, O::Alloc>, Fault>
         ensures ok { IfOk result (λ items. items.items ≡ history_of self.now.lines) }
         ensures refused { IfErr result (λ e. e ≡ Memory) }
@@ -211,7 +252,10 @@ impl<O: Object, K: BookName<O::Alloc>> Book<O, K> {
         history(*self.lines.allocator(), self.lines.as_slice())
     }
 
-    /// The order of the list's run, or `Memory`: the calls that take effect of the longest committed log.
+    /// Returns the order of the list's run: copies of the calls that take effect in the longest committed log of all
+    /// nodes.
+    /// Errors: `Memory` where an allocation fails.
+    /// Rules: The book and the threads 15; Sessions 10
     pub fn order(&self) -> Result<Vec<Call<O::Alloc>, O::Alloc>, Fault>
         ensures ok { IfOk result (λ calls. calls.items ≡ order_in (run O.sequential (world_opening K.name.group) (events_of self.now.lines))) }
         ensures refused { IfErr result (λ fault. fault ≡ Memory) }
@@ -225,16 +269,18 @@ impl<O: Object, K: BookName<O::Alloc>> Book<O, K> {
         )
     }
 
-    /// The line of this number, counted from 0, if there is one.
+    /// Returns the line of this number, counted from 0, or `None` if the list has fewer lines.
+    /// Rules: The book and the threads 10
     pub fn line(&self, number: u32) -> Option<&Line<O::Alloc>>
         ensures { option_copied result ≡ slice_get self.now.lines number }
     {
         self.lines.get(number as usize)
     }
 
-    /// Appends the bytes of the frame that stands there, whomever it goes to. Refused with `Stranger` where none does, then
-    /// with `Memory`; nothing is appended then.
-    pub fn spell(&self, at: FrameRef, out: &mut BytesMut<O::Alloc>) -> Result<(), Fault>
+    /// Appends the encoding of the frame at this place, at most 8,192 bytes, whatever its receivers.
+    /// Errors: `Stranger` if there is no frame, then `Memory`; nothing is appended.
+    /// Rules: The book and the threads 15; Refusals 2 and 4
+    pub fn encode(&self, at: FrameRef, out: &mut BytesMut<O::Alloc>) -> Result<(), Fault>
         ensures { IsPut (sent_at self.now.lines at) out.old.items out.new.items result }
     {
         match self.line(at.line) {
@@ -246,7 +292,7 @@ impl<O: Object, K: BookName<O::Alloc>> Book<O, K> {
     /// Enters the cell's step.
     fn enter_step(&mut self, cell: &mut Cell<O, K>) -> Result<(), Fault>
         ensures { MatchResult result
-            (λ _. Enters self.old self.new cell.old cell.new)
+            (λ _. HasEntered self.old self.new cell.old cell.new)
             (λ e. (e ≡ Stranger) × (self.new ≡ self.old) × (cell.new ≡ cell.old) × IsStrange self.old cell.old) }
     {
         if self.reserved == 0 {
@@ -257,21 +303,21 @@ impl<O: Object, K: BookName<O::Alloc>> Book<O, K> {
         if end.slots_beside(&mut cell.journal) == 0 {
             return Err(Fault::Stranger);
         }
-        if !is_found(self.lines.as_slice(), end.peek_known(), &mut self.text) {
+        if !is_deliverable(self.lines.as_slice(), end.peek_known(), &mut self.text) {
             return Err(Fault::Stranger);
         }
         let step = end.pop_known();
         cell.journal.slots_beside(end);
-        self.told[at].tell(&step);
+        self.answer_indexes[at].add_answers(&step);
         let number = self.lines.len() as u32;
-        note(&mut self.total, &mut self.segments, number, &step);
+        extend_log(&mut self.total, &mut self.segments, number, &step);
         self.lines.push_reserved(Line::new(number, step));
         self.reserved -= 1;
         cell.ahead = false;
         Ok(())
     }
 
-    /// The last line.
+    /// Returns the last line.
     fn last(&self) -> &Line<O::Alloc>
         requires { 0 < length self.now.lines }
         ensures { slice_get self.now.lines (length self.now.lines - 1) ≡ Some result.now }
@@ -279,38 +325,39 @@ impl<O: Object, K: BookName<O::Alloc>> Book<O, K> {
         &self.lines[self.lines.len() - 1]
     }
 
-    /// Puts the cell's one step at the end of the list, in a reserved place, and lends its line.
-    ///
-    /// Refused with `Stranger` only where all the cell's steps are entered, no place is reserved, or the frame that came
-    /// doesn't stand in the list where its `FrameRef` says, for this node. Then book and cell are unchanged, and what
-    /// was reserved stays reserved.
-    pub fn enter(
-        &mut self,
-        _place: ReservedPlace,
-        cell: &mut Cell<O, K>,
-    ) -> Result<&Line<O::Alloc>, Fault>
+    /// Puts the cell's one step at the end of the list, in a reserved place, and returns its line. The place is used
+    /// up, and the cell may step again. It takes no memory.
+    /// Errors: `Stranger` where all of the cell's steps are entered or no place is reserved; also where the step
+    /// delivers a frame that the list doesn't have at its `FrameRef` for this node. Then book and cell are unchanged,
+    /// and the reserved places stay reserved.
+    /// Rules: The book and the threads 15 to 18; Refusals 2
+    pub fn enter(&mut self, _place: Place, cell: &mut Cell<O, K>) -> Result<&Line<O::Alloc>, Fault>
         ensures* after { sem 𝓛 (follows_so (the_row O.row K.row O.Alloc.row O.Object O.Alloc.Allocator K.BookName)
             (the_row O.row K.row O.Alloc.row O.Object O.Alloc.Allocator K.BookName) self.entry.ghost_name none
-            (λ _ _. ⊤) (λ n. EnterGives self.old n cell.old cell.new result)) }
+            (λ _ _. ⊤) (λ n. IsEnterResult self.old n cell.old cell.new result)) }
     {
         self.enter_step(cell)?;
         Ok(self.last())
     }
 }
 
-/// The answers of a node's tickets, if it is of the group.
-fn told_of<A: Allocator + Copy + Drop>(told: &[Told<A>], node: Proc) -> Option<&Told<A>>
-    ensures lookup { option_copied result ≡ slice_get told.now (node - 1) }
+/// Returns the answers of a node's tickets, if the node is in the group.
+fn answer_index_of<A: Allocator + Copy + Drop>(
+    answer_indexes: &[AnswerIndex<A>],
+    node: Proc,
+) -> Option<&AnswerIndex<A>>
+    ensures lookup { option_copied result ≡ slice_get answer_indexes.now (node - 1) }
     ensures counted { 1 ≤ node }
 {
-    told.get(node.number() as usize - 1)
+    answer_indexes.get(node.number() as usize - 1)
 }
 
-/// Makes room for so many lines more, so many segments more of the longest log, and so many tickets more of each node.
+/// Makes room for `more` further lines, as many segments of the longest log, and as many tickets of each node.
+/// Errors: `Memory`; the contents are unchanged.
 fn make_room<A: Allocator + Copy + Drop>(
     lines: &mut Vec<Line<A>, A>,
-    segments: &mut Vec<Segment, A>,
-    told: &mut Vec<Told<A>, A>,
+    segments: &mut Vec<LogSegment, A>,
+    answer_indexes: &mut Vec<AnswerIndex<A>, A>,
     more: u32,
 ) -> Result<(), Fault>
     ensures lines { lines.new.items ≡ lines.old.items }
@@ -319,24 +366,28 @@ fn make_room<A: Allocator + Copy + Drop>(
     ensures segments { segments.new.items ≡ segments.old.items }
     ensures segments_stay { vec_capacity segments.old ≤ vec_capacity segments.new }
     ensures segments_room { OnOk result (vec_len segments.new + more ≤ vec_capacity segments.new) }
-    ensures told { AreRoomier told.old.items told.new.items }
-    ensures told_room { OnOk result (AllByRecursion (λ t. length t.answers + more ≤ t.room) told.new.items) }
+    ensures answer_indexes { AreRoomier answer_indexes.old.items answer_indexes.new.items }
+    ensures told_room { OnOk result (AllByRecursion (λ t. length t.answers + more ≤ t.room) answer_indexes.new.items) }
     ensures refused { IfErr result (λ e. e ≡ Memory) }
 {
-    make_told(told, more)?;
+    reserve_answers(answer_indexes, more)?;
     lines.reserve(more as usize)?;
     segments.reserve(more as usize)?;
     Ok(())
 }
 
-/// Makes room for so many tickets more of each node.
-fn make_told<A: Allocator + Copy + Drop>(told: &mut Vec<Told<A>, A>, more: u32) -> Result<(), Fault>
-    ensures stays { AreRoomier told.old.items told.new.items }
-    ensures room { OnOk result (AllByRecursion (λ t. length t.answers + more ≤ t.room) told.new.items) }
+/// Makes room for `more` further tickets of each node.
+/// Errors: `Memory`; the answers are unchanged.
+fn reserve_answers<A: Allocator + Copy + Drop>(
+    answer_indexes: &mut Vec<AnswerIndex<A>, A>,
+    more: u32,
+) -> Result<(), Fault>
+    ensures stays { AreRoomier answer_indexes.old.items answer_indexes.new.items }
+    ensures room { OnOk result (AllByRecursion (λ t. length t.answers + more ≤ t.room) answer_indexes.new.items) }
     ensures refused { IfErr result (λ e. e ≡ Memory) }
 {
-    for at in 0..told.len() {
-        told[at].reserve(more)?;
+    for at in 0..answer_indexes.len() {
+        answer_indexes[at].reserve(more)?;
     }
     Ok(())
 }

@@ -1,42 +1,49 @@
-//! What a node's lock holds.
+//! The cell of a node: the content of that node's lock.
+//! Rules: The book and the threads 13, 14, 18 and 36; Refusals 4 to 6
 
 ghost use Rattle.std.specs.Prelude.{◌≡◌, ◌+◌, ◌≤◌, length, OnErr, MatchResult};
 ghost use Rattle.std.specs.List.{AllByRecursion};
 ghost use Rattle.ring_book_lines.specs.Runs.{LineFits};
 ghost use Rattle.ring_book_lines.specs.Kept.{line_input};
-ghost use Rattle.ring_book_lines.specs.declared.input.LineInput.TheVariants.{Called, Came};
-ghost use Rattle.ring_rules.specs.NodeLimits.{InputFits};
+ghost use Rattle.ring_book_lines.specs.declared.input.LineInput.TheVariants.{Submitted, Received};
+ghost use Rattle.ring_node_spec.specs.NodeLimits.{InputFits};
 ghost use Rattle.ring_payload.specs.Calls.{CallFits};
-ghost use Rattle.ring_wire.specs.Frames.{FrameFits, spelling_of};
-ghost use Rattle.ring_rules.specs.declared.input.Input.TheVariants.{Frame as Comes};
-ghost use Rattle.ring_base.specs.Numbers.{most_frame};
+ghost use Rattle.ring_wire.specs.Frames.{FrameFits, encoding_of};
+ghost use Rattle.ring_node_spec.specs.declared.input.Input.TheVariants.{Frame as Comes};
+ghost use Rattle.ring_base.specs.Numbers.{max_frame_bytes};
 
 use crate::name::BookName;
 use bytes::BytesMut;
 use ring_base::{Fault, Proc};
 use ring_book_lines::{
-    FrameRef, Frames, HeardFrame, LineInput, Step, StepInput, call_keeps_law, node_fits_law,
+    FrameRef, Frames, LineInput, ReceivedFrame, Step, StepInput, call_keeps_law, node_fits_law,
 };
 use ring_node::{Node, Outs};
+use ring_node_spec::Input;
 use ring_object::Object;
 use ring_payload::Call;
-use ring_rules::Input;
 use ring_session::Ticket;
 use ring_wire::Frame;
 use rtrb::Producer;
 use std::alloc::Allocator;
 use std::marker::{Model, PhantomData};
 
-/// A node, and the sending end of its journal, which has room for one step.
+/// A node, and the sending end of its journal, which has room for one step: the content of the node's lock. A cell
+/// can't be copied.
+/// Rules: The book and the threads 12, 13 and 18
 #[derive(Drop)]
 pub struct Cell<O: Object, K: BookName<O::Alloc>> {
+    /// The processor of the node.
     pub(crate) me: Proc,
-    /// Whether the journal's last step is not entered yet.
+    /// Whether the journal's last step is not entered in the book yet.
     pub(crate) ahead: bool,
+    /// The node, as its last step or submit left it.
     pub(crate) node: Node<O>,
+    /// The sending end of the node's journal.
     pub(crate) journal: Producer<Step<O::Alloc>, O::Alloc>,
+    /// The allocator of the steps.
     pub(crate) alloc: O::Alloc,
-    /// Room to spell a frame in.
+    /// A buffer to encode a frame in.
     pub(crate) text: BytesMut<O::Alloc>,
     pub(crate) of: PhantomData<K>,
 }
@@ -45,7 +52,7 @@ impl<O: Object, K: BookName<O::Alloc>> Model for Cell<O, K> {
     ghost use Rattle.rtrb.specs.Ring.{sent};
     ghost use Rattle.std.specs.Prelude.{◌+◌, length};
     ghost use Rattle.ring_book_lines.specs.Limits.{NodeFits};
-    ghost use Rattle.ring_rules.specs.Nodes.{Node as ToldNode};
+    ghost use Rattle.ring_node_spec.specs.Nodes.{Node as ToldNode};
     ghost use Rattle.ring_book.specs.Cells.{IsCell};
     ghost use Rattle.ring_book_lines.specs.Machines.{node_machine};
     ghost use Rattle.ring_book.specs.Seen.{CellView};
@@ -60,32 +67,44 @@ impl<O: Object, K: BookName<O::Alloc>> Model for Cell<O, K> {
 
 impl<O: Object, K: BookName<O::Alloc>> Cell<O, K> {
     ghost use Rattle.std.specs.Prelude.{length};
-    ghost use Rattle.ring_book.specs.Cells.{Journals, StepRefused, SubmitRefused};
+    ghost use Rattle.ring_book.specs.Cells.{HasJournaled, StepRefused, SubmitRefused};
     ghost use Rattle.ring_book_lines.specs.Machines.{node_machine};
 
-    /// The node.
+    /// Returns the processor of the cell's node.
+    /// Rules: The book and the threads 13
+    pub fn processor(&self) -> Proc
+        ensures { result ≡ self.now.me }
+    {
+        self.me
+    }
+
+    /// Returns the cell's node. It is as its last step or submit left it, also where that isn't entered in the book
+    /// yet.
+    /// Rules: The book and the threads 18
     pub fn node(&self) -> &Node<O>
         ensures { result.now ≡ self.now.node }
     {
         &self.node
     }
 
-    /// Hands the node an input, and adds what it did to the journal. The `FrameRef` counts for a frame alone: it says
-    /// where the frame stands in the book. A frame keeps the limits of frames, as a decoded one does.
-    ///
-    /// Refused with `Stranger` while the last step isn't entered, then with `Stopped`; both change nothing. `Memory`
-    /// leaves the node stopped, and its stop in the journal. A stop takes no memory.
+    /// Steps the node by an input and adds the step to the journal.
+    /// `at` is the frame's place in the book; for any other input it has no meaning. A frame must be within the limits
+    /// of frames, as every decoded frame is.
+    /// Errors: `Stranger` while the last step isn't entered, then `Stopped`; both change nothing. Then `Memory`, which
+    /// leaves the node stopped and adds its stop to the journal. A stop takes no memory.
+    /// Rules: The book and the threads 13 and 14; Refusals 4 to 6
     pub fn step(&mut self, input: Input<O::Alloc>, at: FrameRef) -> Result<(), Fault>
         requires { InputFits input }
         ensures { let m = node_machine O.sequential K.name.group in
-            MatchResult result (λ _. Journals m self.old self.new (Came input at)) (StepRefused m self.old self.new input at) }
+            MatchResult result (λ _. HasJournaled m self.old self.new (Received input at)) (StepRefused m self.old self.new input at) }
     {
         if self.ahead {
-            // By name, so that nothing lives at the exit.
+            // By name, so that no value is live at the exit.
             drop(input);
             return Err(Fault::Stranger);
         }
-        // A law: no effect at run time. The proof takes from it that a node keeps the limits along a step, and what it sends keeps them.
+        // A law: no effect at run time. The proof takes from it that a step keeps a node, and the frames that it sends,
+        // within the limits.
         node_fits_law::<O>();
         let mut outs = Outs::new(self.alloc);
         match self.node.step_into(&input, &mut outs) {
@@ -94,7 +113,7 @@ impl<O: Object, K: BookName<O::Alloc>> Cell<O, K> {
                 self.journal.push_reserved(step_of(
                     self.alloc,
                     self.me,
-                    StepInput::Told(LineInput::Came(input, at)),
+                    StepInput::Full(LineInput::Received(input, at)),
                     outs,
                     places,
                     &mut self.text,
@@ -103,7 +122,7 @@ impl<O: Object, K: BookName<O::Alloc>> Cell<O, K> {
                 Ok(())
             }
             Err(fault) => {
-                // By name, so that nothing lives at the exit.
+                // By name, so that no value is live at the exit.
                 drop(outs);
                 drop(input);
                 match fault {
@@ -120,33 +139,37 @@ impl<O: Object, K: BookName<O::Alloc>> Cell<O, K> {
         }
     }
 
-    /// Hands the node a frame that came as these bytes, and adds what it did to the journal, which keeps the bytes and not the frame.
-    /// The `FrameRef` says where the frame stands in the book. Refused as [`step`](Cell::step) is.
-    pub fn hear(
+    /// Steps the node by a frame that arrived as these bytes, and adds the step to the journal, which keeps only the
+    /// bytes.
+    /// The bytes are the encoding of `frame`, which is within the limits of frames. `at` is its place in the book.
+    /// Errors: `Stranger`, `Stopped` and `Memory` as [`step`](Cell::step), in this order.
+    /// Rules: The book and the threads 13 and 14; Refusals 4 to 6
+    pub fn receive(
         &mut self,
         frame: &Frame<O::Alloc>,
         bytes: Vec<u8, O::Alloc>,
         at: FrameRef,
     ) -> Result<(), Fault>
         requires fits { FrameFits frame.now }
-        requires bytes { bytes.items ≡ spelling_of frame.now }
+        requires bytes { bytes.items ≡ encoding_of frame.now }
         ensures { let m = node_machine O.sequential K.name.group in
-            MatchResult result (λ _. Journals m self.old self.new (Came (Comes frame.now) at)) (StepRefused m self.old self.new (Comes frame.now) at) }
+            MatchResult result (λ _. HasJournaled m self.old self.new (Received (Comes frame.now) at)) (StepRefused m self.old self.new (Comes frame.now) at) }
     {
         if self.ahead {
             return Err(Fault::Stranger);
         }
-        // A law: no effect at run time. The proof takes from it that a node keeps the limits along a step, and what it sends keeps them.
+        // A law: no effect at run time. The proof takes from it that a step keeps a node, and the frames that it sends,
+        // within the limits.
         node_fits_law::<O>();
         let mut outs = Outs::new(self.alloc);
-        match self.node.hear_into(frame, &mut outs) {
+        match self.node.receive_into(frame, &mut outs) {
             Ok(()) => {
                 let places = self.node.committed_len() as usize;
-                let heard = HeardFrame::new(frame, bytes);
+                let received_frame = ReceivedFrame::new(frame, bytes);
                 self.journal.push_reserved(step_of(
                     self.alloc,
                     self.me,
-                    StepInput::Heard(heard, at),
+                    StepInput::FrameBytes(received_frame, at),
                     outs,
                     places,
                     &mut self.text,
@@ -167,22 +190,24 @@ impl<O: Object, K: BookName<O::Alloc>> Cell<O, K> {
         }
     }
 
-    /// Submits a call at the node, and adds that to the journal. The call keeps the limits of frames, as each does that `Call::new` makes.
-    ///
-    /// Refused with `Stranger` while the last step isn't entered, then as by the node, with `Stopped`, `PendingFull` or `Memory`; nothing
-    /// is changed then.
+    /// Submits a call at the node, adds the submit to the journal, and returns the ticket.
+    /// The call must be within the limits of frames, as every call made by `Call::new` is.
+    /// Errors: `Stranger` while the last step isn't entered, then the node's own `Stopped`, `PendingFull` or `Memory`;
+    /// nothing has changed.
+    /// Rules: The book and the threads 13 and 14; The replicated log 13; Refusals 4
     pub fn submit(&mut self, call: Call<O::Alloc>) -> Result<Ticket, Fault>
         requires { CallFits call }
         ensures given { let m = node_machine O.sequential K.name.group in
             MatchResult result
-            (λ ticket. (ticket ≡ m.tickets self.old.node) × Journals m self.old self.new (Called call))
+            (λ ticket. (ticket ≡ m.tickets self.old.node) × HasJournaled m self.old self.new (Submitted call))
             (SubmitRefused m self.old) }
         ensures err { OnErr result (self.new ≡ self.old) }
     {
         if self.ahead {
             return Err(Fault::Stranger);
         }
-        // Laws: no effect at run time. The proof takes from them that the node keeps the limits, and the call those of snapshots.
+        // Laws: no effect at run time. The proof takes from them that the node is within the limits, and the call within
+        // those of snapshots.
         node_fits_law::<O>();
         call_keeps_law(&call);
         let ticket = self.node.submit_on(&call)?;
@@ -194,8 +219,8 @@ impl<O: Object, K: BookName<O::Alloc>> Cell<O, K> {
     }
 }
 
-/// The step of a node at which this happened, that gave these, and then has so many places committed. Its frames are spelled in
-/// `text`, which has room for every frame.
+/// Returns the step of a node by this input, with these outputs and this committed length. `text` is a scratch buffer with
+/// room for every frame.
 fn step_of<A: Allocator + Copy + Drop>(
     alloc: A,
     me: Proc,
@@ -206,7 +231,7 @@ fn step_of<A: Allocator + Copy + Drop>(
 ) -> Step<A>
     requires input { LineFits (line_input input) }
     requires sends { AllByRecursion (λ s. FrameFits s.frame) outs.sends.items }
-    requires room { most_frame ≤ length text.old.items + text.old.spare }
+    requires room { max_frame_bytes ≤ length text.old.items + text.old.spare }
     ensures step { result ≡ record {
       node = me;
       input = line_input input;
@@ -215,7 +240,7 @@ fn step_of<A: Allocator + Copy + Drop>(
       calls = outs.committed.items;
       committed = places;
     } }
-    ensures room { most_frame ≤ length text.new.items + text.new.spare }
+    ensures room { max_frame_bytes ≤ length text.new.items + text.new.spare }
 {
     let Outs {
         sends,

@@ -1,20 +1,21 @@
-//! The book and its cells, each of them the content of a lock. A cell is a node with its journal; the book is the
-//! list of all that the nodes did, and that list is always a run.
+//! The book and its cells; each is the content of a lock. A cell is a node with its journal. The book is the list of all
+//! steps of the nodes, and that list is always a run.
 #![tactic(auto)]
 
+mod answer_indexes;
 mod book;
 mod cell;
 mod name;
 mod opening;
-mod told;
 
-pub use book::{Book, ReservedPlace};
+pub use book::{Book, Place};
 pub use cell::Cell;
 pub use name::BookName;
 pub use opening::Opening;
 pub use ring_book_lines::{Cause, FrameRef, Frames, Line, linear_law};
 pub use ring_node::Node;
-pub use ring_rules::Input;
+pub use ring_node_spec::Input;
 
-/// How many places a book has.
+/// The greatest number of places in a book, used and reserved together. A line uses one place, for good.
+/// Rules: The book and the threads 15; Limits 1 and 2
 pub const PLACES: u32 = 262144;

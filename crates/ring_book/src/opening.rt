@@ -1,17 +1,18 @@
-//! How a book and its cells are made.
+//! Construction of a book and its cells.
+//! Rules: The book and the threads 12
 
 ghost use Rattle.std.specs.Prelude.{◌≡◌, ◌+◌, ◌-◌, ◌<◌, ◌≤◌, [], length, drop, IfOk, IfErr, OnOk};
 ghost use Rattle.std.specs.List.{AllByRecursion};
 ghost use Rattle.ring_base.specs.declared.fault.Fault.TheVariants.{Memory};
 ghost use Rattle.ring_book_lines.specs.Machines.{node_machine};
-ghost use Rattle.ring_book.specs.Openings.{AllStart, AllStartEnds, new_book, new_cell, new_cells, rings_of};
+ghost use Rattle.ring_book.specs.Openings.{AllStart, AllStartEnds, empty_book, new_cell, new_cells, rings_of};
 
+use crate::answer_indexes::AnswerIndex;
 use crate::book::Book;
 use crate::cell::Cell;
 use crate::name::BookName;
-use crate::told::Told;
 use bytes::BytesMut;
-use ring_base::{FRAME_BYTES, Fault, Fixed, Proc};
+use ring_base::{Fault, Fixed, MAX_FRAME_BYTES, Proc};
 use ring_book_lines::{Step, node_fits_law};
 use ring_node::Node;
 use ring_object::Object;
@@ -20,7 +21,9 @@ use std::alloc::Allocator;
 use std::collections::VecDeque;
 use std::marker::{Model, PhantomData};
 
-/// The nodes of a group and their journals, before their book has a name.
+/// The nodes of a group and their journals, before their book has a name. It can't be copied, and it gives its book and
+/// cells once.
+/// Rules: The book and the threads 12
 #[derive(Drop)]
 pub struct Opening<O: Object> {
     alloc: O::Alloc,
@@ -46,7 +49,9 @@ impl<O: Object> Model for Opening<O> {
 }
 
 impl<O: Object> Opening<O> {
-    /// The nodes of a group, at their opening, or `Memory`.
+    /// Returns the opening of a group: each node at its opening, with an empty journal that has room for one step.
+    /// Errors: `Memory` where an allocation fails.
+    /// Rules: The book and the threads 12 and 13
     pub fn new(alloc: O::Alloc, group: Fixed) -> Result<Opening<O>, Fault>
         ensures ok { IfOk result (λ o. o.group ≡ group) }
         ensures refused { IfErr result (λ fault. fault ≡ Memory) }
@@ -64,17 +69,20 @@ impl<O: Object> Opening<O> {
         })
     }
 
-    /// The book and the cells, one for each processor, ascending: 1 to 16. K names this opening. `Memory` drops it.
+    /// Returns the book, without lines, and the cells of the processors in ascending order, 1 to 16 of them. `K` names
+    /// this opening, which is used up.
+    /// Errors: `Memory` where an allocation fails, which drops the opening.
+    /// Rules: The book and the threads 12; Refusals 5
     pub fn parts<K: BookName<O::Alloc>>(
         self,
     ) -> Result<(Book<O, K>, Vec<Cell<O, K>, O::Alloc>), Fault>
         requires { self ≡ K.name }
         ensures counted { (1 ≤ K.name.group.count) × (K.name.group.count ≤ 16) }
-        ensures ok { IfOk result (λ r. (r.0 ≡ new_book) × (r.1.items ≡ new_cells (node_machine O.sequential K.name.group) K.name.group.count)) }
+        ensures ok { IfOk result (λ r. (r.0 ≡ empty_book) × (r.1.items ≡ new_cells (node_machine O.sequential K.name.group) K.name.group.count)) }
         ensures refused { IfErr result (λ fault. fault ≡ Memory) }
     {
-        let text = BytesMut::with_capacity(self.alloc, FRAME_BYTES)?;
-        let told = no_answers(self.alloc, self.nodes.len())?;
+        let text = BytesMut::with_capacity(self.alloc, MAX_FRAME_BYTES)?;
+        let answer_indexes = empty_answers(self.alloc, self.nodes.len())?;
         let Opening {
             alloc,
             group: _,
@@ -83,11 +91,12 @@ impl<O: Object> Opening<O> {
             ends,
         } = self;
         let cells = cells_of(alloc, nodes, writers)?;
-        Ok((Book::new(alloc, ends, told, text), cells))
+        Ok((Book::new(alloc, ends, answer_indexes, text), cells))
     }
 }
 
-/// Opens the nodes of the group and their journals, in lists that are empty, or answers `Memory`.
+/// Opens the nodes of the group and their journals, in lists that are empty.
+/// Errors: `Memory`.
 fn open_all<O: Object>(
     alloc: O::Alloc,
     group: Fixed,
@@ -110,7 +119,8 @@ fn open_all<O: Object>(
     Ok(())
 }
 
-/// Opens the next node and its journal, or answers `Memory`.
+/// Opens the next node and its journal.
+/// Errors: `Memory`.
 fn open<O: Object>(
     alloc: O::Alloc,
     group: Fixed,
@@ -136,20 +146,25 @@ fn open<O: Object>(
     Ok(())
 }
 
-/// No answers yet, of so many nodes, or `Memory`.
-fn no_answers<A: Allocator + Copy + Drop>(alloc: A, count: usize) -> Result<Vec<Told<A>, A>, Fault>
-    ensures none { IfOk result (λ told. AllByRecursion (λ t. t.answers ≡ []) told.items) }
-    ensures count { IfOk result (λ told. length told.items ≡ count) }
+/// Returns an empty answer index for each of `count` nodes.
+/// Errors: `Memory`.
+fn empty_answers<A: Allocator + Copy + Drop>(
+    alloc: A,
+    count: usize,
+) -> Result<Vec<AnswerIndex<A>, A>, Fault>
+    ensures none { IfOk result (λ answer_indexes. AllByRecursion (λ t. t.answers ≡ []) answer_indexes.items) }
+    ensures count { IfOk result (λ answer_indexes. length answer_indexes.items ≡ count) }
     ensures refused { IfErr result (λ fault. fault ≡ Memory) }
 {
-    let mut told = Vec::new(alloc);
+    let mut answer_indexes = Vec::new(alloc);
     for _ in 0..count {
-        told.push(Told::new(alloc))?;
+        answer_indexes.push(AnswerIndex::new(alloc))?;
     }
-    Ok(told)
+    Ok(answer_indexes)
 }
 
-/// The cells of these nodes, which are the group's, with their journals, or `Memory`.
+/// Returns the cells of the group's nodes, with their journals.
+/// Errors: `Memory`.
 fn cells_of<O: Object, K: BookName<O::Alloc>>(
     alloc: O::Alloc,
     mut nodes: VecDeque<Node<O>, O::Alloc>,
@@ -167,7 +182,8 @@ fn cells_of<O: Object, K: BookName<O::Alloc>>(
     Ok(cells)
 }
 
-/// Makes the cells of these nodes, which are the group's, with their journals, in a list that is empty, or answers `Memory`.
+/// Adds the cells of the group's nodes, with their journals, to a list that is empty.
+/// Errors: `Memory`.
 fn add_cells<O: Object, K: BookName<O::Alloc>>(
     alloc: O::Alloc,
     nodes: &mut VecDeque<Node<O>, O::Alloc>,
@@ -188,7 +204,8 @@ fn add_cells<O: Object, K: BookName<O::Alloc>>(
     Ok(())
 }
 
-/// The cell of the first of these nodes, which is this processor's, with the first journal, or `Memory`.
+/// Returns the cell of the first node in the list, which is processor `me`, with the first journal.
+/// Errors: `Memory`.
 fn next_cell<O: Object, K: BookName<O::Alloc>>(
     alloc: O::Alloc,
     me: Proc,
@@ -206,14 +223,14 @@ fn next_cell<O: Object, K: BookName<O::Alloc>>(
     ensures count { OnOk result (length nodes.old.items ≡ length nodes.new.items + 1) }
     ensures refused { IfErr result (λ fault. fault ≡ Memory) }
 {
-    let text = BytesMut::with_capacity(alloc, FRAME_BYTES)?;
+    let text = BytesMut::with_capacity(alloc, MAX_FRAME_BYTES)?;
     let Some(node) = nodes.pop_front() else {
         unreachable!()
     };
     let Some(journal) = writers.pop_front() else {
         unreachable!()
     };
-    // A law: no effect at run time. The proof takes from it that a node keeps the limits at its opening.
+    // A law: no effect at run time. The proof takes from it that a node is within the limits at its opening.
     node_fits_law::<O>();
     Ok(Cell {
         me,

@@ -5,60 +5,60 @@ use Rattle.std.specs.Prelude.{slice_set}
 use Rattle.std.proofs.lemmas.List.{set-append_left}
 use Rattle.std.specs.List.{AllByRecursion}
 use Rattle.ring_session.specs.declared.answer.Answer.{Answer}
-use Rattle.ring_session.specs.declared.answered.Answered.{Answered}
+use Rattle.ring_session.specs.declared.answered.TicketAnswer.{TicketAnswer}
 use Rattle.ring_book_lines.specs.declared.input.LineInput.{LineInput}
-use Rattle.ring_book_lines.specs.declared.input.LineInput.TheVariants.{Called, Came}
-use Rattle.ring_book_lines.specs.Answers.{answered_in, told_by, told_from}
+use Rattle.ring_book_lines.specs.declared.input.LineInput.TheVariants.{Submitted, Received}
+use Rattle.ring_book_lines.specs.Answers.{with_answers, answers_after_step, answers_after_steps}
 use Rattle.ring_book_lines.specs.Steps.{StepView}
 
 -- one more answer
-pub answered_in-take : {A : Type 0} (told : List (Option Answer)) (as' : List (Answered A)) (k : ℕ) (a : Answered A) → slice_get as' k ≡ Some a
-    → answered_in told (take (suc k) as') ≡ slice_set (answered_in told (take k as')) a.ticket (Some a.answer)
-answered_in-take told [] zero a h = absurd cc
-answered_in-take told [] (suc k) a h = absurd cc
-answered_in-take {A} told (x ∷ as') zero a h = let same : x ≡ a = cc in ap (λ (y : Answered A). slice_set told y.ticket (Some y.answer)) same
-answered_in-take told (x ∷ as') (suc k) a h = answered_in-take (slice_set told x.ticket (Some x.answer)) as' k a h
+pub with_answers-take : {A : Type 0} (told : List (Option Answer)) (as' : List (TicketAnswer A)) (k : ℕ) (a : TicketAnswer A) → slice_get as' k ≡ Some a
+    → with_answers told (take (suc k) as') ≡ slice_set (with_answers told (take k as')) a.ticket (Some a.answer)
+with_answers-take told [] zero a h = absurd cc
+with_answers-take told [] (suc k) a h = absurd cc
+with_answers-take {A} told (x ∷ as') zero a h = let same : x ≡ a = cc in ap (λ (y : TicketAnswer A). slice_set told y.ticket (Some y.answer)) same
+with_answers-take told (x ∷ as') (suc k) a h = with_answers-take (slice_set told x.ticket (Some x.answer)) as' k a h
 
-pub answered_in-all : {A : Type 0} (told : List (Option Answer)) (as' : List (Answered A)) (k : ℕ) → length as' ≤ k
-    → answered_in told (take k as') ≡ answered_in told as'
-answered_in-all told [] zero h = refl
-answered_in-all told [] (suc k) h = refl
-answered_in-all told (a ∷ as') zero h = absurd (omega arith)
-answered_in-all told (a ∷ as') (suc k) h = answered_in-all (slice_set told a.ticket (Some a.answer)) as' k (omega arith)
+pub with_answers-all : {A : Type 0} (told : List (Option Answer)) (as' : List (TicketAnswer A)) (k : ℕ) → length as' ≤ k
+    → with_answers told (take k as') ≡ with_answers told as'
+with_answers-all told [] zero h = refl
+with_answers-all told [] (suc k) h = refl
+with_answers-all told (a ∷ as') zero h = absurd (omega arith)
+with_answers-all told (a ∷ as') (suc k) h = with_answers-all (slice_set told a.ticket (Some a.answer)) as' k (omega arith)
 
 -- answers after others
-pub answered_in-append : {A : Type 0} (told : List (Option Answer)) (as' more : List (Answered A))
-    → answered_in told (as' ++ more) ≡ answered_in (answered_in told as') more
-answered_in-append told [] more = refl
-answered_in-append told (a ∷ as') more = answered_in-append (slice_set told a.ticket (Some a.answer)) as' more
+pub with_answers-append : {A : Type 0} (told : List (Option Answer)) (as' more : List (TicketAnswer A))
+    → with_answers told (as' ++ more) ≡ with_answers (with_answers told as') more
+with_answers-append told [] more = refl
+with_answers-append told (a ∷ as') more = with_answers-append (slice_set told a.ticket (Some a.answer)) as' more
 
 -- answers of the first tickets leave the others
-pub answered_in-left : {A : Type 0} (told others : List (Option Answer)) (as' : List (Answered A))
-    → AllByRecursion (λ (a : Answered A). a.ticket < length told) as' → answered_in (told ++ others) as' ≡ answered_in told as' ++ others
-answered_in-left told others [] h = refl
-answered_in-left {A} told others (a ∷ as') h =
+pub with_answers-left : {A : Type 0} (told others : List (Option Answer)) (as' : List (TicketAnswer A))
+    → AllByRecursion (λ (a : TicketAnswer A). a.ticket < length told) as' → with_answers (told ++ others) as' ≡ with_answers told as' ++ others
+with_answers-left told others [] h = refl
+with_answers-left {A} told others (a ∷ as') h =
     let set = slice_set told a.ticket (Some a.answer) in
-    ap (λ ts. answered_in ts as') (set-append_left told others a.ticket (Some a.answer) h.0)
-    ∙ answered_in-left set others as'
-    (subst (λ (n : ℕ). AllByRecursion (λ (b : Answered A). b.ticket < n) as') (sym (length-set told a.ticket (Some a.answer))) h.1)
+    ap (λ ts. with_answers ts as') (set-append_left told others a.ticket (Some a.answer) h.0)
+    ∙ with_answers-left set others as'
+    (subst (λ (n : ℕ). AllByRecursion (λ (b : TicketAnswer A). b.ticket < n) as') (sym (length-set told a.ticket (Some a.answer))) h.1)
 
 -- one more step
-pub told_from-snoc : {A : Type 0} (told : List (Option Answer)) (ss : List (StepView A)) (s : StepView A)
-    → told_from told (ss ++ s ∷ []) ≡ told_by (told_from told ss) s.input s.answers
-told_from-snoc told [] s = refl
-told_from-snoc told (x ∷ ss) s = told_from-snoc (told_by told x.input x.answers) ss s
+pub answers_after_steps-snoc : {A : Type 0} (told : List (Option Answer)) (ss : List (StepView A)) (s : StepView A)
+    → answers_after_steps told (ss ++ s ∷ []) ≡ answers_after_step (answers_after_steps told ss) s.input s.answers
+answers_after_steps-snoc told [] s = refl
+answers_after_steps-snoc told (x ∷ ss) s = answers_after_steps-snoc (answers_after_step told x.input x.answers) ss s
 
-pub length-answered_in : {A : Type 0} (told : List (Option Answer)) (as' : List (Answered A)) → length (answered_in told as') ≡ length told
-length-answered_in told [] = refl
-length-answered_in told (a ∷ as') = length-answered_in (slice_set told a.ticket (Some a.answer)) as' ∙ length-set told a.ticket (Some a.answer)
+pub length-with_answers : {A : Type 0} (told : List (Option Answer)) (as' : List (TicketAnswer A)) → length (with_answers told as') ≡ length told
+length-with_answers told [] = refl
+length-with_answers told (a ∷ as') = length-with_answers (slice_set told a.ticket (Some a.answer)) as' ∙ length-set told a.ticket (Some a.answer)
 
--- a step tells of at most one ticket more
-pub length-told_by : {A : Type 0} (told : List (Option Answer)) (input : LineInput A) (as' : List (Answered A))
-    → length (told_by told input as') ≤ length told + 1
-length-told_by told (Called c) as' = omega (arith, length-append told (None ∷ []))
-length-told_by told (Came i at) as' = omega (arith, length-answered_in told as')
+-- a step adds at most one ticket
+pub length-answers_after_step : {A : Type 0} (told : List (Option Answer)) (input : LineInput A) (as' : List (TicketAnswer A))
+    → length (answers_after_step told input as') ≤ length told + 1
+length-answers_after_step told (Submitted c) as' = omega (arith, length-append told (None ∷ []))
+length-answers_after_step told (Received i at) as' = omega (arith, length-with_answers told as')
 
--- an answer under a ticket that was not given is not kept
+-- an answer to a ticket that was not given is not stored
 pub set_past : {X : Type 0} (xs : List X) (i : ℕ) (x : X) → length xs ≤ i → slice_set xs i x ≡ xs
 set_past [] zero x h = refl
 set_past [] (suc i) x h = refl

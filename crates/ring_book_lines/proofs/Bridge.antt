@@ -14,44 +14,44 @@ use Rattle.ring_payload.specs.declared.call.Call.{Call}
 use Rattle.ring_session.specs.Deduplicated.{deduplicated}
 use Rattle.ring_session.specs.declared.answer.Answer.{Answer}
 use Rattle.ring_wire.specs.declared.frame.Frame.{Frame}
-use Rattle.ring_core.specs.State.{Carried, frame_at}
-use Rattle.ring_session.specs.Tickets.{Asked, asked_calls}
-use Rattle.ring_session.specs.declared.answered.Answered.{Answered}
-use Rattle.ring_rules.specs.declared.input.Input.{Input}
-use Rattle.ring_rules.specs.declared.input.Input.TheVariants.{Frame as Comes, Noise, Timeout, Stop}
-use Rattle.ring_rules.specs.Nodes.{Node, node_kept, node_opening, node_stopped}
-use Rattle.ring_rules.specs.Stepping.{NodeStepped, node_step, submit_fault, submitted}
-use Rattle.ring_rules.specs.WorldLimits.{EventFits}
-use Rattle.ring_rules.specs.Worlds.{World, world_opening, put, is_node, carried, items_of, calls_past, after_step, issued_or, issued_if}
-use Rattle.ring_rules.specs.Worlds.{stopped_if, stepped_if, handed_if, handed, happens, run}
-use Rattle.ring_rules.proofs.NodeChanges.{no_calls_past}
+use Rattle.ring_core_spec.specs.State.{Transmission, frame_at}
+use Rattle.ring_session.specs.Tickets.{TicketCall, ticket_calls}
+use Rattle.ring_session.specs.declared.answered.TicketAnswer.{TicketAnswer}
+use Rattle.ring_node_spec.specs.declared.input.Input.{Input}
+use Rattle.ring_node_spec.specs.declared.input.Input.TheVariants.{Frame as Comes, Noise, Timeout, Stop}
+use Rattle.ring_node_spec.specs.Nodes.{Node, node_known_log, node_opening, node_stopped}
+use Rattle.ring_node_spec.specs.Stepping.{NodeStepResult, node_step, submit_fault, submitted}
+use Rattle.ring_node_spec.specs.WorldLimits.{EventFits}
+use Rattle.ring_node_spec.specs.Worlds.{World, world_opening, put, is_node, carried_frames, items_of, calls_past, after_step, issued_or, issued_if}
+use Rattle.ring_node_spec.specs.Worlds.{stopped_if, stepped_if, handed_if, handed, happens, run}
+use Rattle.ring_node_spec.proofs.NodeChanges.{no_calls_past}
 use Rattle.ring_order_proof.specs.Linear.{EventKeeps}
 use Rattle.ring_book_lines.specs.declared.frame_ref.FrameRef.{FrameRef}
 use Rattle.ring_book_lines.specs.declared.input.LineInput.{LineInput}
-use Rattle.ring_book_lines.specs.declared.input.LineInput.TheVariants.{Called, Came}
-use Rattle.ring_book_lines.specs.Answers.{told_by, told_from, told_to}
+use Rattle.ring_book_lines.specs.declared.input.LineInput.TheVariants.{Submitted, Received}
+use Rattle.ring_book_lines.specs.Answers.{answers_after_step, answers_after_steps, answers_of_node}
 use Rattle.ring_book_lines.specs.Events.{answers_of, frames_of, frame_number, event_of, events_after}
 use Rattle.ring_book_lines.specs.Events.{events_of, items_in, history_of, IsDone, AreDone, IsRun}
-use Rattle.ring_book_lines.specs.Lines.{steps_of, IsFound}
-use Rattle.ring_book_lines.specs.Logs.{places_after, places_of}
+use Rattle.ring_book_lines.specs.Lines.{steps_of, IsDeliverable}
+use Rattle.ring_book_lines.specs.Logs.{places_after, committed_places_of}
 use Rattle.ring_book_lines.specs.Machines.{Machine, node_machine}
 use Rattle.ring_book_lines.specs.Orders.{call_in, calls_of}
-use Rattle.ring_book_lines.specs.Runs.{LineFits, Makes, IsStep, Leads, AllFound, IsInside, IsBookRun}
+use Rattle.ring_book_lines.specs.Runs.{LineFits, Makes, IsStep, Leads, AreDeliverable, IsInside, IsBookRun}
 use Rattle.ring_book_lines.specs.Steps.{StepView, LineView}
 use Rattle.ring_book_lines.proofs.Given.{HasOwn, step-adds, answers_of-stepped, answers_of-submitted, own-stepped, own-submitted}
-use Rattle.ring_order_proof.proofs.LongestCommitted.{born-known, within-longest, taken-longest, order-longest}
-use Rattle.ring_order_proof.proofs.Orderly.{run-more}
+use Rattle.ring_order_proof.proofs.LongestCommitted.{epochs_opening-known, within-longest, taken-longest, order-longest}
+use Rattle.ring_order_proof.proofs.ConsistentRuns.{run-more}
 use Rattle.ring_book_lines.proofs.Leading.{leads_one, steps_of-own, steps_of-other, steps_of-first, steps_of-skip}
 use Rattle.ring_book_lines.proofs.Logging.{IsLogged, logged-next}
 use Rattle.ring_book_lines.proofs.FramesInLines.{number_stands}
-use Rattle.ring_book_lines.proofs.AnswersByTicket.{told_from-snoc}
+use Rattle.ring_book_lines.proofs.AnswersByTicket.{answers_after_steps-snoc}
 
 -- ---- lists of lines with one more
 
-frames_of-snoc : {A : Type 0} (ls : List (LineView A)) (l : LineView A) → frames_of (ls ++ l ∷ []) ≡ frames_of ls ++ carried l.step.node l.step.frames
-frames_of-snoc [] l = append-nil (carried l.step.node l.step.frames)
-frames_of-snoc (x ∷ ls) l = ap (λ ys. carried x.step.node x.step.frames ++ ys) (frames_of-snoc ls l)
-    ∙ sym (append_assoc (carried x.step.node x.step.frames) (frames_of ls) (carried l.step.node l.step.frames))
+frames_of-snoc : {A : Type 0} (ls : List (LineView A)) (l : LineView A) → frames_of (ls ++ l ∷ []) ≡ frames_of ls ++ carried_frames l.step.node l.step.frames
+frames_of-snoc [] l = append-nil (carried_frames l.step.node l.step.frames)
+frames_of-snoc (x ∷ ls) l = ap (λ ys. carried_frames x.step.node x.step.frames ++ ys) (frames_of-snoc ls l)
+    ∙ sym (append_assoc (carried_frames x.step.node x.step.frames) (frames_of ls) (carried_frames l.step.node l.step.frames))
 
 history_of-snoc : {A : Type 0} (ls : List (LineView A)) (l : LineView A) → history_of (ls ++ l ∷ []) ≡ history_of ls ++ items_in l.step.input l.step.answers
 history_of-snoc [] l = append-nil (items_in l.step.input l.step.answers)
@@ -74,20 +74,20 @@ after-snoc before (x ∷ ls) l =
     (after-snoc (before ++ x ∷ []) ls l
     ∙ ap (λ (xs : List (LineView _)). events_after (before ++ x ∷ []) ls ++ event_of xs l.step.node l.step.input ∷ []) (append_assoc before (x ∷ []) ls))
 
--- what comes keeps the limits
+-- the input is within the limits
 event-fits : {A : Type 0} (before : List (LineView A)) (node : ℕ) (input : LineInput A) → LineFits input → EventFits (event_of before node input)
-event-fits before node (Called c) h = h.fits
-event-fits before node (Came (Comes f) at) h = tt
-event-fits before node (Came Noise at) h = tt
-event-fits before node (Came (Timeout kind) at) h = tt
-event-fits before node (Came Stop at) h = tt
+event-fits before node (Submitted c) h = h.fits
+event-fits before node (Received (Comes f) at) h = tt
+event-fits before node (Received Noise at) h = tt
+event-fits before node (Received (Timeout kind) at) h = tt
+event-fits before node (Received Stop at) h = tt
 
 event-keeps : {A : Type 0} (before : List (LineView A)) (node : ℕ) (input : LineInput A) → LineFits input → EventKeeps (event_of before node input)
-event-keeps before node (Called c) h = h
-event-keeps before node (Came (Comes f) at) h = tt
-event-keeps before node (Came Noise at) h = tt
-event-keeps before node (Came (Timeout kind) at) h = tt
-event-keeps before node (Came Stop at) h = tt
+event-keeps before node (Submitted c) h = h
+event-keeps before node (Received (Comes f) at) h = tt
+event-keeps before node (Received Noise at) h = tt
+event-keeps before node (Received (Timeout kind) at) h = tt
+event-keeps before node (Received Stop at) h = tt
 
 module _ {O A : Type 0} (object : Sequential O) (group : Group) where
   abbrev machine : Machine (Node A) A
@@ -95,14 +95,14 @@ module _ {O A : Type 0} (object : Sequential O) (group : Group) where
 
   -- ---- one line
 
-  -- what a line makes of the world
+  -- the effect of a line on the world
   pub record IsNext (w after : World A) (node : ℕ) (input : LineInput A) (l : StepView A) (u : Node A) : Type 0 where
     pub group_is : after.group ≡ w.group
     pub own : after.nodes node ≡ u
     pub others : (i : ℕ) → (i == node) ≡ false → after.nodes i ≡ w.nodes i
-    pub frames : after.frames ≡ w.frames ++ carried node l.frames
+    pub frames : after.frames ≡ w.frames ++ carried_frames node l.frames
     pub history : after.history ≡ w.history ++ items_in input l.answers
-    pub longest : after.longest ≡ w.longest ++ calls_past (length w.longest) (node_kept u).committed l.calls
+    pub longest : after.longest ≡ w.longest ++ calls_past (length w.longest) (node_known_log u).committed l.calls
 
   put-own : (w : World A) (node : ℕ) (n : Node A) → put w.nodes node n node ≡ n
   put-own w node n = cond-true (node == node) n (w.nodes node) (eq-eqb node node refl)
@@ -114,41 +114,41 @@ module _ {O A : Type 0} (object : Sequential O) (group : Group) where
   issued_in w node c = issued_or None w node c
 
   next_issued : (w after : World A) (node : ℕ) (c : Call A) (l : StepView A) (u : Node A) → after ≡ issued_in w node c → u ≡ submitted (w.nodes node) c
-      → l.frames ≡ [] → l.calls ≡ [] → IsNext w after node (Called c) l u
+      → l.frames ≡ [] → l.calls ≡ [] → IsNext w after node (Submitted c) l u
   next_issued w after node c l u e new none same = record {
     group_is = ap (λ x. x.group) e;
     own = ap (λ (x : World A). x.nodes node) e ∙ (put-own w node (submitted (w.nodes node) c) ∙ sym new);
     others = λ i apart. ap (λ (x : World A). x.nodes i) e ∙ put-other w node (submitted (w.nodes node) c) i apart;
-    frames = ap (λ x. x.frames) e ∙ (sym (append-nil w.frames) ∙ ap (λ fs. w.frames ++ carried node fs) (sym none));
+    frames = ap (λ x. x.frames) e ∙ (sym (append-nil w.frames) ∙ ap (λ fs. w.frames ++ carried_frames node fs) (sym none));
     history = ap (λ x. x.history) e;
-    longest = ap (λ x. x.longest) e ∙ sym (no_calls_past w.longest (node_kept u).committed l.calls same);
+    longest = ap (λ x. x.longest) e ∙ sym (no_calls_past w.longest (node_known_log u).committed l.calls same);
   }
 
-  next_done : (w after : World A) (node : ℕ) (input : Input A) (at : FrameRef) (l : StepView A) (u : Node A) (d : NodeStepped A) → after.group ≡ w.group
-      → after.nodes ≡ put w.nodes node d.node → after.frames ≡ w.frames ++ carried node d.sends → after.history ≡ w.history ++ items_of d.answers
-      → after.longest ≡ w.longest ++ calls_past (length w.longest) (node_kept d.node).committed d.committed
-      → u ≡ d.node → l.frames ≡ d.sends → l.answers ≡ d.answers → l.calls ≡ d.committed → IsNext w after node (Came input at) l u
+  next_done : (w after : World A) (node : ℕ) (input : Input A) (at : FrameRef) (l : StepView A) (u : Node A) (d : NodeStepResult A) → after.group ≡ w.group
+      → after.nodes ≡ put w.nodes node d.node → after.frames ≡ w.frames ++ carried_frames node d.sends → after.history ≡ w.history ++ items_of d.answers
+      → after.longest ≡ w.longest ++ calls_past (length w.longest) (node_known_log d.node).committed d.committed
+      → u ≡ d.node → l.frames ≡ d.sends → l.answers ≡ d.answers → l.calls ≡ d.committed → IsNext w after node (Received input at) l u
   next_done w after node input at l u d same nodes frames history longest new sent told calls = record {
     group_is = same;
     own = ap (λ (f : ℕ → Node A). f node) nodes ∙ (put-own w node d.node ∙ sym new);
     others = λ i apart. ap (λ (f : ℕ → Node A). f i) nodes ∙ put-other w node d.node i apart;
-    frames = frames ∙ ap (λ fs. w.frames ++ carried node fs) (sym sent);
+    frames = frames ∙ ap (λ fs. w.frames ++ carried_frames node fs) (sym sent);
     history = history ∙ ap (λ (as' : List _). w.history ++ items_of as') (sym told);
     longest = longest
-        ∙ (ap (λ (n : Node A). w.longest ++ calls_past (length w.longest) (node_kept n).committed d.committed) (sym new)
-        ∙ ap (λ (cs : List (Call A)). w.longest ++ calls_past (length w.longest) (node_kept u).committed cs) (sym calls));
+        ∙ (ap (λ (n : Node A). w.longest ++ calls_past (length w.longest) (node_known_log n).committed d.committed) (sym new)
+        ∙ ap (λ (cs : List (Call A)). w.longest ++ calls_past (length w.longest) (node_known_log u).committed cs) (sym calls));
   }
 
-  -- the frame that comes was sent in the world
-  comes : (o : Option (Carried A)) (w : World A) (node : ℕ) (f : Frame A) (s : Carried A) → o ≡ Some s → s.frame ≡ f → has s.to node ≡ true
+  -- the delivered frame was sent in the world
+  comes : (o : Option (Transmission A)) (w : World A) (node : ℕ) (f : Frame A) (s : Transmission A) → o ≡ Some s → s.frame ≡ f → has s.to node ≡ true
       → is_node w node ≡ true
       → (handed object w node o ≡ after_step w node (node_step object (w.nodes node) (Comes f)))
-      × IsSomeAnd o (λ (x : Carried A). (x.frame ≡ f) × (has x.to node ≡ true))
+      × IsSomeAnd o (λ (x : Transmission A). (x.frame ≡ f) × (has x.to node ≡ true))
   comes None w node f s e is to known = absurd cc
   comes (Some x) w node f s e is to known =
       let one : x ≡ s = cc in
-      let frame : x.frame ≡ f = ap (λ (y : Carried A). y.frame) one ∙ is in
-      let goes : has x.to node ≡ true = ap (λ (y : Carried A). has y.to node) one ∙ to in (
+      let frame : x.frame ≡ f = ap (λ (y : Transmission A). y.frame) one ∙ is in
+      let goes : has x.to node ≡ true = ap (λ (y : Transmission A). has y.to node) one ∙ to in (
         ap (λ (b : Bool). handed_if object b w node x.frame) goes ∙ (ap (λ (b : Bool). stepped_if object b w node (Comes x.frame)) known
             ∙ ap (λ (g : Frame A). after_step w node (node_step object (w.nodes node) (Comes g))) frame),
         (frame, goes),
@@ -165,111 +165,111 @@ module _ {O A : Type 0} (object : Sequential O) (group : Group) where
   -- a line of a book run is a line of the run
   follows : (w : World A) (before : List (LineView A)) (node : ℕ) (input : LineInput A) (l : StepView A) (u : Node A) → is_node w node ≡ true
       → w.frames ≡ frames_of before
-      → Makes machine (w.nodes node) input l u → IsFound before node input → Follows w before node input l u
-  follows w before node (Called c) l u known e made found = record {
+      → Makes machine (w.nodes node) input l u → IsDeliverable before node input → Follows w before node input l u
+  follows w before node (Submitted c) l u known e made found = record {
     done = (made.0, made.2, made.3, made.4);
-    next = next_issued w (happens object w (event_of before node (Called c))) node c l u
+    next = next_issued w (happens object w (event_of before node (Submitted c))) node c l u
         (ap (λ (b : Bool). issued_if b w node c) known ∙ issues (submit_fault (w.nodes node)) w node c made.0) made.1 made.2 made.4;
   }
-  follows w before node (Came (Comes f) at) l u known e made found =
+  follows w before node (Received (Comes f) at) l u known e made found =
       let d = node_step object (w.nodes node) (Comes f) in
       let t = number_stands before at node f found in
-      let at_there : frame_at w.frames (frame_number before at) ≡ Some t.0 = ap (λ (fs : List (Carried A)). frame_at fs (frame_number before at)) e ∙ t.1.0 in
+      let at_there : frame_at w.frames (frame_number before at) ≡ Some t.0 = ap (λ (fs : List (Transmission A)). frame_at fs (frame_number before at)) e ∙ t.1.0 in
       let c = comes (frame_at w.frames (frame_number before at)) w node f t.0 at_there t.1.1.0 t.1.1.1 known in
       record {
         done = (made.0, made.2, made.3, made.4, c.1);
-        next = next_done w (happens object w (event_of before node (Came (Comes f) at))) node (Comes f) at l u d
+        next = next_done w (happens object w (event_of before node (Received (Comes f) at))) node (Comes f) at l u d
             (ap (λ (x : World A). x.group) c.0) (ap (λ (x : World A). x.nodes) c.0) (ap (λ (x : World A). x.frames) c.0) (ap (λ (x : World A). x.history) c.0)
             (ap (λ (x : World A). x.longest) c.0) made.1 made.2 made.3 made.4;
       }
-  follows w before node (Came Noise at) l u known e made found = record {
+  follows w before node (Received Noise at) l u known e made found = record {
     done = (made.0, made.2, made.3, made.4, tt);
     next = record {
       group_is = refl;
       own = sym made.1;
       others = λ i apart. refl;
-      frames = sym (append-nil w.frames) ∙ ap (λ fs. w.frames ++ carried node fs) (sym made.2);
-      history = sym (append-nil w.history) ∙ ap (λ (as' : List (Answered A)). w.history ++ items_of as') (sym made.3);
-      longest = sym (no_calls_past w.longest (node_kept u).committed l.calls made.4);
+      frames = sym (append-nil w.frames) ∙ ap (λ fs. w.frames ++ carried_frames node fs) (sym made.2);
+      history = sym (append-nil w.history) ∙ ap (λ (as' : List (TicketAnswer A)). w.history ++ items_of as') (sym made.3);
+      longest = sym (no_calls_past w.longest (node_known_log u).committed l.calls made.4);
     };
   }
-  follows w before node (Came (Timeout kind) at) l u known e made found =
+  follows w before node (Received (Timeout kind) at) l u known e made found =
       let d = node_step object (w.nodes node) (Timeout kind) in
-      let is : happens object w (event_of before node (Came (Timeout kind) at)) ≡ after_step w node d =
+      let is : happens object w (event_of before node (Received (Timeout kind) at)) ≡ after_step w node d =
       ap (λ (b : Bool). stepped_if object b w node (Timeout kind)) known in
       record {
         done = (made.0, made.2, made.3, made.4, tt);
-        next = next_done w (happens object w (event_of before node (Came (Timeout kind) at))) node (Timeout kind) at l u d
+        next = next_done w (happens object w (event_of before node (Received (Timeout kind) at))) node (Timeout kind) at l u d
             (ap (λ (x : World A). x.group) is) (ap (λ (x : World A). x.nodes) is) (ap (λ (x : World A). x.frames) is) (ap (λ (x : World A). x.history) is)
             (ap (λ (x : World A). x.longest) is) made.1 made.2 made.3 made.4;
       }
-  follows w before node (Came Stop at) l u known e made found =
+  follows w before node (Received Stop at) l u known e made found =
       let n = node_stopped (w.nodes node) in
-      let is : happens object w (event_of before node (Came Stop at)) ≡ record w { nodes = put w.nodes node n } =
+      let is : happens object w (event_of before node (Received Stop at)) ≡ record w { nodes = put w.nodes node n } =
       ap (λ (b : Bool). stopped_if b w node) known in
       record {
         done = (made.0, made.2, made.3, made.4, tt);
-        next = next_done w (happens object w (event_of before node (Came Stop at))) node Stop at l u (node_step object (w.nodes node) Stop)
+        next = next_done w (happens object w (event_of before node (Received Stop at))) node Stop at l u (node_step object (w.nodes node) Stop)
             (ap (λ (x : World A). x.group) is) (ap (λ (x : World A). x.nodes) is) (ap (λ (x : World A). x.frames) is ∙ sym (append-nil w.frames))
             (ap (λ (x : World A). x.history) is ∙ sym (append-nil w.history))
-            (ap (λ (x : World A). x.longest) is ∙ sym (no_calls_past w.longest (node_kept n).committed [] refl)) made.1 made.2 made.3 made.4;
+            (ap (λ (x : World A). x.longest) is ∙ sym (no_calls_past w.longest (node_known_log n).committed [] refl)) made.1 made.2 made.3 made.4;
       }
 
-  -- ---- what the lines say of the world after them
+  -- ---- the world after the lines
 
   pub record Says (w : World A) (before : List (LineView A)) : Type 0 where
     pub group_is : w.group ≡ group
     pub frames : w.frames ≡ frames_of before
     pub history : w.history ≡ history_of before
-    pub calls : (i : ℕ) → asked_calls (w.nodes i).tickets ≡ calls_of (steps_of i before)
-    pub answers : (i : ℕ) → answers_of (w.nodes i) ≡ told_to i before
+    pub calls : (i : ℕ) → ticket_calls (w.nodes i).tickets ≡ calls_of (steps_of i before)
+    pub answers : (i : ℕ) → answers_of (w.nodes i) ≡ answers_of_node i before
     pub own : (i : ℕ) → HasOwn (w.nodes i)
-    pub committed : (i : ℕ) → (node_kept (w.nodes i)).committed ≡ places_of i before
+    pub committed : (i : ℕ) → (node_known_log (w.nodes i)).committed ≡ committed_places_of i before
     pub logged : IsLogged before w.longest
 
-  -- what a step makes of a node's calls and answers
+  -- the effect of a step on a node's calls and answers
   record Makes3 (n u : Node A) (input : LineInput A) (l : StepView A) : Type 0 where
-    calls : asked_calls u.tickets ≡ asked_calls n.tickets ++ call_in input
-    answers : answers_of u ≡ told_by (answers_of n) input l.answers
+    calls : ticket_calls u.tickets ≡ ticket_calls n.tickets ++ call_in input
+    answers : answers_of u ≡ answers_after_step (answers_of n) input l.answers
     own : HasOwn u
 
   makes3 : (n u : Node A) (input : LineInput A) (l : StepView A) → Makes machine n input l u → HasOwn n → Makes3 n u input l
-  makes3 n u (Called c) l made own = record {
-    calls = ap (λ (x : Node A). asked_calls x.tickets) made.1
-        ∙ map-append (λ (t : Asked A). t.call) n.tickets (record { call = c; since = length n.done } ∷ []);
+  makes3 n u (Submitted c) l made own = record {
+    calls = ap (λ (x : Node A). ticket_calls x.tickets) made.1
+        ∙ map-append (λ (t : TicketCall A). t.call) n.tickets (record { call = c; since = length n.done } ∷ []);
     answers = ap (λ (x : Node A). answers_of x) made.1 ∙ answers_of-submitted n c own;
     own = subst (λ (x : Node A). HasOwn x) (sym made.1) (own-submitted n c own);
   }
-  makes3 n u (Came input at) l made own =
+  makes3 n u (Received input at) l made own =
       let d = node_step object n input in
       let adds = step-adds object n input in
       record {
-        calls = ap (λ (x : Node A). asked_calls x.tickets) made.1 ∙ (ap asked_calls adds.tickets ∙ sym (append-nil (asked_calls n.tickets)));
+        calls = ap (λ (x : Node A). ticket_calls x.tickets) made.1 ∙ (ap ticket_calls adds.tickets ∙ sym (append-nil (ticket_calls n.tickets)));
         answers = ap (λ (x : Node A). answers_of x) made.1
-            ∙ (answers_of-stepped n d adds ∙ ap (λ (as' : List (Answered A)). told_by (answers_of n) (Came input at) as') (sym made.3));
+            ∙ (answers_of-stepped n d adds ∙ ap (λ (as' : List (TicketAnswer A)). answers_after_step (answers_of n) (Received input at) as') (sym made.3));
         own = subst (λ (x : Node A). HasOwn x) (sym made.1) (own-stepped n d adds own);
       }
 
-  -- after one line more, whose node has committed no more than there is
+  -- after one more line, whose node has committed no more than there is
   says-next : (w after : World A) (before : List (LineView A)) (l : LineView A) (u : Node A) → Says w before
       → IsStep machine (w.nodes l.step.node) l.step u → IsNext w after l.step.node l.step.input l.step u
-      → (node_kept (after.nodes l.step.node)).committed ≤ length after.longest → Says after (before ++ l ∷ [])
+      → (node_known_log (after.nodes l.step.node)).committed ≤ length after.longest → Says after (before ++ l ∷ [])
   says-next w after before l u says step next within =
       let node = l.step.node in
       let m = makes3 (w.nodes node) u l.step.input l.step step.makes (says.own node) in
       record {
         group_is = next.group_is ∙ says.group_is;
-        frames = next.frames ∙ (ap (λ xs. xs ++ carried node l.step.frames) says.frames ∙ sym (frames_of-snoc before l));
+        frames = next.frames ∙ (ap (λ xs. xs ++ carried_frames node l.step.frames) says.frames ∙ sym (frames_of-snoc before l));
         history = next.history ∙ (ap (λ xs. xs ++ items_in l.step.input l.step.answers) says.history ∙ sym (history_of-snoc before l));
         calls = λ i. elim (cases_Bool (i == node)) [
           | inl t ↦ own-calls i (eqb-true i node t) m
-          | inr f ↦ ap (λ (x : Node A). asked_calls x.tickets) (next.others i f)
+          | inr f ↦ ap (λ (x : Node A). ticket_calls x.tickets) (next.others i f)
               ∙ (says.calls i ∙ sym (ap calls_of (steps_of-other i before l (apart-sym i node f))))
         ];
         answers = λ i. elim (cases_Bool (i == node)) [
           | inl t ↦ own-answers i (eqb-true i node t) m
           | inr f ↦ ap (λ (x : Node A). answers_of x) (next.others i f)
-              ∙ (says.answers i ∙ sym (ap (told_from []) (steps_of-other i before l (apart-sym i node f))))
+              ∙ (says.answers i ∙ sym (ap (answers_after_steps []) (steps_of-other i before l (apart-sym i node f))))
         ];
         own = λ i. elim (cases_Bool (i == node)) [
           | inl t ↦ subst (λ k. HasOwn (after.nodes k)) (sym (eqb-true i node t)) (subst (λ (x : Node A). HasOwn x) (sym next.own) m.own)
@@ -277,42 +277,42 @@ module _ {O A : Type 0} (object : Sequential O) (group : Group) where
         ];
         committed = λ i. elim (cases_Bool (i == node)) [
           | inl t ↦ own-committed i (eqb-true i node t)
-          | inr f ↦ ap (λ (x : Node A). (node_kept x).committed) (next.others i f)
+          | inr f ↦ ap (λ (x : Node A). (node_known_log x).committed) (next.others i f)
               ∙ (says.committed i ∙ sym (ap (places_after 0) (steps_of-other i before l (apart-sym i node f))))
         ];
-        logged = subst (IsLogged (before ++ l ∷ [])) (sym longer) (logged-next before l w.longest says.logged
-            (omega (arith, within, step.committed, ap (λ (x : Node A). (node_kept x).committed) next.own, ap length longer)));
+        logged = subst (IsLogged (before ++ l ∷ [])) (sym longer_list) (logged-next before l w.longest says.logged
+            (omega (arith, within, step.committed, ap (λ (x : Node A). (node_known_log x).committed) next.own, ap length longer_list)));
       }
     where
       apart-sym : (i node : ℕ) → (i == node) ≡ false → (node == i) ≡ false
       apart-sym i node f = grind (arith, nat_tests, f)
 
       own-calls : (i : ℕ) → i ≡ l.step.node → Makes3 (w.nodes l.step.node) u l.step.input l.step
-          → asked_calls (after.nodes i).tickets ≡ calls_of (steps_of i (before ++ l ∷ []))
+          → ticket_calls (after.nodes i).tickets ≡ calls_of (steps_of i (before ++ l ∷ []))
       own-calls i e m =
-          ap (λ (k : ℕ). asked_calls (after.nodes k).tickets) e
-          ∙ (ap (λ (x : Node A). asked_calls x.tickets) next.own ∙ (m.calls ∙ (ap (λ xs. xs ++ call_in l.step.input) (says.calls l.step.node)
+          ap (λ (k : ℕ). ticket_calls (after.nodes k).tickets) e
+          ∙ (ap (λ (x : Node A). ticket_calls x.tickets) next.own ∙ (m.calls ∙ (ap (λ xs. xs ++ call_in l.step.input) (says.calls l.step.node)
           ∙ (sym (calls_of-snoc (steps_of l.step.node before) l.step) ∙ (sym (ap calls_of (steps_of-own l.step.node before l refl))
           ∙ ap (λ (k : ℕ). calls_of (steps_of k (before ++ l ∷ []))) (sym e))))))
 
       own-answers : (i : ℕ) → i ≡ l.step.node → Makes3 (w.nodes l.step.node) u l.step.input l.step
-          → answers_of (after.nodes i) ≡ told_to i (before ++ l ∷ [])
+          → answers_of (after.nodes i) ≡ answers_of_node i (before ++ l ∷ [])
       own-answers i e m =
           ap (λ (k : ℕ). answers_of (after.nodes k)) e
           ∙ (ap (λ (x : Node A). answers_of x) next.own
-          ∙ (m.answers ∙ (ap (λ (xs : List (Option Answer)). told_by xs l.step.input l.step.answers) (says.answers l.step.node)
-          ∙ (sym (told_from-snoc [] (steps_of l.step.node before) l.step) ∙ (sym (ap (told_from []) (steps_of-own l.step.node before l refl))
-          ∙ ap (λ (k : ℕ). told_to k (before ++ l ∷ [])) (sym e))))))
+          ∙ (m.answers ∙ (ap (λ (xs : List (Option Answer)). answers_after_step xs l.step.input l.step.answers) (says.answers l.step.node)
+          ∙ (sym (answers_after_steps-snoc [] (steps_of l.step.node before) l.step) ∙ (sym (ap (answers_after_steps []) (steps_of-own l.step.node before l refl))
+          ∙ ap (λ (k : ℕ). answers_of_node k (before ++ l ∷ [])) (sym e))))))
 
-      own-committed : (i : ℕ) → i ≡ l.step.node → (node_kept (after.nodes i)).committed ≡ places_of i (before ++ l ∷ [])
+      own-committed : (i : ℕ) → i ≡ l.step.node → (node_known_log (after.nodes i)).committed ≡ committed_places_of i (before ++ l ∷ [])
       own-committed i e =
-          ap (λ (k : ℕ). (node_kept (after.nodes k)).committed) e
-          ∙ (ap (λ (x : Node A). (node_kept x).committed) next.own
+          ap (λ (k : ℕ). (node_known_log (after.nodes k)).committed) e
+          ∙ (ap (λ (x : Node A). (node_known_log x).committed) next.own
           ∙ (sym step.committed ∙ (sym (places_after-snoc 0 (steps_of l.step.node before) l.step)
-          ∙ (sym (ap (places_after 0) (steps_of-own l.step.node before l refl)) ∙ ap (λ (k : ℕ). places_of k (before ++ l ∷ [])) (sym e)))))
+          ∙ (sym (ap (places_after 0) (steps_of-own l.step.node before l refl)) ∙ ap (λ (k : ℕ). committed_places_of k (before ++ l ∷ [])) (sym e)))))
 
-      longer : after.longest ≡ w.longest ++ calls_past (length w.longest) l.step.committed l.step.calls
-      longer = next.longest ∙ ap (λ (n : ℕ). w.longest ++ calls_past (length w.longest) n l.step.calls) (sym step.committed)
+      longer_list : after.longest ≡ w.longest ++ calls_past (length w.longest) l.step.committed l.step.calls
+      longer_list = next.longest ∙ ap (λ (n : ℕ). w.longest ++ calls_past (length w.longest) n l.step.calls) (sym step.committed)
 
 -- ---- the whole run
 
@@ -332,7 +332,7 @@ module _ {O A : Type 0} (object : Sequential O) (group : Group) (few : group.cou
   is-known : (w : World A) (i : ℕ) → w.group ≡ group → 1 ≤ i → i ≤ group.count → is_node w i ≡ true
   is-known w i e low high = and_from _ _ (le-leb 1 i low) (le-leb i w.group.count (omega (arith, high, ap (λ (g : Group). g.count) e)))
 
-  -- each node's steps lead on from this world
+  -- each node's steps continue from this world
   abbrev Lead : World A → List (LineView A) → Type 0
   Lead w ls = (i : ℕ) → 1 ≤ i → i ≤ group.count → (t : Node A) × Leads m (w.nodes i) (steps_of i ls) t
 
@@ -387,7 +387,7 @@ module _ {O A : Type 0} (object : Sequential O) (group : Group) (few : group.cou
         (subst (λ (x : Node A). Leads m x (steps_of i ls) (last.nodes i)) (next.others i f) (rest i low high))
   ]
 
-  ran : (before ls : List (LineView A)) → Says object group (world before) before → Lead (world before) ls → Each (IsInside group.count) ls → AllFound before ls
+  ran : (before ls : List (LineView A)) → Says object group (world before) before → Lead (world before) ls → Each (IsInside group.count) ls → AreDeliverable before ls
       → Ran before ls
   ran before [] says lead inside found =
       let e : before ++ [] ≡ before = append-nil before in
@@ -409,7 +409,7 @@ module _ {O A : Type 0} (object : Sequential O) (group : Group) (few : group.cou
       let step = h.1.1.0 in
       let f = follows object group w before l.step.node l.step.input l.step u (is-known w l.step.node says.group_is low high) says.frames step.makes found.0 in
       let more = world-more before l in
-      let within = subst (λ (x : World A). (node_kept (x.nodes l.step.node)).committed ≤ length x.longest) more
+      let within = subst (λ (x : World A). (node_known_log (x.nodes l.step.node)).committed ≤ length x.longest) more
       (within-longest object group few (events_of (before ++ l ∷ [])) l.step.node low high) in
       let says' = says-next object group w after before l u says step f.next within in
       let lead' = rest-leads w after l ls u f.next (h.0, h.1.1.1) lead in
@@ -434,7 +434,7 @@ module _ {O A : Type 0} (object : Sequential O) (group : Group) (few : group.cou
     calls = λ i. refl;
     answers = λ i. refl;
     own = λ i. tt;
-    committed = λ i. born-known A group i;
+    committed = λ i. epochs_opening-known A group i;
     logged = record { below = tt; total = refl; calls_are = refl };
   }
 
@@ -457,7 +457,7 @@ module _ {O A : Type 0} (object : Sequential O) (group : Group) (few : group.cou
         answers = λ i low high. n.says.answers i;
         committed = λ i low high.
             taken-longest object group few (events_of lines) i low high
-            ∙ (ap (λ (k : ℕ). take k w.longest) (n.says.committed i) ∙ ap (take (places_of i lines)) log);
+            ∙ (ap (λ (k : ℕ). take k w.longest) (n.says.committed i) ∙ ap (take (committed_places_of i lines)) log);
       }
 
   pub node_is : (lines : List (LineView A)) (i : ℕ) (t : Node A) → IsBookRun m group.count lines → 1 ≤ i → i ≤ group.count

@@ -1,4 +1,4 @@
--- What a node's step and submit add to the answers of its tickets.
+-- The answers that a node's step or submit adds to its tickets.
 use Rattle.std.proofs.Common.{◌≡◌, ℕ, ◌+◌, ◌<◌, ◌≤◌, Bool, true, false, List, [], ◌∷◌, ◌++◌, length}
 use Rattle.std.proofs.Common.{Option, None, refl, ap, sym, subst, ◌∙◌, arith, append-nil, length-append, if◌then◌else◌}
 use Rattle.std.specs.Prelude.{replicate, ◌&&◌}
@@ -8,53 +8,53 @@ use Rattle.std.proofs.lemmas.List.{length-replicate, replicate-append-replicate}
 use Rattle.ring_object.specs.Operations.{Sequential}
 use Rattle.ring_payload.specs.declared.call.Call.{Call}
 use Rattle.ring_session.specs.declared.answer.Answer.{Answer}
-use Rattle.ring_core.specs.State.{Stepped}
-use Rattle.ring_core.specs.Stepping.{ring_step}
-use Rattle.ring_core.specs.declared.input.Input.TheVariants.{Frame as CoreFrame, Timeout as CoreTimeout}
-use Rattle.ring_core.specs.declared.out.Out.{Out}
-use Rattle.ring_log.specs.Kept.{Kept, kept_of, log_kept, is_kept_sound}
+use Rattle.ring_core_spec.specs.State.{StepResult}
+use Rattle.ring_core_spec.specs.Stepping.{ring_step}
+use Rattle.ring_core_spec.specs.declared.input.Input.TheVariants.{Frame as CoreFrame, Timeout as CoreTimeout}
+use Rattle.ring_core_spec.specs.declared.out.Out.{Out}
+use Rattle.ring_log.specs.KnownLog.{KnownLog, known_log_of, retained_log, is_known_log_sound}
 use Rattle.ring_log.specs.Logs.{committed_calls}
 use Rattle.ring_session.specs.Table.{Table, table_answer, table_next}
-use Rattle.ring_session.specs.Tickets.{Asked, answers_after, answers_at, is_place, place_of}
-use Rattle.ring_session.specs.declared.answered.Answered.{Answered}
-use Rattle.ring_rules.specs.Dues.{due_by}
-use Rattle.ring_rules.specs.Lives.{lived_through}
-use Rattle.ring_rules.specs.Nodes.{Node, node_kept, node_stopped, is_closed, is_restored}
-use Rattle.ring_rules.specs.declared.input.Input.{Input}
-use Rattle.ring_rules.specs.declared.input.Input.TheVariants.{Frame as FrameInput, Noise as NoiseInput, Timeout as TimeInput, Stop as StopInput}
-use Rattle.ring_rules.specs.Stepping.{NodeStepped, quiet, with_dropped, newly, drops, ended, table_since, did, settled, walked, after_core, node_step, submitted}
-use Rattle.ring_book_lines.specs.Answers.{answered_in, by_ticket}
+use Rattle.ring_session.specs.Tickets.{TicketCall, answers_after, answers_at, is_place, place_of}
+use Rattle.ring_session.specs.declared.answered.TicketAnswer.{TicketAnswer}
+use Rattle.ring_node_spec.specs.DueSends.{due_by}
+use Rattle.ring_node_spec.specs.EpochHistories.{epochs_after}
+use Rattle.ring_node_spec.specs.Nodes.{Node, node_known_log, node_stopped, is_closed, is_restored}
+use Rattle.ring_node_spec.specs.declared.input.Input.{Input}
+use Rattle.ring_node_spec.specs.declared.input.Input.TheVariants.{Frame as FrameInput, Noise as NoiseInput, Timeout as TimeInput, Stop as StopInput}
+use Rattle.ring_node_spec.specs.Stepping.{NodeStepResult, empty_step, with_dropped, newly_committed, drops, ended, table_since, did, settled, node_after_outputs, after_core, node_step, submitted}
+use Rattle.ring_book_lines.specs.Answers.{with_answers, answers_by_ticket}
 use Rattle.ring_book_lines.specs.Events.{answers_of}
-use Rattle.ring_book_lines.proofs.AnswersByTicket.{answered_in-append, answered_in-left}
+use Rattle.ring_book_lines.proofs.AnswersByTicket.{with_answers-append, with_answers-left}
 
 -- Answers
 
--- they are answers of so many tickets
-abbrev AreBelow : {A : Type 0} → ℕ → List (Answered A) → Type 0
-AreBelow {A} n as' = AllByRecursion (λ (a : Answered A). a.ticket < n) as'
+-- the answers are of the first n tickets
+abbrev AreBelow : {A : Type 0} → ℕ → List (TicketAnswer A) → Type 0
+AreBelow {A} n as' = AllByRecursion (λ (a : TicketAnswer A). a.ticket < n) as'
 
-below-append : {A : Type 0} (n : ℕ) (xs ys : List (Answered A)) → AreBelow n xs → AreBelow n ys → AreBelow n (xs ++ ys)
+below-append : {A : Type 0} (n : ℕ) (xs ys : List (TicketAnswer A)) → AreBelow n xs → AreBelow n ys → AreBelow n (xs ++ ys)
 below-append n [] ys h k = k
 below-append n (x ∷ xs) ys h k = (h.0, below-append n xs ys h.1 k)
 
-below-if : {A : Type 0} (n : ℕ) (a : Answered A) (b : Bool) → a.ticket < n → AreBelow n (if b then a ∷ [] else [])
+below-if : {A : Type 0} (n : ℕ) (a : TicketAnswer A) (b : Bool) → a.ticket < n → AreBelow n (if b then a ∷ [] else [])
 below-if n a true h = (h, tt)
 below-if n a false h = tt
 
-below-more : {A : Type 0} (n m : ℕ) (xs : List (Answered A)) → n ≤ m → AreBelow n xs → AreBelow m xs
+below-more : {A : Type 0} (n m : ℕ) (xs : List (TicketAnswer A)) → n ≤ m → AreBelow n xs → AreBelow m xs
 below-more n m [] l h = tt
 below-more n m (x ∷ xs) l h = (omega (arith, l, h.0), below-more n m xs l h.1)
 
-below-at : {A : Type 0} (n : ℕ) (answer : Answer) (done : List (Call A)) (place ticket : ℕ) (ts : List (Asked A)) → ticket + length ts ≤ n
+below-at : {A : Type 0} (n : ℕ) (answer : Answer) (done : List (Call A)) (place ticket : ℕ) (ts : List (TicketCall A)) → ticket + length ts ≤ n
     → AreBelow n (answers_at answer done place ticket ts)
 below-at n answer done place ticket [] h = tt
 below-at {A} n answer done place ticket (t ∷ ts) h =
-    let a : Answered A = record { ticket = ticket; call = t.call; answer = answer } in
+    let a : TicketAnswer A = record { ticket = ticket; call = t.call; answer = answer } in
     below-append n (if is_place place (place_of done t) then a ∷ [] else []) (answers_at answer done place (ticket + 1) ts)
     (below-if n a (is_place place (place_of done t)) (omega arith)) (below-at n answer done place (ticket + 1) ts (omega arith))
 
--- what calls answer is of the tickets
-below-after : {O A : Type 0} (object : Sequential O) (table : Table O) (tickets : List (Asked A)) (done more : List (Call A))
+-- the answers that calls give are of the tickets
+below-after : {O A : Type 0} (object : Sequential O) (table : Table O) (tickets : List (TicketCall A)) (done more : List (Call A))
     → AreBelow (length tickets) (answers_after object table tickets done more)
 below-after object table tickets done [] = tt
 below-after object table tickets done (c ∷ more) =
@@ -70,40 +70,40 @@ HasOwn n = AreBelow (length n.tickets) n.answers
 
 -- A step
 
--- what it adds
-pub record Adds {A : Type 0} (n : Node A) (s : NodeStepped A) : Type 0 where
+-- the answers that a step adds
+pub record Adds {A : Type 0} (n : Node A) (s : NodeStepResult A) : Type 0 where
   pub tickets : s.node.tickets ≡ n.tickets
   pub answers : s.node.answers ≡ n.answers ++ s.answers
   pub own : AreBelow (length n.tickets) s.answers
 
-nothing-adds : {A : Type 0} (n : Node A) → Adds n (quiet n)
+nothing-adds : {A : Type 0} (n : Node A) → Adds n (empty_step n)
 nothing-adds n = record { tickets = refl; answers = sym (append-nil n.answers); own = tt }
 
-stopped-adds : {A : Type 0} (n : Node A) → Adds n (quiet (node_stopped n))
+stopped-adds : {A : Type 0} (n : Node A) → Adds n (empty_step (node_stopped n))
 stopped-adds n = record { tickets = refl; answers = sym (append-nil n.answers); own = tt }
 
 module _ {O A : Type 0} (object : Sequential O) where
   -- dropping places adds nothing
-  ended-adds : (closed : Bool) (k : Kept A) (n : Node A) (s : NodeStepped A) → Adds n s → Adds n (ended object closed k s)
+  ended-adds : (closed : Bool) (k : KnownLog A) (n : Node A) (s : NodeStepResult A) → Adds n s → Adds n (ended object closed k s)
   ended-adds closed k n s adds =
-      cond_both (drops object closed k) (record s { node = with_dropped k.committed s.node; dropped = committed_calls (log_kept k) }) s (Adds n)
+      cond_both (drops object closed k) (record s { node = with_dropped k.committed s.node; dropped = committed_calls (retained_log k) }) s (Adds n)
       (λ t. record { tickets = adds.tickets; answers = adds.answers; own = adds.own }) (λ f. adds)
 
-  did-adds : (n new : Node A) (outs : List (Out A)) (k : Kept A) (more : List (Call A)) → new.tickets ≡ n.tickets → Adds n (did object n new outs k more)
+  did-adds : (n new : Node A) (outs : List (Out A)) (k : KnownLog A) (more : List (Call A)) → new.tickets ≡ n.tickets → Adds n (did object n new outs k more)
   did-adds n new outs k more same =
-      record { tickets = same; answers = refl; own = below-after object (table_since object (node_kept n) k) n.tickets n.done more }
+      record { tickets = same; answers = refl; own = below-after object (table_since object (node_known_log n) k) n.tickets n.done more }
 
-  settled-adds : (b : Bool) (n new : Node A) (outs : List (Out A)) (k : Kept A) → new.tickets ≡ n.tickets → Adds n (settled object b n new outs k)
+  settled-adds : (b : Bool) (n new : Node A) (outs : List (Out A)) (k : KnownLog A) → new.tickets ≡ n.tickets → Adds n (settled object b n new outs k)
   settled-adds false n new outs k same = stopped-adds n
   settled-adds true n new outs k same =
-      let more = newly (node_kept n) k in
-      ended-adds (is_closed n.group new.life) k n (did object n new outs k more) (did-adds n new outs k more same)
+      let more = newly_committed (node_known_log n) k in
+      ended-adds (is_closed n.group new.epochs) k n (did object n new outs k more) (did-adds n new outs k more same)
 
-  core-adds : (n : Node A) (s : Stepped A) → Adds n (after_core object n s)
+  core-adds : (n : Node A) (s : StepResult A) → Adds n (after_core object n s)
   core-adds n s =
-      let life = lived_through n.life s.outs in
-      settled-adds (is_kept_sound n.group life && is_restored object (kept_of n.group life)) n
-      (walked n s.core life (due_by object n s.core n.life s.outs)) s.outs (kept_of n.group life) refl
+      let epochs = epochs_after n.epochs s.outs in
+      settled-adds (is_known_log_sound n.group epochs && is_restored object (known_log_of n.group epochs)) n
+      (node_after_outputs n s.core epochs (due_by object n s.core n.epochs s.outs)) s.outs (known_log_of n.group epochs) refl
 
   pub step-adds : (n : Node A) (input : Input A) → Adds n (node_step object n input)
   step-adds n (FrameInput frame) = core-adds n (ring_step n.core (CoreFrame frame))
@@ -111,31 +111,31 @@ module _ {O A : Type 0} (object : Sequential O) where
   step-adds n NoiseInput = nothing-adds n
   step-adds n StopInput = stopped-adds n
 
--- a step tells the answers that come with it
-pub answers_of-stepped : {A : Type 0} (n : Node A) (s : NodeStepped A) → Adds n s → answers_of s.node ≡ answered_in (answers_of n) s.answers
+-- a step adds the answers that it gives
+pub answers_of-stepped : {A : Type 0} (n : Node A) (s : NodeStepResult A) → Adds n s → answers_of s.node ≡ with_answers (answers_of n) s.answers
 answers_of-stepped {A} n s adds =
     let k = length n.tickets in
-    ap (λ (ts : List (Asked A)). by_ticket (length ts) s.node.answers) adds.tickets
-    ∙ ap (by_ticket k) adds.answers ∙ answered_in-append (replicate k None) n.answers s.answers
+    ap (λ (ts : List (TicketCall A)). answers_by_ticket (length ts) s.node.answers) adds.tickets
+    ∙ ap (answers_by_ticket k) adds.answers ∙ with_answers-append (replicate k None) n.answers s.answers
 
-pub own-stepped : {A : Type 0} (n : Node A) (s : NodeStepped A) → Adds n s → HasOwn n → HasOwn s.node
+pub own-stepped : {A : Type 0} (n : Node A) (s : NodeStepResult A) → Adds n s → HasOwn n → HasOwn s.node
 own-stepped {A} n s adds own =
-    subst (λ (ts : List (Asked A)). AreBelow (length ts) s.node.answers) (sym adds.tickets)
+    subst (λ (ts : List (TicketCall A)). AreBelow (length ts) s.node.answers) (sym adds.tickets)
     (subst (AreBelow (length n.tickets)) (sym adds.answers) (below-append (length n.tickets) n.answers s.answers own adds.own))
 
 -- A submit adds a ticket without an answer
 
 pub answers_of-submitted : {A : Type 0} (n : Node A) (c : Call A) → HasOwn n → answers_of (submitted n c) ≡ answers_of n ++ None ∷ []
 answers_of-submitted {A} n c own =
-    let t : Asked A = record { call = c; since = length n.done } in
+    let t : TicketCall A = record { call = c; since = length n.done } in
     let k = length n.tickets in
     let none : Option Answer = None in
     let below = subst (λ (j : ℕ). AreBelow j n.answers) (sym (length-replicate k none)) own in
-    ap (λ (j : ℕ). by_ticket j n.answers) (length-append n.tickets (t ∷ []))
-    ∙ (ap (λ (ts : List (Option Answer)). answered_in ts n.answers) (sym (replicate-append-replicate k 1 none))
-    ∙ answered_in-left (replicate k None) (None ∷ []) n.answers below)
+    ap (λ (j : ℕ). answers_by_ticket j n.answers) (length-append n.tickets (t ∷ []))
+    ∙ (ap (λ (ts : List (Option Answer)). with_answers ts n.answers) (sym (replicate-append-replicate k 1 none))
+    ∙ with_answers-left (replicate k None) (None ∷ []) n.answers below)
 
 pub own-submitted : {A : Type 0} (n : Node A) (c : Call A) → HasOwn n → HasOwn (submitted n c)
 own-submitted {A} n c own =
-    let t : Asked A = record { call = c; since = length n.done } in
+    let t : TicketCall A = record { call = c; since = length n.done } in
     below-more (length n.tickets) (length (n.tickets ++ t ∷ [])) n.answers (let e = length-append n.tickets (t ∷ []) in omega (arith, e)) own

@@ -3,7 +3,7 @@ use Rattle.std.proofs.Common.{◌≡◌, ℕ, ◌++◌, List, [], ◌∷◌, ref
 use Rattle.std.specs.Prelude.{if◌then◌else◌}
 use Rattle.std.proofs.lemmas.List.Elements.{filter-append}
 use Rattle.ring_book_lines.specs.declared.input.LineInput.{LineInput}
-use Rattle.ring_book_lines.specs.declared.input.LineInput.TheVariants.{Called, Came}
+use Rattle.ring_book_lines.specs.declared.input.LineInput.TheVariants.{Submitted, Received}
 use Rattle.ring_book_lines.specs.Lines.{steps, own_steps, steps_of}
 use Rattle.ring_book_lines.specs.Machines.{Machine}
 use Rattle.ring_book_lines.specs.Runs.{Leads, Makes, IsStep}
@@ -28,25 +28,25 @@ steps_of-own {A} i ls l e =
     ∙ (filter-append (λ (x : StepView A). x.node == i) (steps ls) (l.step ∷ [])
     ∙ ap (λ ys. steps_of i ls ++ ys) (ap (λ (c : Bool). if c then (l.step ∷ []) else []) b))
 
--- and with one of another
+-- and with one of another node
 pub steps_of-other : {A : Type 0} (i : ℕ) (ls : List (LineView A)) (l : LineView A) → (l.step.node == i) ≡ false → steps_of i (ls ++ l ∷ []) ≡ steps_of i ls
 steps_of-other {A} i ls l b =
     ap (own_steps i) (steps-snoc ls l)
     ∙ (filter-append (λ (x : StepView A). x.node == i) (steps ls) (l.step ∷ [])
     ∙ (ap (λ ys. steps_of i ls ++ ys) (ap (λ (c : Bool). if c then (l.step ∷ []) else []) b) ∙ append-nil (steps_of i ls)))
 
--- a first line of a node is its first step
+-- the first line of a node is its first step
 pub steps_of-first : {A : Type 0} (i : ℕ) (ls : List (LineView A)) (l : LineView A) → (l.step.node == i) ≡ true → steps_of i (l ∷ ls) ≡ l.step ∷ steps_of i ls
 steps_of-first i ls l b = ap (λ (c : Bool). if c then (l.step ∷ steps_of i ls) else (steps_of i ls)) b
 
 pub steps_of-skip : {A : Type 0} (i : ℕ) (ls : List (LineView A)) (l : LineView A) → (l.step.node == i) ≡ false → steps_of i (l ∷ ls) ≡ steps_of i ls
 steps_of-skip i ls l b = ap (λ (c : Bool). if c then (l.step ∷ steps_of i ls) else (steps_of i ls)) b
 
--- A node's steps make one state of it
+-- The state after a node's steps is unique
 
 makes_one : {S A : Type 0} (m : Machine S A) (s : S) (input : LineInput A) (l : StepView A) (t u : S) → Makes m s input l t → Makes m s input l u → t ≡ u
-makes_one m s (Called c) l t u h k = h.1 ∙ sym k.1
-makes_one m s (Came i at) l t u h k = h.1 ∙ sym k.1
+makes_one m s (Submitted c) l t u h k = h.1 ∙ sym k.1
+makes_one m s (Received i at) l t u h k = h.1 ∙ sym k.1
 
 pub leads_one : {S A : Type 0} (m : Machine S A) (s : S) (ls : List (StepView A)) (t u : S) → Leads m s ls t → Leads m s ls u → t ≡ u
 leads_one m s [] t u h k = h ∙ sym k

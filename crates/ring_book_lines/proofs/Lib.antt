@@ -1,12 +1,12 @@
 -- Leading: Runs of one node, and the steps of each node in the lines.
--- FramesInLines: Frames that stand in the lines, and where they stand among all frames.
+-- FramesInLines: Frames in the lines, and their numbers among all frames.
 -- AnswersByTicket: Answers by ticket, answer by answer and step by step.
 -- Shown: Histories, line by line and reply by reply.
--- Given: What a node's step and submit add to the answers of its tickets.
+-- Given: The answers that a node's step or submit adds to its tickets.
 -- Logging: The longest committed log, line by line.
 -- Bridge: A book run is the run of its lines' events.
--- Puts: What appending the bytes of a frame answers.
--- Lives: What a step is made of lives as long as its memory.
+-- Puts: The result of appending the bytes of a frame.
+-- StepLifetimes: The parts of a step live as long as its memory.
 pub mod Leading
 pub mod FramesInLines
 pub mod AnswersByTicket
@@ -15,4 +15,4 @@ pub mod Given
 pub mod Logging
 pub mod Bridge
 pub mod Puts
-mod Lives
+mod StepLifetimes

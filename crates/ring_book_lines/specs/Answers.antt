@@ -1,41 +1,41 @@
--- Answers by ticket.
--- The book and the threads, of docs/PROTOCOL.md.
+-- The answers of a node's tickets, by ticket.
+-- Rules: The replicated log 13 and 14; The book and the threads 15
 use Rattle.std.specs.Prelude.{ℕ, List, [], ◌∷◌, ◌++◌, Option, Some, None, replicate, slice_get, slice_set}
 use Rattle.std.specs.Option.{option_and_then}
 use Rattle.ring_session.specs.declared.answer.Answer.{Answer}
-use Rattle.ring_session.specs.declared.answered.Answered.{Answered}
+use Rattle.ring_session.specs.declared.answered.TicketAnswer.{TicketAnswer}
 use Rattle.ring_book_lines.specs.declared.input.LineInput.{LineInput}
-use Rattle.ring_book_lines.specs.declared.input.LineInput.TheVariants.{Called, Came}
+use Rattle.ring_book_lines.specs.declared.input.LineInput.TheVariants.{Submitted, Received}
 use Rattle.ring_book_lines.specs.Lines.{steps_of}
 use Rattle.ring_book_lines.specs.Steps.{StepView, LineView}
 
--- the answers of the tickets, with these more
-abbrev pub answered_in : {A : Type 0} → List (Option Answer) → List (Answered A) → List (Option Answer)
-answered_in told [] = told
-answered_in told (a ∷ rest) = answered_in (slice_set told a.ticket (Some a.answer)) rest
+-- the answers by ticket, after these answers
+abbrev pub with_answers : {A : Type 0} → List (Option Answer) → List (TicketAnswer A) → List (Option Answer)
+with_answers told [] = told
+with_answers told (a ∷ rest) = with_answers (slice_set told a.ticket (Some a.answer)) rest
 
--- the answers of so many tickets, as these tell
-abbrev pub by_ticket : {A : Type 0} → ℕ → List (Answered A) → List (Option Answer)
-by_ticket count answers = answered_in (replicate count None) answers
+-- the answers of `count` tickets that got these answers
+abbrev pub answers_by_ticket : {A : Type 0} → ℕ → List (TicketAnswer A) → List (Option Answer)
+answers_by_ticket count answers = with_answers (replicate count None) answers
 
--- a call that was submitted has the next ticket
-abbrev pub told_by : {A : Type 0} → List (Option Answer) → LineInput A → List (Answered A) → List (Option Answer)
-told_by told (Called c) answers = told ++ None ∷ []
-told_by told (Came input at) answers = answered_in told answers
+-- the answers by ticket after one step; a submitted call gets the next ticket
+abbrev pub answers_after_step : {A : Type 0} → List (Option Answer) → LineInput A → List (TicketAnswer A) → List (Option Answer)
+answers_after_step told (Submitted c) answers = told ++ None ∷ []
+answers_after_step told (Received input at) answers = with_answers told answers
 
--- the answers of the tickets, after these steps more
-abbrev pub told_from : {A : Type 0} → List (Option Answer) → List (StepView A) → List (Option Answer)
-told_from told [] = told
-told_from told (s ∷ ss) = told_from (told_by told s.input s.answers) ss
+-- the answers by ticket after further steps
+abbrev pub answers_after_steps : {A : Type 0} → List (Option Answer) → List (StepView A) → List (Option Answer)
+answers_after_steps told [] = told
+answers_after_steps told (s ∷ ss) = answers_after_steps (answers_after_step told s.input s.answers) ss
 
--- the answers of a node's tickets, in the order of tickets, as the lines give them
-abbrev pub told_to : {A : Type 0} → ℕ → List (LineView A) → List (Option Answer)
-told_to node lines = told_from [] (steps_of node lines)
+-- the answers of a node's tickets, in the order of tickets, after these lines
+abbrev pub answers_of_node : {A : Type 0} → ℕ → List (LineView A) → List (Option Answer)
+answers_of_node node lines = answers_after_steps [] (steps_of node lines)
 
--- the answer under a ticket, if there is one
-abbrev pub told_at : List (Option Answer) → ℕ → Option Answer
-told_at told ticket = option_and_then (λ (answer : Option Answer). answer) (slice_get told ticket)
+-- the answer of a ticket, if there is one
+abbrev pub answer_of_ticket : List (Option Answer) → ℕ → Option Answer
+answer_of_ticket told ticket = option_and_then (λ (answer : Option Answer). answer) (slice_get told ticket)
 
--- the answer that the lines give to a ticket of the node
+-- the answer of the node's ticket after these lines, if there is one
 abbrev pub answer_in : {A : Type 0} → List (LineView A) → ℕ → ℕ → Option Answer
-answer_in lines node ticket = told_at (told_to node lines) ticket
+answer_in lines node ticket = answer_of_ticket (answers_of_node node lines) ticket

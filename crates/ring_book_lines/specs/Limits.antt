@@ -1,2 +1,2 @@
--- What keeps the limits of frames, passed on to the book.
+-- Definitions of the limits of frames, re-exported for the book.
 pub use Rattle.ring_order_proof.specs.NodeFits.{NodeFits}

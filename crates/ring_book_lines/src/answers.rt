@@ -1,45 +1,50 @@
-//! The answers of a node's tickets.
+//! The answers of a node's tickets, collected step by step.
+//! Rules: The replicated log 13 and 14; The book and the threads 15
 
 ghost use Rattle.std.specs.Prelude.{◌≡◌, ◌<◌, Some, slice_set, vec_len, vec_capacity};
-ghost use Rattle.ring_book_lines.specs.Answers.{answered_in, told_by};
+ghost use Rattle.ring_book_lines.specs.Answers.{with_answers, answers_after_step};
 
 use crate::input::{LineInput, StepInput};
 use crate::step::Step;
-use ring_session::{Answer, Answered};
+use ring_session::{Answer, TicketAnswer};
 use std::alloc::Allocator;
 
-/// Keeps what the step tells of the tickets, by ticket. There is room for one ticket more.
-pub fn tell<A: Allocator + Copy + Drop>(told: &mut Vec<Option<Answer>, A>, step: &Step<A>)
+/// Adds a step to the answers of its node's tickets. The list has an entry for each ticket, from ticket 0 on: `None`
+/// until the ticket is answered.
+/// A submit adds the entry of its new ticket. Any other step stores its answers under their tickets; an answer to a
+/// ticket that isn't in the list is ignored. The caller has made room for one more ticket.
+/// Rules: The replicated log 13 and 14; The book and the threads 15
+pub fn add_answers<A: Allocator + Copy + Drop>(told: &mut Vec<Option<Answer>, A>, step: &Step<A>)
     requires { vec_len told.old < vec_capacity told.old }
-    ensures items { told.new.items ≡ told_by told.old.items step.now.input step.now.answers }
+    ensures items { told.new.items ≡ answers_after_step told.old.items step.now.input step.now.answers }
     ensures capacity { vec_capacity told.new ≡ vec_capacity told.old }
 {
     match &step.input {
-        StepInput::Told(LineInput::Called(_)) => told.push_reserved(None),
-        StepInput::Told(LineInput::Came(_, _)) | StepInput::Heard(_, _) => {
-            tell_answers(told, step.answers.as_slice())
+        StepInput::Full(LineInput::Submitted(_)) => told.push_reserved(None),
+        StepInput::Full(LineInput::Received(_, _)) | StepInput::FrameBytes(_, _) => {
+            set_answers(told, step.answers.as_slice())
         }
     }
 }
 
-/// Keeps these answers, each under its ticket.
-fn tell_answers<A: Allocator + Copy + Drop>(
+/// Stores these answers, each under its ticket.
+fn set_answers<A: Allocator + Copy + Drop>(
     told: &mut Vec<Option<Answer>, A>,
-    answers: &[Answered<A>],
+    answers: &[TicketAnswer<A>],
 )
-    ensures items { told.new.items ≡ answered_in told.old.items answers.now }
+    ensures items { told.new.items ≡ with_answers told.old.items answers.now }
     ensures capacity { vec_capacity told.new ≡ vec_capacity told.old }
 {
     for answered in answers {
-        tell_answer(told, answered);
+        set_answer(told, answered);
     }
 }
 
-/// Keeps the answer under its ticket.
+/// Stores the answer under its ticket.
 #[tactic(auto, using(crate::proofs::AnswersByTicket::set_past))]
-fn tell_answer<A: Allocator + Copy + Drop>(
+fn set_answer<A: Allocator + Copy + Drop>(
     told: &mut Vec<Option<Answer>, A>,
-    answered: &Answered<A>,
+    answered: &TicketAnswer<A>,
 )
     ensures items { told.new.items ≡ slice_set told.old.items answered.now.ticket (Some answered.now.answer) }
     ensures capacity { vec_capacity told.new ≡ vec_capacity told.old }

@@ -1,21 +1,23 @@
-//! What a line tells of what happened at its node.
+//! The event of a line, as the line records it.
+//! Rules: The book and the threads 9
 
 use crate::frame_ref::FrameRef;
 use ring_base::Kind;
 use ring_payload::Call;
 use std::alloc::{Allocator, Global};
 
-/// What happened at a node. Of a frame it tells where that stands in the book.
+/// The record that a line keeps of its input. For a frame this is only the frame's place in the book.
+/// Rules: The book and the threads 9
 #[derive(Drop)]
 pub enum Cause<A: Allocator + Copy = Global> {
-    /// The call was submitted, and the node took it.
-    Called(Call<A>),
-    /// The frame that stands there came.
+    /// A call was submitted, and the node took it.
+    Submitted(Call<A>),
+    /// The frame at this place of the book was delivered to the line's node.
     Delivered(FrameRef),
-    /// Bytes came that are no frame.
+    /// Bytes arrived that don't encode a frame.
     Noise,
-    /// A time was over.
+    /// A timeout of this kind came at the node.
     Timeout(Kind),
-    /// The node stopped, for good.
+    /// The node stopped, for good: a stop came, or a step was refused memory.
     Stopped,
 }

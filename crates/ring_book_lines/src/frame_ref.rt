@@ -1,9 +1,12 @@
-//! Where a frame stands.
+//! The place of a frame in the book.
+//! Rules: The book and the threads 10
 
-/// Where a frame stands in the book: the number of its line, and its place among the frames of that line, both
-/// counted from 0.
+/// The place of a sent frame in the book: the number of its line, and its index among the frames of that line.
+/// Rules: The book and the threads 10
 #[derive(Clone, Copy, Debug, PartialEq, Eq)]
 pub struct FrameRef {
+    /// The number of the line in the book's list, counted from 0.
     pub line: u32,
+    /// The index of the frame among the frames of that line, counted from 0.
     pub place: u16,
 }

@@ -1,89 +1,101 @@
-//! The frames of a line.
+//! The frames of a line: stored, compared and encoded.
+//! Rules: The book and the threads 9, 11 and 15
+//! Formats: Frames
 
 ghost use Rattle.std.specs.Prelude.{◌≡◌, ◌+◌, ◌≤◌, ◌↔◌, [], Some, IsTrue, IsSomeAnd, length, slice_get, IfOk, IfErr, IfSome, OnOk, OnErr, ◌++◌};
 ghost use Rattle.std.specs.List.{AllByRecursion};
 ghost use Rattle.std.specs.Option.{option_and_then, option_copied, option_map};
-ghost use Rattle.ring_core.specs.State.{Sent as SentFrame};
+ghost use Rattle.ring_core_spec.specs.State.{OutgoingFrame as SentFrame};
 ghost use Rattle.ring_base.specs.declared.fault.Fault.TheVariants.{Memory};
-ghost use Rattle.ring_wire.specs.Frames.{FrameFits, spelling_of};
+ghost use Rattle.ring_wire.specs.Frames.{FrameFits, encoding_of};
 ghost use Rattle.ring_book_lines.specs.Lines.{frame_for};
 ghost use Rattle.ring_order_proof.specs.Limits.{SentFits};
 ghost use Rattle.ring_book_lines.specs.Puts.{IsPut};
-ghost use Rattle.ring_base.specs.Numbers.{most_frame};
+ghost use Rattle.ring_base.specs.Numbers.{max_frame_bytes};
 
-use crate::heard::HeardFrame;
-use crate::spelled::{SpelledFrame, is_same_text, write_in};
+use crate::encoded::{EncodedFrame, is_same_text, write_in};
+use crate::received_frame::ReceivedFrame;
 use bytes::BytesMut;
 use ring_base::{Fault, Proc, ProcSet};
-use ring_core::Sent;
+use ring_core_spec::OutgoingFrame;
 use ring_wire::{Frame, Wire};
 use std::alloc::{Allocator, Global};
 use std::marker::Model;
 
-/// Frames as their bytes, or, where memory was refused to those, as they were given.
+/// The frames of a line in the order sent: as bytes, or as values where memory for the bytes was refused.
 #[derive(Drop)]
-pub enum KeptFrames<A: Allocator + Copy + Drop = Global> {
-    Spelled(Vec<SpelledFrame<A>, A>),
-    Given(Vec<Sent<A>, A>),
+pub enum StoredFrames<A: Allocator + Copy + Drop = Global> {
+    /// Each frame is stored as its encoding, with its receivers.
+    Encoded(Vec<EncodedFrame<A>, A>),
+    /// Each frame is stored as a value, with its receivers.
+    Unencoded(Vec<OutgoingFrame<A>, A>),
 }
 
-/// Frames with their receivers, each of which keeps the limits of frames. Contracts see what was sent.
+/// The frames that a line's step sent, in the order sent, with their receivers. Each is within the limits of frames.
+/// Contracts see the frames sent.
+/// Rules: The book and the threads 9 and 10
 #[derive(Drop)]
 pub struct Frames<A: Allocator + Copy + Drop = Global> {
-    kept: KeptFrames<A>,
+    stored: StoredFrames<A>,
 }
 
 impl<A: Allocator + Copy + Drop> Model for Frames<A> {
     ghost use Rattle.std.specs.Prelude.{List};
     ghost use Rattle.std.specs.List.{AllByRecursion};
-    ghost use Rattle.ring_core.specs.State.{Sent};
+    ghost use Rattle.ring_core_spec.specs.State.{OutgoingFrame};
     ghost use Rattle.ring_book_lines.specs.Kept.{sends_of};
     ghost use Rattle.ring_order_proof.specs.Limits.{SentFits};
 
-    ghost Value = { List (Sent A) };
+    ghost Value = { List (OutgoingFrame A) };
 
-    ghost view = { λ f. sends_of f.kept };
+    ghost view = { λ f. sends_of f.stored };
 
-    ghost invariant = { λ f. AllByRecursion SentFits (sends_of f.kept) };
+    ghost invariant = { λ f. AllByRecursion SentFits (sends_of f.stored) };
 }
 
-/// Spells the frames, or `Memory`. They are spelled in `text`, which has room for every frame.
-fn spell_all<A: Allocator + Copy + Drop>(
+/// Encodes the frames. `text` is a scratch buffer with room for every frame.
+/// Errors: `Memory`.
+fn encode_all<A: Allocator + Copy + Drop>(
     alloc: A,
-    sends: &[Sent<A>],
+    sends: &[OutgoingFrame<A>],
     text: &mut BytesMut<A>,
-) -> Result<Vec<SpelledFrame<A>, A>, Fault>
+) -> Result<Vec<EncodedFrame<A>, A>, Fault>
     requires fit { AllByRecursion SentFits sends.now }
-    requires room { most_frame ≤ length text.old.items + text.old.spare }
-    ensures ok { IfOk result (λ spelled. spelled.items ≡ sends.now) }
-    ensures room { most_frame ≤ length text.new.items + text.new.spare }
+    requires room { max_frame_bytes ≤ length text.old.items + text.old.spare }
+    ensures ok { IfOk result (λ encoded. encoded.items ≡ sends.now) }
+    ensures room { max_frame_bytes ≤ length text.new.items + text.new.spare }
     ensures refused { IfErr result (λ fault. fault ≡ Memory) }
 {
-    let mut spelled = Vec::with_capacity(alloc, sends.len())?;
+    let mut encoded = Vec::with_capacity(alloc, sends.len())?;
     for sent in sends {
-        spelled.push(SpelledFrame::spell(alloc, sent.to, &sent.frame, text)?)?;
+        encoded.push(EncodedFrame::encode(alloc, sent.to, &sent.frame, text)?)?;
     }
-    Ok(spelled)
+    Ok(encoded)
 }
 
-/// Whether the frame goes to the node and is this one.
-fn is_given<A: Allocator + Copy + Drop>(sent: &Sent<A>, node: Proc, frame: &Frame<A>) -> bool
+/// Returns whether this is that frame and the node a receiver.
+fn is_sent_frame<A: Allocator + Copy + Drop>(
+    sent: &OutgoingFrame<A>,
+    node: Proc,
+    frame: &Frame<A>,
+) -> bool
     ensures { IsTrue result ↔ (frame_for node sent.now ≡ Some frame.now) }
 {
     sent.to.contains(node) && sent.frame.is_same(frame)
 }
 
-/// Whether the frame goes to the node and has these bytes. It is spelled in `text`, which has room for every frame.
-fn given_has<A: Allocator + Copy + Drop>(
-    sent: &Sent<A>,
+/// Returns whether the frame has these bytes and the node is a receiver. `text` is a scratch buffer with room for every
+/// frame.
+fn sent_has_bytes<A: Allocator + Copy + Drop>(
+    sent: &OutgoingFrame<A>,
     node: Proc,
     bytes: &[u8],
     text: &mut BytesMut<A>,
 ) -> bool
     requires fits { FrameFits sent.now.frame }
-    requires room { most_frame ≤ length text.old.items + text.old.spare }
-    ensures found { IsTrue result ↔ IsSomeAnd (frame_for node sent.now) (λ f. spelling_of f ≡ bytes.now) }
-    ensures room { most_frame ≤ length text.new.items + text.new.spare }
+    requires room { max_frame_bytes ≤ length text.old.items + text.old.spare }
+    ensures found { IsTrue result ↔ IsSomeAnd (frame_for node sent.now) (λ f. encoding_of f ≡ bytes.now) }
+    ensures room { max_frame_bytes ≤ length text.new.items + text.new.spare }
 {
     if !sent.to.contains(node) {
         return false;
@@ -92,7 +104,7 @@ fn given_has<A: Allocator + Copy + Drop>(
     is_same_text(text.as_slice(), bytes)
 }
 
-/// The item at the place, counted from 0, if there is one.
+/// Returns the item at the place, counted from 0, if there is one.
 #[tactic(auto, using(ring_base::proofs::ListPlaces::item_copied))]
 fn item_at<T>(items: &[T], place: u16) -> Option<&T>
     ensures { option_copied result ≡ slice_get items.now place }
@@ -100,108 +112,111 @@ fn item_at<T>(items: &[T], place: u16) -> Option<&T>
     items.get(place as usize)
 }
 
-/// Whether this frame stands at the place and goes to the node.
-fn spelled_has_frame<A: Allocator + Copy + Drop>(
-    spelled: &[SpelledFrame<A>],
+/// Returns whether the frame at the place is this one and the node a receiver.
+fn encoded_has_frame<A: Allocator + Copy + Drop>(
+    encoded: &[EncodedFrame<A>],
     place: u16,
     node: Proc,
     frame: &Frame<A>,
     text: &mut BytesMut<A>,
 ) -> bool
     requires fits { FrameFits frame.now }
-    requires room { most_frame ≤ length text.old.items + text.old.spare }
-    ensures found { IsTrue result ↔ (option_and_then (frame_for node) (slice_get spelled.now place) ≡ Some frame.now) }
-    ensures room { most_frame ≤ length text.new.items + text.new.spare }
+    requires room { max_frame_bytes ≤ length text.old.items + text.old.spare }
+    ensures found { IsTrue result ↔ (option_and_then (frame_for node) (slice_get encoded.now place) ≡ Some frame.now) }
+    ensures room { max_frame_bytes ≤ length text.new.items + text.new.spare }
 {
-    match item_at(spelled, place) {
+    match item_at(encoded, place) {
         Some(sent) => sent.is_for(node, frame, text),
         None => false,
     }
 }
 
-/// Whether this frame stands at the place and goes to the node.
-fn given_has_frame<A: Allocator + Copy + Drop>(
-    given: &[Sent<A>],
+/// Returns whether the frame at the place is this one and the node a receiver.
+fn unencoded_has_frame<A: Allocator + Copy + Drop>(
+    unencoded: &[OutgoingFrame<A>],
     place: u16,
     node: Proc,
     frame: &Frame<A>,
 ) -> bool
-    ensures { IsTrue result ↔ (option_and_then (frame_for node) (slice_get given.now place) ≡ Some frame.now) }
+    ensures { IsTrue result ↔ (option_and_then (frame_for node) (slice_get unencoded.now place) ≡ Some frame.now) }
 {
-    match item_at(given, place) {
-        Some(sent) => is_given(sent, node, frame),
+    match item_at(unencoded, place) {
+        Some(sent) => is_sent_frame(sent, node, frame),
         None => false,
     }
 }
 
-/// Whether these bytes stand at the place and go to the node.
-fn spelled_has_bytes<A: Allocator + Copy + Drop>(
-    spelled: &[SpelledFrame<A>],
+/// Returns whether the frame at the place has these bytes and the node is a receiver.
+fn encoded_has_bytes<A: Allocator + Copy + Drop>(
+    encoded: &[EncodedFrame<A>],
     place: u16,
     node: Proc,
     bytes: &[u8],
 ) -> bool
-    ensures { IsTrue result ↔ IsSomeAnd (option_and_then (frame_for node) (slice_get spelled.now place)) (λ f. spelling_of f ≡ bytes.now) }
+    ensures { IsTrue result ↔ IsSomeAnd (option_and_then (frame_for node) (slice_get encoded.now place)) (λ f. encoding_of f ≡ bytes.now) }
 {
-    match item_at(spelled, place) {
+    match item_at(encoded, place) {
         Some(sent) => sent.holds(node, bytes),
         None => false,
     }
 }
 
-/// Whether these bytes stand at the place and go to the node. The frame there is spelled in `text`, which has room for
-/// every frame.
-fn given_has_bytes<A: Allocator + Copy + Drop>(
-    given: &[Sent<A>],
+/// Returns whether the frame at the place has these bytes and the node is a receiver. `text` is a scratch buffer with room
+/// for every frame.
+fn unencoded_has_bytes<A: Allocator + Copy + Drop>(
+    unencoded: &[OutgoingFrame<A>],
     place: u16,
     node: Proc,
     bytes: &[u8],
     text: &mut BytesMut<A>,
 ) -> bool
-    requires fit { AllByRecursion SentFits given.now }
-    requires room { most_frame ≤ length text.old.items + text.old.spare }
-    ensures found { IsTrue result ↔ IsSomeAnd (option_and_then (frame_for node) (slice_get given.now place)) (λ f. spelling_of f ≡ bytes.now) }
-    ensures room { most_frame ≤ length text.new.items + text.new.spare }
+    requires fit { AllByRecursion SentFits unencoded.now }
+    requires room { max_frame_bytes ≤ length text.old.items + text.old.spare }
+    ensures found { IsTrue result ↔ IsSomeAnd (option_and_then (frame_for node) (slice_get unencoded.now place)) (λ f. encoding_of f ≡ bytes.now) }
+    ensures room { max_frame_bytes ≤ length text.new.items + text.new.spare }
 {
-    match item_at(given, place) {
-        Some(sent) => given_has(sent, node, bytes, text),
+    match item_at(unencoded, place) {
+        Some(sent) => sent_has_bytes(sent, node, bytes, text),
         None => false,
     }
 }
 
-/// Whom the frame at the place goes to, if there is one.
-fn spelled_receivers<A: Allocator + Copy + Drop>(
-    spelled: &[SpelledFrame<A>],
+/// Returns the receivers of the frame at the place, if there is one.
+fn encoded_receivers<A: Allocator + Copy + Drop>(
+    encoded: &[EncodedFrame<A>],
     place: u16,
 ) -> Option<ProcSet>
-    ensures { result ≡ option_map (λ (s : SentFrame A). s.to) (slice_get spelled.now place) }
+    ensures { result ≡ option_map (λ (s : SentFrame A). s.to) (slice_get encoded.now place) }
 {
-    match item_at(spelled, place) {
+    match item_at(encoded, place) {
         Some(sent) => Some(sent.receivers()),
         None => None,
     }
 }
 
-/// Whom the frame at the place goes to, if there is one.
-fn given_receivers<A: Allocator + Copy + Drop>(given: &[Sent<A>], place: u16) -> Option<ProcSet>
-    ensures { result ≡ option_map (λ (s : SentFrame A). s.to) (slice_get given.now place) }
+/// Returns the receivers of the frame at the place, if there is one.
+fn unencoded_receivers<A: Allocator + Copy + Drop>(
+    unencoded: &[OutgoingFrame<A>],
+    place: u16,
+) -> Option<ProcSet>
+    ensures { result ≡ option_map (λ (s : SentFrame A). s.to) (slice_get unencoded.now place) }
 {
-    match item_at(given, place) {
+    match item_at(unencoded, place) {
         Some(sent) => Some(sent.to),
         None => None,
     }
 }
 
-/// Appends the bytes of the frame at the place. Refused with `Stranger` where there is none, then with `Memory`; nothing
-/// is appended then.
-fn put_spelled<A: Allocator + Copy + Drop>(
-    spelled: &[SpelledFrame<A>],
+/// Appends the bytes of the frame at the place.
+/// Errors: `Stranger` where there is none, then `Memory`; nothing is appended.
+fn put_encoded<A: Allocator + Copy + Drop>(
+    encoded: &[EncodedFrame<A>],
     place: u16,
     out: &mut BytesMut<A>,
 ) -> Result<(), Fault>
-    ensures { IsPut (slice_get spelled.now place) out.old.items out.new.items result }
+    ensures { IsPut (slice_get encoded.now place) out.old.items out.new.items result }
 {
-    match item_at(spelled, place) {
+    match item_at(encoded, place) {
         Some(sent) => {
             out.extend_from_slice(sent.bytes())?;
             Ok(())
@@ -210,51 +225,55 @@ fn put_spelled<A: Allocator + Copy + Drop>(
     }
 }
 
-/// Appends the bytes of the frame at the place. Refused with `Stranger` where there is none, then with `Memory`; nothing
-/// is appended then.
-fn put_given<A: Allocator + Copy + Drop>(
-    given: &[Sent<A>],
+/// Appends the bytes of the frame at the place.
+/// Errors: `Stranger` where there is none, then `Memory`; nothing is appended.
+fn put_unencoded<A: Allocator + Copy + Drop>(
+    unencoded: &[OutgoingFrame<A>],
     place: u16,
     out: &mut BytesMut<A>,
 ) -> Result<(), Fault>
-    requires { AllByRecursion SentFits given.now }
-    ensures { IsPut (slice_get given.now place) out.old.items out.new.items result }
+    requires { AllByRecursion SentFits unencoded.now }
+    ensures { IsPut (slice_get unencoded.now place) out.old.items out.new.items result }
 {
-    match item_at(given, place) {
+    match item_at(unencoded, place) {
         Some(sent) => sent.frame.put(out),
         None => Err(Fault::Stranger),
     }
 }
 
 impl<A: Allocator + Copy + Drop> Frames<A> {
-    /// No frames.
+    /// Returns an empty list of frames, as a submit and a stop have it. It takes no memory.
     pub fn none(alloc: A) -> Frames<A>
         ensures { result ≡ [] }
     {
         Frames {
-            kept: KeptFrames::Given(Vec::new(alloc)),
+            stored: StoredFrames::Unencoded(Vec::new(alloc)),
         }
     }
 
-    /// These frames. They are spelled in `text`, which has room for every frame.
-    pub fn new(alloc: A, sends: Vec<Sent<A>, A>, text: &mut BytesMut<A>) -> Frames<A>
+    /// Stores these frames in their order: as bytes if there is memory for them, else as the values that they are. Each
+    /// is within the limits of frames. `text` is a scratch buffer with room for every frame.
+    /// Formats: Frames
+    pub fn new(alloc: A, sends: Vec<OutgoingFrame<A>, A>, text: &mut BytesMut<A>) -> Frames<A>
         requires fit { AllByRecursion SentFits sends.items }
-        requires room { most_frame ≤ length text.old.items + text.old.spare }
+        requires room { max_frame_bytes ≤ length text.old.items + text.old.spare }
         ensures same { result ≡ sends.items }
-        ensures room { most_frame ≤ length text.new.items + text.new.spare }
+        ensures room { max_frame_bytes ≤ length text.new.items + text.new.spare }
     {
-        match spell_all(alloc, sends.as_slice(), text) {
-            Ok(spelled) => Frames {
-                kept: KeptFrames::Spelled(spelled),
+        match encode_all(alloc, sends.as_slice(), text) {
+            Ok(encoded) => Frames {
+                stored: StoredFrames::Encoded(encoded),
             },
             Err(_) => Frames {
-                kept: KeptFrames::Given(sends),
+                stored: StoredFrames::Unencoded(sends),
             },
         }
     }
 
-    /// Whether this frame stands at the place, counted from 0, and goes to the node. It may be spelled in `text`, which
-    /// has room for every frame.
+    /// Returns whether the frame at this index, counted from 0, equals `frame` and the node is one of its receivers. An
+    /// index without a frame gives false.
+    /// `frame` is within the limits of frames. `text` is a scratch buffer with room for every frame.
+    /// Rules: The book and the threads 11
     pub fn has_frame(
         &self,
         place: u16,
@@ -263,86 +282,103 @@ impl<A: Allocator + Copy + Drop> Frames<A> {
         text: &mut BytesMut<A>,
     ) -> bool
         requires fits { FrameFits frame.now }
-        requires room { most_frame ≤ length text.old.items + text.old.spare }
+        requires room { max_frame_bytes ≤ length text.old.items + text.old.spare }
         ensures found { IsTrue result ↔ (option_and_then (frame_for node) (slice_get self.now place) ≡ Some frame.now) }
-        ensures room { most_frame ≤ length text.new.items + text.new.spare }
+        ensures room { max_frame_bytes ≤ length text.new.items + text.new.spare }
     {
-        match &self.kept {
-            KeptFrames::Spelled(spelled) => spelled_has_frame(
-                spelled.as_slice(),
+        match &self.stored {
+            StoredFrames::Encoded(encoded) => encoded_has_frame(
+                encoded.as_slice(),
                 place,
                 node,
                 frame,
                 text,
             ),
-            KeptFrames::Given(given) => given_has_frame(given.as_slice(), place, node, frame),
+            StoredFrames::Unencoded(unencoded) => unencoded_has_frame(
+                unencoded.as_slice(),
+                place,
+                node,
+                frame,
+            ),
         }
     }
 
-    /// Whether this frame, which came, stands at the place, counted from 0, and goes to the node. The one there may be spelled in
-    /// `text`, which has room for every frame.
-    pub fn has_heard(
+    /// Returns whether the frame at this index, counted from 0, equals the received one and the node is one of its
+    /// receivers. An index without a frame gives false. `text` is a scratch buffer with room for every frame.
+    /// Rules: The book and the threads 11
+    pub fn has_received_frame(
         &self,
         place: u16,
         node: Proc,
-        frame: &HeardFrame<A>,
+        frame: &ReceivedFrame<A>,
         text: &mut BytesMut<A>,
     ) -> bool
-        requires room { most_frame ≤ length text.old.items + text.old.spare }
+        requires room { max_frame_bytes ≤ length text.old.items + text.old.spare }
         ensures found { IsTrue result ↔ (option_and_then (frame_for node) (slice_get self.now place) ≡ Some frame.now) }
-        ensures room { most_frame ≤ length text.new.items + text.new.spare }
+        ensures room { max_frame_bytes ≤ length text.new.items + text.new.spare }
     {
-        // No effect at run time. The proof sees what `Frames` promises of itself only where the body reads a field.
-        let _kept = &self.kept;
+        // No effect at run time. The proof sees the invariant of `Frames` only where the body reads a field.
+        let _kept = &self.stored;
         self.has_bytes(place, node, frame.bytes(), text)
     }
 
-    /// Whether these bytes are those of the frame at the place, counted from 0, and that goes to the node. It may be
-    /// spelled in `text`, which has room for every frame.
+    /// Returns whether the frame at this index, counted from 0, has exactly these bytes and the node is one of its
+    /// receivers. An index without a frame gives false. `text` is a scratch buffer with room for every frame.
+    /// Rules: The book and the threads 15
     pub fn has_bytes(&self, place: u16, node: Proc, bytes: &[u8], text: &mut BytesMut<A>) -> bool
-        requires room { most_frame ≤ length text.old.items + text.old.spare }
-        ensures found { IsTrue result ↔ IsSomeAnd (option_and_then (frame_for node) (slice_get self.now place)) (λ f. spelling_of f ≡ bytes.now) }
-        ensures room { most_frame ≤ length text.new.items + text.new.spare }
+        requires room { max_frame_bytes ≤ length text.old.items + text.old.spare }
+        ensures found { IsTrue result ↔ IsSomeAnd (option_and_then (frame_for node) (slice_get self.now place)) (λ f. encoding_of f ≡ bytes.now) }
+        ensures room { max_frame_bytes ≤ length text.new.items + text.new.spare }
     {
-        match &self.kept {
-            KeptFrames::Spelled(spelled) => spelled_has_bytes(
-                spelled.as_slice(),
+        match &self.stored {
+            StoredFrames::Encoded(encoded) => encoded_has_bytes(
+                encoded.as_slice(),
                 place,
                 node,
                 bytes,
             ),
-            KeptFrames::Given(given) => given_has_bytes(given.as_slice(), place, node, bytes, text),
+            StoredFrames::Unencoded(unencoded) => unencoded_has_bytes(
+                unencoded.as_slice(),
+                place,
+                node,
+                bytes,
+                text,
+            ),
         }
     }
 
-    /// Whom the frame at the place, counted from 0, goes to, if there is one.
+    /// Returns the receivers of the frame at this index, counted from 0, or `None` if there is no such frame.
+    /// Rules: The book and the threads 9
     pub fn receivers(&self, place: u16) -> Option<ProcSet>
         ensures { result ≡ option_map (λ (s : SentFrame A). s.to) (slice_get self.now place) }
     {
-        match &self.kept {
-            KeptFrames::Spelled(spelled) => spelled_receivers(spelled.as_slice(), place),
-            KeptFrames::Given(given) => given_receivers(given.as_slice(), place),
+        match &self.stored {
+            StoredFrames::Encoded(encoded) => encoded_receivers(encoded.as_slice(), place),
+            StoredFrames::Unencoded(unencoded) => unencoded_receivers(unencoded.as_slice(), place),
         }
     }
 
-    /// Appends the bytes of the frame at the place, counted from 0. Refused with `Stranger` where there is none, then with
-    /// `Memory`; nothing is appended then.
+    /// Appends the encoding of the frame at this index, counted from 0, to `out`: at most 8,192 bytes.
+    /// Errors: `Stranger` if there is no such frame, then `Memory`; nothing is appended.
+    /// Rules: The book and the threads 15; Refusals 2
+    /// Formats: Frames
     pub fn put(&self, place: u16, out: &mut BytesMut<A>) -> Result<(), Fault>
         ensures { IsPut (slice_get self.now place) out.old.items out.new.items result }
     {
-        match &self.kept {
-            KeptFrames::Spelled(spelled) => put_spelled(spelled.as_slice(), place, out),
-            KeptFrames::Given(given) => put_given(given.as_slice(), place, out),
+        match &self.stored {
+            StoredFrames::Encoded(encoded) => put_encoded(encoded.as_slice(), place, out),
+            StoredFrames::Unencoded(unencoded) => put_unencoded(unencoded.as_slice(), place, out),
         }
     }
 
-    /// How many frames there are.
+    /// Returns the number of frames that the line's step sent.
+    /// Rules: The book and the threads 9
     pub fn len(&self) -> usize
         ensures { result ≡ length self.now }
     {
-        match &self.kept {
-            KeptFrames::Spelled(spelled) => spelled.len(),
-            KeptFrames::Given(given) => given.len(),
+        match &self.stored {
+            StoredFrames::Encoded(encoded) => encoded.len(),
+            StoredFrames::Unencoded(unencoded) => unencoded.len(),
         }
     }
 }

@@ -1,19 +1,23 @@
-//! What clients see of the lines.
+//! The history of a list of lines.
+//! Rules: Sessions 9
 
 ghost use Rattle.std.specs.Prelude.{◌≡◌, ◌++◌, OnOk, IfOk, IfErr};
 ghost use Rattle.ring_base.specs.declared.fault.Fault.TheVariants.{Memory};
-ghost use Rattle.ring_rules.specs.Worlds.{items_of, replied};
+ghost use Rattle.ring_node_spec.specs.Worlds.{items_of, reply_items};
 ghost use Rattle.ring_session.specs.SessionAnswer.{reply_in};
 ghost use Rattle.ring_book_lines.specs.Events.{history_of, items_in};
 
 use crate::cause::Cause;
 use crate::line::Line;
 use ring_base::Fault;
-use ring_rules::Item;
-use ring_session::{Answer, Answered};
+use ring_node_spec::Item;
+use ring_session::{Answer, TicketAnswer};
 use std::alloc::Allocator;
 
-/// What clients see of the lines, in order, or `Memory`.
+/// Returns the history of the lines: copies of their issued calls and their replies, in order. A refused answer adds
+/// nothing.
+/// Errors: `Memory` where an allocation fails.
+/// Rules: Sessions 9
 pub fn history<A: Allocator + Copy + Drop>(
     alloc: A,
     lines: &[Line<A>],
@@ -23,13 +27,13 @@ pub fn history<A: Allocator + Copy + Drop>(
 {
     let mut items = Vec::new(alloc);
     for line in lines {
-        tell(line, &mut items)?;
+        add_items(line, &mut items)?;
     }
     Ok(items)
 }
 
-/// Appends what clients see of the line.
-fn tell<A: Allocator + Copy + Drop>(
+/// Appends the history items of the line.
+fn add_items<A: Allocator + Copy + Drop>(
     line: &Line<A>,
     items: &mut Vec<Item<A>, A>,
 ) -> Result<(), Fault>
@@ -37,36 +41,36 @@ fn tell<A: Allocator + Copy + Drop>(
     ensures refused { IfErr result (λ fault. fault ≡ Memory) }
 {
     match line.cause() {
-        Cause::Called(call) => {
+        Cause::Submitted(call) => {
             items.push(Item::Issue(call.clone()?))?;
             Ok(())
         }
         Cause::Delivered(_) | Cause::Noise | Cause::Timeout(_) | Cause::Stopped => {
-            tell_replies(line.answers(), items)
+            add_replies(line.answers(), items)
         }
     }
 }
 
 /// Appends the replies among these answers.
-fn tell_replies<A: Allocator + Copy + Drop>(
-    answers: &[Answered<A>],
+fn add_replies<A: Allocator + Copy + Drop>(
+    answers: &[TicketAnswer<A>],
     items: &mut Vec<Item<A>, A>,
 ) -> Result<(), Fault>
     ensures ok { OnOk result (items.new.items ≡ items.old.items ++ items_of answers.now) }
     ensures refused { IfErr result (λ fault. fault ≡ Memory) }
 {
     for answered in answers {
-        tell_reply(answered, items)?;
+        add_reply(answered, items)?;
     }
     Ok(())
 }
 
 /// Appends the reply in the answer, if it has one.
-fn tell_reply<A: Allocator + Copy + Drop>(
-    answered: &Answered<A>,
+fn add_reply<A: Allocator + Copy + Drop>(
+    answered: &TicketAnswer<A>,
     items: &mut Vec<Item<A>, A>,
 ) -> Result<(), Fault>
-    ensures ok { OnOk result (items.new.items ≡ items.old.items ++ replied answered.now.call (reply_in answered.now.answer)) }
+    ensures ok { OnOk result (items.new.items ≡ items.old.items ++ reply_items answered.now.call (reply_in answered.now.answer)) }
     ensures refused { IfErr result (λ fault. fault ≡ Memory) }
 {
     match answered.answer {

@@ -1,25 +1,29 @@
-//! What a line is the answer to.
+//! The inputs of steps and submits.
+//! Rules: The book and the threads 9
 
 use crate::frame_ref::FrameRef;
-use crate::heard::HeardFrame;
+use crate::received_frame::ReceivedFrame;
+use ring_node_spec::Input;
 use ring_payload::Call;
-use ring_rules::Input;
 use std::alloc::{Allocator, Global};
 
-/// What happened at a node.
+/// The input of a line: a call that the node took, or an input of the node's step.
+/// Rules: The book and the threads 9
 #[derive(Drop)]
 pub enum LineInput<A: Allocator + Copy = Global> {
-    /// The call was submitted, and the node took it.
-    Called(Call<A>),
-    /// The input came. If it is a frame, the frame is said to stand there in the book.
-    Came(Input<A>, FrameRef),
+    /// A call was submitted, and the node took it.
+    Submitted(Call<A>),
+    /// An input arrived. If it is a frame, it is claimed to be at this place in the book, which the book checks. For
+    /// any other input the place has no meaning.
+    Received(Input<A>, FrameRef),
 }
 
-/// What happened at a node, as a step keeps it on its way.
+/// The input of a line, as its step stores it on the way from the cell to the book.
+/// Rules: The book and the threads 9 and 13
 #[derive(Drop)]
 pub enum StepInput<A: Allocator + Copy + Drop = Global> {
-    /// This happened.
-    Told(LineInput<A>),
-    /// The frame came that is said to stand there in the book. Of it the bytes are kept.
-    Heard(HeardFrame<A>, FrameRef),
+    /// The input as a value: a call, or an input of the node's step.
+    Full(LineInput<A>),
+    /// A frame that arrived, stored as its bytes. It is claimed to be at this place in the book, which the book checks.
+    FrameBytes(ReceivedFrame<A>, FrameRef),
 }

@@ -1,9 +1,10 @@
 //! Laws of lists of lines that are runs.
+//! Rules: The book and the threads 11
 
 ghost use Rattle.std.specs.Prelude.{◌≡◌, ℕ, ◌≤◌, List};
 ghost use Rattle.ring_base.specs.Group.{Group};
-ghost use Rattle.ring_rules.specs.Worlds.{run, world_opening};
-ghost use Rattle.ring_rules.specs.Nodes.{Node};
+ghost use Rattle.ring_node_spec.specs.Worlds.{run, world_opening};
+ghost use Rattle.ring_node_spec.specs.Nodes.{Node};
 ghost use Rattle.ring_book_lines.specs.Events.{IsRun, events_of};
 ghost use Rattle.ring_book_lines.specs.Lines.{steps_of};
 ghost use Rattle.ring_book_lines.specs.Machines.{node_machine};
@@ -12,9 +13,12 @@ ghost use Rattle.ring_book_lines.specs.Steps.{LineView};
 
 use ring_object::Object;
 
-/// Law, for every object and every group of at most 16 processors. A list of lines in which each node's steps are a run of
-/// that node, and each frame that came stands before, is a run of the group: a run of `World`, of which `linear_law` of
-/// ring_order_proof speaks. And what a node's steps make of it is what it is in that run.
+/// States, for every object, every group of at most 16 processors and every list of lines, that a book run is a run of
+/// `World`. A list is a book run if the steps of each node are a run of that node, and each delivered frame is one of
+/// an earlier line.
+/// The inputs of a book run are the events of a run that `linear_law` of ring_order_proof covers. A node's state after
+/// its steps is the node's state in that run.
+/// Rules: The book and the threads 11 and 18
 pub fn lines_law<O: Object>()
     ensures runs { (group : Group) (lines : List (LineView O.Alloc)) → group.count ≤ 16 →
         IsBookRun (node_machine O.sequential group) group.count lines → IsRun O.sequential group lines }

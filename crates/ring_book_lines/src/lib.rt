@@ -1,34 +1,34 @@
-//! The lines of the book: what the nodes of a group did, one after the other. Lists of lines that are runs, what stands in
-//! them, and what they make of answers, histories and the one order.
+//! The lines of the book: the steps of a group's nodes, one after another. The crate defines which lists of lines are
+//! runs, finds the frames in them, and derives from them the answers, the history and the one order.
 #![tactic(auto)]
 
 mod answers;
 mod cause;
+mod encoded;
 mod frame_ref;
 mod frames;
-mod heard;
 mod histories;
 mod input;
 pub mod laws;
 mod line;
 mod log;
+mod models;
 mod orders;
-mod spelled;
+mod received_frame;
 mod step;
-mod stories;
 
-pub use answers::tell;
+pub use answers::add_answers;
 pub use cause::Cause;
+pub use encoded::EncodedFrame;
 pub use frame_ref::FrameRef;
-pub use frames::{Frames, KeptFrames};
-pub use heard::HeardFrame;
+pub use frames::{Frames, StoredFrames};
 pub use histories::history;
 pub use input::{LineInput, StepInput};
-pub use line::{Line, is_found, stands};
-pub use log::{Segment, note};
+pub use line::{Line, has_bytes_at, is_deliverable};
+pub use log::{LogSegment, extend_log};
+pub use models::{FrameModel, StepModel};
 pub use orders::order;
+pub use received_frame::ReceivedFrame;
 pub use ring_order_proof::fit_laws::{call_keeps_law, node_fits_law};
 pub use ring_order_proof::laws::linear_law;
-pub use spelled::SpelledFrame;
 pub use step::Step;
-pub use stories::{FrameStory, StepStory};

@@ -1,41 +1,43 @@
-//! The lines of the book.
+//! The lines of the book, and look-ups of frames in them.
+//! Rules: The book and the threads 9 to 11 and 16
 
 ghost use Rattle.std.specs.Prelude.{◌≡◌, ◌+◌, ◌≤◌, ◌↔◌, Some, IsTrue, length};
-ghost use Rattle.ring_rules.specs.NodeLimits.{InputFits};
+ghost use Rattle.ring_node_spec.specs.NodeLimits.{InputFits};
 ghost use Rattle.ring_wire.specs.Frames.{FrameFits};
 ghost use Rattle.ring_book_lines.specs.Kept.{line_input};
-ghost use Rattle.ring_book_lines.specs.Lines.{cause_of, frame_to, IsFound, IsThere, Stands};
-ghost use Rattle.ring_book_lines.specs.declared.input.LineInput.TheVariants.{Came};
-ghost use Rattle.ring_base.specs.Numbers.{most_frame};
+ghost use Rattle.ring_book_lines.specs.Lines.{cause_of, frame_to, IsDeliverable, IsFrameAt, HasBytesAt};
+ghost use Rattle.ring_book_lines.specs.declared.input.LineInput.TheVariants.{Received};
+ghost use Rattle.ring_base.specs.Numbers.{max_frame_bytes};
 
 use crate::cause::Cause;
 use crate::frame_ref::FrameRef;
 use crate::frames::Frames;
-use crate::heard::HeardFrame;
 use crate::input::{LineInput, StepInput};
+use crate::models::{StepModel, step_model};
+use crate::received_frame::ReceivedFrame;
 use crate::step::Step;
-use crate::stories::{StepStory, shown_step};
 use bytes::BytesMut;
-use ring_base::{Past, Proc};
+use ring_base::{Ghost, Proc};
+use ring_node_spec::Input;
 use ring_payload::Call;
-use ring_rules::Input;
-use ring_session::Answered;
+use ring_session::TicketAnswer;
 use ring_wire::Frame;
 use std::alloc::{Allocator, Global};
 use std::marker::Model;
 use std::mem::size_of;
 
-/// A line of the book: its number in the list, counted from 0, and what a node did. Of a frame that came it keeps only where
-/// that stands.
+/// A line of the book: its number in the list, counted from 0, and one step or submit of a node. Of a delivered frame
+/// it keeps only the `FrameRef`.
+/// Rules: The book and the threads 9 and 10
 #[derive(Drop)]
 pub struct Line<A: Allocator + Copy + Drop = Global> {
     number: u32,
     node: Proc,
     cause: Cause<A>,
     frames: Frames<A>,
-    answers: Vec<Answered<A>, A>,
+    answers: Vec<TicketAnswer<A>, A>,
     calls: Vec<Call<A>, A>,
-    step: Past<StepStory<A>>,
+    step: Ghost<StepModel<A>>,
 }
 
 impl<A: Allocator + Copy + Drop> Model for Line<A> {
@@ -50,37 +52,38 @@ impl<A: Allocator + Copy + Drop> Model for Line<A> {
     ghost invariant = { λ l. IsStepKept l.step.value l.node l.cause l.frames l.answers.items l.calls.items };
 }
 
-/// A line takes little, so that a full book on an idle ring does.
+/// A line is small, so that the full book of an idle ring is small too.
 const _: () = prove!(size_of::<Line>() <= 136);
 
-/// What the line tells of what happened.
+/// Returns the line's record of the input.
 fn cause<A: Allocator + Copy + Drop>(input: StepInput<A>) -> Cause<A>
     ensures { result ≡ cause_of (line_input input) }
 {
     match input {
-        StepInput::Told(input) => told_cause(input),
-        StepInput::Heard(_, at) => Cause::Delivered(at),
+        StepInput::Full(input) => line_cause(input),
+        StepInput::FrameBytes(_, at) => Cause::Delivered(at),
     }
 }
 
-/// What the line tells of this.
-fn told_cause<A: Allocator + Copy + Drop>(input: LineInput<A>) -> Cause<A>
+/// Returns the line's record of the input.
+fn line_cause<A: Allocator + Copy + Drop>(input: LineInput<A>) -> Cause<A>
     ensures { result ≡ cause_of input }
 {
     match input {
-        LineInput::Called(call) => Cause::Called(call),
-        LineInput::Came(input, at) => {
-            let cause = came_cause(&input, at);
-            // By name, so that the input is let go in a function of any type, and lives at no exit (docs/DECISIONS.md, *The gate*, 5).
+        LineInput::Submitted(call) => Cause::Submitted(call),
+        LineInput::Received(input, at) => {
+            let cause = input_cause(&input, at);
+            // By name, so that the input is dropped in a function of any type, and no value is live at an exit
+            // (docs/DECISIONS.md, *The gate*, 5).
             drop(input);
             cause
         }
     }
 }
 
-/// What the line tells of an input that came, where its frame stood there.
-fn came_cause<A: Allocator + Copy + Drop>(input: &Input<A>, at: FrameRef) -> Cause<A>
-    ensures { result ≡ cause_of (Came input.now at) }
+/// Returns the line's record of a node's input. `at` is the place of its frame, if it is one.
+fn input_cause<A: Allocator + Copy + Drop>(input: &Input<A>, at: FrameRef) -> Cause<A>
+    ensures { result ≡ cause_of (Received input.now at) }
 {
     match input {
         Input::Frame(_) => Cause::Delivered(at),
@@ -91,11 +94,13 @@ fn came_cause<A: Allocator + Copy + Drop>(input: &Input<A>, at: FrameRef) -> Cau
 }
 
 impl<A: Allocator + Copy + Drop> Line<A> {
-    /// The line of this number, of what a node did.
+    /// Returns the line of this number, counted from 0, for a step. A frame that the step delivers is dropped, but for
+    /// its `FrameRef`. It takes no memory.
+    /// Rules: The book and the threads 9 and 10
     pub fn new(number: u32, step: Step<A>) -> Line<A>
         ensures { result ≡ record { number = number; step = step } }
     {
-        let told = shown_step(&step);
+        let told = step_model(&step);
         let Step {
             node,
             input,
@@ -115,42 +120,52 @@ impl<A: Allocator + Copy + Drop> Line<A> {
         }
     }
 
-    /// Its number in the book's list, counted from 0.
+    /// Returns the line's number in the book's list, counted from 0.
+    /// Rules: The book and the threads 10
     pub fn number(&self) -> u32
         ensures { result ≡ self.now.number }
     {
         self.number
     }
 
-    /// The node's processor.
+    /// Returns the processor whose node did the line's step, or took the submitted call.
+    /// Rules: The book and the threads 9
     pub fn node(&self) -> Proc
         ensures { result ≡ self.now.step.node }
     {
         self.node
     }
 
-    /// What happened at the node.
+    /// Returns the line's record of its input: the call, the place of the frame, noise, the kind of the timeout, or the
+    /// stop.
+    /// Rules: The book and the threads 9
     pub fn cause(&self) -> &Cause<A>
         ensures { result.now ≡ cause_of self.now.step.input }
     {
         &self.cause
     }
 
-    /// The frames sent; the place of each in this list, counted from 0, is that of its `FrameRef`.
+    /// Returns the frames that the line's step sent, each with its receivers, in the order sent. A submit has none. The
+    /// index of a frame in this list, counted from 0, is the `place` in its `FrameRef`.
+    /// Rules: The book and the threads 9 and 10
     pub fn frames(&self) -> &Frames<A>
         ensures { result.now ≡ self.now.step.frames }
     {
         &self.frames
     }
 
-    /// The answers given.
-    pub fn answers(&self) -> &[Answered<A>]
+    /// Returns the answers that the node gave in the line's step, each with its ticket, in the order given. A submit
+    /// has none.
+    /// Rules: The book and the threads 9; The replicated log 14
+    pub fn answers(&self) -> &[TicketAnswer<A>]
         ensures { result.now ≡ self.now.step.answers }
     {
         self.answers.as_slice()
     }
 
-    /// The calls newly committed, in order.
+    /// Returns the calls at the places that the node newly committed in the line's step, in order, repeats included. A
+    /// submit has none. Places that a restored snapshot brought are not among them.
+    /// Rules: The book and the threads 9; The replicated log 12
     pub fn committed(&self) -> &[Call<A>]
         ensures { result.now ≡ self.now.step.calls }
     {
@@ -158,17 +173,20 @@ impl<A: Allocator + Copy + Drop> Line<A> {
     }
 }
 
-/// Whether these bytes stand there for the node. A frame may be spelled in `text`, which has room for every frame.
-pub fn stands<A: Allocator + Copy + Drop>(
+/// Returns whether the lines have a frame at this place, it has exactly these bytes, and the node is one of its
+/// receivers. A place without a frame gives false. `text` is a scratch buffer with room for every frame; its contents
+/// may be replaced.
+/// Rules: The book and the threads 15
+pub fn has_bytes_at<A: Allocator + Copy + Drop>(
     lines: &[Line<A>],
     at: FrameRef,
     node: Proc,
     bytes: &[u8],
     text: &mut BytesMut<A>,
 ) -> bool
-    requires { most_frame ≤ length text.old.items + text.old.spare }
-    ensures found { IsTrue result ↔ Stands lines.now at node bytes.now }
-    ensures room { most_frame ≤ length text.new.items + text.new.spare }
+    requires { max_frame_bytes ≤ length text.old.items + text.old.spare }
+    ensures found { IsTrue result ↔ HasBytesAt lines.now at node bytes.now }
+    ensures room { max_frame_bytes ≤ length text.new.items + text.new.spare }
 {
     match lines.get(at.line as usize) {
         Some(line) => line.frames().has_bytes(at.place, node, bytes, text),
@@ -176,27 +194,32 @@ pub fn stands<A: Allocator + Copy + Drop>(
     }
 }
 
-/// Whether what the step delivers stands in these lines. A frame is spelled in `text`, which has room for every frame.
-pub fn is_found<A: Allocator + Copy + Drop>(
+/// Returns whether the step may be entered behind these lines. It may if it delivers no frame, or if the lines have its
+/// frame at its `FrameRef` with the step's node as a receiver. `text` is a scratch buffer with room for every frame;
+/// its contents may be replaced.
+/// Rules: The book and the threads 11 and 16
+pub fn is_deliverable<A: Allocator + Copy + Drop>(
     lines: &[Line<A>],
     step: &Step<A>,
     text: &mut BytesMut<A>,
 ) -> bool
-    requires { most_frame ≤ length text.old.items + text.old.spare }
-    ensures found { IsTrue result ↔ IsFound lines.now step.now.node step.now.input }
-    ensures room { most_frame ≤ length text.new.items + text.new.spare }
+    requires { max_frame_bytes ≤ length text.old.items + text.old.spare }
+    ensures found { IsTrue result ↔ IsDeliverable lines.now step.now.node step.now.input }
+    ensures room { max_frame_bytes ≤ length text.new.items + text.new.spare }
 {
     match &step.input {
-        StepInput::Told(LineInput::Came(input, at)) => {
-            is_there(lines, *at, step.node, input, text)
+        StepInput::Full(LineInput::Received(input, at)) => {
+            has_input_frame_at(lines, *at, step.node, input, text)
         }
-        StepInput::Told(LineInput::Called(_)) => true,
-        StepInput::Heard(frame, at) => is_heard(lines, *at, step.node, frame, text),
+        StepInput::Full(LineInput::Submitted(_)) => true,
+        StepInput::FrameBytes(frame, at) => has_received_frame_at(
+            lines, *at, step.node, frame, text,
+        ),
     }
 }
 
-/// Whether the frame stands there for the node, if the input is one.
-fn is_there<A: Allocator + Copy + Drop>(
+/// Returns whether the input isn't a frame, or is the frame at this place with the node as a receiver.
+fn has_input_frame_at<A: Allocator + Copy + Drop>(
     lines: &[Line<A>],
     at: FrameRef,
     node: Proc,
@@ -204,18 +227,18 @@ fn is_there<A: Allocator + Copy + Drop>(
     text: &mut BytesMut<A>,
 ) -> bool
     requires fits { InputFits input.now }
-    requires room { most_frame ≤ length text.old.items + text.old.spare }
-    ensures found { IsTrue result ↔ IsThere lines.now node at input.now }
-    ensures room { most_frame ≤ length text.new.items + text.new.spare }
+    requires room { max_frame_bytes ≤ length text.old.items + text.old.spare }
+    ensures found { IsTrue result ↔ IsFrameAt lines.now node at input.now }
+    ensures room { max_frame_bytes ≤ length text.new.items + text.new.spare }
 {
     match input {
-        Input::Frame(frame) => is_sent(lines, at, node, frame, text),
+        Input::Frame(frame) => has_frame_at(lines, at, node, frame, text),
         Input::Noise | Input::Timeout(_) | Input::Stop => true,
     }
 }
 
-/// Whether this frame stands there for the node.
-fn is_sent<A: Allocator + Copy + Drop>(
+/// Returns whether the frame at this place is this one and the node a receiver.
+fn has_frame_at<A: Allocator + Copy + Drop>(
     lines: &[Line<A>],
     at: FrameRef,
     node: Proc,
@@ -223,9 +246,9 @@ fn is_sent<A: Allocator + Copy + Drop>(
     text: &mut BytesMut<A>,
 ) -> bool
     requires fits { FrameFits frame.now }
-    requires room { most_frame ≤ length text.old.items + text.old.spare }
+    requires room { max_frame_bytes ≤ length text.old.items + text.old.spare }
     ensures found { IsTrue result ↔ (frame_to lines.now at node ≡ Some frame.now) }
-    ensures room { most_frame ≤ length text.new.items + text.new.spare }
+    ensures room { max_frame_bytes ≤ length text.new.items + text.new.spare }
 {
     match lines.get(at.line as usize) {
         Some(line) => line.frames().has_frame(at.place, node, frame, text),
@@ -233,20 +256,23 @@ fn is_sent<A: Allocator + Copy + Drop>(
     }
 }
 
-/// Whether the frame that came stands there for the node. The one there may be spelled in `text`, which has room for every frame.
-fn is_heard<A: Allocator + Copy + Drop>(
+/// Returns whether the frame at this place is this received one and the node a receiver. `text` is a scratch buffer with
+/// room for every frame.
+fn has_received_frame_at<A: Allocator + Copy + Drop>(
     lines: &[Line<A>],
     at: FrameRef,
     node: Proc,
-    frame: &HeardFrame<A>,
+    frame: &ReceivedFrame<A>,
     text: &mut BytesMut<A>,
 ) -> bool
-    requires { most_frame ≤ length text.old.items + text.old.spare }
+    requires { max_frame_bytes ≤ length text.old.items + text.old.spare }
     ensures found { IsTrue result ↔ (frame_to lines.now at node ≡ Some frame.now) }
-    ensures room { most_frame ≤ length text.new.items + text.new.spare }
+    ensures room { max_frame_bytes ≤ length text.new.items + text.new.spare }
 {
     match lines.get(at.line as usize) {
-        Some(line) => line.frames().has_heard(at.place, node, frame, text),
+        Some(line) => line
+            .frames()
+            .has_received_frame(at.place, node, frame, text),
         None => false,
     }
 }

@@ -1,4 +1,5 @@
 //! The order of the calls that take effect.
+//! Rules: Sessions 6 and 10
 
 ghost use Rattle.std.specs.Prelude.{◌≡◌, [], ◌++◌, List, OnOk, IfOk, IfErr, drop, slice_get};
 ghost use Rattle.ring_base.specs.declared.fault.Fault.TheVariants.{Memory};
@@ -8,17 +9,21 @@ ghost use Rattle.ring_session.specs.Effects.{AreOf};
 ghost use Rattle.ring_book_lines.specs.Logs.{calls_at, calls_on};
 
 use crate::line::Line;
-use crate::log::Segment;
+use crate::log::LogSegment;
 use ring_base::Fault;
 use ring_payload::Call;
 use ring_session::Effects;
 use std::alloc::Allocator;
 
-/// Of the calls of these segments, those that take effect, in order, or `Memory`.
+/// Returns copies of the calls of these segments that take effect, in order, repeats removed. With the segments of the
+/// longest committed log of the lines this is the order of their run. A segment of a line that isn't there adds
+/// nothing.
+/// Errors: `Memory` where an allocation fails.
+/// Rules: Sessions 6 and 10
 pub fn order<A: Allocator + Copy + Drop>(
     alloc: A,
     lines: &[Line<A>],
-    segments: &[Segment],
+    segments: &[LogSegment],
 ) -> Result<Vec<Call<A>, A>, Fault>
     ensures ok { IfOk result (λ order. order.items ≡ deduplicated (calls_at lines.now segments.now)) }
     ensures refused { IfErr result (λ fault. fault ≡ Memory) }
@@ -34,7 +39,7 @@ pub fn order<A: Allocator + Copy + Drop>(
 fn add_segment<A: Allocator + Copy + Drop>(
     effects: &mut Effects<A>,
     lines: &[Line<A>],
-    segment: &Segment,
+    segment: &LogSegment,
 ) -> Result<(), Fault>
     ensures ok { (before : List (OneCall A)) → AreOf before effects.old →
         OnOk result (AreOf (before ++ calls_on segment.now.from (slice_get lines.now segment.now.line)) effects.new) }
@@ -46,7 +51,7 @@ fn add_segment<A: Allocator + Copy + Drop>(
     }
 }
 
-/// Adds the calls from this place on.
+/// Adds the calls from index `from` on.
 fn add_from<A: Allocator + Copy + Drop>(
     effects: &mut Effects<A>,
     calls: &[Call<A>],

@@ -1,31 +1,40 @@
-//! What a node did, on its way from the cell to the book.
+//! A step of a node, as the journal carries it from the cell to the book.
+//! Rules: The book and the threads 9 and 13
 
 ghost use Rattle.std.specs.Prelude.{◌≡◌, []};
-ghost use Rattle.ring_rules.specs.declared.input.Input.TheVariants.{Stop};
+ghost use Rattle.ring_node_spec.specs.declared.input.Input.TheVariants.{Stop};
 ghost use Rattle.ring_book_lines.specs.Runs.{LineFits};
 ghost use Rattle.ring_payload.specs.Calls.{CallFits};
-ghost use Rattle.ring_book_lines.specs.declared.input.LineInput.TheVariants.{Called, Came};
+ghost use Rattle.ring_book_lines.specs.declared.input.LineInput.TheVariants.{Submitted, Received};
 
 use crate::frame_ref::FrameRef;
 use crate::frames::Frames;
 use crate::input::{LineInput, StepInput};
 use ring_base::Proc;
+use ring_node_spec::Input;
 use ring_order_proof::fit_laws::call_keeps_law;
 use ring_payload::Call;
-use ring_rules::Input;
-use ring_session::Answered;
+use ring_session::TicketAnswer;
 use std::alloc::{Allocator, Global};
 use std::marker::Model;
 
-/// One step of a node, or one submit at it: what happened, the frames sent, the answers given, the calls newly committed,
-/// and how many places it then has committed, from the log's beginning.
+/// One step of a node, or one submit: the input, the frames sent, the answers given, the calls newly committed, and the
+/// node's committed length afterwards, counted from the log's beginning. A cell makes it, and the book makes a line of
+/// it.
+/// Rules: The book and the threads 9 and 13
 #[derive(Drop)]
 pub struct Step<A: Allocator + Copy + Drop = Global> {
+    /// The processor of the node.
     pub(crate) node: Proc,
+    /// The input of the step, or the submitted call.
     pub(crate) input: StepInput<A>,
+    /// The frames sent, in the order sent.
     pub(crate) frames: Frames<A>,
-    pub(crate) answers: Vec<Answered<A>, A>,
+    /// The answers given, each with its ticket, in the order given.
+    pub(crate) answers: Vec<TicketAnswer<A>, A>,
+    /// The calls newly committed, in order, repeats included.
     pub(crate) calls: Vec<Call<A>, A>,
+    /// The node's committed length after the step, dropped places included.
     pub(crate) committed: usize,
 }
 
@@ -51,18 +60,22 @@ impl<A: Allocator + Copy + Drop> Model for Step<A> {
 impl<A: Allocator + Copy + Drop> Step<A> {
     ghost use Rattle.ring_book_lines.specs.Kept.{line_input};
     ghost use Rattle.ring_book_lines.specs.declared.input.LineInput.{LineInput};
-    ghost use Rattle.ring_book_lines.specs.declared.input.StepInput.TheVariants.{Told};
+    ghost use Rattle.ring_book_lines.specs.declared.input.StepInput.TheVariants.{Full};
 
-    /// What a node did when this happened.
+    /// Returns the step that a node did on this input, with the frames sent, the answers given and the calls newly
+    /// committed.
+    /// `committed` is the node's committed length after the step, dropped places included. A frame in the input is
+    /// within the limits of frames, and a call within those of snapshots.
+    /// Rules: The book and the threads 9
     pub fn new(
         node: Proc,
         input: StepInput<A>,
         frames: Frames<A>,
-        answers: Vec<Answered<A>, A>,
+        answers: Vec<TicketAnswer<A>, A>,
         calls: Vec<Call<A>, A>,
         committed: usize,
     ) -> Step<A>
-        requires { (told : LineInput A) → input ≡ Told told → LineFits told }
+        requires { (told : LineInput A) → input ≡ Full told → LineFits told }
         ensures { result ≡ record {
           node = node;
           input = line_input input;
@@ -72,8 +85,8 @@ impl<A: Allocator + Copy + Drop> Step<A> {
           committed = committed;
         } }
     {
-        if let StepInput::Heard(frame, _) = &input {
-            // No effect at run time. The proof takes from this call that the frame keeps the limits of frames.
+        if let StepInput::FrameBytes(frame, _) = &input {
+            // No effect at run time. The proof takes from this call that the frame is within the limits of frames.
             let _bytes = frame.bytes();
         }
         Step {
@@ -86,16 +99,20 @@ impl<A: Allocator + Copy + Drop> Step<A> {
         }
     }
 
-    /// The submit of a call at a node.
+    /// Returns the submit of a call that a node took. It has no frames, answers or committed calls, and it takes no
+    /// memory.
+    /// `committed` is the node's committed length, dropped places included. The call is within the limits of frames.
+    /// Rules: The book and the threads 9
     pub fn called(alloc: A, node: Proc, call: Call<A>, committed: usize) -> Step<A>
         requires { CallFits call }
-        ensures { result ≡ record { node = node; input = Called call; frames = []; answers = []; calls = []; committed = committed } }
+        ensures { result ≡ record { node = node; input = Submitted call; frames = []; answers = []; calls = []; committed = committed } }
     {
-        // A law: no effect at run time. The proof takes from it that a call within the limits of frames is within those of snapshots.
+        // A law: no effect at run time. The proof takes from it that a call within the limits of frames is within those of
+        // snapshots.
         call_keeps_law(&call);
         Step::new(
             node,
-            StepInput::Told(LineInput::Called(call)),
+            StepInput::Full(LineInput::Submitted(call)),
             Frames::none(alloc),
             Vec::new(alloc),
             Vec::new(alloc),
@@ -103,13 +120,15 @@ impl<A: Allocator + Copy + Drop> Step<A> {
         )
     }
 
-    /// The step of a node that stops.
+    /// Returns the stop of a node. It has no frames, answers or committed calls, and it takes no memory.
+    /// `committed` is the node's committed length, dropped places included. `at` is recorded without a meaning.
+    /// Rules: The book and the threads 9 and 14
     pub fn stop(alloc: A, node: Proc, at: FrameRef, committed: usize) -> Step<A>
-        ensures { result ≡ record { node = node; input = Came Stop at; frames = []; answers = []; calls = []; committed = committed } }
+        ensures { result ≡ record { node = node; input = Received Stop at; frames = []; answers = []; calls = []; committed = committed } }
     {
         Step::new(
             node,
-            StepInput::Told(LineInput::Came(Input::Stop, at)),
+            StepInput::Full(LineInput::Received(Input::Stop, at)),
             Frames::none(alloc),
             Vec::new(alloc),
             Vec::new(alloc),

@@ -1,13 +1,12 @@
 //! A book of a group with its cells, driven by hand.
 
 ghost use Rattle.std.specs.Prelude.{◌≡◌};
-ghost use Rattle.ring_rules.specs.NodeLimits.{InputFits};
+ghost use Rattle.ring_node_spec.specs.NodeLimits.{InputFits};
 ghost use Rattle.ring_payload.specs.Calls.{CallFits};
 
-use crate::linear::in_order;
 use bytes::BytesMut;
 use ring_base::{Fault, Kind, Proc, ProcSet};
-use ring_book::{Book, BookName, Cell, FrameRef, Opening, ReservedPlace};
+use ring_book::{Book, BookName, Cell, FrameRef, Opening, Place};
 use ring_node::Input;
 use ring_object::{Object, Reply};
 use ring_payload::Call;
@@ -17,23 +16,23 @@ use ring_wire::decode_frame;
 use std::alloc::Allocator;
 use std::collections::VecDeque;
 
-/// Where the first frame of the first line stands.
+/// The place of the first frame of the first line.
 pub const FIRST: FrameRef = FrameRef { line: 0, place: 0 };
 
-/// Add 5 on key 0 of an object of counters.
+/// Returns the operation that adds 5 to key 0 of an object of counters.
 pub fn add_five() -> Operation {
     Counters::add(0, 5)
 }
 
-/// The reply to the first such add: it is done, and the sum is 5.
+/// Returns the reply to the first such operation: it is done, and the sum is 5.
 pub fn five() -> Reply {
     reply_with(Outcome::Done, 5)
 }
 
-/// The frames that were sent and not delivered, the oldest first, each with its receiver.
+/// The frames that were sent and not delivered, the oldest first, each with one receiver.
 type Way<A> = VecDeque<(FrameRef, Proc), A>;
 
-/// A book and its cells.
+/// A book and its cells, the frames in flight, and the processors that are cut off from the others.
 #[derive(Drop)]
 pub struct DrivenBook<O: Object, K: BookName<O::Alloc>> {
     pub alloc: O::Alloc,
@@ -44,7 +43,8 @@ pub struct DrivenBook<O: Object, K: BookName<O::Alloc>> {
 }
 
 impl<O: Object, K: BookName<O::Alloc>> DrivenBook<O, K> {
-    /// The book and the cells of the opening that K names.
+    /// Makes the book and the cells of the opening that `K` names.
+    /// Errors: `Memory`.
     pub fn new(alloc: O::Alloc, opening: Opening<O>) -> Result<DrivenBook<O, K>, Fault>
         requires { opening ≡ K.name }
     {
@@ -59,8 +59,9 @@ impl<O: Object, K: BookName<O::Alloc>> DrivenBook<O, K> {
         })
     }
 
-    /// Hands the cell of this processor an input and enters what it did, also its stop where memory is refused. Its frames
-    /// are then on their way.
+    /// Steps the cell of this processor by an input, and enters the step, or its stop where memory is refused. The frames
+    /// sent are then in flight.
+    /// Errors: `NotMember` where there is no such cell, else those of `Cell::step` and `Book::enter`.
     pub fn step(&mut self, processor: u8, input: Input<O::Alloc>, at: FrameRef) -> Result<(), Fault>
         requires { InputFits input }
     {
@@ -69,34 +70,37 @@ impl<O: Object, K: BookName<O::Alloc>> DrivenBook<O, K> {
         send_all(&self.book, line, &mut self.open)
     }
 
-    /// Submits a call of client 7 at this processor and enters that.
+    /// Submits a call of client 7 at this processor, and enters the submit. Returns its ticket.
+    /// Errors: those of `Call::new`, `NotMember` where there is no such cell, else those of `Cell::submit` and
+    /// `Book::enter`.
     pub fn submit(&mut self, processor: u8, number: u64, op: &[u8]) -> Result<Ticket, Fault> {
         let call = Call::new(self.alloc, 7, number, op)?;
         let cell = cell_of(self.cells.as_mut_slice(), processor)?;
         entered_submit(&mut self.book, cell, call)
     }
 
-    /// The bytes of the frame that stands there.
-    pub fn spelled(&self, at: FrameRef) -> Result<BytesMut<O::Alloc>, Fault> {
+    /// Returns the bytes of the frame at this place of the book.
+    /// Errors: `Stranger` where there is none, then `Memory`.
+    pub fn encoded_frame(&self, at: FrameRef) -> Result<BytesMut<O::Alloc>, Fault> {
         let mut bytes = BytesMut::new(self.alloc);
-        self.book.spell(at, &mut bytes)?;
+        self.book.encode(at, &mut bytes)?;
         Ok(bytes)
     }
 
-    /// Delivers to this processor the frame that stands there.
+    /// Delivers the frame at this place to this processor.
     fn deliver(&mut self, processor: Proc, at: FrameRef) -> Result<(), Fault> {
-        let bytes = self.spelled(at)?;
+        let bytes = self.encoded_frame(at)?;
         self.book.check(processor, at, bytes.as_slice())?;
         let frame = decode_frame(self.alloc, bytes.as_slice())?;
         self.step(processor.number(), Input::Frame(frame), at)
     }
 
-    /// These are cut off from the others from now on.
+    /// Cuts these processors off from the others from now on.
     pub fn cut(&mut self, apart: ProcSet) {
         self.apart = apart;
     }
 
-    /// Whether the frame's sender and its receiver are cut off from each other.
+    /// Returns whether the frame's sender and its receiver are cut off from each other.
     fn is_cut(&self, at: FrameRef, receiver: Proc) -> bool {
         match self.book.line(at.line) {
             Some(line) => self.apart.contains(line.node()) != self.apart.contains(receiver),
@@ -104,7 +108,8 @@ impl<O: Object, K: BookName<O::Alloc>> DrivenBook<O, K> {
         }
     }
 
-    /// Delivers the oldest of the frames that are on their way, if there is one; it is lost where a cut holds it back.
+    /// Delivers the oldest frame in flight, if there is one. It is lost if sender and receiver are cut off from each
+    /// other.
     fn turn(&mut self) -> Result<(), Fault> {
         match self.open.pop_front() {
             Some((at, receiver)) => {
@@ -118,7 +123,7 @@ impl<O: Object, K: BookName<O::Alloc>> DrivenBook<O, K> {
         }
     }
 
-    /// Delivers so many of the frames that are on their way, the oldest first.
+    /// Delivers the oldest frames in flight, at most `turns`.
     pub fn pump(&mut self, turns: u32) -> Result<(), Fault> {
         for _ in 0..turns {
             self.turn()?;
@@ -126,17 +131,17 @@ impl<O: Object, K: BookName<O::Alloc>> DrivenBook<O, K> {
         Ok(())
     }
 
-    /// The join time of this processor is over.
+    /// Steps this processor by a join timeout.
     pub fn time(&mut self, processor: u8) -> Result<(), Fault> {
         self.time_out(processor, Kind::Join)
     }
 
-    /// A time of this processor is over.
+    /// Steps this processor by a timeout of this kind.
     pub fn time_out(&mut self, processor: u8, kind: Kind) -> Result<(), Fault> {
         self.step(processor, Input::Timeout(kind), FIRST)
     }
 
-    /// The join time of each node is over, and so many frames are delivered.
+    /// Steps each node by a join timeout, and then delivers at most `turns` frames.
     pub fn settle(&mut self, nodes: u8, turns: u32) -> Result<(), Fault> {
         for before in 0..nodes {
             self.time(before.saturating_add(1))?;
@@ -145,7 +150,8 @@ impl<O: Object, K: BookName<O::Alloc>> DrivenBook<O, K> {
     }
 }
 
-/// The cell of this processor, counted from 1.
+/// Returns the cell of this processor, counted from 1.
+/// Errors: `NotMember` where there is none.
 pub fn cell_of<O: Object, K: BookName<O::Alloc>>(
     cells: &mut [Cell<O, K>],
     processor: u8,
@@ -154,18 +160,14 @@ pub fn cell_of<O: Object, K: BookName<O::Alloc>>(
     cells.get_mut(place).ok_or(Fault::NotMember)
 }
 
-/// Enters what the cell did and tells its line, or gives the place back where there is nothing to enter.
+/// Enters the cell's step and returns the number of its line, or gives the place back where there is nothing to enter.
 fn enter<O: Object, K: BookName<O::Alloc>>(
     book: &mut Book<O, K>,
-    place: ReservedPlace,
+    place: Place,
     cell: &mut Cell<O, K>,
 ) -> Result<u32, Fault> {
     match book.enter(place, cell) {
-        Ok(line) => {
-            let number = line.number();
-            in_order(book, cell);
-            Ok(number)
-        }
+        Ok(line) => Ok(line.number()),
         Err(fault) => {
             book.release(place);
             Err(fault)
@@ -173,7 +175,7 @@ fn enter<O: Object, K: BookName<O::Alloc>>(
     }
 }
 
-/// Hands the cell an input, and enters what it did. Tells the line where the cell took the input.
+/// Steps the cell by an input and enters the step. Returns the line where the cell took the input.
 fn entered_step<O: Object, K: BookName<O::Alloc>>(
     book: &mut Book<O, K>,
     cell: &mut Cell<O, K>,
@@ -189,7 +191,7 @@ fn entered_step<O: Object, K: BookName<O::Alloc>>(
     line
 }
 
-/// Submits a call at the cell, and enters that. Tells the ticket where the cell took the call.
+/// Submits a call at the cell and enters the submit. Returns the ticket where the cell took the call.
 fn entered_submit<O: Object, K: BookName<O::Alloc>>(
     book: &mut Book<O, K>,
     cell: &mut Cell<O, K>,
@@ -205,7 +207,7 @@ fn entered_submit<O: Object, K: BookName<O::Alloc>>(
     Ok(ticket)
 }
 
-/// The frame at this place of the line, to so many receivers, is on its way to each of them, ascending.
+/// Adds the frame at this place, once for each of its receivers in ascending order, to the frames in flight.
 fn send<A: Allocator + Copy + Drop>(
     at: FrameRef,
     receivers: Option<ProcSet>,
@@ -220,7 +222,7 @@ fn send<A: Allocator + Copy + Drop>(
     Ok(())
 }
 
-/// The frames of the line are on their way: each to its receivers.
+/// Adds the frames of the line to the frames in flight.
 fn send_all<O: Object, K: BookName<O::Alloc>>(
     book: &Book<O, K>,
     line: u32,

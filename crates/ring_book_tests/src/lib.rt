@@ -1,6 +1,7 @@
-//! What no contract of the book says: that a call is answered, that each call succeeds where memory is left, what comes where
-//! memory is refused, that cells and books may go to other threads, and that nodes drop committed places and are restored. And
-//! what a caller knows who takes the book's laws together with those of the nodes.
+//! Tests of what the contracts of the book don't state: that a call is answered, that each call succeeds while there is
+//! memory, the outcome where memory is refused, that cells and books may move to other threads, and that nodes drop
+//! committed places and are restored. It also states what a caller learns from the book's laws together with those of the
+//! nodes.
 #![tactic(auto)]
 
 #[cfg(test)]
@@ -11,8 +12,6 @@ mod linear;
 mod memory;
 #[cfg(test)]
 mod refusals;
-#[cfg(test)]
-mod replies;
 #[cfg(test)]
 mod threads;
 #[cfg(test)]

@@ -1,9 +1,10 @@
-//! Each request for memory on the way to the first reply is refused in turn.
+//! Refuses each request for memory in turn, up to the first reply.
+//! Rules: Refusals 3, 5 and 6; The book and the threads 14
 
 ghost use Rattle.std.specs.Prelude.{◌≡◌};
 
 use crate::driven::{DrivenBook, FIRST, add_five, five};
-use refusing_alloc::Refusing;
+use refusing_alloc::RefusingHeap;
 use ring_base::{Fault, Fixed, Proc, State};
 use ring_book::{Book, BookName, Cell, Opening};
 use ring_node::Input;
@@ -13,7 +14,7 @@ use ring_things::Counters;
 use std::alloc::{Allocator, Global};
 use std::marker::Brand;
 
-/// The nodes of a group form one ring, and a call is submitted at the last of them.
+/// Forms one ring of the group's nodes, and submits a call at the last of them.
 fn asked<O: Object, K: BookName<O::Alloc>>(
     driven: &mut DrivenBook<O, K>,
     nodes: u8,
@@ -23,7 +24,7 @@ fn asked<O: Object, K: BookName<O::Alloc>>(
     driven.submit(nodes, 1, add_five().as_slice())
 }
 
-/// Whether the book shows the reply to the first call, of processor 1.
+/// Returns whether the book shows the reply to the first call of processor 1.
 fn shows_reply<O: Object, K: BookName<O::Alloc>>(
     book: &Book<O, K>,
     ticket: Ticket,
@@ -34,8 +35,8 @@ fn shows_reply<O: Object, K: BookName<O::Alloc>>(
     Ok(history.len() == 2 && order.len() == 1 && answer == Some(Answer::Done(five())))
 }
 
-/// Goes the way to the first reply in a group of one, and that to a ring and a call in a larger group. Answers whether it is
-/// as it should be.
+/// Runs up to the first reply in a group of one, and up to a ring and a call in a larger group. Returns whether the book
+/// shows what it should.
 fn goes_on<O: Object, K: BookName<O::Alloc>>(
     driven: &mut DrivenBook<O, K>,
     nodes: u8,
@@ -46,7 +47,7 @@ fn goes_on<O: Object, K: BookName<O::Alloc>>(
     Ok(shows == (nodes == 1))
 }
 
-/// Whether the node of this processor isn't stopped.
+/// Returns whether the node of this processor isn't stopped.
 fn is_running<O: Object, K: BookName<O::Alloc>>(cells: &[Cell<O, K>], processor: u8) -> bool {
     match cells.get(usize::from(processor).wrapping_sub(1)) {
         Some(cell) => cell.node().state() != State::Stopped,
@@ -54,7 +55,7 @@ fn is_running<O: Object, K: BookName<O::Alloc>>(cells: &[Cell<O, K>], processor:
     }
 }
 
-/// Whether each place of the book is a line's, so that none is left reserved.
+/// Returns whether each place of the book has a line, so that none is left reserved.
 fn has_lines_alone<O: Object, K: BookName<O::Alloc>>(book: &Book<O, K>) -> bool {
     match book.places().checked_sub(1) {
         Some(last) => book.line(last).is_some(),
@@ -62,8 +63,8 @@ fn has_lines_alone<O: Object, K: BookName<O::Alloc>>(book: &Book<O, K>) -> bool 
     }
 }
 
-/// Whether a processor goes on after a refusal, unless a step of it was refused: then its node is stopped. No place of the
-/// book is left reserved.
+/// Returns whether a processor continues after a refusal, unless one of its own steps was refused and its node is stopped.
+/// No place of the book may be left reserved.
 fn is_kept<O: Object, K: BookName<O::Alloc>>(driven: &mut DrivenBook<O, K>, processor: u8) -> bool {
     let is_settled = has_lines_alone(&driven.book);
     let steps = driven.step(processor, Input::Noise, FIRST).is_ok();
@@ -72,7 +73,7 @@ fn is_kept<O: Object, K: BookName<O::Alloc>>(driven: &mut DrivenBook<O, K>, proc
     is_settled && steps == goes_on && submits == goes_on
 }
 
-/// Whether all processors are kept.
+/// Returns whether this holds for all processors.
 fn are_kept<O: Object, K: BookName<O::Alloc>>(driven: &mut DrivenBook<O, K>, nodes: u8) -> bool {
     let mut are = true;
     for before in 0..nodes {
@@ -82,8 +83,8 @@ fn are_kept<O: Object, K: BookName<O::Alloc>>(driven: &mut DrivenBook<O, K>, nod
     are
 }
 
-/// Answers `Memory` where a call was refused memory and all that was done before is kept, and else whether all is as it
-/// should be.
+/// Returns `Memory` where a call was refused memory and everything done before is kept. Otherwise returns whether the run
+/// is as it should be.
 fn ran_or_kept<O: Object, K: BookName<O::Alloc>>(
     driven: &mut DrivenBook<O, K>,
     nodes: u8,
@@ -95,7 +96,7 @@ fn ran_or_kept<O: Object, K: BookName<O::Alloc>>(
     ran
 }
 
-/// The same at an opening.
+/// Runs at an opening.
 fn ran<O: Object, K: BookName<O::Alloc>>(
     alloc: O::Alloc,
     opening: Opening<O>,
@@ -109,16 +110,16 @@ fn ran<O: Object, K: BookName<O::Alloc>>(
     ran
 }
 
-/// The same of counters.
+/// Runs with counters.
 fn counted<A: Allocator + Copy + Drop>(alloc: A, nodes: u8) -> Result<bool, Fault> {
     let opening = Opening::<Counters<A>>::new(alloc, Fixed::new(nodes)?)?;
     ran::<Counters<A>, Brand>(alloc, opening, nodes)
 }
 
-/// Whether the run of which this request is refused answered `Memory`, and whether it went as it should: it may also go on
-/// as if nothing had been refused, where a frame is then kept as it was given.
+/// Returns whether the run with this request refused returned `Memory`, and whether it ran as it should. It may also
+/// continue without a refusal: then a frame is stored as a value.
 fn one_refused(alloc: Global, nodes: u8, passed: u64) -> (bool, bool) {
-    let heap = Refusing::new(alloc, passed);
+    let heap = RefusingHeap::new(alloc, passed);
     let ran = counted(&heap, nodes);
     let is_refused = ran == Err(Fault::Memory);
     (
@@ -127,9 +128,9 @@ fn one_refused(alloc: Global, nodes: u8, passed: u64) -> (bool, bool) {
     )
 }
 
-/// How many requests for memory a run makes that goes as it should, or 0.
+/// Returns the number of requests for memory of a successful run, or 0 if the run isn't successful.
 fn requests(alloc: Global, nodes: u8) -> u64 {
-    let ample = Refusing::new(alloc, u64::MAX);
+    let ample = RefusingHeap::new(alloc, u64::MAX);
     if counted(&ample, nodes) == Ok(true) {
         ample.requests()
     } else {
@@ -137,7 +138,7 @@ fn requests(alloc: Global, nodes: u8) -> u64 {
     }
 }
 
-/// How many of the runs answered `Memory`, and whether all went as they should, where each request is refused in turn.
+/// Refuses each request in turn. Returns the number of runs that returned `Memory`, and whether all ran as they should.
 fn refused_in_turn(alloc: Global, nodes: u8) -> (u64, bool) {
     let mut refusals = 0u64;
     let mut are_right = true;

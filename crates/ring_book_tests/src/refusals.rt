@@ -1,11 +1,12 @@
-//! What `check` and `enter` refuse, each time with a later call that works.
+//! Refusals of `enter`. Clauses say exactly when `check` and `reserve` refuse.
+//! Rules: The book and the threads 15 and 16; Refusals 2 and 3
 
 ghost use Rattle.std.specs.Prelude.{◌≡◌};
-ghost use Rattle.ring_base.specs.Processors.{IsProc};
+ghost use Rattle.ring_node_spec.specs.NodeLimits.{InputFits};
 
 use crate::driven::{DrivenBook, FIRST, cell_of};
-use ring_base::{Fault, Fixed, Proc};
-use ring_book::{Book, BookName, Cell, FrameRef, Opening, ReservedPlace};
+use ring_base::{Fault, Fixed, Kind};
+use ring_book::{Book, BookName, Cell, FrameRef, Opening, Place};
 use ring_node::Input;
 use ring_object::Object;
 use ring_things::Counters;
@@ -13,149 +14,39 @@ use ring_wire::decode_frame;
 use std::alloc::Allocator;
 use std::marker::Brand;
 
-/// Another place of the first line, and lines that aren't there.
-const ELSEWHERE: [FrameRef; 3] = [
-    FrameRef { line: 0, place: 1 },
-    FrameRef { line: 1, place: 0 },
-    FrameRef {
-        line: u32::MAX,
-        place: 0,
-    },
-];
+/// Another place of the first line.
+const ELSEWHERE: FrameRef = FrameRef { line: 0, place: 1 };
 
-/// The bits of a byte.
-const BITS: [u8; 8] = [1, 2, 4, 8, 16, 32, 64, 128];
-
-/// Whether `check` takes these bytes as a stranger's.
-fn is_strange<O: Object, K: BookName<O::Alloc>>(
-    book: &mut Book<O, K>,
-    node: u8,
-    at: FrameRef,
-    bytes: &[u8],
-) -> bool
-    requires { IsProc node }
-{
-    book.check(Proc::new(node), at, bytes) == Err(Fault::Stranger)
-}
-
-/// Of how many processors the bytes are a stranger's.
-fn strange_nodes<O: Object, K: BookName<O::Alloc>>(book: &mut Book<O, K>, bytes: &[u8]) -> u32 {
-    let mut strange = 0u32;
-    for node in 1..17u8 {
-        strange = strange.saturating_add(u32::from(is_strange(book, node, FIRST, bytes)));
-    }
-    strange
-}
-
-/// At how many of the other places the bytes are a stranger's.
-fn strange_places<O: Object, K: BookName<O::Alloc>>(book: &mut Book<O, K>, bytes: &[u8]) -> u32 {
-    let mut strange = 0u32;
-    for at in ELSEWHERE {
-        strange = strange.saturating_add(u32::from(is_strange(book, 2, at, bytes)));
-    }
-    strange
-}
-
-/// Changes a bit of a byte, if it is there.
-fn flip(bytes: &mut [u8], place: usize, bit: u8) {
-    if let Some(byte) = bytes.get_mut(place) {
-        *byte ^= bit;
-    }
-}
-
-/// Whether the bytes with one bit changed are a stranger's. They are left as they were.
-fn is_strange_with<O: Object, K: BookName<O::Alloc>>(
-    book: &mut Book<O, K>,
-    bytes: &mut [u8],
-    place: usize,
-    bit: u8,
-) -> bool {
-    flip(bytes, place, bit);
-    let is = is_strange(book, 2, FIRST, bytes);
-    flip(bytes, place, bit);
-    is
-}
-
-/// With how many of the bits changed the bytes are a stranger's.
-fn strange_bits<O: Object, K: BookName<O::Alloc>>(
-    book: &mut Book<O, K>,
-    bytes: &mut [u8],
-) -> usize {
-    let mut strange = 0usize;
-    for place in 0..bytes.len() {
-        for bit in BITS {
-            let is = is_strange_with(book, bytes, place, bit);
-            strange = strange.saturating_add(usize::from(is));
-        }
-    }
-    strange
-}
-
-/// To how many nodes, at how many places and with how many bits changed the bytes are a stranger's, how many there are, and
-/// whether they are a stranger's as they stand.
-fn strange<O: Object, K: BookName<O::Alloc>>(
-    book: &mut Book<O, K>,
-    bytes: &mut [u8],
-) -> (u32, u32, usize, usize, bool) {
-    let nodes = strange_nodes(book, bytes);
-    let places = strange_places(book, bytes);
-    let bits = strange_bits(book, bytes);
-    let is = is_strange(book, 2, FIRST, bytes);
-    (nodes, places, bits, bytes.len(), is)
-}
-
-/// The join of processor 1 goes to processor 2 alone. The same of its bytes as they were sent.
-fn strange_join<O: Object, K: BookName<O::Alloc>>(
-    driven: &mut DrivenBook<O, K>,
-) -> Result<(u32, u32, usize, usize, bool), Fault> {
-    driven.time(1)?;
-    let mut sent = driven.spelled(FIRST)?;
-    Ok(strange(&mut driven.book, sent.as_mut_slice()))
-}
-
-/// The same at an opening.
-fn refused_bytes<O: Object, K: BookName<O::Alloc>>(
-    alloc: O::Alloc,
-    opening: Opening<O>,
-) -> Result<(u32, u32, usize, usize, bool), Fault>
-    requires { opening ≡ K.name }
-{
-    let mut driven = DrivenBook::<O, K>::new(alloc, opening)?;
-    let strange = strange_join(&mut driven);
-    drop(driven);
-    strange
-}
-
-/// The refusal of entering a step, if it is refused, and how many places are used or reserved then.
+/// The refusal of an `enter`, if any, and the number of places used or reserved afterwards.
 type Entered = (Option<Fault>, u32);
 
 /// Enters the cell's step.
 fn entered<O: Object, K: BookName<O::Alloc>>(
     book: &mut Book<O, K>,
-    place: ReservedPlace,
+    place: Place,
     cell: &mut Cell<O, K>,
 ) -> Entered {
     let refusal = book.enter(place, cell).err();
     (refusal, book.places())
 }
 
-/// At processor 2 nothing is left to enter, and then a frame that doesn't stand where it is said to.
+/// Tries to enter at processor 2: first without a step, then a step on a frame whose `FrameRef` is wrong.
 fn entered_at_two<O: Object, K: BookName<O::Alloc>>(
     driven: &mut DrivenBook<O, K>,
-    place: ReservedPlace,
+    place: Place,
 ) -> Result<(Entered, Entered), Fault> {
-    let sent = driven.spelled(FIRST)?;
+    let sent = driven.encoded_frame(FIRST)?;
     let frame = decode_frame(driven.alloc, sent.as_slice())?;
     let cell = cell_of(driven.cells.as_mut_slice(), 2)?;
     let nothing = entered(&mut driven.book, place, cell);
-    cell.step(Input::Frame(frame), ELSEWHERE[0])?;
+    cell.step(Input::Frame(frame), ELSEWHERE)?;
     Ok((nothing, entered(&mut driven.book, place, cell)))
 }
 
-/// At processor 1 a step takes the reserved place, and none is left for the next.
+/// Enters at processor 1: a step in the reserved place, then one for which no place is reserved.
 fn entered_at_one<O: Object, K: BookName<O::Alloc>>(
     driven: &mut DrivenBook<O, K>,
-    place: ReservedPlace,
+    place: Place,
 ) -> Result<(Entered, Entered), Fault> {
     let cell = cell_of(driven.cells.as_mut_slice(), 1)?;
     cell.step(Input::Noise, FIRST)?;
@@ -164,7 +55,7 @@ fn entered_at_one<O: Object, K: BookName<O::Alloc>>(
     Ok((step, entered(&mut driven.book, place, cell)))
 }
 
-/// One place is reserved, for which both processors enter.
+/// Enters at both processors, with one reserved place.
 fn entered_at_both<O: Object, K: BookName<O::Alloc>>(
     driven: &mut DrivenBook<O, K>,
 ) -> Result<((Entered, Entered), (Entered, Entered)), Fault> {
@@ -174,7 +65,7 @@ fn entered_at_both<O: Object, K: BookName<O::Alloc>>(
     Ok((at_two, entered_at_one(driven, place)?))
 }
 
-/// The same at an opening.
+/// Returns these refusals, in the book of an opening.
 fn refused_entries<O: Object, K: BookName<O::Alloc>>(
     alloc: O::Alloc,
     opening: Opening<O>,
@@ -187,60 +78,84 @@ fn refused_entries<O: Object, K: BookName<O::Alloc>>(
     entered
 }
 
-/// How many places can be reserved, which refusal comes behind them, and how many places are used or reserved then.
-fn reserve_all<O: Object, K: BookName<O::Alloc>>(
-    book: &mut Book<O, K>,
-) -> (u32, Option<Fault>, u32) {
-    let mut many = 0u32;
-    for _ in 0..300_000u32 {
-        match book.reserve() {
-            Ok(_) => many = many.saturating_add(1),
-            Err(fault) => return (many, Some(fault), book.places()),
-        }
+/// The frame of processor 1's join timeout at the opening of two nodes.
+const JOIN: &[u8] = b"TR\x01\x03\0\0\0\x0d\x01\0\0\0\0\0\0\0\0\0\x03\0\0";
+
+/// The refusal of an `enter`, if any, and afterwards the number of places used or reserved, and the number of lines.
+type EarlyEntry = (Option<Fault>, u32, u32);
+
+/// Returns the number of lines in the list, of at most four.
+fn lines_in<O: Object, K: BookName<O::Alloc>>(book: &Book<O, K>) -> u32 {
+    let mut lines = 0u32;
+    for number in 0..4u32 {
+        lines = lines.saturating_add(u32::from(book.line(number).is_some()));
     }
-    (many, None, book.places())
+    lines
 }
 
-/// The same at an opening.
-fn reserved<O: Object, K: BookName<O::Alloc>>(
+/// Enters the step of this processor's cell.
+fn entered_at<O: Object, K: BookName<O::Alloc>>(
+    driven: &mut DrivenBook<O, K>,
+    place: Place,
+    processor: u8,
+) -> Result<EarlyEntry, Fault> {
+    let cell = cell_of(driven.cells.as_mut_slice(), processor)?;
+    let (refusal, places) = entered(&mut driven.book, place, cell);
+    Ok((refusal, places, lines_in(&driven.book)))
+}
+
+/// Steps this processor's cell, and enters nothing.
+fn step_at<O: Object, K: BookName<O::Alloc>>(
+    driven: &mut DrivenBook<O, K>,
+    processor: u8,
+    input: Input<O::Alloc>,
+) -> Result<(), Fault>
+    requires { InputFits input }
+{
+    let cell = cell_of(driven.cells.as_mut_slice(), processor)?;
+    cell.step(input, FIRST)
+}
+
+/// Steps both processors: 1 sends its join, and 2 takes it from the place where it will be.
+fn step_both<O: Object, K: BookName<O::Alloc>>(driven: &mut DrivenBook<O, K>) -> Result<(), Fault> {
+    step_at(driven, 1, Input::Timeout(Kind::Join))?;
+    let frame = decode_frame(driven.alloc, JOIN)?;
+    step_at(driven, 2, Input::Frame(frame))
+}
+
+/// Enters at processor 2, which takes a frame whose sender has stepped and not entered; then at the sender, processor 1; and
+/// then at processor 2. Returns also the refusal of a step of processor 2 before its step is entered.
+fn entered_early<O: Object, K: BookName<O::Alloc>>(
+    driven: &mut DrivenBook<O, K>,
+) -> Result<([EarlyEntry; 3], Option<Fault>), Fault> {
+    let first = driven.book.reserve()?;
+    let second = driven.book.reserve()?;
+    step_both(driven)?;
+    let early = entered_at(driven, second, 2)?;
+    let refused = step_at(driven, 2, Input::Noise).err();
+    let sender = entered_at(driven, first, 1)?;
+    Ok(([early, sender, entered_at(driven, second, 2)?], refused))
+}
+
+/// Returns these entries, in the book of an opening.
+fn early_entries<O: Object, K: BookName<O::Alloc>>(
+    alloc: O::Alloc,
     opening: Opening<O>,
-) -> Result<(u32, Option<Fault>, u32), Fault>
+) -> Result<([EarlyEntry; 3], Option<Fault>), Fault>
     requires { opening ≡ K.name }
 {
-    let (mut book, cells) = opening.parts::<K>()?;
-    drop(cells);
-    let reserved = reserve_all(&mut book);
-    drop(book);
-    Ok(reserved)
+    let mut driven = DrivenBook::<O, K>::new(alloc, opening)?;
+    let entered = entered_early(&mut driven);
+    drop(driven);
+    entered
 }
 
-/// The places reserved in a book of counters of one.
-fn counted_places<A: Allocator + Copy + Drop>(
-    alloc: A,
-) -> Result<(u32, Option<Fault>, u32), Fault> {
-    let opening = Opening::<Counters<A>>::new(alloc, Fixed::new(1)?)?;
-    reserved::<Counters<A>, Brand>(opening)
-}
-
-/// Bytes refused by a book of counters of two.
-fn counted_bytes<A: Allocator + Copy + Drop>(
-    alloc: A,
-) -> Result<(u32, u32, usize, usize, bool), Fault> {
-    let opening = Opening::<Counters<A>>::new(alloc, Fixed::new(2)?)?;
-    refused_bytes::<Counters<A>, Brand>(alloc, opening)
-}
-
-/// Entries refused by a book of counters of two.
+/// Returns the refused entries of a book of counters, with two nodes.
 fn counted_entries<A: Allocator + Copy + Drop>(
     alloc: A,
 ) -> Result<((Entered, Entered), (Entered, Entered)), Fault> {
     let opening = Opening::<Counters<A>>::new(alloc, Fixed::new(2)?)?;
     refused_entries::<Counters<A>, Brand>(alloc, opening)
-}
-
-#[test]
-fn strange_bytes(rt: HostRuntime) {
-    assert!(rt; counted_bytes(rt.alloc()) == Ok((15, 3, 168, 21, false)));
 }
 
 #[test]
@@ -250,8 +165,18 @@ fn strange_entries(rt: HostRuntime) {
     assert!(rt; counted_entries(rt.alloc()) == Ok(entries));
 }
 
+/// Returns these entries of a book of counters, with two nodes.
+fn counted_early_entries<A: Allocator + Copy + Drop>(
+    alloc: A,
+) -> Result<([EarlyEntry; 3], Option<Fault>), Fault> {
+    let opening = Opening::<Counters<A>>::new(alloc, Fixed::new(2)?)?;
+    early_entries::<Counters<A>, Brand>(alloc, opening)
+}
+
+/// The refused entry changes nothing: the list is empty, both places stay reserved, and the cell still has its step to enter.
 #[test]
-fn full_book(rt: HostRuntime) {
-    let full = (262_144, Some(Fault::BookFull), 262_144);
-    assert!(rt; counted_places(rt.alloc()) == Ok(full));
+fn a_frame_is_entered_after_its_sender(rt: HostRuntime) {
+    let strange = Some(Fault::Stranger);
+    let entries = [(strange, 2, 0), (None, 2, 1), (None, 2, 2)];
+    assert!(rt; counted_early_entries(rt.alloc()) == Ok((entries, strange)));
 }

@@ -1,4 +1,5 @@
-//! A cell and a book that go to another thread.
+//! A cell and a book that move to another thread.
+//! Rules: The book and the threads 12 and 13
 
 ghost use Rattle.std.specs.Prelude.{◌≡◌};
 
@@ -12,10 +13,10 @@ use std::marker::Brand;
 use std::thread;
 use std::thread::Threads;
 
-/// Lends what may go to another thread.
+/// Accepts only values that may be sent to another thread.
 fn sends<T: Send>(_: &T) {}
 
-/// A cell may go to another thread wherever its object and its name may, and its memory may be shared.
+/// Compiles because a cell may be sent wherever its object and its name may be sent and its memory may be shared.
 fn lend_cell<O: Object + Send, K: BookName<O::Alloc> + Send>(cell: &Cell<O, K>)
 where
     O::Alloc: Send + Sync,
@@ -23,7 +24,7 @@ where
     sends(cell)
 }
 
-/// And so may a book.
+/// Compiles because a book may be sent under the same conditions.
 fn lend_book<O: Object + Send, K: BookName<O::Alloc> + Send>(book: &Book<O, K>)
 where
     O::Alloc: Send + Sync,
@@ -31,7 +32,7 @@ where
     sends(book)
 }
 
-/// The book may go to another thread, and so may each of its cells.
+/// Checks that the book and its cells may be sent.
 fn lend_all<O: Object + Send, K: BookName<O::Alloc> + Send>(driven: &DrivenBook<O, K>)
 where
     O::Alloc: Send + Sync,
@@ -42,8 +43,8 @@ where
     }
 }
 
-/// A cell and a book are made here. A step is done and entered in another thread, and seen here: what it answered, and how
-/// many places are used.
+/// Makes a cell and a book in this thread, and does and enters a step in another. Returns the step's result and the number
+/// of places used, both seen from this thread.
 fn stepped_there<O: Object + Send, K: BookName<O::Alloc> + Send + Sync, R: Threads + Sync>(
     rt: &R,
     alloc: O::Alloc,
@@ -62,7 +63,7 @@ where
     Ok((done, places))
 }
 
-/// The same of counters.
+/// Does this for counters.
 fn counted_there<R: Threads + Sync>(
     rt: &R,
     alloc: Global,

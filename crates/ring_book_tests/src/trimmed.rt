@@ -1,10 +1,11 @@
-//! Books whose nodes drop committed places, and of which one is restored. Expected values are those of `docs/PROTOCOL.md`.
+//! Books whose nodes drop committed places, one of which is restored. The expected values are those of `docs/PROTOCOL.md`.
+//! Rules: The replicated log 6, 14, 18 and 20
 
 ghost use Rattle.std.specs.Prelude.{◌≡◌};
 ghost use Rattle.ring_base.specs.Processors.{IsProc};
 
 use crate::driven::{DrivenBook, add_five};
-use crate::linear::explained;
+use crate::linear::{answered, explained};
 use ring_base::{Fault, Fixed, Kind, Proc, ProcSet};
 use ring_book::{Book, BookName, Opening};
 use ring_object::Object;
@@ -13,14 +14,14 @@ use ring_things::{Counters, Outcome, reply_with};
 use std::alloc::Allocator;
 use std::marker::Brand;
 
-/// What is seen of a node: how many places it has committed, how many of them it has dropped, how many it keeps, and how many calls
-/// took effect.
+/// A node's committed length, its trimmed length, the number of committed places that it keeps, and the number of calls
+/// that took effect.
 type Places = (u64, u64, usize, u64);
 
-/// What is seen of a book: how long its order is, and its answers to three tickets of a processor.
+/// The length of a book's order, and its answers to three tickets of one processor.
 type Shown = (usize, [Option<Answer>; 3]);
 
-/// The places of the node of this processor, counted from 1.
+/// Returns these numbers for the node of this processor, counted from 1.
 fn places<O: Object, K: BookName<O::Alloc>>(
     driven: &DrivenBook<O, K>,
     processor: u8,
@@ -40,7 +41,7 @@ fn places<O: Object, K: BookName<O::Alloc>>(
     }
 }
 
-/// What is seen of the book, with the answers to these tickets of a processor.
+/// Returns the length of the book's order, and its answers to these tickets of a processor.
 fn shown<O: Object, K: BookName<O::Alloc>>(
     book: &Book<O, K>,
     processor: u8,
@@ -52,19 +53,19 @@ fn shown<O: Object, K: BookName<O::Alloc>>(
     let [first, second, third] = tickets;
     let node = Proc::new(processor);
     let answers = [
-        book.answer(node, Ticket::new(first)),
-        book.answer(node, Ticket::new(second)),
-        book.answer(node, Ticket::new(third)),
+        answered(book, node, Ticket::new(first)),
+        answered(book, node, Ticket::new(second)),
+        answered(book, node, Ticket::new(third)),
     ];
     Ok((seen.order.len(), answers))
 }
 
-/// The answer to an add that brings the counter to this count.
+/// Returns the answer to an add that raises the counter to this value.
 fn done(count: u64) -> Option<Answer> {
     Some(Answer::Done(reply_with(Outcome::Done, count)))
 }
 
-/// The calls of client 7 from this number on, so many, are submitted at a processor; then so many frames are delivered.
+/// Submits `many` calls of client 7, from number `first` on, at a processor, and then delivers at most `turns` frames.
 fn calls<O: Object, K: BookName<O::Alloc>>(
     driven: &mut DrivenBook<O, K>,
     processor: u8,
@@ -78,38 +79,13 @@ fn calls<O: Object, K: BookName<O::Alloc>>(
     driven.pump(turns)
 }
 
-/// A node alone does 256 calls.
-fn done_alone<O: Object, K: BookName<O::Alloc>>(
-    driven: &mut DrivenBook<O, K>,
-) -> Result<(Option<Places>, Shown), Fault> {
-    driven.settle(1, 4)?;
-    for first in [1, 65, 129, 193] {
-        calls(driven, 1, first, 64, 2)?;
-    }
-    let shown = shown(&driven.book, 1, [0, 255, 256])?;
-    Ok((places(driven, 1), shown))
-}
-
-/// The same at an opening.
-fn alone<O: Object, K: BookName<O::Alloc>>(
-    alloc: O::Alloc,
-    opening: Opening<O>,
-) -> Result<(Option<Places>, Shown), Fault>
-    requires { opening ≡ K.name }
-{
-    let mut driven = DrivenBook::<O, K>::new(alloc, opening)?;
-    let done = done_alone(&mut driven);
-    drop(driven);
-    done
-}
-
-/// Three nodes form a ring, and 10 calls are done.
+/// Forms a ring of three nodes and does 10 calls.
 fn form<O: Object, K: BookName<O::Alloc>>(driven: &mut DrivenBook<O, K>) -> Result<(), Fault> {
     driven.settle(3, 200)?;
     calls(driven, 1, 1, 10, 200)
 }
 
-/// Nodes 1 and 2 go on without node 3, and do 290 calls.
+/// Cuts node 3 off, and does 290 calls at nodes 1 and 2.
 fn part<O: Object, K: BookName<O::Alloc>>(driven: &mut DrivenBook<O, K>) -> Result<(), Fault> {
     driven.cut(ProcSet::only(Proc::new(3)));
     driven.time_out(1, Kind::Loss)?;
@@ -123,7 +99,7 @@ fn part<O: Object, K: BookName<O::Alloc>>(driven: &mut DrivenBook<O, K>) -> Resu
     calls(driven, 1, 267, 34, 400)
 }
 
-/// All three form a ring again.
+/// Forms a ring of all three nodes again.
 fn merge<O: Object, K: BookName<O::Alloc>>(driven: &mut DrivenBook<O, K>) -> Result<(), Fault> {
     driven.cut(ProcSet::new());
     driven.time(3)?;
@@ -131,7 +107,7 @@ fn merge<O: Object, K: BookName<O::Alloc>>(driven: &mut DrivenBook<O, K>) -> Res
     driven.settle(3, 600)
 }
 
-/// What is seen of node 3 and of the book before the rings merge and afterwards.
+/// Returns the numbers of node 3 and of the book before the rings merge and afterwards.
 fn merged<O: Object, K: BookName<O::Alloc>>(
     driven: &mut DrivenBook<O, K>,
 ) -> Result<[(Option<Places>, Shown); 2], Fault> {
@@ -145,7 +121,7 @@ fn merged<O: Object, K: BookName<O::Alloc>>(
     Ok([(away, before), (places(driven, 3), after)])
 }
 
-/// The same at an opening.
+/// Does this at an opening.
 fn restored<O: Object, K: BookName<O::Alloc>>(
     alloc: O::Alloc,
     opening: Opening<O>,
@@ -158,25 +134,12 @@ fn restored<O: Object, K: BookName<O::Alloc>>(
     merged
 }
 
-/// The first of counters.
-fn counted_alone<A: Allocator + Copy + Drop>(alloc: A) -> Result<(Option<Places>, Shown), Fault> {
-    let opening = Opening::<Counters<A>>::new(alloc, Fixed::new(1)?)?;
-    alone::<Counters<A>, Brand>(alloc, opening)
-}
-
-/// The second of counters.
+/// Cuts node 3 off and merges the rings again, with counters.
 fn counted_restored<A: Allocator + Copy + Drop>(
     alloc: A,
 ) -> Result<[(Option<Places>, Shown); 2], Fault> {
     let opening = Opening::<Counters<A>>::new(alloc, Fixed::new(3)?)?;
     restored::<Counters<A>, Brand>(alloc, opening)
-}
-
-#[test]
-fn a_node_alone_drops_its_places(rt: HostRuntime) {
-    let places = Some((256, 256, 0, 256));
-    let shown = (256, [done(5), done(1280), None]);
-    assert!(rt; counted_alone(rt.alloc()) == Ok((places, shown)));
 }
 
 #[test]

@@ -1,11 +1,11 @@
--- What holds of all cores and of all frames, in every world after all events: each layer is kept by each move.
+-- Facts about all cores and all frames, in every world after all events: each layer is kept by each move.
 use Rattle.std.proofs.Common.{◌≡◌, ℕ, ◌≤◌, inl, inr, List, [], ◌++◌, refl, ap, sym, subst}
-use Rattle.ring_core.specs.Commits.{Configuration}
-use Rattle.ring_core.specs.State.{Core, opening, formed, alone, all_of}
+use Rattle.ring_core_spec.specs.Commits.{Configuration}
+use Rattle.ring_core_spec.specs.State.{Core, opening, formed, alone, all_of}
 use Rattle.ring_core_proof.specs.FactWords.{IsIn}
 use Rattle.ring_core_proof.specs.declared.event.RingEvent.{RingEvent}
-use Rattle.ring_core_proof.specs.Worlds.{Carried, put, carried_from, run, unformed}
-use Rattle.ring_core_proof.specs.Moves.{Move, moved, sends_of, MayMove, CameTo}
+use Rattle.ring_core_proof.specs.Worlds.{Transmission, put, transmissions_from, run, unformed}
+use Rattle.ring_core_proof.specs.Moves.{Move, moved, sends_of, MayMove, IsReceivedFrame}
 use Rattle.ring_core_proof.proofs.Lifting.{IsKeptInWorlds, kept_run}
 use Rattle.ring_core_proof.proofs.Rises.{alone_rises}
 use Rattle.ring_core_proof.proofs.VisitsByRules.{Turned, moved_turned}
@@ -14,13 +14,13 @@ use Rattle.ring_chain_proof.specs.ChainWords.{Chains}
 use Rattle.ring_chain_proof.proofs.GenuineFrames.{visits_after}
 use Rattle.ring_chain_proof.proofs.FactsGrow.{put-each}
 use Rattle.ring_chain_proof.proofs.Rings.{AreRings, rings_moved}
-use Rattle.ring_chain_proof.specs.ChainTold.{AreChains}
+use Rattle.ring_chain_proof.specs.ChainFacts.{AreChains}
 use Rattle.ring_chain_proof.proofs.Chain.{chains_moved}
 use Rattle.ring_chain_proof.proofs.OneText.{AreTexts, texts_moved}
 use Rattle.ring_chain_proof.proofs.Safety.{AreSafe, safe_moved}
 use Rattle.ring_chain_proof.proofs.Sends.{AreSent, sent_moved}
 
-pub record Holds {A : Type 0} (cores : ℕ → Core A) (frames : List (Carried A)) : Type 0 where
+pub record Holds {A : Type 0} (cores : ℕ → Core A) (frames : List (Transmission A)) : Type 0 where
   -- the visits of each ring, newest first
   pub visits : Chains A
   pub turned : (q : ℕ) → Turned (cores q)
@@ -31,15 +31,15 @@ pub record Holds {A : Type 0} (cores : ℕ → Core A) (frames : List (Carried A
   pub safe : AreSafe cores
   pub sent : AreSent visits cores frames
 
-moved_holds : {A : Type 0} → (cores : ℕ → Core A) (frames : List (Carried A)) (i : ℕ) (m : Move A) → 1 ≤ i → MayMove (CameTo frames i) (cores i) m →
-    Holds cores frames → Holds (put cores i (moved (cores i) m)) (frames ++ carried_from i (sends_of (cores i) m))
+moved_holds : {A : Type 0} → (cores : ℕ → Core A) (frames : List (Transmission A)) (i : ℕ) (m : Move A) → 1 ≤ i → MayMove (IsReceivedFrame frames i) (cores i) m →
+    Holds cores frames → Holds (put cores i (moved (cores i) m)) (frames ++ transmissions_from i (sends_of (cores i) m))
 moved_holds {A} cores frames i m low h p =
     let right = p.sent.right in
     record {
       visits = visits_after p.visits i (cores i) m;
       turned = put-each (λ q (x : Core A). Turned x) cores i (moved (cores i) m) (λ q n. p.turned q)
-          (moved_turned (CameTo frames i) (cores i) m h (p.turned i));
-      filed = put-each (λ q (x : Core A). Filed x) cores i (moved (cores i) m) (λ q n. p.filed q) (moved_filed (CameTo frames i) (cores i) m h (p.filed i));
+          (moved_turned (IsReceivedFrame frames i) (cores i) m h (p.turned i));
+      filed = put-each (λ q (x : Core A). Filed x) cores i (moved (cores i) m) (λ q n. p.filed q) (moved_filed (IsReceivedFrame frames i) (cores i) m h (p.filed i));
       rings = rings_moved p.visits cores frames i right p.rings m h;
       chains = chains_moved p.visits cores frames i low right p.rings p.chains p.turned m h;
       texts = texts_moved p.visits cores frames i right p.rings p.texts m h;
@@ -50,7 +50,7 @@ moved_holds {A} cores frames i m low h p =
 pub holding : {A : Type 0} → IsKeptInWorlds (Holds {A = A})
 holding = record { moves = moved_holds }
 
--- at an opening nothing was sent, and each core is in one ring, of which it and the representative have the same members
+-- at an opening nothing was sent, and each core is in one ring, with the same members as its representative
 pub opening_holds : {A : Type 0} → (n : ℕ) → Holds {A = A} (opening n) []
 opening_holds {A} n =
     record {
@@ -70,7 +70,7 @@ opening_holds {A} n =
       chains = record { rounds = λ r. inl refl; turns = λ q r. refl };
       texts = record { queued = λ q. tt; held = λ q. tt; wraps = λ r. tt };
       safe = record { raises = λ q. tt; reports = λ q. tt };
-      sent = record { right = tt; shown = λ q s e. absurd (let n : ⊥ = cc in n) };
+      sent = record { right = tt; last_sent = λ q s e. absurd (let n : ⊥ = cc in n) };
     }
 
 pub formed_holds : {A : Type 0} → (n : ℕ) → Holds {A = A} (formed n) []
@@ -83,7 +83,7 @@ formed_holds {A} n =
       chains = record { rounds = λ r. inl refl; turns = λ q r. refl };
       texts = record { queued = λ q. tt; held = λ q. tt; wraps = λ r. tt };
       safe = record { raises = λ q. tt; reports = λ q. tt };
-      sent = record { right = tt; shown = λ q s e. absurd (let n : ⊥ = cc in n) };
+      sent = record { right = tt; last_sent = λ q s e. absurd (let n : ⊥ = cc in n) };
     }
 
 pub unformed_holds : {A : Type 0} → (n : ℕ) (events : List (RingEvent A)) → Holds (run (unformed n) events).cores (run (unformed n) events).frames

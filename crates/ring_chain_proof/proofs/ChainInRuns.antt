@@ -1,4 +1,4 @@
--- What holds in every run, from the opening in Gather and on a ring that is formed from the start.
+-- Facts about every run, from the opening and from a formed ring.
 use Rattle.std.proofs.Common.{◌≡◌, ℕ, ◌≤◌, inl, inr, List, [], ◌∷◌, refl, ap, sym, ◌∙◌, arith}
 use Rattle.std.specs.Prelude.{filter}
 use Rattle.ring_base.specs.Numbers.{numbers_from}
@@ -10,34 +10,34 @@ use Rattle.ring_base.specs.declared.ring_id.RingId.{RingId}
 use Rattle.ring_base.specs.declared.state.State.TheVariants.{Recovery, Operational}
 use Rattle.ring_wire.specs.declared.message.Message.{Message}
 use Rattle.ring_wire.specs.declared.token.Token.{Token}
-use Rattle.ring_core.specs.Windows.{of_ring}
+use Rattle.ring_core_spec.specs.Windows.{of_ring}
 use Rattle.ring_base.proofs.SameRing.{ring_same}
-use Rattle.ring_core.specs.Tokens.{first_token}
-use Rattle.ring_core.specs.State.{Core, all_of, formed}
-use Rattle.ring_core.specs.Visiting.{room_at, new_payloads, repeated, queue_after}
-use Rattle.ring_core.specs.Deciding.{Visit}
+use Rattle.ring_core_spec.specs.Tokens.{first_token}
+use Rattle.ring_core_spec.specs.State.{Core, all_of, formed}
+use Rattle.ring_core_spec.specs.Visiting.{room_at, new_payloads, repeated, queue_after}
+use Rattle.ring_core_spec.specs.Deciding.{Visit}
 use Rattle.ring_core_proof.specs.FactWords.{IsIn}
 use Rattle.ring_core_proof.specs.declared.event.RingEvent.{RingEvent}
 use Rattle.ring_core_proof.specs.Worlds.{World, run, unformed, ring_formed, acts_on_formed, run_formed}
 use Rattle.ring_core_proof.specs.Texts.{held_by, text_of, HasOneText}
-use Rattle.ring_core_proof.specs.Moves.{MayVisit, CameTo}
+use Rattle.ring_core_proof.specs.Moves.{MayVisit, IsReceivedFrame}
 use Rattle.ring_core_proof.proofs.InLists.{in-each, in-parts, in-filtered, contains-in}
 use Rattle.ring_core_proof.proofs.Lifting.{kept_run}
 use Rattle.ring_core_proof.proofs.StepsAreMoves.{move_of, fresh_short, fresh_users, all_repeats, queue_kept}
 use Rattle.ring_chain_proof.specs.ChainWords.{SharesRings, IsGenuine}
-use Rattle.ring_chain_proof.specs.ChainTold.{HasChains, HasNumbered, MarksAreSafe}
+use Rattle.ring_chain_proof.specs.ChainFacts.{HasChains, HasNumbered, MarksAreSafe}
 use Rattle.ring_chain_proof.proofs.OneText.{one_text}
 use Rattle.ring_chain_proof.proofs.Safety.{mark_safe}
 use Rattle.ring_chain_proof.proofs.AllLayers.{Holds, holding, unformed_holds, formed_holds}
 
--- A ring that is formed from the start: its representative has visited the first token, which is a move
+-- A formed ring: its representative has visited the first token, which is a move
 
 first_of_all : (n : ℕ) → 1 ≤ n → at (everybody n) 0 ≡ 1
 first_of_all n some = smallest-least (everybody n) 1 (omega arith, omega arith)
     ((everybody_members n 1).1 (omega arith, some)) (λ j m. ((everybody_members n j).0 m).0)
 
 pub may_start : {A : Type 0} → (n : ℕ) → 1 ≤ n → (t : Token) → t ≡ first_token (all_of n).ring →
-    MayVisit (CameTo {A = A} [] 1) (formed n 1) t (new_payloads (formed n 1) t) (repeated (formed n 1) t)
+    MayVisit (IsReceivedFrame {A = A} [] 1) (formed n 1) t (new_payloads (formed n 1) t) (repeated (formed n 1) t)
     (queue_after Operational (room_at (formed {A = A} n 1) t) [])
 may_start {A} n some t e =
     record {

@@ -1,4 +1,5 @@
--- A core's own reports and plans: one report a ring, none of a ring above the floor, and in Commit no plan yet of the ring that is taken part in.
+-- A core's own reports and plans: one report for each ring, none of a ring above the floor, and in Commit no plan yet
+-- of the ring taken part in.
 use Rattle.std.proofs.Common.{◌≡◌, ℕ, ◌<◌, ◌≤◌, inl, inr, List, ◌∷◌, ap, sym, ◌∙◌, arith}
 use Rattle.std.specs.List.{AllByRecursion as Each}
 use Rattle.ring_base.specs.declared.ring_id.RingId.{RingId}
@@ -7,8 +8,8 @@ use Rattle.ring_base.specs.declared.state.State.TheVariants.{Gather, Commit, Rec
 use Rattle.ring_base.proofs.Each.{each-weaker}
 use Rattle.ring_wire.specs.declared.commit.CommitToken.{CommitToken}
 use Rattle.ring_wire.specs.declared.frame.Frame.{Frame}
-use Rattle.ring_core.specs.State.{Core, Report, floor}
-use Rattle.ring_core.specs.Views.{own_entry}
+use Rattle.ring_core_spec.specs.State.{Core, Report, floor}
+use Rattle.ring_core_spec.specs.Views.{own_entry}
 use Rattle.ring_core_proof.specs.FactWords.{IsIn}
 use Rattle.ring_core_proof.specs.Moves.{Move, Idles, Enters, Learns, Visits, Takes, Installs, moved, MayMove}
 use Rattle.ring_core_proof.proofs.InLists.{in-each}
@@ -36,8 +37,8 @@ report_more top reports new l low one x y (inr h) (inl b) e =
     ap (λ (r : RingId). r.seq) e in absurd (omega arith))
 report_more top reports new l low one x y (inr h) (inr k) e = one x y h k e
 
-pub moved_filed : {A : Type 0} → (came : Frame A → Type 0) (c : Core A) (m : Move A) → MayMove came c m → Filed c → Filed (moved c m)
-moved_filed came c (Enters k) h f =
+pub moved_filed : {A : Type 0} → (received : Frame A → Type 0) (c : Core A) (m : Move A) → MayMove received c m → Filed c → Filed (moved c m)
+moved_filed received c (Enters k) h f =
     let l : floor c < k.ring.seq = h.above in
     record {
       reports_low = (omega arith, each-weaker _ _ (λ (x : Report) p. omega (arith, p, l)) c.reports f.reports_low);
@@ -45,7 +46,7 @@ moved_filed came c (Enters k) h f =
       plans_low = each-weaker _ _ (λ (x : CommitToken) p. omega (arith, p, l)) c.plans f.plans_low;
       unplanned = λ s. each-weaker _ _ (λ (x : CommitToken) p. omega (arith, p, l)) c.plans f.plans_low;
     }
-moved_filed came c (Learns k) h f =
+moved_filed received c (Learns k) h f =
     let e : k.ring.seq ≡ floor c = ap (λ (r : RingId). r.seq) h.ring in
     record {
       reports_low = f.reports_low;
@@ -53,7 +54,7 @@ moved_filed came c (Learns k) h f =
       plans_low = (omega (arith, e), f.plans_low);
       unplanned = λ s. absurd (let q : Recovery ≡ Commit = s in let n : ⊥ = cc in n);
     }
-moved_filed came c (Idles state gathering shown queue sends) h f =
+moved_filed received c (Idles state gathering last_sent queue sends) h f =
     record {
       reports_low = f.reports_low;
       one_report = f.one_report;
@@ -66,9 +67,9 @@ moved_filed came c (Idles state gathering shown queue sends) h f =
         ]
       ];
     }
-moved_filed came c (Visits t fresh requests again queue) h f = f
-moved_filed came c (Takes x) h f = f
-moved_filed came c Installs h f = record {
+moved_filed received c (Visits t fresh requests again queue) h f = f
+moved_filed received c (Takes x) h f = f
+moved_filed received c Installs h f = record {
   reports_low = f.reports_low;
   one_report = f.one_report;
   plans_low = f.plans_low;

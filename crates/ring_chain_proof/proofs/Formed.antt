@@ -1,6 +1,7 @@
--- A ring that is formed from the start runs until a processor stops, and each processor tells as agreed the numbers 1, 2, 3 and so on up to its front.
+-- A formed ring runs until a processor stops, and each processor gives the numbers 1, 2, 3 and so on as `Agreed`, up
+-- to its front.
 
--- There are no joins and no commit tokens there, and all messages are users'.
+-- There are no joins and no commit tokens, and all messages are users'.
 use Rattle.std.proofs.Common.{◌≡◌, ℕ, zero, suc, ◌+◌, ◌-◌, ◌<◌, ◌≤◌, ◌⊎◌, inl, inr, Bool, true, false, ◌&&◌, ◌==◌, List}
 use Rattle.std.proofs.Common.{[], ◌∷◌, ◌++◌, map, Option, Some, None, refl, ap, sym, ◌∙◌, subst, arith, append-nil}
 use Rattle.std.specs.Prelude.{nat_lt, not, filter, filter_map, find, reverse, slice_get}
@@ -23,28 +24,28 @@ use Rattle.ring_wire.specs.declared.frame.Frame.TheVariants.{Message as MessageF
 use Rattle.ring_wire.specs.declared.frame.Frame.TheVariants.{Commit as CommitFrame}
 use Rattle.ring_wire.specs.declared.message.Message.{Message}
 use Rattle.ring_wire.specs.declared.token.Token.{Token}
-use Rattle.ring_core.specs.Windows.{is_numbered, found, front_of}
-use Rattle.ring_core.proofs.Windows.{front_is}
-use Rattle.ring_core.specs.Tokens.{first_token, numbered}
-use Rattle.ring_core.specs.declared.input.Input.{Input}
-use Rattle.ring_core.specs.declared.input.Input.TheVariants.{Frame as FrameInput, Timeout as TimeInput, Send as SendInput}
-use Rattle.ring_core.specs.declared.out.Out.{Out}
-use Rattle.ring_core.specs.declared.out.Out.TheVariants.{Send as SendOut, Agreed, Safe}
-use Rattle.ring_core.specs.Commits.{Configuration}
-use Rattle.ring_core.specs.State.{Core, Sent, Did, Stepped, all_of, formed, halted, frame_at}
-use Rattle.ring_core.specs.Views.{front, mark}
-use Rattle.ring_core.specs.Visiting.{room_at, new_payloads, new_messages, repeated, to_others, to_next, forwarded}
-use Rattle.ring_core.specs.Joining.{proposes, proposes_in}
-use Rattle.ring_core.specs.Giving.{installs_in, addressed, sent, agreed_from, safe_from, given, settle, delivered}
-use Rattle.ring_core.specs.Deciding.{Act, Ignore, Enqueue, Repeat, Announce, Invite, GiveUp, Regather, Agree, Widen}
-use Rattle.ring_core.specs.Deciding.{RegatherAndAgree, RegatherAndWiden, Take, Visit, Fill, Learn, decide}
-use Rattle.ring_core.specs.Acting.{gives_old, shown_again, act, may_follow, proposed_after}
-use Rattle.ring_core.specs.Stepping.{ring_step}
-use Rattle.ring_core_proof.specs.LawWords.{HasPassed, CameWith}
+use Rattle.ring_core_spec.specs.Windows.{is_numbered, found, front_of}
+use Rattle.ring_core_spec.proofs.Windows.{front_is}
+use Rattle.ring_core_spec.specs.Tokens.{first_token, numbered}
+use Rattle.ring_core_spec.specs.declared.input.Input.{Input}
+use Rattle.ring_core_spec.specs.declared.input.Input.TheVariants.{Frame as FrameInput, Timeout as TimeInput, Send as SendInput}
+use Rattle.ring_core_spec.specs.declared.out.Out.{Out}
+use Rattle.ring_core_spec.specs.declared.out.Out.TheVariants.{Send as SendOut, Agreed, Safe}
+use Rattle.ring_core_spec.specs.Commits.{Configuration}
+use Rattle.ring_core_spec.specs.State.{Core, OutgoingFrame, TransitionResult, StepResult, all_of, formed, halted, frame_at}
+use Rattle.ring_core_spec.specs.Views.{front, mark}
+use Rattle.ring_core_spec.specs.Visiting.{room_at, new_payloads, new_messages, repeated, to_others, to_next, token_forwarded}
+use Rattle.ring_core_spec.specs.Joining.{proposes, proposes_in}
+use Rattle.ring_core_spec.specs.Giving.{installs_in, addressed, sent, agreed_from, safe_from, given, settle, delivered}
+use Rattle.ring_core_spec.specs.Deciding.{Transition, Ignore, Enqueue, Repeat, Announce, Invite, GiveUp, EnterGather, Agree, MergeJoin}
+use Rattle.ring_core_spec.specs.Deciding.{EnterGatherAndAgree, EnterGatherAndMergeJoin, Take, Visit, Fill, Learn, decide}
+use Rattle.ring_core_spec.specs.Transitions.{old_ring_messages, last_sent_repeated, apply_transition, may_propose_after, with_proposal_if}
+use Rattle.ring_core_spec.specs.Stepping.{ring_step}
+use Rattle.ring_core_proof.specs.LawWords.{HasPassed, IsInputOf}
 use Rattle.ring_core_proof.specs.FactWords.{IsIn}
 use Rattle.ring_core_proof.specs.declared.event.RingEvent.{RingEvent}
 use Rattle.ring_core_proof.specs.declared.event.RingEvent.TheVariants.{Send, Deliver, Timeout, Stop}
-use Rattle.ring_core_proof.specs.Worlds.{Carried, World, put, carried_by, carried_from, after_step, is_node, stepped_if}
+use Rattle.ring_core_proof.specs.Worlds.{Transmission, World, put, transmission_by, transmissions_from, after_step, is_node, stepped_if}
 use Rattle.ring_core_proof.specs.Worlds.{stopped_if, handed_if, handed, is_repeat, happens, run, ring_formed}
 use Rattle.ring_core_proof.specs.Worlds.{acts_on_formed, run_formed}
 use Rattle.ring_core_proof.specs.Moves.{AllAreUsers}
@@ -54,10 +55,10 @@ use Rattle.ring_core_proof.proofs.StepsAreMoves.{move_of, acted, IsAsked, asked_
 use Rattle.ring_core_proof.proofs.InLists.{in-each}
 use Rattle.ring_core_proof.proofs.Lifting.{outs_carried, told_from}
 use Rattle.ring_payload.proofs.Packing.{packed_none}
-use Rattle.ring_chain_proof.specs.ChainTold.{agreed_of, agreed_number, agreed_numbers}
+use Rattle.ring_chain_proof.specs.ChainFacts.{agreed_of, agreed_number, agreed_numbers}
 use Rattle.ring_chain_proof.proofs.FactsGrow.{put-each, moved_grows}
 
--- What is sent and what comes
+-- Frames sent and received
 
 abbrev IsQuiet : {A : Type 0} → Frame A → Type 0
 IsQuiet (MessageFrame x) = is_user x.payload ≡ true
@@ -83,22 +84,22 @@ pub record IsFormed {A : Type 0} (n : ℕ) (c : Core A) : Type 0 where
   pub state : Running c.state
   pub users : Each (λ (x : Message A). IsUsers x) c.held
   pub queued : AllAreUsers c.queue
-  pub shown : (s : Sent A) → c.shown ≡ Some s → IsQuiet s.frame
+  pub last_sent : (s : OutgoingFrame A) → c.last_sent ≡ Some s → IsQuiet s.frame
 
-record IsActed {A : Type 0} (n : ℕ) (d : Did A) : Type 0 where
+record IsActed {A : Type 0} (n : ℕ) (d : TransitionResult A) : Type 0 where
   pub core : IsFormed n d.core
-  pub sends : Each (λ (s : Sent A). IsQuiet s.frame) d.sends
+  pub sends : Each (λ (s : OutgoingFrame A). IsQuiet s.frame) d.sends
 
--- Acts
+-- Transitions
 
-again_quiet : {A : Type 0} → (shown : Option (Sent A)) → ((s : Sent A) → shown ≡ Some s → IsQuiet s.frame) →
-    Each (λ (s : Sent A). IsQuiet s.frame) (shown_again shown)
+again_quiet : {A : Type 0} → (last_sent : Option (OutgoingFrame A)) → ((s : OutgoingFrame A) → last_sent ≡ Some s → IsQuiet s.frame) →
+    Each (λ (s : OutgoingFrame A). IsQuiet s.frame) (last_sent_repeated last_sent)
 again_quiet None h = tt
 again_quiet (Some s) h = (h s refl, tt)
 
-gives_nothing : {A : Type 0} → (s : State) → Running s → (c : Core A) (x : Message A) → gives_old s c x ≡ []
-gives_nothing s (inl e) c x = ap (λ s. gives_old s c x) e
-gives_nothing s (inr e) c x = ap (λ s. gives_old s c x) e
+gives_nothing : {A : Type 0} → (s : State) → Running s → (c : Core A) (x : Message A) → old_ring_messages s c x ≡ []
+gives_nothing s (inl e) c x = ap (λ s. old_ring_messages s c x) e
+gives_nothing s (inr e) c x = ap (λ s. old_ring_messages s c x) e
 
 numbered_users : {A : Type 0} → (ring : RingId) (me seq : ℕ) (ps : List (Payload A)) → AllAreUsers ps →
     Each (λ (x : Message A). IsUsers x) (numbered ring me seq ps)
@@ -110,10 +111,10 @@ operating n c f (inr e) = e
 operating n c f (inl e) =
     elim (f.state) [ inl o ↦ o | inr s ↦ absurd (let q : Recovery ≡ Stopped = sym e ∙ s in let x : ⊥ = cc in x) ]
 
-one_token : {A : Type 0} → (u s : Sent A) → IsQuiet u.frame → Some u ≡ Some s → IsQuiet s.frame
-one_token {A} u s h e = (let same : u ≡ s = cc in subst (λ (s : Sent A). IsQuiet s.frame) same h)
+one_token : {A : Type 0} → (u s : OutgoingFrame A) → IsQuiet u.frame → Some u ≡ Some s → IsQuiet s.frame
+one_token {A} u s h e = (let same : u ≡ s = cc in subst (λ (s : OutgoingFrame A). IsQuiet s.frame) same h)
 
-visited_formed : {A : Type 0} → (n : ℕ) (c : Core A) (t : Token) → IsFormed n c → c.state ≡ Operational → IsActed n (act c (Visit t))
+visited_formed : {A : Type 0} → (n : ℕ) (c : Core A) (t : Token) → IsFormed n c → c.state ≡ Operational → IsActed n (apply_transition c (Visit t))
 visited_formed {A} n c t f o =
     let new : Each (λ (x : Message A). IsUsers x) (new_messages c t) = numbered_users t.ring c.me t.seq (new_payloads c t) (fresh_users c t o f.queued) in
     let old : Each (λ (x : Message A). IsUsers x) (repeated c t) = each-weaker (λ (x : Message A). IsIn x c.held)
@@ -128,10 +129,10 @@ visited_formed {A} n c t f o =
         users = each-append (λ (x : Message A). IsUsers x) (reverse (new_messages c t)) c.held
             (each-reverse (λ (x : Message A). IsUsers x) (new_messages c t) new) f.users;
         queued = queue_kept c.state (room_at c t) c.queue f.queued;
-        shown = λ s e. one_token (to_next c (forwarded c t)) s tt e;
+        last_sent = λ s e. one_token (to_next c (token_forwarded c t)) s tt e;
       };
-      sends = each-append (λ (s : Sent A). IsQuiet s.frame) (to_others c (repeated c t ++ new_messages c t)) (to_next c (forwarded c t) ∷ [])
-          (each-map (λ (s : Sent A). IsQuiet s.frame) (λ x. record {
+      sends = each-append (λ (s : OutgoingFrame A). IsQuiet s.frame) (to_others c (repeated c t ++ new_messages c t)) (to_next c (token_forwarded c t) ∷ [])
+          (each-map (λ (s : OutgoingFrame A). IsQuiet s.frame) (λ x. record {
             to = less c.running.members (only c.me);
             frame = MessageFrame x;
           }) (repeated c t ++ new_messages c t) (each-append (λ (x : Message A). IsUsers x)
@@ -139,7 +140,7 @@ visited_formed {A} n c t f o =
           (tt, tt);
     }
 
-took_formed : {A : Type 0} → (n : ℕ) (c : Core A) (x : Message A) → IsFormed n c → IsUsers x → IsFormed n (act c (Take x)).core
+took_formed : {A : Type 0} → (n : ℕ) (c : Core A) (x : Message A) → IsFormed n c → IsUsers x → IsFormed n (apply_transition c (Take x)).core
 took_formed {A} n c x f u =
     record {
       installed = f.installed;
@@ -147,12 +148,12 @@ took_formed {A} n c x f u =
       installs = f.installs;
       state = f.state;
       queued = f.queued;
-      shown = f.shown;
+      last_sent = f.last_sent;
       users = subst (λ xs. Each (λ (x : Message A). IsUsers x) (xs ++ x ∷ c.held)) (sym (gives_nothing c.state f.state c x)) (u, f.users);
     }
 
-acted_formed : {A : Type 0} → (n : ℕ) (c : Core A) (input : Input A) (a : Act A) → IsFormed n c → IsAllowed input → HasPassed c a → CameWith c input a →
-    IsAsked a → IsActed n (act c a)
+acted_formed : {A : Type 0} → (n : ℕ) (c : Core A) (input : Input A) (a : Transition A) → IsFormed n c → IsAllowed input → HasPassed c a → IsInputOf c input a →
+    IsAsked a → IsActed n (apply_transition c a)
 acted_formed n c input Ignore f w g h u = record { core = f; sends = tt }
 acted_formed {A} n c input (Enqueue p) f w g h u =
     record {
@@ -163,22 +164,22 @@ acted_formed {A} n c input (Enqueue p) f w g h u =
         state = f.state;
         users = f.users;
         queued = each-push (λ (p : Payload A). is_user p ≡ true) c.queue p f.queued u;
-        shown = f.shown;
+        last_sent = f.last_sent;
       };
       sends = tt;
     }
-acted_formed n c input Repeat f w g h u = record { core = f; sends = again_quiet c.shown f.shown }
+acted_formed n c input Repeat f w g h u = record { core = f; sends = again_quiet c.last_sent f.last_sent }
 acted_formed {A} n c input (Take x) f w g h u = record { core = took_formed n c x f (subst (λ (i : Input A). IsAllowed i) h w); sends = tt }
 acted_formed n c input (Visit t) f w g h u = visited_formed n c t f (operating n c f g.0)
 acted_formed {A} n c input Announce f w g h u = absurd (false≢true (subst (λ (i : Input A). IsAllowed i) h w))
 acted_formed {A} n c input Invite f w g h u = absurd (false≢true (subst (λ (i : Input A). IsAllowed i) h w))
 acted_formed {A} n c input GiveUp f w g h u = absurd (false≢true (subst (λ (i : Input A). IsAllowed i) h w))
-acted_formed {A} n c input Regather f w g (inl h) u = absurd (false≢true (subst (λ (i : Input A). IsAllowed i) h w))
-acted_formed {A} n c input Regather f w g (inr l) u = absurd (subst (λ (i : Input A). IsAllowed i) l.came w)
+acted_formed {A} n c input EnterGather f w g (inl h) u = absurd (false≢true (subst (λ (i : Input A). IsAllowed i) h w))
+acted_formed {A} n c input EnterGather f w g (inr l) u = absurd (subst (λ (i : Input A). IsAllowed i) l.received w)
 acted_formed {A} n c input (Agree j) f w g h u = absurd (subst (λ (i : Input A). IsAllowed i) h w)
-acted_formed {A} n c input (Widen j) f w g h u = absurd (subst (λ (i : Input A). IsAllowed i) h w)
-acted_formed {A} n c input (RegatherAndAgree j) f w g h u = absurd (subst (λ (i : Input A). IsAllowed i) h w)
-acted_formed {A} n c input (RegatherAndWiden j) f w g h u = absurd (subst (λ (i : Input A). IsAllowed i) h w)
+acted_formed {A} n c input (MergeJoin j) f w g h u = absurd (subst (λ (i : Input A). IsAllowed i) h w)
+acted_formed {A} n c input (EnterGatherAndAgree j) f w g h u = absurd (subst (λ (i : Input A). IsAllowed i) h w)
+acted_formed {A} n c input (EnterGatherAndMergeJoin j) f w g h u = absurd (subst (λ (i : Input A). IsAllowed i) h w)
 acted_formed {A} n c input (Fill k) f w g h u = absurd (subst (λ (i : Input A). IsAllowed i) h w)
 acted_formed {A} n c input (Learn k) f w g h u = absurd (subst (λ (i : Input A). IsAllowed i) h w)
 
@@ -192,8 +193,8 @@ none_installed : {A : Type 0} → (s : State) → Running s → (c : Core A) →
 none_installed s (inl e) c = ap (λ s. installs_in s c) e
 none_installed s (inr e) c = ap (λ s. installs_in s c) e
 
-abbrev acting : {A : Type 0} → Core A → Input A → Did A
-acting c input = act c (decide c input)
+abbrev acting : {A : Type 0} → Core A → Input A → TransitionResult A
+acting c input = apply_transition c (decide c input)
 
 step_is : {A : Type 0} → (n : ℕ) (c : Core A) (input : Input A) → IsFormed n (acting c input).core →
     ring_step c input ≡ record { core = (acting c input).core; outs = sent (acting c input).sends ++ given c (acting c input).core }
@@ -201,14 +202,14 @@ unfolding ring_step
 step_is n c input f =
     let d = acting c input in
     let a = decide c input in
-    let e : (may_follow a && proposes d.core) ≡ false = and_right (may_follow a) (proposes d.core) (none_proposed d.core.state f.state d.core) in
-    ap (λ b. delivered c (proposed_after b d)) e ∙ ap (λ b. settle b d.core (sent d.sends ++ given c d.core)) (none_installed d.core.state f.state d.core)
+    let e : (may_propose_after a && proposes d.core) ≡ false = and_right (may_propose_after a) (proposes d.core) (none_proposed d.core.state f.state d.core) in
+    ap (λ b. delivered c (with_proposal_if b d)) e ∙ ap (λ b. settle b d.core (sent d.sends ++ given c d.core)) (none_installed d.core.state f.state d.core)
 
 acting_grows : {A : Type 0} → (c : Core A) (input : Input A) (r : RingId) → front c r ≤ front (acting c input).core r
-acting_grows {A} c input r = subst (λ (d : Did A). front c r ≤ front d.core r) (sym (acted c (decide c input)))
+acting_grows {A} c input r = subst (λ (d : TransitionResult A). front c r ≤ front d.core r) (sym (acted c (decide c input)))
     ((moved_grows c (move_of c (decide c input))).fronts r)
 
--- What is told as agreed
+-- Agreed outputs
 
 record IsFound {A : Type 0} (held : List (Message A)) (ring : RingId) (n : ℕ) : Type 0 where
   pub message : Message A
@@ -258,11 +259,11 @@ all_told {A} held ring first (suc count) h =
     (all_told held ring (suc first) count (λ n l k. h n (omega arith) (omega arith))) in
     a ∙ b ∙ c
 
-none_sent : {A : Type 0} → (sends : List (Sent A)) → filter_map agreed_of (map (λ (s : Sent A). SendOut s.to s.frame) sends) ≡ []
+none_sent : {A : Type 0} → (sends : List (OutgoingFrame A)) → filter_map agreed_of (map (λ (s : OutgoingFrame A). SendOut s.to s.frame) sends) ≡ []
 none_sent [] = refl
 none_sent (s ∷ sends) = none_sent sends
 
-step_tells : {A : Type 0} → (n : ℕ) (c d : Core A) (sends : List (Sent A)) → c.installed ≡ all_of n → Each (λ (x : Message A). IsUsers x) d.held →
+step_tells : {A : Type 0} → (n : ℕ) (c d : Core A) (sends : List (OutgoingFrame A)) → c.installed ≡ all_of n → Each (λ (x : Message A). IsUsers x) d.held →
     filter_map agreed_of (sent sends ++ given c d) ≡ numbers_from (front c (all_of n).ring + 1) (front d (all_of n).ring - front c (all_of n).ring)
 step_tells {A} n c d sends e u =
     let r = c.installed.ring in
@@ -282,10 +283,10 @@ step_tells {A} n c d sends e u =
 
 pub record IsFormedWorld {A : Type 0} (n : ℕ) (w : World A) : Type 0 where
   pub cores : (q : ℕ) → IsFormed n (w.cores q)
-  pub frames : Each (λ (f : Carried A). IsQuiet f.frame) w.frames
+  pub frames : Each (λ (f : Transmission A). IsQuiet f.frame) w.frames
   pub told : (q : ℕ) → agreed_numbers w q ≡ numbers_from 1 (front (w.cores q) (all_of n).ring)
 
--- what a step of one tells, of each processor
+-- the outputs of a step of one processor, for each processor
 told_own : {A : Type 0} → (i q : ℕ) (outs : List (Out A)) → i ≡ q → filter_map (agreed_number q) (map (λ o. (i, o)) outs) ≡ filter_map agreed_of outs
 told_own i q [] e = refl
 told_own i q (o ∷ outs) e =
@@ -310,21 +311,21 @@ module _ {A : Type 0} (n : ℕ) (w : World A) (f : IsFormedWorld n w) where
       let outs = sent d.sends ++ given c d.core in
       let v : World A = record w {
         cores = put w.cores i d.core;
-        frames = w.frames ++ filter_map (carried_by i) outs;
+        frames = w.frames ++ filter_map (transmission_by i) outs;
         outs = w.outs ++ map (λ o. (i, o)) outs;
       } in
-      let sends : filter_map (carried_by i) outs ≡ carried_from i d.sends = outs_carried i d.sends (given c d.core) (told_from d.core c.installed.ring _ _) in
-      let quiet : Each (λ (g : Carried A). IsQuiet g.frame) (carried_from i d.sends) =
-      each-map (λ (g : Carried A). IsQuiet g.frame) (λ s. record { from = i; to = s.to; frame = s.frame })
-      (addressed d.sends) (each-filter (λ (s : Sent A). IsQuiet s.frame) (λ s. not (s.to == nobody))
+      let sends : filter_map (transmission_by i) outs ≡ transmissions_from i d.sends = outs_carried i d.sends (given c d.core) (told_from d.core c.installed.ring _ _) in
+      let quiet : Each (λ (g : Transmission A). IsQuiet g.frame) (transmissions_from i d.sends) =
+      each-map (λ (g : Transmission A). IsQuiet g.frame) (λ s. record { from = i; to = s.to; frame = s.frame })
+      (addressed d.sends) (each-filter (λ (s : OutgoingFrame A). IsQuiet s.frame) (λ s. not (s.to == nobody))
       d.sends done.sends) in
       let grown : front c r ≤ front d.core r = acting_grows c input r in
       let told : filter_map agreed_of outs ≡ numbers_from (front c r + 1) (front d.core r - front c r) =
       step_tells n c d.core d.sends (f.cores i).installed (done.core).users in
       let whole : IsFormedWorld n v = record {
         cores = put-each (λ q (x : Core A). IsFormed n x) w.cores i d.core (λ q m. f.cores q) done.core;
-        frames = each-append (λ (g : Carried A). IsQuiet g.frame) w.frames (filter_map (carried_by i) outs) f.frames
-            (subst (Each (λ (g : Carried A). IsQuiet g.frame)) (sym sends) quiet);
+        frames = each-append (λ (g : Transmission A). IsQuiet g.frame) w.frames (filter_map (transmission_by i) outs) f.frames
+            (subst (Each (λ (g : Transmission A). IsQuiet g.frame)) (sym sends) quiet);
         told = put-each (λ q (x : Core A). agreed_numbers v q ≡ numbers_from 1 (front x r)) w.cores i d.core
             (λ q m. filter_map-append (agreed_number q) w.outs (map (λ o. (i, o)) outs)
             ∙ ap (λ xs. agreed_numbers w q ++ xs) (told_other i q outs (λ e. m (sym e)))
@@ -338,7 +339,7 @@ module _ {A : Type 0} (n : ℕ) (w : World A) (f : IsFormedWorld n w) where
             ∙ numbers-append 1 (front c r) (front d.core r - front c r)
             ∙ ap (numbers_from 1) sum);
       } in
-      subst (λ (s : Stepped A). IsFormedWorld n (after_step w i s)) (sym is) whole
+      subst (λ (s : StepResult A). IsFormedWorld n (after_step w i s)) (sym is) whole
 
   stepped_formed : (b : Bool) (i : ℕ) (input : Input A) → IsAllowed input → IsFormedWorld n (stepped_if b w i input)
   stepped_formed false i input h = f
@@ -357,7 +358,7 @@ module _ {A : Type 0} (n : ℕ) (w : World A) (f : IsFormedWorld n w) where
               state = inr refl;
               users = (f.cores i).users;
               queued = (f.cores i).queued;
-              shown = (f.cores i).shown;
+              last_sent = (f.cores i).last_sent;
             });
         frames = f.frames;
         told = put-each (λ q (x : Core A). agreed_numbers w q ≡ numbers_from 1 (front x (all_of n).ring)) w.cores i (halted c) (λ q m. f.told q) (f.told i);
@@ -367,10 +368,10 @@ module _ {A : Type 0} (n : ℕ) (w : World A) (f : IsFormedWorld n w) where
   frame_formed false i frame h = f
   frame_formed true i frame h = stepped_formed (is_node w i) i (FrameInput frame) h
 
-  quiet_at : (fs : List (Carried A)) (k : ℕ) (g : Carried A) → Each (λ (f : Carried A). IsQuiet f.frame) fs → slice_get fs k ≡ Some g → IsQuiet g.frame
-  quiet_at fs k g h e = each-get (λ (f : Carried A). IsQuiet f.frame) fs k g h e
+  quiet_at : (fs : List (Transmission A)) (k : ℕ) (g : Transmission A) → Each (λ (f : Transmission A). IsQuiet f.frame) fs → slice_get fs k ≡ Some g → IsQuiet g.frame
+  quiet_at fs k g h e = each-get (λ (f : Transmission A). IsQuiet f.frame) fs k g h e
 
-  handed_formed : (i m : ℕ) (o : Option (Carried A)) → frame_at w.frames m ≡ o → IsFormedWorld n (handed w i o)
+  handed_formed : (i m : ℕ) (o : Option (Transmission A)) → frame_at w.frames m ≡ o → IsFormedWorld n (handed w i o)
   handed_formed i m None e = f
   handed_formed i zero (Some g) e = absurd (let x : ⊥ = cc in x)
   handed_formed i (suc m) (Some g) e = frame_formed (has g.to i) i g.frame (quiet_at w.frames m g f.frames e)
@@ -402,23 +403,23 @@ formed_core n q = record {
   state = inl refl;
   users = tt;
   queued = tt;
-  shown = λ s e. absurd (let x : ⊥ = cc in x);
+  last_sent = λ s e. absurd (let x : ⊥ = cc in x);
 }
 
--- the first visit has nothing to send
+-- the first visit has no messages to send
 pub start_formed : {A : Type 0} → (n : ℕ) → IsFormedWorld {A = A} n (ring_formed n)
 start_formed {A} n =
     let c : Core A = formed n 1 in
     let t = first_token (all_of n).ring in
     let r = (all_of n).ring in
-    let d = act c (Visit t) in
+    let d = apply_transition c (Visit t) in
     let first = visited_formed n c t (formed_core n 1) refl in
     let none : new_payloads c t ≡ [] = packed_none (room_at c t) in
     let held : front d.core r ≡ 0 = ap (λ (ps : List (Payload A)). front_of (reverse (numbered t.ring c.me t.seq ps) ++ c.held) r) none in
     record {
       cores = put-each (λ q (x : Core A). IsFormed n x) (formed n) 1 d.core (λ q m. formed_core n q) first.core;
-      frames = each-map (λ (g : Carried A). IsQuiet g.frame) (λ s. record { from = 1; to = s.to; frame = s.frame })
-          (addressed d.sends) (each-filter (λ (s : Sent A). IsQuiet s.frame) (λ s. not (s.to == nobody))
+      frames = each-map (λ (g : Transmission A). IsQuiet g.frame) (λ s. record { from = 1; to = s.to; frame = s.frame })
+          (addressed d.sends) (each-filter (λ (s : OutgoingFrame A). IsQuiet s.frame) (λ s. not (s.to == nobody))
           d.sends first.sends);
       told = put-each (λ q (x : Core A). [] ≡ numbers_from 1 (front x r)) (formed n) 1 d.core (λ q m. refl) (ap (numbers_from 1) (sym held));
     }

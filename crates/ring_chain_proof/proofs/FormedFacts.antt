@@ -1,17 +1,17 @@
--- On a ring that is formed from the start each processor's local facts hold: they hold as it is formed, and each move keeps them.
+-- In a formed ring each processor's local facts hold: they hold at the opening, and each move keeps them.
 use Rattle.std.proofs.Common.{◌≡◌, ℕ, ◌≤◌, inl, inr, List, [], refl, arith}
 use Rattle.std.specs.Prelude.{filter}
 use Rattle.ring_base.specs.Members.{everybody_members}
 use Rattle.ring_base.specs.declared.state.State.TheVariants.{Commit, Recovery, Operational}
-use Rattle.ring_core.specs.Tokens.{first_token}
-use Rattle.ring_core.specs.State.{Core, all_of, formed}
-use Rattle.ring_core.specs.Deciding.{Visit}
+use Rattle.ring_core_spec.specs.Tokens.{first_token}
+use Rattle.ring_core_spec.specs.State.{Core, all_of, formed}
+use Rattle.ring_core_spec.specs.Deciding.{Visit}
 use Rattle.ring_core_proof.specs.declared.event.RingEvent.{RingEvent}
 use Rattle.ring_core_proof.specs.Worlds.{ring_formed, acts_on_formed, run_formed}
-use Rattle.ring_core_proof.specs.Moves.{Move, Idles, Enters, Learns, Visits, Takes, Installs, moved, CameTo}
+use Rattle.ring_core_proof.specs.Moves.{Move, Idles, Enters, Learns, Visits, Takes, Installs, moved, IsReceivedFrame}
 use Rattle.ring_core_proof.proofs.KeptByMoves.{IsKeptByMoves, Everywhere, everywhere}
 use Rattle.ring_core_proof.proofs.StepsAreMoves.{move_of}
-use Rattle.ring_core_proof.specs.Local.{LocalFacts}
+use Rattle.ring_core_proof.specs.CoreInvariants.{LocalFacts}
 use Rattle.ring_core_proof.proofs.OwnEverywhere.{Holds, moved_holds, local_of}
 use Rattle.ring_chain_proof.proofs.FactsGrow.{put-each}
 use Rattle.ring_chain_proof.proofs.ChainInRuns.{may_start, formed_runs}
@@ -21,7 +21,7 @@ abbrev HoldsWithin : {A : Type 0} → ℕ → Core A → Type 0
 HoldsWithin n c = c.me ≤ n → Holds c
 
 moved_me : {A : Type 0} → (n : ℕ) (c : Core A) (m : Move A) → (moved c m).me ≤ n → c.me ≤ n
-moved_me n c (Idles state gathering shown queue sends) l = l
+moved_me n c (Idles state gathering last_sent queue sends) l = l
 moved_me n c (Enters k) l = l
 moved_me n c (Learns k) l = l
 moved_me n c (Visits t fresh requests again queue) l = l
@@ -29,9 +29,9 @@ moved_me n c (Takes x) l = l
 moved_me n c Installs l = l
 
 within : {A : Type 0} → (n : ℕ) → IsKeptByMoves (HoldsWithin {A = A} n)
-within n = record { moves = λ came c m h p l. moved_holds came c m h (p (moved_me n c m l)) }
+within n = record { moves = λ received c m h p l. moved_holds received c m h (p (moved_me n c m l)) }
 
--- nothing is known as the ring is formed
+-- there are no facts at the opening
 holds_formed : {A : Type 0} → (n q : ℕ) → q ≤ n → Holds {A = A} (formed n q)
 holds_formed n q l =
     record {
@@ -72,7 +72,7 @@ holds_started {A} n some =
     let c : Core A = formed n 1 in
     let m = move_of c (Visit (first_token (all_of n).ring)) in
     put-each (λ q (x : Core A). HoldsWithin n x) (formed n) 1 (moved c m) (λ q other l. holds_formed n q l)
-    (λ l. moved_holds (CameTo [] 1) c m (may_start {A = A} n some (first_token (all_of n).ring) refl) (holds_formed n 1 some))
+    (λ l. moved_holds (IsReceivedFrame [] 1) c m (may_start {A = A} n some (first_token (all_of n).ring) refl) (holds_formed n 1 some))
 
 pub formed_facts : {A : Type 0} → (n i : ℕ) (events : List (RingEvent A)) → 1 ≤ i → i ≤ n → LocalFacts ((run_formed n events).cores i)
 formed_facts {A} n i events low high =

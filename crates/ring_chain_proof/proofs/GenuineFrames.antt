@@ -1,7 +1,7 @@
--- What is said of every frame ever sent, by the visits of each ring, and how a move adds to the visits.
+-- Facts about every frame ever sent, by the visits of each ring, and how a move adds to the visits.
 
--- A message was numbered in one of them, a token was sent on by one, and a commit token is a hop with the reports of
--- the members up to there.
+-- A message was numbered in one of them, a token was forwarded by one, and a commit token is a hop with the reports
+-- of its first members.
 use Rattle.std.specs.Prelude.{◌≡◌, ℕ, ◌-◌, ◌*◌, ◌%◌, min, ◌<◌, ◌≤◌, ◌⊎◌, if◌then◌else◌, List, [], ◌∷◌, length}
 use Rattle.std.specs.List.{AllByRecursion}
 use Rattle.ring_base.specs.Rings.{same_ring}
@@ -12,19 +12,19 @@ use Rattle.ring_wire.specs.declared.frame.Frame.{Frame}
 use Rattle.ring_wire.specs.declared.frame.Frame.TheVariants.{Message as MessageFrame, Token as TokenFrame, Join as JoinFrame}
 use Rattle.ring_wire.specs.declared.frame.Frame.TheVariants.{Commit as CommitFrame}
 use Rattle.ring_wire.specs.declared.token.Token.{Token}
-use Rattle.ring_core.specs.Tokens.{first_token, VisitBy}
-use Rattle.ring_core.specs.Commits.{receiver}
-use Rattle.ring_core.specs.State.{Core}
+use Rattle.ring_core_spec.specs.Tokens.{first_token, VisitBy}
+use Rattle.ring_core_spec.specs.Commits.{receiver}
+use Rattle.ring_core_spec.specs.State.{Core}
 use Rattle.ring_core_proof.specs.Moves.{Move, Idles, Enters, Learns, Visits, Takes, Installs, turn_with}
-use Rattle.ring_core_proof.specs.Worlds.{Carried}
+use Rattle.ring_core_proof.specs.Worlds.{Transmission}
 use Rattle.ring_chain_proof.specs.ChainWords.{Chains, IsRingOf, IsGenuine, AreReports}
 
 -- The token
 
--- the token was the first, or one of the visits sent it on
+-- the token is the first, or one of the visits forwarded it
 abbrev pub HasArrived : {A : Type 0} → RingId → Token → List (VisitBy A) → Type 0
 HasArrived ring t [] = first_token ring ≡ t
-HasArrived ring t (v ∷ vs) = (v.turn.went ≡ t) ⊎ HasArrived ring t vs
+HasArrived ring t (v ∷ vs) = (v.turn.forwarded ≡ t) ⊎ HasArrived ring t vs
 
 -- Frames
 
@@ -42,17 +42,17 @@ pub record IsToken {A : Type 0} (visits : Chains A) (cores : ℕ → Core A) (to
   pub ring_of : IsRingOf cores t.ring members
   pub some : 0 < size members
   pub sent_to : to ≡ only (at members (t.number % size members))
-  pub arrived : HasArrived t.ring t (visits t.ring)
+  pub token_arrived : HasArrived t.ring t (visits t.ring)
 
--- what holds of each frame ever sent
+-- the property of each frame ever sent
 abbrev pub IsRight : {A : Type 0} → Chains A → (ℕ → Core A) → ℕ → ℕ → Frame A → Type 0
 IsRight visits cores from to (MessageFrame x) = IsGenuine visits x
 IsRight visits cores from to (TokenFrame t) = IsToken visits cores to t
 IsRight visits cores from to (CommitFrame k) = IsHop cores from to k
 IsRight visits cores from to (JoinFrame j) = Unit {0}
 
-abbrev pub AreRight : {A : Type 0} → Chains A → (ℕ → Core A) → List (Carried A) → Type 0
-AreRight visits cores frames = AllByRecursion (λ (f : Carried _). IsRight visits cores f.from f.to f.frame) frames
+abbrev pub AreRight : {A : Type 0} → Chains A → (ℕ → Core A) → List (Transmission A) → Type 0
+AreRight visits cores frames = AllByRecursion (λ (f : Transmission _). IsRight visits cores f.from f.to f.frame) frames
 
 -- Moves
 
@@ -62,7 +62,7 @@ with_visit visits ring v r = if same_ring ring r then v ∷ visits r else visits
 
 abbrev pub visits_after : {A : Type 0} → Chains A → ℕ → Core A → Move A → Chains A
 visits_after visits i c (Visits t fresh requests again queue) = with_visit visits t.ring (record { who = i; turn = turn_with c t fresh requests })
-visits_after visits i c (Idles state gathering shown queue sends) = visits
+visits_after visits i c (Idles state gathering last_sent queue sends) = visits
 visits_after visits i c (Enters k) = visits
 visits_after visits i c (Learns k) = visits
 visits_after visits i c (Takes x) = visits

@@ -1,4 +1,5 @@
--- The commit tokens of a run: each ever sent is a hop with the reports of the members up to there, and two of one ring name the same members.
+-- The commit tokens of a run: each is a hop with the reports of its first members, and two of one ring name the same
+-- members.
 use Rattle.std.proofs.Common.{◌≡◌, ℕ, suc, ◌-◌, ◌*◌, ◌%◌, min, ◌≤◌, inl, inr, true, ◌&&◌, ◌==◌, List, [], ◌∷◌, length, Some, refl, ap, sym, subst, arith}
 use Rattle.std.specs.Prelude.{not, nat_eq, nat_le, filter_map, slice_get, slice_index}
 use Rattle.std.specs.List.{AllByRecursion as Each, list_all}
@@ -14,10 +15,10 @@ use Rattle.ring_wire.specs.declared.frame.Frame.{Frame}
 use Rattle.ring_wire.specs.declared.frame.Frame.TheVariants.{Message as MessageFrame, Token as TokenFrame, Join as JoinFrame}
 use Rattle.ring_wire.specs.declared.frame.Frame.TheVariants.{Commit as CommitFrame}
 use Rattle.ring_base.proofs.SameRing.{ring_same, same-self}
-use Rattle.ring_core.specs.Commits.{same_entry, receiver, is_own}
-use Rattle.ring_core.specs.State.{Core, Report}
+use Rattle.ring_core_spec.specs.Commits.{same_entry, receiver, is_own}
+use Rattle.ring_core_spec.specs.State.{Core, Report}
 use Rattle.ring_core_proof.specs.FactWords.{IsIn}
-use Rattle.ring_core_proof.specs.Worlds.{Carried, World}
+use Rattle.ring_core_proof.specs.Worlds.{Transmission, World}
 use Rattle.ring_core_proof.specs.CommitRounds.{all_pairs, report_for, are_reports, is_handed_on, is_hop, is_hop_if_commit}
 use Rattle.ring_core_proof.specs.CommitRounds.{are_hops, commit_in, commits_of, agree_on_members}
 use Rattle.ring_chain_proof.specs.ChainWords.{Chains, IsRingOf}
@@ -78,19 +79,19 @@ module _ {A : Type 0} (visits : Chains A) (cores : ℕ → Core A) (filed : (q :
       && (length k.entries == min k.hop (size k.members))) (are_reports cores k.ring (elements k.members) k.entries) b
       (reports_true cores filed k.ring (elements k.members) k.entries (omega arith) h.reports)
 
-  handed_true : (f : Carried A) (k : CommitToken) → IsHop cores f.from f.to k → is_handed_on f k ≡ true
+  handed_true : (f : Transmission A) (k : CommitToken) → IsHop cores f.from f.to k → is_handed_on f k ≡ true
   handed_true f k h = and_from (f.from == at k.members ((k.hop - 1) % size k.members)) (f.to == only (receiver k)) (eq-eqb _ _ h.sent_by) (eq-eqb _ _ h.sent_to)
 
-  frame_true : (f : Carried A) (frame : Frame A) → IsRight visits cores f.from f.to frame → is_hop_if_commit cores f frame ≡ true
+  frame_true : (f : Transmission A) (frame : Frame A) → IsRight visits cores f.from f.to frame → is_hop_if_commit cores f frame ≡ true
   frame_true f (CommitFrame k) h = and_from (is_handed_on f k) (is_hop cores k) (handed_true f k h) (hop_true f.from f.to k h)
   frame_true f (MessageFrame x) h = refl
   frame_true f (TokenFrame t) h = refl
   frame_true f (JoinFrame j) h = refl
 
-  frames_true : (frames : List (Carried A)) → AreRight visits cores frames → list_all (λ (f : Carried A). is_hop_if_commit cores f f.frame) frames ≡ true
+  frames_true : (frames : List (Transmission A)) → AreRight visits cores frames → list_all (λ (f : Transmission A). is_hop_if_commit cores f f.frame) frames ≡ true
   frames_true [] h = refl
   frames_true (f ∷ frames) h = and_from (is_hop_if_commit cores f f.frame)
-      (list_all (λ (f : Carried A). is_hop_if_commit cores f f.frame) frames) (frame_true f f.frame h.0)
+      (list_all (λ (f : Transmission A). is_hop_if_commit cores f f.frame) frames) (frame_true f f.frame h.0)
       (frames_true frames h.1)
 
   -- Members
@@ -122,9 +123,9 @@ module _ {A : Type 0} (visits : Chains A) (cores : ℕ → Core A) (filed : (q :
   pairs_agree [] hs = refl
   pairs_agree (k ∷ ks) hs = and_from (list_all (agree_on_members k) ks) (all_pairs agree_on_members ks) (all_agree k ks hs.0 hs.1) (pairs_agree ks hs.1)
 
-  commits_known : (frames : List (Carried A)) → AreRight visits cores frames → Each Known (filter_map (λ (f : Carried A). commit_in f.frame) frames)
-  commits_known frames h = each-filter_map (λ (f : Carried A). IsRight visits cores f.from f.to f.frame) Known
-      (λ (f : Carried A). commit_in f.frame) (λ f k r e. commit_right f.from f.to f.frame k r e) frames h
+  commits_known : (frames : List (Transmission A)) → AreRight visits cores frames → Each Known (filter_map (λ (f : Transmission A). commit_in f.frame) frames)
+  commits_known frames h = each-filter_map (λ (f : Transmission A). IsRight visits cores f.from f.to f.frame) Known
+      (λ (f : Transmission A). commit_in f.frame) (λ f k r e. commit_right f.from f.to f.frame k r e) frames h
 
 pub hops_of_runs : {A : Type 0} → (w : World A) → Holds w.cores w.frames → are_hops w ≡ true
 hops_of_runs w p = frames_true p.visits w.cores p.filed p.rings w.frames p.sent.right

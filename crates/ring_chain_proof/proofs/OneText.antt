@@ -1,7 +1,7 @@
--- Each number of a ring has one sender and payload.
+-- Each number of a ring has one sender and one payload.
 
--- What is held was numbered by its sender in one of the ring's visits, and these number without overlap. What a
--- message wraps was held by who wrapped it, so it is genuine too.
+-- Each held message was numbered by its sender in one of the ring's visits, and the numbers of visits don't overlap.
+-- A Wrapped was made by a processor that held its inner message, so the inner message is genuine too.
 use Rattle.std.proofs.Common.{◌≡◌, ℕ, suc, ◌+◌, ◌<◌, ◌≤◌, ◌⊎◌, inl, inr, true, ◌&&◌, List, [], ◌∷◌, length, refl, ap, sym, ◌∙◌, subst, arith}
 use Rattle.std.specs.Prelude.{reverse}
 use Rattle.std.specs.List.{AllByRecursion as Each}
@@ -19,23 +19,23 @@ use Rattle.ring_payload.specs.declared.content.Wrapped.{Wrapped as WrappedMessag
 use Rattle.ring_wire.specs.declared.frame.Frame.TheVariants.{Message as MessageFrame}
 use Rattle.ring_wire.specs.declared.message.Message.{Message}
 use Rattle.ring_wire.specs.declared.token.Token.{Token}
-use Rattle.ring_core.specs.Windows.{is_new}
-use Rattle.ring_core.specs.Tokens.{numbered, VisitBy, arrived, AreVisits}
-use Rattle.ring_core.specs.Recoveries.{unwrapped, inner_message}
-use Rattle.ring_core.specs.State.{Core}
-use Rattle.ring_core.specs.Views.{mark}
-use Rattle.ring_core.specs.Acting.{gives_old}
+use Rattle.ring_core_spec.specs.Windows.{is_new}
+use Rattle.ring_core_spec.specs.Tokens.{numbered, VisitBy, token_arrived, AreVisits}
+use Rattle.ring_core_spec.specs.Recoveries.{inner_messages, inner_message}
+use Rattle.ring_core_spec.specs.State.{Core}
+use Rattle.ring_core_spec.specs.Views.{mark}
+use Rattle.ring_core_spec.specs.Transitions.{old_ring_messages}
 use Rattle.ring_core_proof.specs.FactWords.{IsIn, SomeIs}
-use Rattle.ring_core_proof.specs.Worlds.{Carried, put}
+use Rattle.ring_core_proof.specs.Worlds.{Transmission, put}
 use Rattle.ring_core_proof.specs.Moves.{Move, Idles, Enters, Learns, Visits, Takes, Installs, turn_with, moved, AllAreUsers}
-use Rattle.ring_core_proof.specs.Moves.{IsWrapping, MayEnd, MayVisit, MayMove, CameTo}
+use Rattle.ring_core_proof.specs.Moves.{IsWrapping, MayEnd, MayVisit, MayMove, IsReceivedFrame}
 use Rattle.ring_core_proof.proofs.InLists.{in-each, each-in, some-each}
 use Rattle.ring_core_proof.proofs.WrapsAndEnd.{found_in}
 use Rattle.ring_chain_proof.specs.ChainWords.{Chains, IsGenuine, WrapsGenuine}
 use Rattle.ring_chain_proof.proofs.GenuineFrames.{AreRight, with_visit, visits_after}
 use Rattle.ring_chain_proof.proofs.FactsGrow.{ChainsGrow, visits_grow, put-each}
 use Rattle.ring_chain_proof.proofs.Rings.{AreRings, came_right}
-use Rattle.ring_chain_proof.specs.ChainTold.{AreChains}
+use Rattle.ring_chain_proof.specs.ChainFacts.{AreChains}
 
 -- The numbers of one visit
 
@@ -79,21 +79,21 @@ numbered_one ring me seq (p ∷ ps) x y (inr hx) (inr hy) e = numbered_one ring 
 -- The numbers of all visits
 
 abbrev NumberedIn : {A : Type 0} → RingId → Message A → List (VisitBy A) → Type 0
-NumberedIn ring x vs = SomeIs (λ (v : VisitBy _). IsIn x (numbered ring v.who v.turn.came.seq v.turn.fresh)) vs
+NumberedIn ring x vs = SomeIs (λ (v : VisitBy _). IsIn x (numbered ring v.who v.turn.received.seq v.turn.fresh)) vs
 
 seq_after : {A : Type 0} → (members : ℕ) (ring : RingId) (v : VisitBy A) (vs : List (VisitBy A)) → AreVisits members ring (v ∷ vs) →
-    v.turn.came.seq + length v.turn.fresh ≡ v.turn.went.seq
+    v.turn.received.seq + length v.turn.fresh ≡ v.turn.forwarded.seq
 seq_after members ring v vs h = sym (ap (λ (t : Token). t.seq) h.0.goes)
 
 seq_before : {A : Type 0} → (members : ℕ) (ring : RingId) (v : VisitBy A) (vs : List (VisitBy A)) → AreVisits members ring (v ∷ vs) →
-    v.turn.came.seq ≡ (arrived ring vs).seq
+    v.turn.received.seq ≡ (token_arrived ring vs).seq
 seq_before members ring v vs h = ap (λ (t : Token). t.seq) h.0.comes
 
 pub numbered_below : {A : Type 0} → (members : ℕ) (ring : RingId) (vs : List (VisitBy A)) → AreVisits members ring vs → (x : Message A) →
-    NumberedIn ring x vs → x.number ≤ (arrived ring vs).seq
+    NumberedIn ring x vs → x.number ≤ (token_arrived ring vs).seq
 numbered_below members ring [] h x n = absurd n
 numbered_below members ring (v ∷ vs) h x (inl n) =
-    (let a = (numbered_in ring v.who v.turn.came.seq v.turn.fresh x n).within in let b = seq_after members ring v vs
+    (let a = (numbered_in ring v.who v.turn.received.seq v.turn.fresh x n).within in let b = seq_after members ring v vs
     h in omega (arith, a, b))
 numbered_below members ring (v ∷ vs) h x (inr n) =
     (let a = numbered_below members ring vs h.1 x n in let b = seq_after members ring v vs h in let c = seq_before
@@ -102,12 +102,12 @@ numbered_below members ring (v ∷ vs) h x (inr n) =
 numbers_one : {A : Type 0} → (members : ℕ) (ring : RingId) (vs : List (VisitBy A)) → AreVisits members ring vs → (x y : Message A) → NumberedIn ring x vs →
     NumberedIn ring y vs → x.number ≡ y.number → x ≡ y
 numbers_one members ring [] h x y hx hy e = absurd hx
-numbers_one members ring (v ∷ vs) h x y (inl hx) (inl hy) e = numbered_one ring v.who v.turn.came.seq v.turn.fresh x y hx hy e
+numbers_one members ring (v ∷ vs) h x y (inl hx) (inl hy) e = numbered_one ring v.who v.turn.received.seq v.turn.fresh x y hx hy e
 numbers_one members ring (v ∷ vs) h x y (inl hx) (inr hy) e =
-    (let a = (numbered_in ring v.who v.turn.came.seq v.turn.fresh x hx).above in let b = numbered_below members ring
+    (let a = (numbered_in ring v.who v.turn.received.seq v.turn.fresh x hx).above in let b = numbered_below members ring
     vs h.1 y hy in let c = seq_before members ring v vs h in absurd (omega (arith, a, b, c, e)))
 numbers_one members ring (v ∷ vs) h x y (inr hx) (inl hy) e =
-    (let a = (numbered_in ring v.who v.turn.came.seq v.turn.fresh y hy).above in let b = numbered_below members ring
+    (let a = (numbered_in ring v.who v.turn.received.seq v.turn.fresh y hy).above in let b = numbered_below members ring
     vs h.1 x hx in let c = seq_before members ring v vs h in absurd (omega (arith, a, b, c, e)))
 numbers_one members ring (v ∷ vs) h x y (inr hx) (inr hy) e = numbers_one members ring vs h.1 x y hx hy e
 
@@ -128,21 +128,21 @@ pub record AreTexts {A : Type 0} (visits : Chains A) (cores : ℕ → Core A) : 
   pub held : (q : ℕ) → Each (IsGenuine visits) (cores q).held
   pub wraps : (r : RingId) → Each (λ (v : VisitBy A). Each (WrapsGenuine visits) v.turn.fresh) (visits r)
 
--- what a genuine message wraps is genuine
+-- the inner message of a genuine message is genuine
 genuine_inner : {A : Type 0} → (visits : Chains A) (cores : ℕ → Core A) → AreTexts visits cores → (x : Message A) (w : WrappedMessage A) →
     IsGenuine visits x → x.payload ≡ Wrapped w → IsGenuine visits (inner_message w)
 genuine_inner {A} visits cores texts x w g e =
     some-each _ _ (IsGenuine visits (inner_message w))
     (λ (v : VisitBy A) each i. in-each (WrapsGenuine visits) x.payload v.turn.fresh each
-    (numbered_in x.ring v.who v.turn.came.seq v.turn.fresh x i).payload_in w e)
+    (numbered_in x.ring v.who v.turn.received.seq v.turn.fresh x i).payload_in w e)
     (visits x.ring) (texts.wraps x.ring) g
 
-module _ {A : Type 0} (visits : Chains A) (cores : ℕ → Core A) (frames : List (Carried A)) (i : ℕ)
+module _ {A : Type 0} (visits : Chains A) (cores : ℕ → Core A) (frames : List (Transmission A)) (i : ℕ)
     (right : AreRight visits cores frames) (are : AreRings cores) (texts : AreTexts visits cores) where
   -- Taking
 
   gives_inner : (old : RingId) (m : ℕ) (held : List (Message A)) (x : Message A) (p : Payload A) → IsGenuine visits x → x.payload ≡ p →
-      Each (IsGenuine visits) (unwrapped old m held p)
+      Each (IsGenuine visits) (inner_messages old m held p)
   gives_inner old m held x (Wrapped w) g e =
       cond_both (same_ring w.ring old && is_new held m old w.number) (inner_message w ∷ []) []
       (Each (IsGenuine visits)) (λ t. (genuine_inner visits cores texts x w g e, tt)) (λ t. tt)
@@ -153,18 +153,18 @@ module _ {A : Type 0} (visits : Chains A) (cores : ℕ → Core A) (frames : Lis
   gives_inner old m held x (Pack pack) g e = tt
   gives_inner old m held x (Snap snap) g e = tt
 
-  gives_genuine : (s : State) (c : Core A) (x : Message A) → IsGenuine visits x → Each (IsGenuine visits) (gives_old s c x)
+  gives_genuine : (s : State) (c : Core A) (x : Message A) → IsGenuine visits x → Each (IsGenuine visits) (old_ring_messages s c x)
   gives_genuine Recovery c x g = gives_inner c.installed.ring (mark c c.installed.ring) c.held x x.payload g refl
   gives_genuine Gather c x g = tt
   gives_genuine Commit c x g = tt
   gives_genuine Operational c x g = tt
   gives_genuine Stopped c x g = tt
 
-  took_genuine : (x : Message A) → CameTo frames i (MessageFrame x) → Each (IsGenuine visits) (moved (cores i) (Takes x)).held
-  took_genuine x came =
+  took_genuine : (x : Message A) → IsReceivedFrame frames i (MessageFrame x) → Each (IsGenuine visits) (moved (cores i) (Takes x)).held
+  took_genuine x received =
       let c = cores i in
-      let f = came_right visits cores frames i (MessageFrame x) right came in
-      each-append (IsGenuine visits) (gives_old c.state c x) (x ∷ c.held) (gives_genuine c.state c x f.3) (f.3, texts.held i)
+      let f = came_right visits cores frames i (MessageFrame x) right received in
+      each-append (IsGenuine visits) (old_ring_messages c.state c x) (x ∷ c.held) (gives_genuine c.state c x f.3) (f.3, texts.held i)
 
   -- Visiting
 
@@ -187,11 +187,11 @@ module _ {A : Type 0} (visits : Chains A) (cores : ℕ → Core A) (frames : Lis
         subst (λ me. Each (IsGenuine after) (numbered t.ring me t.seq fresh)) (sym (are.me i))
         (each-in (IsGenuine after) (numbered t.ring i t.seq fresh) (λ x h. new_in x x.ring (numbered_in t.ring i t.seq fresh x h).ring_is h))
 
-    -- what a user hands over wraps nothing
+    -- a payload to send wraps nothing
     user_wraps : (p : Payload A) → is_user p ≡ true → WrapsGenuine after p
     user_wraps p u w e = absurd (false≢true (subst (λ (p : Payload A). is_user p ≡ true) e u))
 
-    -- what is handed on was held
+    -- a message that is wrapped was held
     handed_wraps : ChainsGrow visits after → (p : Payload A) → IsWrapping (cores i) p → WrapsGenuine after p
     handed_wraps g p (w, e, h) v k =
         let same : w ≡ v = cc in
@@ -203,7 +203,7 @@ module _ {A : Type 0} (visits : Chains A) (cores : ℕ → Core A) (frames : Lis
     end_wraps wraps ends (inl e) = subst (Each (WrapsGenuine after)) (sym e) tt
     end_wraps wraps ends (inr e) = subst (Each (WrapsGenuine after)) (sym e.one) (λ w k. absurd (let n : ⊥ = cc in n), tt)
 
-    fresh_wraps : ChainsGrow visits after → (again : List (Message A)) (queue : List (Payload A)) → MayVisit (CameTo frames i) (cores i) t fresh again queue →
+    fresh_wraps : ChainsGrow visits after → (again : List (Message A)) (queue : List (Payload A)) → MayVisit (IsReceivedFrame frames i) (cores i) t fresh again queue →
         Each (WrapsGenuine after) fresh
     fresh_wraps g again queue h =
         elim (h.state) [
@@ -222,7 +222,7 @@ module _ {A : Type 0} (visits : Chains A) (cores : ℕ → Core A) (frames : Lis
 
   -- Moves
 
-  held_moved : (m : Move A) → MayMove (CameTo frames i) (cores i) m → Each (IsGenuine (visits_after visits i (cores i) m)) (moved (cores i) m).held
+  held_moved : (m : Move A) → MayMove (IsReceivedFrame frames i) (cores i) m → Each (IsGenuine (visits_after visits i (cores i) m)) (moved (cores i) m).held
   held_moved (Visits t fresh requests again queue) h =
       let g = visits_grow visits i (cores i) (Visits t fresh requests again queue) in
       let new = numbered t.ring (cores i).me t.seq fresh in
@@ -230,20 +230,20 @@ module _ {A : Type 0} (visits : Chains A) (cores : ℕ → Core A) (frames : Lis
       (each-reverse (IsGenuine (after t fresh requests)) new (new_genuine t fresh requests))
       (each-weaker (IsGenuine visits) (IsGenuine (after t fresh requests)) g.genuine (cores i).held (texts.held i))
   held_moved (Takes x) h = took_genuine x h.from
-  held_moved (Idles state gathering shown queue sends) h = texts.held i
+  held_moved (Idles state gathering last_sent queue sends) h = texts.held i
   held_moved (Enters k) h = texts.held i
   held_moved (Learns k) h = texts.held i
   held_moved Installs h = texts.held i
 
-  queued_moved : (m : Move A) → MayMove (CameTo frames i) (cores i) m → AllAreUsers (moved (cores i) m).queue
+  queued_moved : (m : Move A) → MayMove (IsReceivedFrame frames i) (cores i) m → AllAreUsers (moved (cores i) m).queue
   queued_moved (Visits t fresh requests again queue) h = h.queued (texts.queued i)
-  queued_moved (Idles state gathering shown queue sends) h = h.queued (texts.queued i)
+  queued_moved (Idles state gathering last_sent queue sends) h = h.queued (texts.queued i)
   queued_moved (Takes x) h = texts.queued i
   queued_moved (Enters k) h = texts.queued i
   queued_moved (Learns k) h = texts.queued i
   queued_moved Installs h = texts.queued i
 
-  wraps_moved : (m : Move A) → MayMove (CameTo frames i) (cores i) m → (r : RingId) →
+  wraps_moved : (m : Move A) → MayMove (IsReceivedFrame frames i) (cores i) m → (r : RingId) →
       Each (λ (v : VisitBy A). Each (WrapsGenuine (visits_after visits i (cores i) m)) v.turn.fresh) (visits_after visits i (cores i) m r)
   wraps_moved (Visits t fresh requests again queue) h r =
       let g = visits_grow visits i (cores i) (Visits t fresh requests again queue) in
@@ -251,13 +251,13 @@ module _ {A : Type 0} (visits : Chains A) (cores : ℕ → Core A) (frames : Lis
       cond_both (same_ring t.ring r) (new_visit t fresh requests ∷ visits r) (visits r)
       (Each (λ (v : VisitBy A). Each (WrapsGenuine (after t fresh requests)) v.turn.fresh))
       (λ e. (fresh_wraps t fresh requests g again queue h, old)) (λ e. old)
-  wraps_moved (Idles state gathering shown queue sends) h r = texts.wraps r
+  wraps_moved (Idles state gathering last_sent queue sends) h r = texts.wraps r
   wraps_moved (Enters k) h r = texts.wraps r
   wraps_moved (Learns k) h r = texts.wraps r
   wraps_moved (Takes x) h r = texts.wraps r
   wraps_moved Installs h r = texts.wraps r
 
-  pub texts_moved : (m : Move A) → MayMove (CameTo frames i) (cores i) m → AreTexts (visits_after visits i (cores i) m) (put cores i (moved (cores i) m))
+  pub texts_moved : (m : Move A) → MayMove (IsReceivedFrame frames i) (cores i) m → AreTexts (visits_after visits i (cores i) m) (put cores i (moved (cores i) m))
   texts_moved m h =
       let g = visits_grow visits i (cores i) m in
       let d = moved (cores i) m in

@@ -1,6 +1,6 @@
--- A ring of all that is formed from the start is the only one that its processors take part in.
+-- A formed ring is the only one that its processors take part in.
 
--- So the members that a safe mark speaks of are all of them, and what is told is of that ring alone.
+-- So the members that hold what a safe mark covers are all processors, and all outputs are of that ring.
 use Rattle.std.proofs.Common.{◌≡◌, ℕ, ◌≤◌, ◌⊎◌, inl, inr, Bool, true, false, List, [], ◌∷◌, ◌++◌, map, refl, ap, sym, ◌∙◌, subst, arith}
 use Rattle.std.specs.Prelude.{◌&&◌, nat_lt, filter}
 use Rattle.std.specs.List.{AllByRecursion as Each}
@@ -10,27 +10,27 @@ use Rattle.ring_base.specs.Members.{everybody_members}
 use Rattle.ring_base.specs.declared.ring_id.RingId.{RingId}
 use Rattle.ring_base.proofs.Each.{each-append, each-map}
 use Rattle.ring_wire.specs.declared.message.Message.{Message}
-use Rattle.ring_core.specs.Commits.{Configuration}
-use Rattle.ring_core.specs.declared.input.Input.{Input}
-use Rattle.ring_core.specs.declared.out.Out.{Out}
-use Rattle.ring_core.specs.declared.out.Out.TheVariants.{Send as SendOut, Agreed, Safe, Trans, Rest, Regular}
-use Rattle.ring_core.specs.State.{Core, Did, all_of}
-use Rattle.ring_core.specs.Views.{front, mark}
-use Rattle.ring_core.specs.Giving.{may_install, addressed, sent, users, agreed_from, safe_from, given, settle}
-use Rattle.ring_core.specs.Deciding.{Act, Ignore, Enqueue, Repeat, Announce, Invite, GiveUp, Regather, Agree, Widen}
-use Rattle.ring_core.specs.Deciding.{RegatherAndAgree, RegatherAndWiden, Take, Visit, Fill, Learn, decide}
-use Rattle.ring_core.specs.Acting.{act, may_follow, proposed_after, done}
-use Rattle.ring_core.specs.Joining.{proposes}
-use Rattle.ring_core.specs.Stepping.{ring_step}
+use Rattle.ring_core_spec.specs.Commits.{Configuration}
+use Rattle.ring_core_spec.specs.declared.input.Input.{Input}
+use Rattle.ring_core_spec.specs.declared.out.Out.{Out}
+use Rattle.ring_core_spec.specs.declared.out.Out.TheVariants.{Send as SendOut, Agreed, Safe, Trans, Rest, Regular}
+use Rattle.ring_core_spec.specs.State.{Core, TransitionResult, all_of}
+use Rattle.ring_core_spec.specs.Views.{front, mark}
+use Rattle.ring_core_spec.specs.Giving.{may_install, addressed, sent, users, agreed_from, safe_from, given, settle}
+use Rattle.ring_core_spec.specs.Deciding.{Transition, Ignore, Enqueue, Repeat, Announce, Invite, GiveUp, EnterGather, Agree, MergeJoin}
+use Rattle.ring_core_spec.specs.Deciding.{EnterGatherAndAgree, EnterGatherAndMergeJoin, Take, Visit, Fill, Learn, decide}
+use Rattle.ring_core_spec.specs.Transitions.{apply_transition, may_propose_after, with_proposal_if, done}
+use Rattle.ring_core_spec.specs.Joining.{proposes}
+use Rattle.ring_core_spec.specs.Stepping.{ring_step}
 use Rattle.ring_core_proof.specs.FactWords.{IsIn}
 use Rattle.ring_core_proof.specs.declared.event.RingEvent.{RingEvent}
 use Rattle.ring_core_proof.specs.Worlds.{World, happens, run, ring_formed, acts_on_formed, run_formed}
 use Rattle.ring_core_proof.proofs.InLists.{each-in}
 use Rattle.ring_chain_proof.specs.ChainWords.{IsSafe}
-use Rattle.ring_chain_proof.specs.ChainTold.{IsSafelyTold, AllHold, AllHoldMarks, IsOfFormed, AllIsOfFormed}
+use Rattle.ring_chain_proof.specs.ChainFacts.{IsSafeOutput, AllHold, AllHoldMarks, IsOfFormed, AllIsOfFormed}
 use Rattle.ring_chain_proof.proofs.Formed.{IsFormedWorld, all_act, start_formed, event_formed, formed_worlds}
 use Rattle.ring_chain_proof.proofs.ChainInRuns.{formed_marks}
-use Rattle.ring_chain_proof.proofs.SafeTold.{gives, formed_told}
+use Rattle.ring_chain_proof.proofs.SafeOutputs.{gives, formed_told}
 
 -- Rings
 
@@ -39,7 +39,7 @@ formed_rings n q events = ((formed_worlds n events).cores q).rings
 
 -- Safety
 
--- what is safe, all hold
+-- all processors hold what is safe
 all_hold : {A : Type 0} → (n : ℕ) (cores : ℕ → Core A) → ((q : ℕ) → (cores q).rings ≡ all_of n ∷ []) → (ring : RingId) (s : ℕ) → IsSafe cores ring s →
     AllHold n cores ring s
 all_hold n cores rings ring s (inl none) q proc le = omega (arith, none)
@@ -56,9 +56,9 @@ formed_all_hold n events some q ring =
     let cores = (run_formed n events).cores in
     all_hold n cores (λ p. formed_rings n p events) ring (mark (cores q) ring) (formed_marks n events some q ring)
 
--- What is told
+-- Outputs
 
--- it is of the ring that was installed as the step began, where none is installed in it
+-- the outputs are of the ring that was installed as the step began, where the step installs none
 abbrev IsNamedBy : {A : Type 0} → RingId → Out A → Type 0
 IsNamedBy installed (Agreed ring n x) = ring ≡ installed
 IsNamedBy installed (Safe ring upto) = ring ≡ installed
@@ -74,24 +74,24 @@ named_given {A} old new =
     (each-map (IsNamedBy r) (λ (x : Message A). Agreed r x.number x) (users new r (front old r) (front new r)) (each-in _ _ (λ x k. refl)))
     (cond_both (nat_lt (mark old r) (mark new r)) (Safe r (mark new r) ∷ []) [] (Each (IsNamedBy r)) (λ e. (refl, tt)) (λ e. tt))
 
-acted_installs : {A : Type 0} → (c : Core A) (a : Act A) → (act c a).core.installs ≡ c.installs
+acted_installs : {A : Type 0} → (c : Core A) (a : Transition A) → (apply_transition c a).core.installs ≡ c.installs
 acted_installs c Ignore = refl
 acted_installs c (Enqueue payload) = refl
 acted_installs c Repeat = refl
 acted_installs c Announce = refl
 acted_installs c Invite = refl
 acted_installs c GiveUp = refl
-acted_installs c Regather = refl
+acted_installs c EnterGather = refl
 acted_installs c (Agree j) = refl
-acted_installs c (Widen j) = refl
-acted_installs c (RegatherAndAgree j) = refl
-acted_installs c (RegatherAndWiden j) = refl
+acted_installs c (MergeJoin j) = refl
+acted_installs c (EnterGatherAndAgree j) = refl
+acted_installs c (EnterGatherAndMergeJoin j) = refl
 acted_installs c (Take x) = refl
 acted_installs c (Visit t) = refl
 acted_installs c (Fill k) = refl
 acted_installs c (Learn k) = refl
 
-proposed_installs : {A : Type 0} → (b : Bool) (d : Did A) → (proposed_after b d).core.installs ≡ d.core.installs
+proposed_installs : {A : Type 0} → (b : Bool) (d : TransitionResult A) → (with_proposal_if b d).core.installs ≡ d.core.installs
 proposed_installs false d = refl
 proposed_installs true d = refl
 
@@ -112,7 +112,7 @@ step_named c input =
     (each-append (IsNamedBy r) (sent d.sends) (given c d.core)
     (each-map (IsNamedBy r) (λ s. SendOut s.to s.frame) (addressed d.sends) (each-in _ _ (λ x k. tt)))
     (named_given c d.core))
-    (proposed_installs (may_follow a && proposes (act c a).core) (act c a) ∙ acted_installs c a)
+    (proposed_installs (may_propose_after a && proposes (apply_transition c a).core) (apply_transition c a) ∙ acted_installs c a)
 
 -- Worlds
 
@@ -146,7 +146,7 @@ named_run n w [] h f p = p
 named_run n w (e ∷ events) h f p = (let g = event_formed n w f e h.0 in named_run n (happens w e) events h.1 g (named_event n w e f g p))
 
 of_formed : {A : Type 0} → (n : ℕ) (cores : ℕ → Core A) → ((q : ℕ) → (cores q).rings ≡ all_of n ∷ []) → (o : Out A) → IsNamedBy (all_of n).ring o →
-    IsSafelyTold cores o → IsOfFormed n cores o
+    IsSafeOutput cores o → IsOfFormed n cores o
 of_formed n cores rings (Agreed ring k x) named safe = named
 of_formed n cores rings (Safe ring upto) named safe = (named, all_hold n cores rings ring upto safe)
 of_formed n cores rings (SendOut to frame) named safe = tt
@@ -155,7 +155,7 @@ of_formed n cores rings (Rest ring k x) named safe = named
 of_formed n cores rings (Regular ring set) named safe = named
 
 all_of_formed : {A : Type 0} → (n : ℕ) (cores : ℕ → Core A) → ((q : ℕ) → (cores q).rings ≡ all_of n ∷ []) → (outs : List (ℕ × Out A)) →
-    Each (λ (o : ℕ × Out A). IsNamedBy (all_of n).ring o.1) outs → Each (λ (o : ℕ × Out A). IsSafelyTold cores o.1) outs →
+    Each (λ (o : ℕ × Out A). IsNamedBy (all_of n).ring o.1) outs → Each (λ (o : ℕ × Out A). IsSafeOutput cores o.1) outs →
     Each (λ (o : ℕ × Out A). IsOfFormed n cores o.1) outs
 all_of_formed n cores rings [] named safe = tt
 all_of_formed n cores rings (o ∷ outs) named safe = (of_formed n cores rings o.1 named.0 safe.0, all_of_formed n cores rings outs named.1 safe.1)

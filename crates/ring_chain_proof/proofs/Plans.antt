@@ -1,6 +1,7 @@
--- All who recover in a ring have one plan: the full commit token on which recovery begins, with the reports of all members.
+-- All processors that recover in a ring have one plan: the full commit token with which they enter Recovery, with the
+-- reports of all members.
 
--- Each member wrote one report of its way into the ring.
+-- Each member wrote one report when it took part in the ring.
 use Rattle.std.proofs.Common.{◌≡◌, ℕ, suc, min, ◌≤◌, List, [], ◌∷◌, ◌++◌, length, Some, refl, ap, sym, ◌∙◌, subst, arith}
 use Rattle.std.specs.Prelude.{slice_get}
 use Rattle.std.specs.List.{AllByRecursion as Each}
@@ -8,17 +9,17 @@ use Rattle.ring_base.specs.Processors.{at, size}
 use Rattle.ring_base.proofs.Each.{each-weaker}
 use Rattle.ring_wire.specs.declared.commit.CommitToken.{CommitToken}
 use Rattle.ring_wire.specs.declared.frame.Frame.TheVariants.{Commit as CommitFrame}
-use Rattle.ring_core.specs.State.{Core, Report}
+use Rattle.ring_core_spec.specs.State.{Core, Report}
 use Rattle.ring_core_proof.specs.FactWords.{IsIn}
 use Rattle.ring_core_proof.specs.declared.event.RingEvent.{RingEvent}
-use Rattle.ring_core_proof.specs.Worlds.{Carried, put, carried_from, run, unformed}
-use Rattle.ring_core_proof.specs.Moves.{Move, Idles, Enters, Learns, Visits, Takes, Installs, moved, sends_of, MayMove, CameTo}
+use Rattle.ring_core_proof.specs.Worlds.{Transmission, put, transmissions_from, run, unformed}
+use Rattle.ring_core_proof.specs.Moves.{Move, Idles, Enters, Learns, Visits, Takes, Installs, moved, sends_of, MayMove, IsReceivedFrame}
 use Rattle.ring_core_proof.proofs.InLists.{in-each}
 use Rattle.ring_core_proof.proofs.Lifting.{kept_run}
 use Rattle.ring_chain_proof.specs.ChainWords.{IsRingOf}
 use Rattle.ring_chain_proof.proofs.GenuineFrames.{IsHop}
-pub use Rattle.ring_chain_proof.specs.ChainTold.{IsPlan, ArePlans}
-use Rattle.ring_chain_proof.specs.ChainTold.{HaveOnePlan, ReportsAreSafe}
+pub use Rattle.ring_chain_proof.specs.ChainFacts.{IsPlan, ArePlans}
+use Rattle.ring_chain_proof.specs.ChainFacts.{HaveOnePlan, ReportsAreSafe}
 use Rattle.ring_chain_proof.proofs.FactsGrow.{AllGrown, put-each, put_grows, moved_grows}
 use Rattle.ring_chain_proof.proofs.Filed.{Filed}
 use Rattle.ring_chain_proof.proofs.Rings.{AreRings, came_right, one_members}
@@ -31,13 +32,13 @@ plan_grows old new g k h = record {
   reports = λ x e s. (g (at k.members x)).reports _ (h.reports x e s);
 }
 
--- all that holds, and the plans
-pub record HoldsPlans {A : Type 0} (cores : ℕ → Core A) (frames : List (Carried A)) : Type 0 where
+-- all earlier facts, and the plans
+pub record HoldsPlans {A : Type 0} (cores : ℕ → Core A) (frames : List (Transmission A)) : Type 0 where
   pub all : Holds cores frames
   pub plans : ArePlans cores
 
-pub learned_plan : {A : Type 0} → (cores : ℕ → Core A) (frames : List (Carried A)) (i : ℕ) (k : CommitToken) → Holds cores frames →
-    MayMove (CameTo frames i) (cores i) (Learns k) → IsPlan cores k
+pub learned_plan : {A : Type 0} → (cores : ℕ → Core A) (frames : List (Transmission A)) (i : ℕ) (k : CommitToken) → Holds cores frames →
+    MayMove (IsReceivedFrame frames i) (cores i) (Learns k) → IsPlan cores k
 learned_plan cores frames i k p h =
     let f = came_right p.visits cores frames i (CommitFrame k) p.sent.right h.from in
     let hop : IsHop cores f.0 f.1 k = f.3 in
@@ -45,17 +46,17 @@ learned_plan cores frames i k p h =
     let second : size k.members ≤ k.hop = h.second in
     record { ring_of = hop.ring_of; count = omega arith; reports = hop.reports }
 
-plans_after : {A : Type 0} → (cores : ℕ → Core A) (frames : List (Carried A)) (i : ℕ) (m : Move A) → Holds cores frames → ArePlans cores →
-    MayMove (CameTo frames i) (cores i) m → Each (IsPlan cores) (moved (cores i) m).plans
+plans_after : {A : Type 0} → (cores : ℕ → Core A) (frames : List (Transmission A)) (i : ℕ) (m : Move A) → Holds cores frames → ArePlans cores →
+    MayMove (IsReceivedFrame frames i) (cores i) m → Each (IsPlan cores) (moved (cores i) m).plans
 plans_after cores frames i (Learns k) p h may = (learned_plan cores frames i k p may, h i)
-plans_after cores frames i (Idles state gathering shown queue sends) p h may = h i
+plans_after cores frames i (Idles state gathering last_sent queue sends) p h may = h i
 plans_after cores frames i (Enters k) p h may = h i
 plans_after cores frames i (Visits t fresh requests again queue) p h may = h i
 plans_after cores frames i (Takes x) p h may = h i
 plans_after cores frames i Installs p h may = h i
 
-pub plans_moved : {A : Type 0} → (cores : ℕ → Core A) (frames : List (Carried A)) (i : ℕ) (m : Move A) → 1 ≤ i → MayMove (CameTo frames i) (cores i) m →
-    HoldsPlans cores frames → HoldsPlans (put cores i (moved (cores i) m)) (frames ++ carried_from i (sends_of (cores i) m))
+pub plans_moved : {A : Type 0} → (cores : ℕ → Core A) (frames : List (Transmission A)) (i : ℕ) (m : Move A) → 1 ≤ i → MayMove (IsReceivedFrame frames i) (cores i) m →
+    HoldsPlans cores frames → HoldsPlans (put cores i (moved (cores i) m)) (frames ++ transmissions_from i (sends_of (cores i) m))
 plans_moved {A} cores frames i m low h p =
     let d = moved (cores i) m in
     let new = put cores i d in
@@ -71,7 +72,7 @@ plans_moved {A} cores frames i m low h p =
 pub plans_hold : {A : Type 0} → (n : ℕ) (events : List (RingEvent A)) → HoldsPlans (run (unformed n) events).cores (run (unformed n) events).frames
 plans_hold n events = kept_run HoldsPlans (record { moves = plans_moved }) (unformed n) events (record { all = opening_holds n; plans = λ q. tt })
 
--- lists whose elements agree at each place are one
+-- lists that agree at each place are equal
 same_lists : {X : Type 0} (xs ys : List X) → length xs ≡ length ys → ((k : ℕ) (x y : X) → slice_get xs k ≡ Some x → slice_get ys k ≡ Some y → x ≡ y) → xs ≡ ys
 same_lists [] [] e h = refl
 same_lists [] (y ∷ ys) e h = absurd (omega arith)

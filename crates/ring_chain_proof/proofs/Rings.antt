@@ -1,17 +1,17 @@
--- All who take part in a ring name the same members.
+-- All processors that take part in a ring name the same members.
 
--- A ring is born as its representative proposes it, above its floor; all others take part in it by its commit token.
+-- A ring begins when its representative proposes it, above its floor; all others take part in it by its commit token.
 use Rattle.std.proofs.Common.{◌≡◌, ℕ, ◌⊎◌, inl, inr, true, List, refl, ap, sym, ◌∙◌, subst}
 use Rattle.ring_base.specs.declared.ring_id.RingId.{RingId}
 use Rattle.ring_wire.specs.declared.commit.CommitToken.{CommitToken}
 use Rattle.ring_wire.specs.declared.frame.Frame.{Frame}
 use Rattle.ring_wire.specs.declared.frame.Frame.TheVariants.{Commit as CommitFrame}
-use Rattle.ring_core.specs.Commits.{Configuration}
+use Rattle.ring_core_spec.specs.Commits.{Configuration}
 use Rattle.ring_base.specs.Processors.{has}
-use Rattle.ring_core.specs.State.{Core}
+use Rattle.ring_core_spec.specs.State.{Core}
 use Rattle.ring_core_proof.specs.FactWords.{IsIn}
-use Rattle.ring_core_proof.specs.Worlds.{Carried, put}
-use Rattle.ring_core_proof.specs.Moves.{Move, Idles, Enters, Learns, Visits, Takes, Installs, moved, MayMove, MayEnter, CameTo}
+use Rattle.ring_core_proof.specs.Worlds.{Transmission, put}
+use Rattle.ring_core_proof.specs.Moves.{Move, Idles, Enters, Learns, Visits, Takes, Installs, moved, MayMove, MayEnter, IsReceivedFrame}
 use Rattle.ring_core_proof.proofs.InLists.{some-each}
 use Rattle.ring_core_proof.proofs.Lifting.{put-here}
 use Rattle.ring_core_proof.proofs.Rises.{Rising, moved_rises, one_ring}
@@ -24,48 +24,48 @@ pub record AreRings {A : Type 0} (cores : ℕ → Core A) : Type 0 where
   pub rising : (q : ℕ) → Rising (cores q)
   pub shared : SharesRings cores
 
--- a frame that came is right, and to this processor
-pub came_right : {A : Type 0} → (visits : Chains A) (cores : ℕ → Core A) (frames : List (Carried A)) (i : ℕ) (f : Frame A) → AreRight visits cores frames →
-    CameTo frames i f → (from : ℕ) × (to : ℕ) × (has to i ≡ true) × IsRight visits cores from to f
-came_right {A} visits cores frames i f all came =
+-- a frame that arrived is valid, and was sent to this processor
+pub came_right : {A : Type 0} → (visits : Chains A) (cores : ℕ → Core A) (frames : List (Transmission A)) (i : ℕ) (f : Frame A) → AreRight visits cores frames →
+    IsReceivedFrame frames i f → (from : ℕ) × (to : ℕ) × (has to i ≡ true) × IsRight visits cores from to f
+came_right {A} visits cores frames i f all received =
     some-each _ _ ((from : ℕ) × (to : ℕ) × (has to i ≡ true) × IsRight visits cores from to f)
-    (λ (g : Carried A) right e. (g.from, g.to, e.0, subst (IsRight visits cores g.from g.to) e.1 right)) frames all came
+    (λ (g : Transmission A) right e. (g.from, g.to, e.0, subst (IsRight visits cores g.from g.to) e.1 right)) frames all received
 
-module _ {A : Type 0} (visits : Chains A) (cores : ℕ → Core A) (frames : List (Carried A)) (i : ℕ)
+module _ {A : Type 0} (visits : Chains A) (cores : ℕ → Core A) (frames : List (Transmission A)) (i : ℕ)
     (right : AreRight visits cores frames) (are : AreRings cores) where
-  -- the ring that is entered has these members for its representative too
-  pub entered_shared : (k : CommitToken) → MayEnter (CameTo frames i) (cores i) k → IsRingOf (put cores i (moved (cores i) (Enters k))) k.ring k.members
+  -- the ring that the core enters has these members for its representative too
+  pub entered_shared : (k : CommitToken) → MayEnter (IsReceivedFrame frames i) (cores i) k → IsRingOf (put cores i (moved (cores i) (Enters k))) k.ring k.members
   entered_shared k h =
       let d = moved (cores i) (Enters k) in
       let p : Configuration = record { ring = k.ring; members = k.members } in
       elim (h.from) [
         | inl own ↦ (let rep : k.ring.rep ≡ i = own.rep ∙ are.me i in
             subst (λ q. IsIn p (put cores i d q).rings) (sym rep) (subst (λ (x : Core A). IsIn p x.rings) (sym (put-here cores i d)) (inl refl)))
-        | inr came ↦ (let f = came_right visits cores frames i (CommitFrame k) right came in
+        | inr received ↦ (let f = came_right visits cores frames i (CommitFrame k) right received in
             (put_grows cores i d (moved_grows (cores i) (Enters k)) k.ring.rep).rings p (f.3).ring_of)
       ]
 
-  -- a ring of the core is that one, or was there before
-  rings_after : (m : Move A) → MayMove (CameTo frames i) (cores i) m → (p : Configuration) → IsIn p (moved (cores i) m).rings →
+  -- a ring of the core is that one, or an earlier one
+  rings_after : (m : Move A) → MayMove (IsReceivedFrame frames i) (cores i) m → (p : Configuration) → IsIn p (moved (cores i) m).rings →
       IsRingOf (put cores i (moved (cores i) m)) p.ring p.members ⊎ IsIn p (cores i).rings
   rings_after (Enters k) h p (inl e) =
       inl (subst (λ (p : Configuration). IsRingOf (put cores i (moved (cores i) (Enters k))) p.ring p.members) (sym e)
       (entered_shared k h))
   rings_after (Enters k) h p (inr x) = inr x
-  rings_after (Idles state gathering shown queue sends) h p x = inr x
+  rings_after (Idles state gathering last_sent queue sends) h p x = inr x
   rings_after (Learns k) h p x = inr x
   rings_after (Visits t fresh requests again queue) h p x = inr x
   rings_after (Takes y) h p x = inr x
   rings_after Installs h p x = inr x
 
-  pub rings_moved : (m : Move A) → MayMove (CameTo frames i) (cores i) m → AreRings (put cores i (moved (cores i) m))
+  pub rings_moved : (m : Move A) → MayMove (IsReceivedFrame frames i) (cores i) m → AreRings (put cores i (moved (cores i) m))
   rings_moved m h =
       let d = moved (cores i) m in
       let cores' = put cores i d in
       let g : AllGrown cores cores' = put_grows cores i d (moved_grows (cores i) m) in
       record {
         me = λ q. (g q).me ∙ are.me q;
-        rising = put-each (λ q (x : Core A). Rising x) cores i d (λ q n. are.rising q) (moved_rises (CameTo frames i) (cores i) m h (are.rising i));
+        rising = put-each (λ q (x : Core A). Rising x) cores i d (λ q n. are.rising q) (moved_rises (IsReceivedFrame frames i) (cores i) m h (are.rising i));
         shared = put-each (λ q (x : Core A). (ring : RingId) (members : ℕ)
             → IsIn (record { ring = ring; members = members }) x.rings → IsRingOf cores' ring members) cores i d
             (λ q n ring members x. (g ring.rep).rings _ (are.shared q ring members x))

@@ -1,6 +1,6 @@
--- Who takes part in a ring is one of its members, of whom the representative is the first.
+-- A processor that takes part in a ring is one of its members, and the representative is the smallest.
 
--- So it is as a ring is proposed, and a commit token is taken at the position of its hop alone.
+-- This holds when a ring is proposed, and a commit token is taken only at the position of its hop.
 use Rattle.std.proofs.Common.{◌≡◌, ℕ, ◌%◌, ◌<◌, ◌≤◌, ◌⊎◌, inl, inr, List, ◌++◌, refl, ap, sym, ◌∙◌, subst, arith, mod-lt}
 use Rattle.std.proofs.Math.Nat.{zero-mod}
 use Rattle.ring_base.specs.Processors.{IsProc, IsMember, only, at, size}
@@ -9,32 +9,32 @@ use Rattle.ring_base.specs.Elements.{at_member, smallest-least}
 use Rattle.ring_base.specs.declared.ring_id.RingId.{RingId}
 use Rattle.ring_wire.specs.declared.commit.CommitToken.{CommitToken}
 use Rattle.ring_wire.specs.declared.frame.Frame.TheVariants.{Commit as CommitFrame}
-use Rattle.ring_core.specs.Commits.{Configuration, position_of_hop}
-use Rattle.ring_core.specs.State.{Core, floor, alone}
+use Rattle.ring_core_spec.specs.Commits.{Configuration, position_of_hop}
+use Rattle.ring_core_spec.specs.State.{Core, floor, alone}
 use Rattle.ring_core_proof.specs.FactWords.{IsIn}
 use Rattle.ring_core_proof.specs.declared.event.RingEvent.{RingEvent}
-use Rattle.ring_core_proof.specs.Worlds.{Carried, put, carried_from, run, unformed}
-use Rattle.ring_core_proof.specs.Moves.{Move, Idles, Enters, Learns, Visits, Takes, Installs, moved, sends_of, MayEnter, MayMove, CameTo}
+use Rattle.ring_core_proof.specs.Worlds.{Transmission, put, transmissions_from, run, unformed}
+use Rattle.ring_core_proof.specs.Moves.{Move, Idles, Enters, Learns, Visits, Takes, Installs, moved, sends_of, MayEnter, MayMove, IsReceivedFrame}
 use Rattle.ring_core_proof.proofs.InLists.{each-in}
 use Rattle.ring_core_proof.proofs.Lifting.{kept_run}
-use Rattle.ring_chain_proof.specs.ChainTold.{TakesPart, AllTakePart, NameSameMembers}
+use Rattle.ring_chain_proof.specs.ChainFacts.{TakesPart, AllTakePart, NameSameMembers}
 use Rattle.ring_chain_proof.proofs.FactsGrow.{put-each}
 use Rattle.ring_chain_proof.proofs.Rings.{AreRings, came_right, one_members}
 use Rattle.ring_chain_proof.proofs.AllLayers.{Holds, holding, opening_holds, unformed_holds}
 
--- a ring of a core is the one that it opened in, or it takes part in it as a member
+-- a ring of a core is its opening ring, or it takes part in it as a member
 abbrev IsPartOrAlone : ℕ → Configuration → Type 0
 IsPartOrAlone q p = (p ≡ alone q) ⊎ TakesPart q p
 
 abbrev AllParts : {A : Type 0} → (ℕ → Core A) → Type 0
 AllParts cores = (q : ℕ) (p : Configuration) → IsIn p (cores q).rings → IsPartOrAlone q p
 
-record HoldsParts {A : Type 0} (cores : ℕ → Core A) (frames : List (Carried A)) : Type 0 where
+record HoldsParts {A : Type 0} (cores : ℕ → Core A) (frames : List (Transmission A)) : Type 0 where
   pub all : Holds cores frames
   pub parts : AllParts cores
 
-module _ {A : Type 0} (cores : ℕ → Core A) (frames : List (Carried A)) (i : ℕ) (low : 1 ≤ i) (p : HoldsParts cores frames) where
-  -- the representative of a ring above the first ones is the first of its members
+module _ {A : Type 0} (cores : ℕ → Core A) (frames : List (Transmission A)) (i : ℕ) (low : 1 ≤ i) (p : HoldsParts cores frames) where
+  -- the representative of a ring that isn't an opening ring is the smallest of its members
   known_first : (ring : RingId) (members : ℕ) → 0 < ring.seq → IsIn (record { ring = ring; members = members }) (cores ring.rep).rings → at members 0 ≡ ring.rep
   known_first ring members above known =
       elim (p.parts ring.rep (record { ring = ring; members = members }) known) [
@@ -42,7 +42,7 @@ module _ {A : Type 0} (cores : ℕ → Core A) (frames : List (Carried A)) (i : 
         | inr part ↦ part.first
       ]
 
-  entered_part : (k : CommitToken) → MayEnter (CameTo frames i) (cores i) k → TakesPart i (record { ring = k.ring; members = k.members })
+  entered_part : (k : CommitToken) → MayEnter (IsReceivedFrame frames i) (cores i) k → TakesPart i (record { ring = k.ring; members = k.members })
   entered_part k h =
       let me : (cores i).me ≡ i = (p.all).rings.me i in
       let inside : k.hop < size k.members = h.first (let e : (cores i).me ≡ i = me in omega arith) in
@@ -53,22 +53,22 @@ module _ {A : Type 0} (cores : ℕ → Core A) (frames : List (Carried A)) (i : 
         first = elim (h.from) [
           | inl own ↦ (let hop : position_of_hop k ≡ 0 = ap (λ n. n % size k.members) own.hop ∙ zero-mod (size k.members) in
               ap (at k.members) (sym hop) ∙ h.here ∙ sym own.rep)
-          | inr came ↦ (let f = came_right (p.all).visits cores frames i (CommitFrame k) (p.all).sent.right came in
+          | inr received ↦ (let f = came_right (p.all).visits cores frames i (CommitFrame k) (p.all).sent.right received in
               known_first k.ring k.members (omega arith) (f.3).ring_of)
         ];
       }
 
-  parts_after : (m : Move A) → MayMove (CameTo frames i) (cores i) m → (x : Configuration) → IsIn x (moved (cores i) m).rings → IsPartOrAlone i x
+  parts_after : (m : Move A) → MayMove (IsReceivedFrame frames i) (cores i) m → (x : Configuration) → IsIn x (moved (cores i) m).rings → IsPartOrAlone i x
   parts_after (Enters k) h x (inl e) = inr (subst (TakesPart i) (sym e) (entered_part k h))
   parts_after (Enters k) h x (inr there) = p.parts i x there
-  parts_after (Idles state gathering shown queue sends) h x there = p.parts i x there
+  parts_after (Idles state gathering last_sent queue sends) h x there = p.parts i x there
   parts_after (Learns k) h x there = p.parts i x there
   parts_after (Visits t fresh requests again queue) h x there = p.parts i x there
   parts_after (Takes y) h x there = p.parts i x there
   parts_after Installs h x there = p.parts i x there
 
-  parts_moved : (m : Move A) → MayMove (CameTo frames i) (cores i) m →
-      HoldsParts (put cores i (moved (cores i) m)) (frames ++ carried_from i (sends_of (cores i) m))
+  parts_moved : (m : Move A) → MayMove (IsReceivedFrame frames i) (cores i) m →
+      HoldsParts (put cores i (moved (cores i) m)) (frames ++ transmissions_from i (sends_of (cores i) m))
   parts_moved m h =
       record {
         all = holding.moves cores frames i m low h p.all;
@@ -81,7 +81,7 @@ parts_hold n events =
     kept_run HoldsParts (record { moves = λ cores frames i m low h p. parts_moved cores frames i low p m h }) (unformed n) events
     (record { all = opening_holds n; parts = λ q p there. elim there [ inl e ↦ inl e | inr none ↦ absurd none ] })
 
--- a ring of one alone
+-- a ring of one member
 alone_part : (q : ℕ) → IsProc q → TakesPart q (alone q)
 alone_part q proc =
     let member : IsMember (only q) q = (only_members q q proc.0).1 refl in

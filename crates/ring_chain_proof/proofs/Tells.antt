@@ -1,4 +1,4 @@
--- What is told with a number, as agreed or as the rest of an old ring, is the message held under that number.
+-- The message of an output, `Agreed` or `Rest`, is the one held under its number.
 use Rattle.std.proofs.Common.{◌≡◌, ℕ, ◌+◌, ◌-◌, ◌≤◌, inl, inr, Bool, true, false, ◌==◌, List, [], ◌∷◌, ◌++◌, map, Some, refl, ap, sym, ◌∙◌, subst}
 use Rattle.std.specs.Prelude.{nat_lt, filter, filter_map}
 use Rattle.std.specs.List.{AllByRecursion as Each}
@@ -9,18 +9,18 @@ use Rattle.ring_base.specs.declared.ring_id.RingId.{RingId}
 use Rattle.ring_base.proofs.Each.{each-weaker, each-append, each-map, each-filter_map}
 use Rattle.ring_payload.specs.Kinds.{is_user}
 use Rattle.ring_wire.specs.declared.message.Message.{Message}
-use Rattle.ring_core.specs.Windows.{is_numbered, found}
+use Rattle.ring_core_spec.specs.Windows.{is_numbered, found}
 use Rattle.ring_base.proofs.SameRing.{ring_same, same-self}
-use Rattle.ring_core.specs.Recoveries.{transitional_part, past_gap_part, rests}
-use Rattle.ring_core.specs.declared.input.Input.{Input}
-use Rattle.ring_core.specs.declared.out.Out.{Out}
-use Rattle.ring_core.specs.declared.out.Out.TheVariants.{Send as SendOut, Agreed, Safe, Trans, Rest, Regular}
-use Rattle.ring_core.specs.State.{Core, Sent}
-use Rattle.ring_core.specs.Views.{front, mark, plan}
-use Rattle.ring_core.specs.Giving.{may_install, addressed, sent, users, agreed_from, safe_from, delivered_from, given, configured, settle}
-use Rattle.ring_core.specs.Deciding.{decide}
-use Rattle.ring_core.specs.Acting.{done}
-use Rattle.ring_core.specs.Stepping.{ring_step}
+use Rattle.ring_core_spec.specs.Recoveries.{transitional_part, past_gap_part, rests}
+use Rattle.ring_core_spec.specs.declared.input.Input.{Input}
+use Rattle.ring_core_spec.specs.declared.out.Out.{Out}
+use Rattle.ring_core_spec.specs.declared.out.Out.TheVariants.{Send as SendOut, Agreed, Safe, Trans, Rest, Regular}
+use Rattle.ring_core_spec.specs.State.{Core, OutgoingFrame}
+use Rattle.ring_core_spec.specs.Views.{front, mark, plan}
+use Rattle.ring_core_spec.specs.Giving.{may_install, addressed, sent, users, agreed_from, safe_from, delivered_from, given, installation_outputs, settle}
+use Rattle.ring_core_spec.specs.Deciding.{decide}
+use Rattle.ring_core_spec.specs.Transitions.{done}
+use Rattle.ring_core_spec.specs.Stepping.{ring_step}
 use Rattle.ring_core_proof.specs.FactWords.{IsIn}
 use Rattle.ring_core_proof.specs.declared.event.RingEvent.{RingEvent}
 use Rattle.ring_core_proof.specs.Worlds.{World, happens, run, unformed, ring_formed, acts_on_formed, run_formed}
@@ -29,16 +29,16 @@ use Rattle.ring_core_proof.proofs.InLists.{in-each, each-in, find-in, find-some}
 use Rattle.ring_core_proof.proofs.Lifting.{kept_run}
 use Rattle.ring_core_proof.proofs.OwnMessages.{held_stays}
 use Rattle.ring_chain_proof.specs.ChainWords.{IsGenuine}
-use Rattle.ring_chain_proof.specs.ChainTold.{IsHeldUser, IsHeldAsTold, ToldIsHeld}
+use Rattle.ring_chain_proof.specs.ChainFacts.{IsHeldUser, IsOutputHeld, OutputsAreHeld}
 use Rattle.ring_chain_proof.proofs.FactsGrow.{put-each}
 use Rattle.ring_chain_proof.proofs.OneText.{one_text}
 use Rattle.ring_chain_proof.proofs.AllLayers.{Holds, unformed_holds}
 use Rattle.ring_chain_proof.proofs.ChainInRuns.{formed_runs}
-use Rattle.ring_chain_proof.proofs.SafeTold.{gives}
+use Rattle.ring_chain_proof.proofs.SafeOutputs.{gives}
 
 -- One step
 
--- a message that is held, of this ring and number, and a user's
+-- a message of this ring and number is held, and is a user's
 record IsTold {A : Type 0} (held : List (Message A)) (ring : RingId) (n : ℕ) (x : Message A) : Type 0 where
   pub held_there : IsIn x held
   pub ring_is : x.ring ≡ ring
@@ -53,7 +53,7 @@ IsToldFrom held (Safe ring upto) = Unit {0}
 IsToldFrom held (Trans old new set) = Unit {0}
 IsToldFrom held (Regular ring set) = Unit {0}
 
--- what is found under these numbers
+-- the messages found under these numbers
 abbrev IsFoundOf : {A : Type 0} → List (Message A) → RingId → Message A → Type 0
 IsFoundOf held ring x = IsIn x held × (x.ring ≡ ring)
 
@@ -81,7 +81,7 @@ told_delivered {A} c ring f m =
     (each-map (IsToldFrom c.held) (λ (x : Message A). Agreed ring x.number x) (users c ring f (front c ring)) told)
     (cond_both (nat_lt m (mark c ring)) (Safe ring (mark c ring) ∷ []) [] (Each (IsToldFrom c.held)) (λ e. (tt, tt)) (λ e. tt))
 
-told_sent : {A : Type 0} → (held : List (Message A)) (sends : List (Sent A)) → Each (IsToldFrom held) (sent sends)
+told_sent : {A : Type 0} → (held : List (Message A)) (sends : List (OutgoingFrame A)) → Each (IsToldFrom held) (sent sends)
 told_sent held sends = each-map (IsToldFrom held) (λ s. SendOut s.to s.frame) (addressed sends) (each-in _ _ (λ x k. tt))
 
 rest_told : {A : Type 0} → (held : List (Message A)) (ring : RingId) (xs : List (Message A)) → Each (λ (x : Message A). IsTold held ring x.number x) xs →
@@ -89,7 +89,7 @@ rest_told : {A : Type 0} → (held : List (Message A)) (ring : RingId) (xs : Lis
 rest_told held ring xs h =
     each-weaker _ _ (λ (x : Message _) t. record { held_there = t.held_there; ring_is = refl; number_is = refl; user = t.user }) xs h
 
-told_configured : {A : Type 0} → (c : Core A) → Each (IsToldFrom c.held) (configured c)
+told_configured : {A : Type 0} → (c : Core A) → Each (IsToldFrom c.held) (installation_outputs c)
 told_configured {A} c = let numbers = transitional_part (plan c) ++ past_gap_part (plan c) c.held in (
   tt,
   each-append (IsToldFrom c.held) (map (λ (x : Message A). Rest x.ring x.number x) (rests (plan c) c.held))
@@ -103,7 +103,7 @@ told_configured {A} c = let numbers = transitional_part (plan c) ++ past_gap_par
 told_settled : {A : Type 0} → (b : Bool) (c : Core A) (outs : List (Out A)) → Each (IsToldFrom c.held) outs →
     Each (IsToldFrom (settle b c outs).core.held) (settle b c outs).outs
 told_settled false c outs h = h
-told_settled true c outs h = each-append (IsToldFrom c.held) outs (configured c) h (told_configured c)
+told_settled true c outs h = each-append (IsToldFrom c.held) outs (installation_outputs c) h (told_configured c)
 
 step_tells_held : {A : Type 0} → (c : Core A) (input : Input A) → Each (IsToldFrom (ring_step c input).core.held) (ring_step c input).outs
 unfolding ring_step
@@ -113,7 +113,7 @@ step_tells_held c input =
     (each-append (IsToldFrom d.core.held) (sent d.sends) (given c d.core) (told_sent d.core.held d.sends)
     (told_delivered d.core c.installed.ring (front c c.installed.ring) (mark c c.installed.ring)))
 
--- What is held stays
+-- Held messages stay held
 
 abbrev AllKept : {A : Type 0} → (ℕ → Core A) → (ℕ → Core A) → Type 0
 AllKept {A} old new = (q : ℕ) (x : Message A) → IsIn x (old q).held → IsIn x (new q).held
@@ -160,9 +160,9 @@ told_run : {A : Type 0} → (w : World A) (events : List (RingEvent A)) → AllT
 told_run w [] h = h
 told_run w (e ∷ events) h = told_run (happens w e) events (told_event w e h)
 
--- Found
+-- Found messages
 
--- what is held of a ring and number is what is found there
+-- a message held of a ring and number is the one found there
 held_found : {A : Type 0} → (w : World A) → Holds w.cores w.frames → (q : ℕ) (x : Message A) → IsIn x (w.cores q).held →
     found (w.cores q).held x.ring x.number ≡ Some x
 held_found {A} w p q x there =
@@ -185,7 +185,7 @@ held_user w p q ring n x h =
     let here : found held x.ring n ≡ Some x = subst (λ k. found held x.ring k ≡ Some x) h.number_is (held_found w p q x h.held_there) in
     record { held_there = subst (λ r. found held r n ≡ Some x) h.ring_is here; user = h.user }
 
-held_as_told : {A : Type 0} → (w : World A) → Holds w.cores w.frames → (q : ℕ) (o : Out A) → IsToldFrom (w.cores q).held o → IsHeldAsTold (w.cores q) o
+held_as_told : {A : Type 0} → (w : World A) → Holds w.cores w.frames → (q : ℕ) (o : Out A) → IsToldFrom (w.cores q).held o → IsOutputHeld (w.cores q) o
 held_as_told w p q (Agreed ring n x) h = held_user w p q ring n x h
 held_as_told w p q (Rest ring n x) h = held_user w p q ring n x h
 held_as_told w p q (SendOut to frame) h = tt
@@ -193,13 +193,13 @@ held_as_told w p q (Safe ring upto) h = tt
 held_as_told w p q (Trans old new set) h = tt
 held_as_told w p q (Regular ring set) h = tt
 
-told_is_held : {A : Type 0} → (w : World A) → Holds w.cores w.frames → AllTold w → ToldIsHeld w
+told_is_held : {A : Type 0} → (w : World A) → Holds w.cores w.frames → AllTold w → OutputsAreHeld w
 told_is_held {A} w p h =
-    each-weaker (λ (o : ℕ × Out A). IsToldFrom (w.cores o.0).held o.1) (λ (o : ℕ × Out A). IsHeldAsTold (w.cores o.0) o.1)
+    each-weaker (λ (o : ℕ × Out A). IsToldFrom (w.cores o.0).held o.1) (λ (o : ℕ × Out A). IsOutputHeld (w.cores o.0) o.1)
     (λ (o : ℕ × Out A) k. held_as_told w p o.0 o.1 k) w.outs h
 
-pub unformed_held : {A : Type 0} → (n : ℕ) (events : List (RingEvent A)) → ToldIsHeld (run (unformed n) events)
+pub unformed_held : {A : Type 0} → (n : ℕ) (events : List (RingEvent A)) → OutputsAreHeld (run (unformed n) events)
 unformed_held n events = told_is_held (run (unformed n) events) (unformed_holds n events) (told_run (unformed n) events tt)
 
-pub formed_held : {A : Type 0} → (n : ℕ) (events : List (RingEvent A)) → 1 ≤ n → ToldIsHeld (run_formed n events)
+pub formed_held : {A : Type 0} → (n : ℕ) (events : List (RingEvent A)) → 1 ≤ n → OutputsAreHeld (run_formed n events)
 formed_held n events some = told_is_held (run_formed n events) (formed_runs n some events) (told_run (ring_formed n) (filter acts_on_formed events) tt)

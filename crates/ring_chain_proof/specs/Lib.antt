@@ -1,2 +1,2 @@
 pub mod ChainWords
-pub mod ChainTold
+pub mod ChainFacts

@@ -1,27 +1,29 @@
-//! Laws of every run, whatever events happen: from the opening in Gather, and on a ring of all that is formed from
-//! the start.
+//! Laws of every run, whatever events happen: from the opening, and from a formed ring.
+//! Rules: Rings and states 2, 7 and 14; The commit token 1 and 10; Token and window 7 and 13; Recovery 1; Outputs 3 to 5
 
 ghost use Rattle.std.specs.Prelude.{◌≡◌, ℕ, ◌≤◌, List, [], ◌∷◌};
 ghost use Rattle.std.specs.declared.alloc.Global.{Global as Heap};
 ghost use Rattle.ring_base.specs.Numbers.{numbers_from};
 ghost use Rattle.ring_base.specs.declared.ring_id.RingId.{RingId};
-ghost use Rattle.ring_core.specs.State.{all_of};
-ghost use Rattle.ring_core.specs.Views.{front};
+ghost use Rattle.ring_core_spec.specs.State.{all_of};
+ghost use Rattle.ring_core_spec.specs.Views.{front};
 ghost use Rattle.ring_core_proof.specs.declared.event.RingEvent.{RingEvent};
 ghost use Rattle.ring_core_proof.specs.Worlds.{run, unformed, run_formed};
 ghost use Rattle.ring_core_proof.specs.CommitRounds.{CommitRounds};
 ghost use Rattle.ring_core_proof.specs.Texts.{HasOneText};
-ghost use Rattle.ring_core_proof.specs.Local.{LocalFacts};
+ghost use Rattle.ring_core_proof.specs.CoreInvariants.{LocalFacts};
 ghost use Rattle.ring_chain_proof.specs.ChainWords.{SharesRings};
-ghost use Rattle.ring_chain_proof.specs.ChainTold.{AllHoldMarks, AllIsOfFormed, AllTakePart, ArePlans, HasChains, HasNumbered};
-ghost use Rattle.ring_chain_proof.specs.ChainTold.{HaveOnePlan, MarksAreSafe, NameSameMembers, ReportsAreSafe, SafeIsSafe};
-ghost use Rattle.ring_chain_proof.specs.ChainTold.{ToldIsHeld, VisitInTurn, agreed_numbers};
+ghost use Rattle.ring_chain_proof.specs.ChainFacts.{AllHoldMarks, AllIsOfFormed, AllTakePart, ArePlans, HasChains, HasNumbered};
+ghost use Rattle.ring_chain_proof.specs.ChainFacts.{HaveOnePlan, MarksAreSafe, NameSameMembers, ReportsAreSafe, SafeOutputsAreSafe};
+ghost use Rattle.ring_chain_proof.specs.ChainFacts.{OutputsAreHeld, VisitInTurn, agreed_numbers};
 
 use std::alloc::{Allocator, Global};
 
-/// All who take part in a ring name the same members: those that its representative took part in it with. Each is one
-/// of them, and the representative is the first. A ring of all that is formed from the start is the only one that its
-/// processors take part in.
+/// States that all processors that take part in a ring name the same members, in every run: the members that the ring's
+/// representative named.
+/// Each of these processors is one of the members, and the representative is the smallest. In a run from a formed ring,
+/// that ring is the only one that a processor takes part in.
+/// Rules: Rings and states 2 and 14
 pub fn ring_members_law<A: Allocator + Copy>()
     ensures shared { (n : ℕ) (events : List (RingEvent A)) → SharesRings (run (unformed n) events).cores }
     ensures same { (n : ℕ) (events : List (RingEvent A)) → NameSameMembers (run (unformed n) events).cores }
@@ -29,31 +31,39 @@ pub fn ring_members_law<A: Allocator + Copy>()
     ensures formed { (n q : ℕ) (events : List (RingEvent A)) → ((run_formed n events).cores q).rings ≡ all_of n ∷ [] }
 {}
 
-/// The commit token's two rounds in every run: each processor takes part in rings of rising numbers; each commit
-/// token ever sent is a hop, handed on by the member before, with the reports of the members up to there; two of one
-/// ring name the same members; each is taken by the member at its position; and each hop of a ring is taken at most
-/// once.
+/// States the two rounds of the commit tokens, in every run from the opening.
+/// Each processor takes part in rings of rising numbers. Each hop is sent by the member before it, with the reports of
+/// the first members. All commit tokens of one ring name the same members. Only the member at a hop's position takes
+/// the hop, and each hop of a ring is taken at most once.
+/// Rules: The commit token 1 and 10
 pub fn commit_rounds_law<A: Allocator + Copy>()
     ensures { (n : ℕ) (events : List (RingEvent A)) → CommitRounds (unformed n) events }
 {}
 
-/// The visits of a ring's token are one list: each is of the token as the visit before it sent it on, by the member
-/// whose turn it is, and goes by the rules; and each processor's own are those that it took. They are the visits of
-/// which `ring_core::safe_law` says how far they make the ring safe.
+/// States that the visits of a ring's token form one list, in every run, from the opening and from a formed ring.
+/// In each visit the member whose turn it is takes the token as the visit before forwarded it, and follows the rules.
+/// The visits that a processor records are its own in this list. By `ring_core_spec::safe_law` they make the ring safe
+/// up to their marks.
+/// Rules: Token and window 7
 pub fn chain_law<A: Allocator + Copy>()
     ensures unformed { (n : ℕ) (events : List (RingEvent A)) → HasChains (run (unformed n) events).cores }
     ensures formed { (n : ℕ) (events : List (RingEvent A)) → 1 ≤ n → HasChains (run_formed n events).cores }
 {}
 
-/// Each member's visits of a ring's token are as many numbers apart as the ring has members, from the number that is the
-/// member's position on: so two successive visits of one member are one whole round apart.
+/// States how far apart the token's visits to one member are, in every run, from the opening and from a formed ring.
+/// In a ring of m members the token first visits a member under the token number that is the member's position, and
+/// then under every m-th number. Positions count from 0, in ascending order of the members.
+/// So two successive visits to one member are one whole round apart.
+/// Rules: Token and window 7
 pub fn spacing_law<A: Allocator + Copy>()
     ensures unformed { (n : ℕ) (events : List (RingEvent A)) → VisitInTurn (run (unformed n) events).cores }
     ensures formed { (n : ℕ) (events : List (RingEvent A)) → 1 ≤ n → VisitInTurn (run_formed n events).cores }
 {}
 
-/// Each number of a ring has one sender and one payload, at whichever processors it is held; and what is held was
-/// numbered by its sender, in one of the visits of which `chain_law` speaks, and so was what it wraps.
+/// States that each number of a ring has one sender and one payload, whichever processors hold it, in every run.
+/// Every message held was numbered by its sender in one of the visits of `chain_law`, and so was the message that it
+/// wraps.
+/// Rules: Outputs 8
 pub fn text_law<A: Allocator + Copy>()
     ensures unformed { (n : ℕ) (events : List (RingEvent A)) (ring : RingId) → HasOneText (run (unformed n) events) ring }
     ensures formed { (n : ℕ) (events : List (RingEvent A)) (ring : RingId) → 1 ≤ n → HasOneText (run_formed n events) ring }
@@ -61,48 +71,57 @@ pub fn text_law<A: Allocator + Copy>()
     ensures numbered_formed { (n : ℕ) (events : List (RingEvent A)) → 1 ≤ n → HasNumbered (run_formed n events).cores }
 {}
 
-/// What a processor's safe mark of a ring covers, each of the members holds that the ring's representative took part
-/// in it with; so too what a processor reported as safe of its last installed ring, on the way into a new one. On a
-/// ring of all that is formed from the start, each of them holds it.
+/// States that each member of a ring holds every number up to any processor's safe mark there, in every run.
+/// The members are those that the ring's representative named; of a formed ring, all processors. The same holds of the
+/// safe mark that a processor reported of its last installed ring, on its way into a new one.
+/// Rules: Token and window 13
 pub fn safe_mark_law<A: Allocator + Copy>()
     ensures unformed { (n : ℕ) (events : List (RingEvent A)) → MarksAreSafe (run (unformed n) events).cores }
     ensures formed { (n : ℕ) (events : List (RingEvent A)) → 1 ≤ n → AllHoldMarks n (run_formed n events).cores }
     ensures reported { (n : ℕ) (events : List (RingEvent A)) → ReportsAreSafe (run (unformed n) events).cores }
 {}
 
-/// All who recover in a ring have one plan: the same members, and the same report of each. It is what each member
-/// reported on its way into the ring.
+/// States that all processors that recover in a ring have one plan, in every run from the opening: the same members,
+/// and the same entry of each.
+/// The entry is what the member reported when it took part in the ring.
+/// Rules: The commit token 10; Recovery 1
 pub fn one_plan_law<A: Allocator + Copy>()
     ensures reports { (n : ℕ) (events : List (RingEvent A)) → ArePlans (run (unformed n) events).cores }
     ensures one { (n : ℕ) (events : List (RingEvent A)) → HaveOnePlan (run (unformed n) events).cores }
 {}
 
-/// What a processor tells with a number, as agreed or as the rest of an old ring, is the user's message that it holds
-/// under that number, then and ever after; by `text_law` it is the ring's one message of that number. On a ring that is
-/// formed from the start each processor tells as agreed the numbers 1, 2, 3 and so on, up to its front, each once.
+/// States that processors output what they hold, in every run. Each message given under a number, as `Agreed` or
+/// `Rest`, is the user message that the processor holds under that number, at that moment and at each later one.
+/// By `text_law` it is the ring's one message of that number. In a formed ring the `Agreed` of each processor are of
+/// the numbers 1, 2, 3 and so on, up to its front, each once.
+/// Rules: Outputs 3 and 5
 pub fn agreed_law<A: Allocator + Copy>()
-    ensures unformed { (n : ℕ) (events : List (RingEvent A)) → ToldIsHeld (run (unformed n) events) }
-    ensures formed { (n : ℕ) (events : List (RingEvent A)) → 1 ≤ n → ToldIsHeld (run_formed n events) }
+    ensures unformed { (n : ℕ) (events : List (RingEvent A)) → OutputsAreHeld (run (unformed n) events) }
+    ensures formed { (n : ℕ) (events : List (RingEvent A)) → 1 ≤ n → OutputsAreHeld (run_formed n events) }
     ensures numbers { (n i : ℕ) (events : List (RingEvent A)) → agreed_numbers (run_formed n events) i
         ≡ numbers_from 1 (front ((run_formed n events).cores i) (all_of n).ring) }
 {}
 
-/// What `Safe` told at any processor, each of the members holds that the ring's representative took part in it with:
-/// then, and ever after. On a ring of all that is formed from the start, each of them holds it; and what is told there
-/// is agreed or safe, and of that ring.
+/// States that each member of a ring holds every number that any processor's `Safe` covers, at that moment and at each
+/// later one, in every run.
+/// The members are those that the ring's representative named; of a formed ring, all processors. In a run from a formed
+/// ring all outputs are `Agreed` or `Safe` of that ring.
+/// Rules: Outputs 4
 pub fn told_law<A: Allocator + Copy>()
-    ensures unformed { (n : ℕ) (events : List (RingEvent A)) → SafeIsSafe (run (unformed n) events) }
+    ensures unformed { (n : ℕ) (events : List (RingEvent A)) → SafeOutputsAreSafe (run (unformed n) events) }
     ensures formed { (n : ℕ) (events : List (RingEvent A)) → 1 ≤ n → AllIsOfFormed n (run_formed n events) }
 {}
 
-/// On a ring of all that is formed from the start, each processor knows of itself what `ring_core_proof::local_law` says of
-/// every core from the opening in Gather.
+/// States for each processor of every run from a formed ring the local facts that `ring_core_proof::local_law` states
+/// from the opening.
+/// Rules: Rings and states 2 to 7 and 14
 pub fn formed_facts_law<A: Allocator + Copy>()
     ensures { (n i : ℕ) (events : List (RingEvent A)) → 1 ≤ i → i ≤ n → LocalFacts ((run_formed n events).cores i) }
 {}
 
-/// The laws at the allocator that programs use; of one of them it says what it gives. Nothing calls it: a law is proved of all
-/// allocators that meet its bounds, and this shows one that does.
+/// States `text_law` from the opening for the allocator that programs use. Nothing calls this function.
+/// A law is proved for all allocators that meet its bounds, and this function shows one that does.
+/// Rules: Outputs 8
 pub fn laws_at_global()
     ensures { (n : ℕ) (events : List (RingEvent Heap)) (ring : RingId) → HasOneText (run (unformed n) events) ring }
 {

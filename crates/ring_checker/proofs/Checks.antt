@@ -1,11 +1,11 @@
--- What the checker finds holds exactly of an order that explains the history.
+-- The checks hold exactly of an order that explains the history.
 use Rattle.std.proofs.Common.{◌≡◌, ℕ, zero, suc, ◌+◌, ◌<◌, ◌≤◌, ◌↔◌, Bool, true, false, List, [], ◌∷◌, ◌++◌}
 use Rattle.std.proofs.Common.{length, take, Option, Some, None, slice_get, slice_index_or, IsTrue, refl, ap, sym, subst}
 use Rattle.std.proofs.Common.{◌∙◌, arith, add-one, length-append, inl, inr}
 use Rattle.std.proofs.lemmas.List.Elements.{All-nil}
 use Rattle.std.proofs.lemmas.Option.{slice_get_within}
 use Rattle.std.proofs.lemmas.Bool.{cases_lt}
-use Rattle.ring_base.specs.Fronts.{front_get, front_append}
+use Rattle.ring_base.specs.Prefixes.{prefix_get, prefix_append}
 use Rattle.ring_base.proofs.ListPlaces.{get-last, has-place}
 use Rattle.ring_object.specs.Operations.{Sequential, content_after}
 use Rattle.ring_payload.specs.declared.call.Call.{Call}
@@ -14,14 +14,14 @@ use Rattle.ring_session.specs.Deduplicated.{StandsAt, IsNumbered, operations}
 use Rattle.ring_session.specs.DeduplicatedLaws.{numbered_once}
 use Rattle.ring_session.specs.SessionAnswer.{call_reply}
 use Rattle.ring_session.specs.SessionAnswerLaws.{is_same-true}
-use Rattle.ring_checker.specs.declared.check.Place.{Place}
-use Rattle.ring_rules.specs.declared.item.Item.{Item}
-use Rattle.ring_rules.specs.declared.item.Item.TheVariants.{Issue, Reply}
+use Rattle.ring_checker.specs.declared.check.OrderPlace.{OrderPlace}
+use Rattle.ring_node_spec.specs.declared.item.Item.{Item}
+use Rattle.ring_node_spec.specs.declared.item.Item.TheVariants.{Issue, Reply}
 use Rattle.ring_checker.specs.Checks.{is_issue_of, first_issue, place_in, IsIssuedBefore, AreIssuedBefore, ArePlaces, IsRightAt, IsRightIn, AreRight}
 use Rattle.ring_checker.proofs.Places.{place_in-stands, place_in-numbered}
-use Rattle.ring_rules.specs.Histories.{IsIssuedAt, IsRepliedAt, IsLinearization}
-use Rattle.ring_rules.proofs.Linear.{all-at}
-use Rattle.ring_rules.proofs.FirstPassing.{all-from_places, take-within, take-get, get-take, position-found, position-least, option-some, some-option}
+use Rattle.ring_node_spec.specs.Histories.{IsIssuedAt, IsRepliedAt, IsLinearization}
+use Rattle.ring_node_spec.proofs.Linear.{all-at}
+use Rattle.ring_node_spec.proofs.FirstMatch.{all-from_places, take-within, take-get, get-take, position-found, position-least, option-some, some-option}
 
 -- ---- one call
 
@@ -29,27 +29,27 @@ is_issue_of-true : {A : Type 0} (c : Call A) (item : Item A) → is_issue_of c i
 is_issue_of-true c (Issue d) is = ap Issue (is_same-true c d is)
 is_issue_of-true c (Reply d r) is = absurd (cc is)
 
--- the call was issued where its first issue is found
+-- the call was issued at the place where its first issue is found
 first_issue-issued : {A : Type 0} (history : List (Item A)) (c : Call A) (j : ℕ) → first_issue history c ≡ Some j → IsIssuedAt history c j
 first_issue-issued history c j is =
     let found = position-found (is_issue_of c) history j is in
     found.1 ∙ ap Some (is_issue_of-true c found.0 found.2)
 
--- and nowhere before
+-- it was issued nowhere before that
 first_issue-least : {A : Type 0} (history : List (Item A)) (c : Call A) (k : ℕ) → IsIssuedAt history c k → (j : ℕ) × (first_issue history c ≡ Some j) × (j ≤ k)
 first_issue-least history c k issued = position-least (is_issue_of c) history k (Issue c) issued (is_same-self c)
 
 -- ---- the replies of one place
 
-pub right_at-found : (issued : List Place) (at : ℕ) (r : List ℕ) (place : Place) (same : Bool) → slice_get issued at ≡ Some place
+pub right_at-found : (issued : List OrderPlace) (at : ℕ) (r : List ℕ) (place : OrderPlace) (same : Bool) → slice_get issued at ≡ Some place
     → (same ≡ true → place.reply ≡ r) → (place.reply ≡ r → same ≡ true) → IsTrue same ↔ IsRightAt issued at r
 right_at-found issued at r place same is told back = (
   λ so. (place, is, told so),
   λ right. let found : Some place ≡ Some right.0 = sym is
-      ∙ right.1 in let one : place ≡ right.0 = cc found in back (ap (λ (w : Place). w.reply) one ∙ right.2),
+      ∙ right.1 in let one : place ≡ right.0 = cc found in back (ap (λ (w : OrderPlace). w.reply) one ∙ right.2),
 )
 
-pub right_at-none : (issued : List Place) (at : ℕ) (r : List ℕ) → slice_get issued at ≡ None → IsTrue false ↔ IsRightAt issued at r
+pub right_at-none : (issued : List OrderPlace) (at : ℕ) (r : List ℕ) → slice_get issued at ≡ None → IsTrue false ↔ IsRightAt issued at r
 right_at-none issued at r is = (λ so. absurd (cc so), λ right. absurd (cc (is, right.1)))
 
 -- ---- the object's run over the order
@@ -73,27 +73,27 @@ operation-at [] n c at = absurd (cc at)
 operation-at {A} (d ∷ ds) zero c at = let is : d ≡ c = cc at in ap (λ (w : Call A). w.op) is
 operation-at (d ∷ ds) (suc n) c at = operation-at ds n c at
 
--- a place is what it has
-place-is : (place : Place) (issued : Option ℕ) (reply : List ℕ) → place.issued ≡ issued → place.reply ≡ reply
+-- a place is determined by its fields
+place-is : (place : OrderPlace) (issued : Option ℕ) (reply : List ℕ) → place.issued ≡ issued → place.reply ≡ reply
     → place ≡ record { issued = issued; reply = reply }
 place-is place issued reply first told =
-    let of_issued : Option ℕ → Place = λ w. record { issued = w; reply = place.reply } in
-    let of_reply : List ℕ → Place = λ w. record { issued = issued; reply = w } in
+    let of_issued : Option ℕ → OrderPlace = λ w. record { issued = w; reply = place.reply } in
+    let of_reply : List ℕ → OrderPlace = λ w. record { issued = issued; reply = w } in
     ap of_issued first ∙ ap of_reply told
 
 module _ {O A : Type 0} (object : Sequential O) where
   -- one more place
-  pub places-push : (order : List (Call A)) (history : List (Item A)) (n : ℕ) (places : List Place) (o : O)
-      (c : Call A) (place : Place) → ArePlaces object order history n places → StandsAt order n c
+  pub places-push : (order : List (Call A)) (history : List (Item A)) (n : ℕ) (places : List OrderPlace) (o : O)
+      (c : Call A) (place : OrderPlace) → ArePlaces object order history n places → StandsAt order n c
       → o ≡ content_after object object.initial (take n (operations order)) → place.issued ≡ first_issue history c → place.reply ≡ object.reply o c.op
       → ArePlaces object order history (n + 1) (places ++ place ∷ [])
   places-push order history n places o c place are at is issued replied = record {
     many = length-append places (place ∷ []) ∙ ap (λ m. m + 1) are.many;
     each = λ q d within there. elim (cases_lt q n) as (λ _. slice_get (places ++ place ∷ []) q ≡ Some
         (record { issued = first_issue history d; reply = call_reply object order q })) [
-          | inl before ↦ front_get places (places ++ place ∷ []) q
+          | inl before ↦ prefix_get places (places ++ place ∷ []) q
               (record { issued = first_issue history d; reply = call_reply object order q })
-              (front_append places (place ∷ [])) (are.each q d before there)
+              (prefix_append places (place ∷ [])) (are.each q d before there)
           | inr last ↦
               let same : n ≡ q = omega (arith, within, last) in
               let one : Some c ≡ Some d = sym at ∙ ap (slice_get order) same ∙ there in
@@ -110,37 +110,37 @@ module _ {O A : Type 0} (object : Sequential O) where
         ];
   }
 
-  -- ---- both ways
+  -- ---- both directions
 
   -- the place of a call of the order
-  place-at : (order : List (Call A)) (history : List (Item A)) (places : List Place) (q : ℕ) (c : Call A)
+  place-at : (order : List (Call A)) (history : List (Item A)) (places : List OrderPlace) (q : ℕ) (c : Call A)
       → ArePlaces object order history (length order) places → StandsAt order q c
       → slice_get places q ≡ Some (record { issued = first_issue history c; reply = call_reply object order q })
   place-at order history places q c are stands = are.each q c (slice_get_within order q c stands) stands
 
   -- a call that was issued before k
-  issued-at : (order : List (Call A)) (history : List (Item A)) (places : List Place) (n k q : ℕ) (c : Call A)
+  issued-at : (order : List (Call A)) (history : List (Item A)) (places : List OrderPlace) (n k q : ℕ) (c : Call A)
       → ArePlaces object order history (length order) places → StandsAt order q c → q < n
       → AreIssuedBefore (take n places) k → (j : ℕ) × IsIssuedAt history c j × (j < k)
   issued-at order history places n k q c are stands within before =
-      let place : Place = record { issued = first_issue history c; reply = call_reply object order q } in
-      let here = all-at (λ (w : Place). IsIssuedBefore w k) (take n places) q place before
+      let place : OrderPlace = record { issued = first_issue history c; reply = call_reply object order q } in
+      let here = all-at (λ (w : OrderPlace). IsIssuedBefore w k) (take n places) q place before
       (get-take n places q place within (place-at order history places q c are stands)) in
       let found = option-some (first_issue history c) (λ j. j < k) here in
       (found.0, first_issue-issued history c found.0 found.1, found.2)
 
-  -- the place of a right reply, and that the calls up to it were issued before
-  record IsRight (order : List (Call A)) (places : List Place) (k : ℕ) (c : Call A) (r : List ℕ) : Type 0 where
+  -- the place of a right reply; the calls up to it were issued before
+  record IsRight (order : List (Call A)) (places : List OrderPlace) (k : ℕ) (c : Call A) (r : List ℕ) : Type 0 where
     at : ℕ
     stands : StandsAt order at c
-    place : Place
+    place : OrderPlace
     there : slice_get places at ≡ Some place
     reply : place.reply ≡ r
     front : ℕ
     issued : AreIssuedBefore (take front places) k
     within : at < front
 
-  right-place : (order : List (Call A)) (places : List Place) (k : ℕ) (c : Call A) (r : List ℕ) → IsRightIn order places k (Reply c r)
+  right-place : (order : List (Call A)) (places : List OrderPlace) (k : ℕ) (c : Call A) (r : List ℕ) → IsRightIn order places k (Reply c r)
       → IsRight order places k c r
   right-place order places k c r right =
       let found = option-some (place_in order c) (λ at. IsRightAt (take right.0 places) at r) right.2 in
@@ -156,17 +156,17 @@ module _ {O A : Type 0} (object : Sequential O) where
       }
 
   -- what passes the checks explains the history
-  pub checked-linear : (order : List (Call A)) (history : List (Item A)) (places : List Place) → IsNumbered order
+  pub checked-linear : (order : List (Call A)) (history : List (Item A)) (places : List OrderPlace) → IsNumbered order
       → ArePlaces object order history (length order) places
       → AreIssuedBefore places (length history) → AreRight order places history → IsLinearization object order history
   checked-linear order history places numbered are issued right = record {
     numbered = numbered;
     issued = λ p c stands.
-        let place : Place = record { issued = first_issue history c; reply = call_reply object order p } in
-        let here = all-at (λ (w : Place). IsIssuedBefore w (length history)) places p place issued (place-at order history places p c are stands) in
+        let place : OrderPlace = record { issued = first_issue history c; reply = call_reply object order p } in
+        let here = all-at (λ (w : OrderPlace). IsIssuedBefore w (length history)) places p place issued (place-at order history places p c are stands) in
         let found = option-some (first_issue history c) (λ j. j < length history) here in
         (found.0, first_issue-issued history c found.0 found.1);
-    replied = λ k c r at.
+    reply_items = λ k c r at.
         let there = right-place order places k c r (right k (Reply c r) at) in
         let found : Some there.place ≡ Some (record {
           issued = first_issue history c;
@@ -174,7 +174,7 @@ module _ {O A : Type 0} (object : Sequential O) where
         }) = sym there.there
         ∙ place-at order history places there.at c are there.stands in
         let place : there.place ≡ record { issued = first_issue history c; reply = call_reply object order there.at } = cc found in
-        (there.at, there.stands, sym (ap (λ (w : Place). w.reply) place) ∙ there.reply);
+        (there.at, there.stands, sym (ap (λ (w : OrderPlace). w.reply) place) ∙ there.reply);
     ordered = λ k a b r q at late stands.
         let there = right-place order places k a r (right k (Reply a r) at) in
         elim (cases_lt there.at q) as (λ _. (p : ℕ) × StandsAt order p a × (p < q)) [
@@ -186,9 +186,9 @@ module _ {O A : Type 0} (object : Sequential O) where
   }
 
   -- an order that explains the history passes: its calls were issued
-  pub linear-issued : (order : List (Call A)) (history : List (Item A)) (places : List Place) → ArePlaces object order history (length order) places
+  pub linear-issued : (order : List (Call A)) (history : List (Item A)) (places : List OrderPlace) → ArePlaces object order history (length order) places
       → IsLinearization object order history → AreIssuedBefore places (length history)
-  linear-issued order history places are linear = all-from_places (λ (w : Place). IsIssuedBefore w (length history)) places (λ k place at.
+  linear-issued order history places are linear = all-from_places (λ (w : OrderPlace). IsIssuedBefore w (length history)) places (λ k place at.
       let stands = has-place order k (omega (arith, slice_get_within places k place at, are.many)) in
       let found : Some (record { issued = first_issue history stands.0; reply = call_reply object order k })
       ≡ Some place = sym (place-at order history places k stands.0 are stands.1) ∙ at in
@@ -196,10 +196,10 @@ module _ {O A : Type 0} (object : Sequential O) where
       let issued = linear.issued k stands.0 stands.1 in
       let least = first_issue-least history stands.0 issued.0 issued.1 in
       let within = slice_get_within history issued.0 (Issue stands.0) issued.1 in
-      subst (λ (w : Place). IsIssuedBefore w (length history)) is (some-option (first_issue history stands.0)
+      subst (λ (w : OrderPlace). IsIssuedBefore w (length history)) is (some-option (first_issue history stands.0)
       (λ j. j < length history) least.0 least.1 (omega (arith, least.2, within))))
 
-  -- a call up to the place of a replied one was issued before the reply
+  -- a call up to the place of a replied one was issued before that reply
   linear-early : (order : List (Call A)) (history : List (Item A)) (k p q : ℕ) (c b : Call A) (r : List ℕ) → IsLinearization object order history
       → IsRepliedAt history c r k → StandsAt order p c → StandsAt order q b → q ≤ p → (j : ℕ) × (first_issue history b ≡ Some j) × (j < k)
   linear-early order history k p q c b r linear at stands there upto =
@@ -226,14 +226,14 @@ module _ {O A : Type 0} (object : Sequential O) where
       ]
 
   -- its replies are right
-  pub linear-right_items : (order : List (Call A)) (history : List (Item A)) (places : List Place) → ArePlaces object order history (length order) places
+  pub linear-right_items : (order : List (Call A)) (history : List (Item A)) (places : List OrderPlace) → ArePlaces object order history (length order) places
       → IsLinearization object order history → AreRight order places history
-  linear-right_items order history places are linear k (Issue c) at = (0, All-nil (λ (w : Place). IsIssuedBefore w k), tt)
+  linear-right_items order history places are linear k (Issue c) at = (0, All-nil (λ (w : OrderPlace). IsIssuedBefore w k), tt)
   linear-right_items order history places are linear k (Reply c r) at =
-      let replied = linear.replied k c r at in
+      let replied = linear.reply_items k c r at in
       let p = replied.0 in
-      let place : Place = record { issued = first_issue history c; reply = call_reply object order p } in
-      let before : AreIssuedBefore (take (p + 1) places) k = all-from_places (λ (w : Place). IsIssuedBefore w k) (take (p + 1) places) (λ q other here.
+      let place : OrderPlace = record { issued = first_issue history c; reply = call_reply object order p } in
+      let before : AreIssuedBefore (take (p + 1) places) k = all-from_places (λ (w : OrderPlace). IsIssuedBefore w k) (take (p + 1) places) (λ q other here.
       let there = take-get (p + 1) places q other here in
       let upto = take-within (p + 1) places q other here in
       let stands = has-place order q (omega (arith, slice_get_within places q other there, are.many)) in
@@ -241,7 +241,7 @@ module _ {O A : Type 0} (object : Sequential O) where
       ≡ Some other = sym (place-at order history places q stands.0 are stands.1) ∙ there in
       let is : record { issued = first_issue history stands.0; reply = call_reply object order q } ≡ other = cc found in
       let early = linear-early order history k p q c stands.0 r linear at replied.1 stands.1 (omega (arith, upto)) in
-      subst (λ (w : Place). IsIssuedBefore w k) is (some-option (first_issue history stands.0) (λ j. j < k) early.0 early.1 early.2)) in
+      subst (λ (w : OrderPlace). IsIssuedBefore w k) is (some-option (first_issue history stands.0) (λ j. j < k) early.0 early.1 early.2)) in
       let there = get-take (p + 1) places p place (omega arith) (place-at order history places p c are replied.1) in (
         p + 1,
         before,
@@ -249,8 +249,8 @@ module _ {O A : Type 0} (object : Sequential O) where
             (place_in-numbered order c p linear.numbered replied.1) (place, there, replied.2),
       )
 
-  -- where the calls were issued, the last check decides
-  pub explains-issued : (order : List (Call A)) (history : List (Item A)) (places : List Place) (issued right : Bool)
+  -- if the calls were issued, the last check decides
+  pub explains-issued : (order : List (Call A)) (history : List (Item A)) (places : List OrderPlace) (issued right : Bool)
       → IsNumbered order → ArePlaces object order history (length order) places
       → (IsTrue issued ↔ AreIssuedBefore places (length history)) → issued ≡ true → (IsTrue right ↔ AreRight order places history)
       → IsTrue right ↔ IsLinearization object order history
@@ -259,8 +259,8 @@ module _ {O A : Type 0} (object : Sequential O) where
     λ linear. rights.1 (linear-right_items order history places are linear),
   )
 
-  -- and where one was not, nothing else matters
-  pub explains-not_issued : (order : List (Call A)) (history : List (Item A)) (places : List Place) (issued : Bool)
+  -- if one was not, nothing else matters
+  pub explains-not_issued : (order : List (Call A)) (history : List (Item A)) (places : List OrderPlace) (issued : Bool)
       → ArePlaces object order history (length order) places
       → (IsTrue issued ↔ AreIssuedBefore places (length history)) → issued ≡ false
       → IsTrue issued ↔ IsLinearization object order history

@@ -1,4 +1,4 @@
--- An index has the places of an order's calls, and a count for each client tells whether they are numbered.
+-- An index has the places of an order's calls; a count for each client decides whether they are numbered.
 use Rattle.std.proofs.Common.{◌≡◌, ℕ, zero, suc, ◌+◌, ◌-◌, ◌<◌, ◌≤◌, ◌↔◌, ◌⊎◌, IsTrue, true, false, List, [], ◌∷◌, ◌++◌, length, length-append, take}
 use Rattle.std.proofs.Common.{Option, Some, None, slice_get, refl, ap, sym, subst, ◌∙◌, arith, add-one, inl, inr}
 use Rattle.std.specs.BTreeMap.{BTreeMap, get, is_at}
@@ -17,7 +17,7 @@ use Rattle.ring_session.specs.SessionAnswer.{is_same}
 use Rattle.ring_session.specs.SessionAnswerLaws.{is_same-true}
 use Rattle.ring_checker.specs.Checks.{place_in, row_of, places_of, by_number, place_at, AddsPlace, IsIndexOf}
 use Rattle.ring_checker.proofs.Places.{none_or_some, place_in-stands, place_in-least}
-use Rattle.ring_rules.proofs.FirstPassing.{EachUpTo}
+use Rattle.ring_node_spec.proofs.FirstMatch.{EachUpTo}
 
 -- a fact of each element up to a place, and of the one there
 pub each-more : {X : Type 0} (P : ℕ → X → Type 0) (xs : List X) (n : ℕ) (x : X) → EachUpTo P xs n → slice_get xs n ≡ Some x → P n x
@@ -34,13 +34,13 @@ each-more P xs n x each at holds q y within there =
 
 -- ---- numbers
 
--- the call at a place of an order has the number after those of its client before
+-- the number of the call at a place follows those of its client's calls before it
 abbrev pub HasNext : {A : Type 0} → List (Call A) → ℕ → Call A → Type 0
 HasNext order p c = c.number ≡ count_of c.client (take p order) + 1
 
 -- ---- rows of places
 
--- nothing but the last place is new in a row
+-- only the last place of a row is new
 push-apart : {X : Type 0} (xs : List X) (y : X) (k : ℕ) → (k ≡ length xs → ⊥) → slice_get (xs ++ y ∷ []) k ≡ slice_get xs k
 push-apart [] y zero apart = absurd (apart refl)
 push-apart [] y (suc k) apart = refl
@@ -62,7 +62,7 @@ by_number-none : (n : ℕ) → by_number [] n ≡ None
 by_number-none zero = refl
 by_number-none (suc k) = refl
 
--- the place that is looked up: nothing is known of the client, or there is no such number
+-- looking up a place finds none: the client is unknown, or it has no such number
 pub place_at-unknown : {A : Type 0} (index : BTreeMap ℕ (Vec ℕ A)) (client number : ℕ) → get nat_cmp index client ≡ None
     → None ≡ place_at index (client, number)
 place_at-unknown {A} index client number none =
@@ -70,15 +70,15 @@ place_at-unknown {A} index client number none =
 
 -- ---- one more place
 
--- how many places a client has
+-- the number of places of a client
 pub count-row : {A : Type 0} (index : BTreeMap ℕ (Vec ℕ A)) (client : ℕ) (was : Option (Vec ℕ A)) → get nat_cmp index client ≡ was
     → length (row_of was) ≡ length (places_of index client)
 count-row index client was is = ap (λ (o : Option (Vec ℕ _)). length (row_of o)) (sym is)
 
 -- ---- the index
 
--- the calls of the first n places have their clients' next numbers, and the index has as many places of each client as there are, and
--- each under its call's client and number
+-- the calls of the first n places have their clients' next numbers; the index has as many places of each client, each under its
+-- call's client and number
 pub record IsIndexed {A : Type 0} (order : List (Call A)) (n : ℕ) (index : BTreeMap ℕ (Vec ℕ A)) : Type 0 where
   pub numbered : EachUpTo (HasNext order) order n
   pub counts : (q : ℕ) → length (places_of index q) ≡ count_of q (take n order)
@@ -96,7 +96,7 @@ indexed-none {A} order index empty =
       };
     }
 
--- how many calls of a client there are, with one more call
+-- the number of a client's calls, with one more call
 counts-more : {A : Type 0} (order : List (Call A)) (n q : ℕ) (c : Call A) (old new : BTreeMap ℕ (Vec ℕ A)) → IsIndexed order n old → StandsAt order n c
     → AddsPlace old new c.client n → length (places_of new q) ≡ count_of q (take (n + 1) order)
 counts-more order n q c old new are at adds =
@@ -111,7 +111,7 @@ counts-more order n q c old new are at adds =
       | inr apart ↦ ap length (adds.others q apart) ∙ are.counts q ∙ sym (count_of-push_other q (take n order) c apart) ∙ grown
     ]
 
--- where a name is looked up in the index with one more place: it is the new one, or it was there
+-- looking up a name in the index with one more place: it is the new place, or it was there
 place_at-more : {A : Type 0} (n : ℕ) (c : Call A) (old new : BTreeMap ℕ (Vec ℕ A)) (name : ℕ × ℕ) → AddsPlace old new c.client n
     → c.number ≡ length (places_of old c.client) + 1
     → ((c.client ≡ name.0) × (c.number ≡ name.1) × (place_at new name ≡ Some n)) ⊎ (place_at new name ≡ place_at old name)
@@ -182,7 +182,7 @@ indexed-more order n c old new are at next adds = record {
   is_index = index-more order n c old new are.is_index at next adds;
 }
 
--- a call whose number is another than its client's next
+-- a call whose number isn't its client's next
 pub unnumbered : {A : Type 0} (order : List (Call A)) (n : ℕ) (c : Call A) (index : BTreeMap ℕ (Vec ℕ A)) → IsIndexed order n index
     → StandsAt order n c → (c.number ≡ length (places_of index c.client) + 1 → ⊥) → IsTrue false ↔ IsNumbered order
 unnumbered order n c index are at not_next = (
@@ -195,7 +195,7 @@ pub all_numbered : {A : Type 0} (order : List (Call A)) (n : ℕ) (index : BTree
 all_numbered order n index are all =
     (λ _ p c at. are.numbered p c (omega (arith, all, slice_get_within order p c at)) at, λ _. refl)
 
--- two places with one name are one
+-- two places with one name are equal
 pub index-once : {A : Type 0} (order : List (Call A)) (index : BTreeMap ℕ (Vec ℕ A)) (p q : ℕ) (c : Call A) → IsIndexOf order (length order) index
     → StandsAt order p c → StandsAt order q c → p ≡ q
 index-once order index p q c is_index at there =
@@ -206,7 +206,7 @@ index-once order index p q c is_index at there =
 
 -- ---- the place of a call, by the index
 
--- it has another operation there
+-- the index has another operation there
 pub place-other : {A : Type 0} (order : List (Call A)) (index : BTreeMap ℕ (Vec ℕ A)) (p : ℕ) (c d : Call A) → IsIndexOf order (length order) index
     → place_at index (c.client, c.number) ≡ Some p → StandsAt order p d → is_same c d ≡ false → None ≡ place_in order c
 place-other order index p c d is_index is at differ =
@@ -222,7 +222,7 @@ place-other order index p c d is_index is at differ =
           absurd (cc (ap (is_same c) (sym call) ∙ is_same-self c, differ))
     ]
 
--- or nothing has its name
+-- the index has no such name
 pub place-none : {A : Type 0} (order : List (Call A)) (index : BTreeMap ℕ (Vec ℕ A)) (c : Call A) → IsIndexOf order (length order) index
     → place_at index (c.client, c.number) ≡ None → None ≡ place_in order c
 place-none order index c is_index is =
@@ -233,7 +233,7 @@ place-none order index c is_index is =
           absurd (cc (is_index.finds some.0 c (slice_get_within order some.0 c there) there, is))
     ]
 
--- or it stands there
+-- the call is there
 pub place-found : {A : Type 0} (order : List (Call A)) (index : BTreeMap ℕ (Vec ℕ A)) (p : ℕ) (c d : Call A) → IsIndexOf order (length order) index
     → StandsAt order p d → is_same c d ≡ true → Some p ≡ place_in order c
 place-found order index p c d is_index at same =

@@ -1,4 +1,4 @@
--- Where calls are first issued, by one item of the history after the other.
+-- The places of first issues, as the history grows by one item.
 use Rattle.std.proofs.Common.{◌≡◌, ℕ, ◌+◌, ◌≤◌, ◌==◌, ◌<◌, nat_lt, not, Bool, true, false, List, [], ◌∷◌, ◌++◌, length, Option, Some, None, position, slice_get, ap, sym, ◌∙◌, arith, inl, inr, cond, length-append, length-set, slice_set}
 use Rattle.std.specs.List.{position_or_len}
 use Rattle.std.proofs.lemmas.Bool.{cases_Bool, cases_eq, cond-true, cond-false, eq-eqb, ne_eqb, cases_lt}
@@ -15,16 +15,16 @@ use Rattle.ring_payload.specs.SameCalls.{is_same-self}
 use Rattle.ring_session.specs.Deduplicated.{StandsAt}
 use Rattle.ring_session.specs.SessionAnswer.{is_same, call_reply}
 use Rattle.ring_session.specs.SessionAnswerLaws.{is_same-true}
-use Rattle.ring_checker.specs.declared.check.Place.{Place}
+use Rattle.ring_checker.specs.declared.check.OrderPlace.{OrderPlace}
 use Rattle.ring_checker.specs.Checks.{is_issue_of, first_issue, place_in, IsIndexOf, ArePlaces}
 use Rattle.ring_checker.proofs.Places.{place_in-stands, place_in-least}
 use Rattle.ring_checker.proofs.Indexes.{index-once}
-use Rattle.ring_rules.specs.declared.item.Item.{Item}
-use Rattle.ring_rules.specs.declared.item.Item.TheVariants.{Issue, Reply}
+use Rattle.ring_node_spec.specs.declared.item.Item.{Item}
+use Rattle.ring_node_spec.specs.declared.item.Item.TheVariants.{Issue, Reply}
 
--- ---- the first that passes, with one more at the end
+-- ---- the first element that passes, with one more at the end
 
--- it stays where it is
+-- it is unchanged
 seen_before : {X : Type 0} (p : X → Bool) (xs : List X) (y : X) → position_or_len p xs < length xs
     → (position p xs ≡ Some (position_or_len p xs)) × (position p (xs ++ y ∷ []) ≡ Some (position_or_len p xs))
 seen_before p xs y before =
@@ -41,7 +41,7 @@ seen_before p xs y before =
           ∙ ap Some stays,
     )
 
--- where none passed, the last decides
+-- if none passed, the last element decides
 seen_last : {X : Type 0} (p : X → Bool) (xs : List X) (y : X) → length xs ≤ position_or_len p xs
     → (position p xs ≡ None) × (position p (xs ++ y ∷ []) ≡ cond (p y) (Some (length xs)) None)
 seen_last p xs y past =
@@ -69,7 +69,7 @@ seen_last p xs y past =
       ],
     )
 
--- the first of a list stays
+-- the first of a list is unchanged
 position-stays : {X : Type 0} (p : X → Bool) (xs : List X) (y : X) (i : ℕ) → position p xs ≡ Some i → position p (xs ++ y ∷ []) ≡ Some i
 position-stays p xs y i is = elim (cases_lt (position_or_len p xs) (length xs)) as (λ _. position p (xs ++ y ∷ []) ≡ Some i) [
   | inl before ↦ let both = seen_before p xs y before in both.1 ∙ sym both.0 ∙ is
@@ -86,7 +86,7 @@ position-fails p xs y fails =
           both.1 ∙ cond-false (p y) (Some (length xs)) None fails ∙ sym both.0
     ]
 
--- where none passed, one more that does is the first
+-- if none passed, one more that passes is the first
 position-new : {X : Type 0} (p : X → Bool) (xs : List X) (y : X) → position p xs ≡ None → p y ≡ true → position p (xs ++ y ∷ []) ≡ Some (length xs)
 position-new p xs y none passes =
     elim (cases_lt (position_or_len p xs) (length xs)) as (λ _. position p (xs ++ y ∷ []) ≡ Some (length xs)) [
@@ -96,13 +96,13 @@ position-new p xs y none passes =
 
 -- ---- the places, after one more item
 
--- a place by what it has
-abbrev pub place_by : Option ℕ → List ℕ → Place
+-- a place, from its fields
+abbrev pub place_by : Option ℕ → List ℕ → OrderPlace
 place_by issued reply = record { issued = issued; reply = reply }
 
 module _ {O A : Type 0} (object : Sequential O) where
   -- an item that issues no call of the order changes nothing
-  other_item : (order : List (Call A)) (past : List (Item A)) (places : List Place) (item : Item A)
+  other_item : (order : List (Call A)) (past : List (Item A)) (places : List OrderPlace) (item : Item A)
       → ((q : ℕ) (c : Call A) → StandsAt order q c → is_issue_of c item ≡ false) → ArePlaces object order past (length order) places
       → ArePlaces object order (past ++ item ∷ []) (length order) places
   other_item order past places item other are = record {
@@ -111,11 +111,11 @@ module _ {O A : Type 0} (object : Sequential O) where
         ∙ ap (λ first. Some (place_by first (call_reply object order q))) (sym (position-fails (is_issue_of c) past item (other q c at)));
   }
 
-  pub reply_item : (order : List (Call A)) (past : List (Item A)) (places : List Place) (item : Item A) (c : Call A) (r : List ℕ) → item ≡ Reply c r
+  pub reply_item : (order : List (Call A)) (past : List (Item A)) (places : List OrderPlace) (item : Item A) (c : Call A) (r : List ℕ) → item ≡ Reply c r
       → ArePlaces object order past (length order) places → ArePlaces object order (past ++ item ∷ []) (length order) places
   reply_item order past places item c r is are = other_item order past places item (λ q d at. ap (is_issue_of d) is) are
 
-  -- a call that stands in the order is another than one that doesn't
+  -- a call that is in the order differs from one that isn't
   not_there : (order : List (Call A)) (c d : Call A) (q : ℕ) → place_in order d ≡ None → StandsAt order q c → is_same c d ≡ false
   not_there order c d q none at = elim (cases_Bool (is_same c d)) as (λ _. is_same c d ≡ false) [
     | inl same ↦
@@ -125,11 +125,11 @@ module _ {O A : Type 0} (object : Sequential O) where
     | inr other ↦ other
   ]
 
-  pub strange_item : (order : List (Call A)) (past : List (Item A)) (places : List Place) (d : Call A) → None ≡ place_in order d
+  pub strange_item : (order : List (Call A)) (past : List (Item A)) (places : List OrderPlace) (d : Call A) → None ≡ place_in order d
       → ArePlaces object order past (length order) places → ArePlaces object order (past ++ Issue d ∷ []) (length order) places
   strange_item order past places d none are = other_item order past places (Issue d) (λ q c at. not_there order c d q (sym none) at) are
 
-  -- a call at another place is another
+  -- a call at another place is another call
   not_same : (order : List (Call A)) (index : BTreeMap ℕ (Vec ℕ A)) (c d : Call A) (at q : ℕ) → IsIndexOf order (length order) index
       → Some at ≡ place_in order d → (q ≡ at → ⊥) → StandsAt order q c → is_same c d ≡ false
   not_same order index c d at q is_index is apart there = elim (cases_Bool (is_same c d)) as (λ _. is_same c d ≡ false) [
@@ -140,7 +140,7 @@ module _ {O A : Type 0} (object : Sequential O) where
   ]
 
   -- the place of the call that the item issues
-  issued_place : (order : List (Call A)) (past : List (Item A)) (places : List Place) (d : Call A) (at : ℕ) (place : Place) → Some at ≡ place_in order d
+  issued_place : (order : List (Call A)) (past : List (Item A)) (places : List OrderPlace) (d : Call A) (at : ℕ) (place : OrderPlace) → Some at ≡ place_in order d
       → slice_get places at ≡ Some place → ArePlaces object order past (length order) places
       → place ≡ record { issued = first_issue past d; reply = call_reply object order at }
   issued_place order past places d at place is here are =
@@ -150,8 +150,8 @@ module _ {O A : Type 0} (object : Sequential O) where
       cc one
 
   -- a call that was issued before is no first issue
-  pub issued_again : (order : List (Call A)) (index : BTreeMap ℕ (Vec ℕ A)) (past : List (Item A)) (places : List Place) (d : Call A)
-      (at j : ℕ) (place : Place) → IsIndexOf order (length order) index → Some at ≡ place_in order d → slice_get places at ≡ Some place → place.issued ≡ Some j
+  pub issued_again : (order : List (Call A)) (index : BTreeMap ℕ (Vec ℕ A)) (past : List (Item A)) (places : List OrderPlace) (d : Call A)
+      (at j : ℕ) (place : OrderPlace) → IsIndexOf order (length order) index → Some at ≡ place_in order d → slice_get places at ≡ Some place → place.issued ≡ Some j
       → ArePlaces object order past (length order) places → ArePlaces object order (past ++ Issue d ∷ []) (length order) places
   issued_again order index past places d at j place is_index is here seen are = record {
     many = are.many;
@@ -162,7 +162,7 @@ module _ {O A : Type 0} (object : Sequential O) where
               let one : Some c ≡ Some d = sym there ∙ ap (slice_get order) same ∙ place_in-stands order d at (sym is) in
               let call : c ≡ d = cc one in
               let told : first_issue past d ≡ Some j =
-              sym (ap (λ (w : Place). w.issued) (issued_place order past places d at place is here are)) ∙ seen in
+              sym (ap (λ (w : OrderPlace). w.issued) (issued_place order past places d at place is here are)) ∙ seen in
               let before : first_issue past c ≡ Some j = ap (first_issue past) call ∙ told in
               position-stays (is_issue_of c) past (Issue d) j before ∙ sym before
           | inr apart ↦ position-fails (is_issue_of c) past (Issue d) (not_same order index c d at q is_index is apart there)
@@ -171,15 +171,15 @@ module _ {O A : Type 0} (object : Sequential O) where
         ∙ ap (λ o. Some (place_by o (call_reply object order q))) (sym first);
   }
 
-  -- one that wasn't is its first
-  pub issued_first : (order : List (Call A)) (index : BTreeMap ℕ (Vec ℕ A)) (past : List (Item A)) (places : List Place) (d : Call A) (at : ℕ) (place : Place)
+  -- otherwise it is its first issue
+  pub issued_first : (order : List (Call A)) (index : BTreeMap ℕ (Vec ℕ A)) (past : List (Item A)) (places : List OrderPlace) (d : Call A) (at : ℕ) (place : OrderPlace)
       → IsIndexOf order (length order) index → Some at ≡ place_in order d → slice_get places at ≡ Some place → place.issued ≡ None
       → ArePlaces object order past (length order) places → ArePlaces object order (past ++ Issue d ∷ []) (length order)
       (slice_set places at (record { issued = Some (length past); reply = place.reply }))
   issued_first order index past places d at place is_index is here unseen are = record {
     many = length-set places at (record { issued = Some (length past); reply = place.reply }) ∙ are.many;
     each = λ q c within there.
-        let marked : Place = record { issued = Some (length past); reply = place.reply } in
+        let marked : OrderPlace = record { issued = Some (length past); reply = place.reply } in
         elim (cases_eq q at) as (λ _. slice_get (slice_set places at marked) q
         ≡ Some (record { issued = first_issue (past ++ Issue d ∷ []) c; reply = call_reply object order q })) [
           | inl same ↦
@@ -187,10 +187,10 @@ module _ {O A : Type 0} (object : Sequential O) where
               let call : c ≡ d = cc one in
               let was = issued_place order past places d at place is here are in
               let none : first_issue past c ≡ None = ap (first_issue past) call
-              ∙ sym (ap (λ (w : Place). w.issued) was) ∙ unseen in
+              ∙ sym (ap (λ (w : OrderPlace). w.issued) was) ∙ unseen in
               let passes : is_same c d ≡ true = ap (is_same c) (sym call) ∙ is_same-self c in
               let first : first_issue (past ++ Issue d ∷ []) c ≡ Some (length past) = position-new (is_issue_of c) past (Issue d) none passes in
-              let reply : place.reply ≡ call_reply object order q = ap (λ (w : Place). w.reply) was ∙ ap (call_reply object order) (sym same) in
+              let reply : place.reply ≡ call_reply object order q = ap (λ (w : OrderPlace). w.reply) was ∙ ap (call_reply object order) (sym same) in
               ap (slice_get (slice_set places at marked)) same ∙ get-set places at marked (slice_get_within places at place here)
               ∙ ap (λ w. Some (place_by (Some (length past)) w)) reply
               ∙ ap (λ o. Some (place_by o (call_reply object order q))) (sym first)

@@ -1,34 +1,39 @@
-//! The checker: it tells of an order and a history, however they came about, whether the one explains the other.
+//! The checker: it decides whether an order explains a history, wherever the two come from.
+//! Rules: Sessions 10
 
 ghost use Rattle.std.specs.Prelude.{◌≡◌, ℕ, ◌+◌, ◌≤◌, ◌↔◌, IsTrue, IfOk, IfErr, OnOk, List, [], ◌∷◌, ◌++◌, length, take};
 ghost use Rattle.ring_base.specs.declared.fault.Fault.TheVariants.{Memory};
-ghost use Rattle.ring_rules.specs.declared.item.Item.{Item as OneItem};
-ghost use Rattle.ring_rules.specs.declared.item.Item.TheVariants.{Issue};
+ghost use Rattle.ring_node_spec.specs.declared.item.Item.{Item as OneItem};
+ghost use Rattle.ring_node_spec.specs.declared.item.Item.TheVariants.{Issue};
 ghost use Rattle.ring_session.specs.Deduplicated.{IsNumbered};
 ghost use Rattle.ring_checker.specs.Checks.{IsIndexOf, ArePlaces, IsIssuedBefore, AreIssuedBefore, IsIssuedFront};
 ghost use Rattle.ring_checker.specs.Checks.{IsRightAt, IsRightReply, IsRightItem, AreRight};
-ghost use Rattle.ring_rules.specs.Histories.{IsLinearization};
+ghost use Rattle.ring_node_spec.specs.Histories.{IsLinearization};
 
 use crate::index::{Index, index_of, place_near};
 use ring_base::Fault;
+use ring_node_spec::Item;
 use ring_object::{Object, Reply};
 use ring_payload::Call;
-use ring_rules::Item;
 use std::alloc::Allocator;
 
-/// What a place of the order is checked by.
+/// The data of a place of the order that the checks use.
 #[derive(Clone, Copy)]
-struct Place {
-    /// Where its call was first issued, if it was.
+struct OrderPlace {
+    /// The place in the history of the call's first issue, if it was issued.
     issued: Option<usize>,
     /// The object's reply there.
     reply: Reply,
 }
 
-/// Whether the order explains the history: each client's calls are numbered 1, 2, .. in it, each of its calls was
-/// issued, each reply is the object's at its call's place, and a call that was replied before another was issued
-/// stands before it. `Memory` is the only refusal. Beside what the object takes, the time is that of a look-up among
-/// the order's clients for each call of the order and each item of the history: n log n in their number.
+/// Returns whether the order explains the history: whether the history is linearizable with this order.
+/// Four things are needed. Each client's calls are numbered 1, 2, .. in the order. Each call of the order was issued. Each reply
+/// is the object's at its call's place. A call that was replied before another was issued comes earlier in the order. So the
+/// empty order explains every history without replies.
+/// Apart from the object's own time, it takes one look-up among the order's clients for each call of the order and each item of
+/// the history: O(n log n) in their number.
+/// Errors: `Memory` where an allocation fails.
+/// Rules: Sessions 7 and 10
 pub fn is_linearization<O: Object>(
     alloc: O::Alloc,
     order: &[Call<O::Alloc>],
@@ -44,7 +49,8 @@ pub fn is_linearization<O: Object>(
     }
 }
 
-/// Whether the order, whose calls are numbered, explains the history. Or `Memory`.
+/// Returns whether the order, whose calls are numbered, explains the history.
+/// Errors: `Memory` where an allocation fails.
 fn explains<O: Object>(
     alloc: O::Alloc,
     order: &[Call<O::Alloc>],
@@ -62,12 +68,12 @@ fn explains<O: Object>(
     }
 }
 
-/// Whether the order explains the history, where these are its places, and no call was issued yet.
+/// Returns whether the order explains the history, given its places, in which no call is issued yet.
 fn explains_at<O: Object>(
     order: &[Call<O::Alloc>],
     index: &Index<O::Alloc>,
     history: &[Item<O::Alloc>],
-    places: &mut [Place],
+    places: &mut [OrderPlace],
 ) -> bool
     requires numbered { IsNumbered order.now }
     requires index { IsIndexOf order.now (length order.now) index.now }
@@ -83,11 +89,12 @@ fn explains_at<O: Object>(
 
 // ---- places
 
-/// Does the order's calls on the object, from its start. No call was issued yet.
+/// Applies the order's calls to a new object. Returns their places, with no call issued yet.
+/// Errors: `Memory` where an allocation fails.
 fn unissued_places<O: Object>(
     alloc: O::Alloc,
     order: &[Call<O::Alloc>],
-) -> Result<Vec<Place, O::Alloc>, Fault>
+) -> Result<Vec<OrderPlace, O::Alloc>, Fault>
     ensures ok { IfOk result (λ places. ArePlaces O.sequential order.now [] (length order.now) places.items) }
     ensures refused { IfErr result (λ fault. fault ≡ Memory) }
 {
@@ -97,12 +104,13 @@ fn unissued_places<O: Object>(
     }
 }
 
-/// Does the order's calls on an object that stands at its start. No call was issued yet.
+/// Applies the order's calls to an object at its start. Returns their places, with no call issued yet.
+/// Errors: `Memory` where an allocation fails.
 fn places_from<O: Object>(
     alloc: O::Alloc,
     object: &mut O,
     order: &[Call<O::Alloc>],
-) -> Result<Vec<Place, O::Alloc>, Fault>
+) -> Result<Vec<OrderPlace, O::Alloc>, Fault>
     requires { object.old ≡ O.sequential.initial }
     ensures ok { IfOk result (λ places. ArePlaces O.sequential order.now [] (length order.now) places.items) }
     ensures refused { IfErr result (λ fault. fault ≡ Memory) }
@@ -114,11 +122,11 @@ fn places_from<O: Object>(
     }
 }
 
-/// Adds the place of each call, which is done on the object, that stands at its start.
+/// Applies the calls to an object at its start, and adds the place of each.
 fn add_places<O: Object>(
     object: &mut O,
     order: &[Call<O::Alloc>],
-    places: &mut Vec<Place, O::Alloc>,
+    places: &mut Vec<OrderPlace, O::Alloc>,
 ) -> Result<(), Fault>
     requires start { object.old ≡ O.sequential.initial }
     requires empty { places.old.items ≡ [] }
@@ -127,7 +135,7 @@ fn add_places<O: Object>(
 {
     for call in order {
         let reply = object.apply(call.op.as_slice())?;
-        places.push(Place {
+        places.push(OrderPlace {
             issued: None,
             reply,
         })?;
@@ -135,12 +143,12 @@ fn add_places<O: Object>(
     Ok(())
 }
 
-/// Notes at the places where their calls were first issued.
+/// Records at the places where in the history their calls were first issued.
 fn note_issues<O: Object>(
     order: &[Call<O::Alloc>],
     index: &Index<O::Alloc>,
     history: &[Item<O::Alloc>],
-    places: &mut [Place],
+    places: &mut [OrderPlace],
 )
     requires index { IsIndexOf order.now (length order.now) index.now }
     requires unissued { ArePlaces O.sequential order.now [] (length order.now) places.old }
@@ -152,14 +160,14 @@ fn note_issues<O: Object>(
     }
 }
 
-/// Notes the item at place `k` of a history, where it is that a call was first issued.
+/// Records the item at place `k` of a history, if it is the first issue of a call.
 fn note_issue<O: Object>(
     order: &[Call<O::Alloc>],
     index: &Index<O::Alloc>,
     next: &mut usize,
     k: usize,
     item: &Item<O::Alloc>,
-    places: &mut [Place],
+    places: &mut [OrderPlace],
 )
     requires index { IsIndexOf order.now (length order.now) index.now }
     requires many { length places.old ≡ length order.now }
@@ -173,14 +181,14 @@ fn note_issue<O: Object>(
     }
 }
 
-/// Notes at the call's place that it was issued at place `k` of a history, where it wasn't before.
+/// Records at the call's place that it was issued at place `k` of a history, unless it was issued before.
 fn note_call<O: Object>(
     order: &[Call<O::Alloc>],
     index: &Index<O::Alloc>,
     next: &mut usize,
     k: usize,
     call: &Call<O::Alloc>,
-    places: &mut [Place],
+    places: &mut [OrderPlace],
 )
     requires index { IsIndexOf order.now (length order.now) index.now }
     requires many { length places.old ≡ length order.now }
@@ -191,11 +199,11 @@ fn note_call<O: Object>(
     let Some(at) = place_near(order, index, next, call) else {
         return;
     };
-    let Place { issued, reply } = places[at];
+    let OrderPlace { issued, reply } = places[at];
     if issued.is_some() {
         return;
     }
-    places[at] = Place {
+    places[at] = OrderPlace {
         issued: Some(k),
         reply,
     };
@@ -203,11 +211,11 @@ fn note_call<O: Object>(
 
 // ---- replies
 
-/// Whether each reply of the history is right.
+/// Returns whether each reply of the history is right.
 fn are_right<A: Allocator + Copy>(
     order: &[Call<A>],
     index: &Index<A>,
-    places: &[Place],
+    places: &[OrderPlace],
     history: &[Item<A>],
 ) -> bool
     requires { IsIndexOf order.now (length order.now) index.now }
@@ -216,7 +224,7 @@ fn are_right<A: Allocator + Copy>(
     let mut front = 0;
     let mut next = 0;
     for (k, item) in history.iter().enumerate() {
-        front = front_before(places, front, k);
+        front = issued_prefix_len(places, front, k);
         if !is_right(order, index, &mut next, &places[..front], item) {
             return false;
         }
@@ -224,9 +232,9 @@ fn are_right<A: Allocator + Copy>(
     true
 }
 
-/// How many places from the front have calls that were issued before place `k` of the history, where those of the
-/// first `from` were.
-fn front_before(places: &[Place], from: usize, k: usize) -> usize
+/// Returns the number of first places whose calls were issued before place `k` of the history.
+/// The calls of the first `from` places were issued before.
+fn issued_prefix_len(places: &[OrderPlace], from: usize, k: usize) -> usize
     requires within { from ≤ length places.now }
     requires issued { AreIssuedBefore (take from places.now) k }
     ensures { IsIssuedFront places.now k result }
@@ -238,12 +246,12 @@ fn front_before(places: &[Place], from: usize, k: usize) -> usize
     front
 }
 
-/// Whether the item is right where the calls of these first places were issued before it, and no more.
+/// Returns whether the item is right, if the calls of these first places, and no others, were issued before it.
 fn is_right<A: Allocator + Copy>(
     order: &[Call<A>],
     index: &Index<A>,
     next: &mut usize,
-    issued: &[Place],
+    issued: &[OrderPlace],
     item: &Item<A>,
 ) -> bool
     requires { IsIndexOf order.now (length order.now) index.now }
@@ -255,12 +263,12 @@ fn is_right<A: Allocator + Copy>(
     }
 }
 
-/// Whether the reply is the object's at its call's place, and that is one of these first places.
+/// Returns whether the reply is the object's at its call's place, and that is one of these first places.
 fn is_right_reply<A: Allocator + Copy>(
     order: &[Call<A>],
     index: &Index<A>,
     next: &mut usize,
-    issued: &[Place],
+    issued: &[OrderPlace],
     call: &Call<A>,
     reply: &Reply,
 ) -> bool
@@ -273,8 +281,8 @@ fn is_right_reply<A: Allocator + Copy>(
     }
 }
 
-/// Whether this is one of the first places, and the object's reply there.
-fn is_right_at(issued: &[Place], at: usize, reply: &Reply) -> bool
+/// Returns whether `at` is one of the first places, and the object replies this there.
+fn is_right_at(issued: &[OrderPlace], at: usize, reply: &Reply) -> bool
     ensures { IsTrue result ↔ IsRightAt issued.now at reply.now }
 {
     match issued.get(at) {
@@ -283,15 +291,15 @@ fn is_right_at(issued: &[Place], at: usize, reply: &Reply) -> bool
     }
 }
 
-/// Whether the calls of all these places were issued before place `k` of the history.
-fn are_issued_before(places: &[Place], k: usize) -> bool
+/// Returns whether the calls of all these places were issued before place `k` of the history.
+fn are_issued_before(places: &[OrderPlace], k: usize) -> bool
     ensures { IsTrue result ↔ AreIssuedBefore places.now k }
 {
     places.iter().all(|place| is_issued_before(place, k))
 }
 
-/// Whether the call of this place was issued before place `k` of the history.
-fn is_issued_before(place: &Place, k: usize) -> bool
+/// Returns whether the call of this place was issued before place `k` of the history.
+fn is_issued_before(place: &OrderPlace, k: usize) -> bool
     ensures { IsTrue result ↔ IsIssuedBefore place.now k }
 {
     place.issued.is_some_and(|at| at < k)

@@ -1,4 +1,5 @@
-//! Where the calls of an order stand, by client and number.
+//! The index of an order: the places of its calls, by client and number.
+//! Rules: Sessions 10
 
 ghost use Rattle.std.specs.Prelude.{◌≡◌, ℕ, ◌+◌, ◌∷◌, [], ◌++◌, ◌↔◌, IsTrue, IsSome, IfSome, IfOk, IfErr, None, length};
 ghost use Rattle.std.specs.BTreeMap.{get};
@@ -13,10 +14,13 @@ use ring_payload::Call;
 use std::alloc::Allocator;
 use std::collections::BTreeMap;
 
-/// The places of an order's calls, by client: of each client's calls that of the first one is first.
+/// The index of an order: for each client, the places of its calls 1, 2, .. in the order, counted from 0.
+/// Rules: Sessions 10
 pub type Index<A: Allocator> = BTreeMap<u32, Vec<usize, A>, A>;
 
-/// The index of an order, if each client's calls are numbered 1, 2, .. in it; or `Memory`.
+/// Returns the index of an order, or `None` if some client's calls aren't numbered 1, 2, .. in it.
+/// Errors: `Memory` where an allocation fails.
+/// Rules: Sessions 10
 pub fn index_of<A: Allocator + Copy + Drop>(
     alloc: A,
     order: &[Call<A>],
@@ -33,8 +37,8 @@ pub fn index_of<A: Allocator + Copy + Drop>(
     }
 }
 
-/// Adds the places of an order's calls to an empty index, and answers whether each client's calls are numbered 1, 2, .. in it. Or
-/// `Memory`.
+/// Adds the places of an order's calls to an empty index. Returns whether each client's calls are numbered 1, 2, .. in it.
+/// Errors: `Memory` where an allocation fails.
 fn add_places<A: Allocator + Copy + Drop>(
     alloc: A,
     index: &mut Index<A>,
@@ -54,7 +58,8 @@ fn add_places<A: Allocator + Copy + Drop>(
     Ok(true)
 }
 
-/// Adds the place of a client's call of this number, if that is the client's next, and answers whether it is. Or `Memory`.
+/// Adds the place of a client's call of this number, if that is the client's next number. Returns whether it is.
+/// Errors: `Memory` where an allocation fails.
 fn add_place<A: Allocator + Copy + Drop>(
     alloc: A,
     index: &mut Index<A>,
@@ -72,7 +77,8 @@ fn add_place<A: Allocator + Copy + Drop>(
     }
 }
 
-/// Adds the place of the first call of a client, if its number is 1, and answers whether it is. Or `Memory`.
+/// Adds the place of a client's first call, if its number is 1. Returns whether it is.
+/// Errors: `Memory` where an allocation fails.
 fn add_row<A: Allocator + Copy + Drop>(
     alloc: A,
     index: &mut Index<A>,
@@ -94,7 +100,8 @@ fn add_row<A: Allocator + Copy + Drop>(
     Ok(true)
 }
 
-/// Adds the place behind those of a client's calls, if its number comes after theirs, and answers whether it does. Or `Memory`.
+/// Adds the place after those of a client's calls, if its number is the next one. Returns whether it is.
+/// Errors: `Memory` where an allocation fails.
 fn add_to<A: Allocator + Copy>(
     row: &mut Vec<usize, A>,
     number: u64,
@@ -111,15 +118,17 @@ fn add_to<A: Allocator + Copy>(
     Ok(true)
 }
 
-/// Whether the number comes after this one.
+/// Returns whether `number` is `last + 1`.
 fn is_next(last: u64, number: u64) -> bool
     ensures { IsTrue result ↔ (number ≡ last + 1) }
 {
     number > 0 && number - 1 == last
 }
 
-/// As [`place_in`]. The next place is tried before the index is asked, since calls mostly come as they stand in the order. Then the
-/// place behind the found one is next.
+/// Returns the first place of the call in the order, counted from 0, and sets `next` to the place after it. Returns `None`, and
+/// leaves `next`, if the call isn't in the order.
+/// The place `next` is tried before the index, since calls mostly come in the order's own sequence. `index` is that of the order.
+/// Rules: Sessions 10
 pub fn place_near<A: Allocator + Copy>(
     order: &[Call<A>],
     index: &Index<A>,
@@ -134,7 +143,7 @@ pub fn place_near<A: Allocator + Copy>(
     Some(place)
 }
 
-/// As [`place_in`]. This place is tried before the index is asked.
+/// Returns the first place of the call in the order, if it has one. The place `next` is tried before the index.
 fn place_by<A: Allocator + Copy>(
     order: &[Call<A>],
     index: &Index<A>,
@@ -151,7 +160,7 @@ fn place_by<A: Allocator + Copy>(
     }
 }
 
-/// Whether the call stands at this place of the order.
+/// Returns whether the call is at this place of the order.
 fn is_at<A: Allocator + Copy>(order: &[Call<A>], place: usize, call: &Call<A>) -> bool
     ensures { IsTrue result → StandsAt order.now place call.now }
 {
@@ -161,7 +170,7 @@ fn is_at<A: Allocator + Copy>(order: &[Call<A>], place: usize, call: &Call<A>) -
     }
 }
 
-/// Where the call first stands in the order, if it does.
+/// Returns the first place of the call in the order, if it has one.
 fn place_in<A: Allocator + Copy>(
     order: &[Call<A>],
     index: &Index<A>,
@@ -180,7 +189,7 @@ fn place_in<A: Allocator + Copy>(
     }
 }
 
-/// The place of the call of this client and number, if the index has one.
+/// Returns the place that the index has for this client and number, if any.
 fn place_at<A: Allocator + Copy>(index: &Index<A>, client: u32, number: u64) -> Option<usize>
     ensures { result ≡ place_at index.now (client, number) }
 {
@@ -190,7 +199,7 @@ fn place_at<A: Allocator + Copy>(index: &Index<A>, client: u32, number: u64) -> 
     }
 }
 
-/// The place of the call of this number, where these are the places of a client's calls.
+/// Returns the place of the call of this number, given the places of a client's calls.
 fn place_by_number<A: Allocator + Copy>(row: &Vec<usize, A>, number: u64) -> Option<usize>
     ensures { result ≡ by_number row.now.items number }
 {
@@ -200,7 +209,7 @@ fn place_by_number<A: Allocator + Copy>(row: &Vec<usize, A>, number: u64) -> Opt
     row.get((number - 1) as usize).copied()
 }
 
-/// Whether the two are one call: of one client and number, and with the same operation.
+/// Returns whether two calls have the same client, number and operation.
 fn is_same<A: Allocator + Copy>(call: &Call<A>, other: &Call<A>) -> bool
     ensures { result ≡ is_same call.now other.now }
 {

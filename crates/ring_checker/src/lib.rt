@@ -1,4 +1,5 @@
-//! The checker: whether one order of calls explains a history of calls and replies.
+//! The linearizability checker: it decides whether one order of calls explains a history of calls and replies.
+//! Rules: Sessions 10
 #![tactic(auto)]
 
 mod check;

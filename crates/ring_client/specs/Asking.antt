@@ -1,6 +1,7 @@
--- What a port was asked last (docs/PROTOCOL.md, "Clients"), and what a client makes of it.
+-- The last request at a port, and its meaning for a client.
+-- Rules: Clients 2, 4 and 5
 use Rattle.std.specs.Prelude.{◌≡◌, ℕ, ◌+◌, ◌-◌, ◌^◌, ◌≤◌, ◌⊎◌, ◌&&◌, min, nat_le, if◌then◌else◌, List, [], length, take, Option, Some, None, ⊤}
-use Rattle.ring_payload.specs.Limits.{most_operation}
+use Rattle.ring_payload.specs.Limits.{max_operation}
 use Rattle.ring_base.specs.Fault.{fault_number}
 use Rattle.ring_base.specs.declared.fault.Fault.{Fault}
 use Rattle.ring_payload.specs.declared.call.Call.{Call}
@@ -13,41 +14,41 @@ abbrev pub just_submitted : ℕ → ℕ → List ℕ → Asked
 just_submitted client number op = record { client = client; number = number; op = op; refused = None; polls = 0; answer = None }
 
 -- before any submit
-abbrev pub unasked : Asked
-unasked = just_submitted 0 0 []
+abbrev pub new_asked : Asked
+new_asked = just_submitted 0 0 []
 
--- a call that may be submitted: an operation of at most 1,024 bytes, under a number counted from 1
+-- the call may be submitted: its operation has at most 1,024 bytes, and its number is at least 1
 abbrev pub IsSubmittable : {A : Type 0} → Call A → Type 0
-IsSubmittable call = (length call.op ≤ most_operation) × (1 ≤ call.number)
+IsSubmittable call = (length call.op ≤ max_operation) × (1 ≤ call.number)
 
 -- after the submit of a call
-abbrev pub submitted : {A : Type 0} → Call A → Asked
-submitted call = just_submitted call.client call.number (take most_operation call.op)
+abbrev pub asked_after_submit : {A : Type 0} → Call A → Asked
+asked_after_submit call = just_submitted call.client call.number (take max_operation call.op)
 
--- the submit was refused
-abbrev pub refused_with : Fault → Asked → Asked
-refused_with fault asked = record (asked) { refused = Some (fault_number fault) }
+-- after the refusal of the submit
+abbrev pub asked_after_refusal : Fault → Asked → Asked
+asked_after_refusal fault asked = record (asked) { refused = Some (fault_number fault) }
 
--- after one more poll, and what it gave
-abbrev pub polled : Option Answer → Asked → Asked
-polled answer asked = record (asked) { polls = min (asked.polls + 1) (2 ^ 64 - 1); answer = answer }
+-- after one more poll with this result
+abbrev pub asked_after_poll : Option Answer → Asked → Asked
+asked_after_poll answer asked = record (asked) { polls = min (asked.polls + 1) (2 ^ 64 - 1); answer = answer }
 
--- an answer that a call can have: a refusal is one of the session rule's, 4 to 7
-abbrev pub IsTold : Answer → Type 0
-IsTold (Done reply) = ⊤
-IsTold (Kept reply) = ⊤
-IsTold (Refused number) = (4 ≤ number) × (number ≤ 7)
+-- an answer that a call can have: a refusal in it is one of the sessions, 4 to 7
+abbrev pub IsClientVisible : Answer → Type 0
+IsClientVisible (Done reply) = ⊤
+IsClientVisible (Kept reply) = ⊤
+IsClientVisible (Refused number) = (4 ≤ number) × (number ≤ 7)
 
 -- the answer, if a call can have it
-abbrev pub tellable : Answer → Option Answer
-tellable (Done reply) = Some (Done reply)
-tellable (Kept reply) = Some (Kept reply)
-tellable (Refused number) = if nat_le 4 number && nat_le number 7 then Some (Refused number) else None
+abbrev pub client_visible : Answer → Option Answer
+client_visible (Done reply) = Some (Done reply)
+client_visible (Kept reply) = Some (Kept reply)
+client_visible (Refused number) = if nat_le 4 number && nat_le number 7 then Some (Refused number) else None
 
--- the call was submitted in vain: the submit was refused, or so many polls gave no answer
-abbrev pub IsInVain : Asked → ℕ → Asked → Type 0
-IsInVain call turns asked = ((fault : Fault) × (asked ≡ refused_with fault call)) ⊎ (asked ≡ record (call) { polls = turns })
+-- the call got no answer: its submit was refused, or `turns` polls gave none
+abbrev pub HasNoAnswer : Asked → ℕ → Asked → Type 0
+HasNoAnswer call turns asked = ((fault : Fault) × (asked ≡ asked_after_refusal fault call)) ⊎ (asked ≡ record (call) { polls = turns })
 
--- the last of at most so many polls gave this answer to the call
+-- the last of at most `turns` polls gave this answer to the call
 abbrev pub HasAnswered : Asked → ℕ → Answer → Asked → Type 0
 HasAnswered call turns answer asked = (polls : ℕ) × (1 ≤ polls) × (polls ≤ turns) × (asked ≡ record (call) { polls = polls; answer = Some answer })

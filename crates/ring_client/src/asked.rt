@@ -1,41 +1,44 @@
-//! What a port was asked last.
+//! The last request at a port, and its outcome.
+//! Rules: Clients 2
 
 ghost use Rattle.std.specs.Prelude.{◌≡◌};
-ghost use Rattle.ring_client.specs.Asking.{unasked, submitted, refused_with, polled};
+ghost use Rattle.ring_client.specs.Asking.{new_asked, asked_after_submit, asked_after_refusal, asked_after_poll};
 
 use ring_base::Fault;
-use ring_object::Short;
-use ring_payload::{Call, MOST_OPERATION};
+use ring_object::ShortBytes;
+use ring_payload::{Call, MAX_OPERATION};
 use ring_session::Answer;
 use std::alloc::Allocator;
 
-/// An operation, kept in place: 0 to 1,024 bytes.
-pub type Op = Short<MOST_OPERATION>;
+/// An operation of 0 to 1,024 bytes, stored inline, so copying it takes no memory.
+/// Rules: Sessions 1
+pub type Op = ShortBytes<MAX_OPERATION>;
 
-/// What a port was asked last, and what came of it. It lies in place, so telling it takes no memory.
+/// The last request at a port, and its outcome. It is stored inline, so copying it takes no memory.
 ///
-/// A port notes here each submit, before it hands the call on, then the submit's refusal, if it is refused, and each
-/// poll.
+/// A port records here each submit before it passes the call on, then the refusal of a refused submit, and each poll.
+/// Rules: Clients 2
 #[derive(Clone, Copy, Debug, PartialEq, Eq)]
 pub struct Asked {
-    /// The client whose call was submitted last.
+    /// The client of the last submitted call; 0 before any submit.
     pub client: u32,
     /// The call's number; 0 before any submit.
     pub number: u64,
-    /// The call's operation; of one of more than 1,024 bytes, the first 1,024.
+    /// The call's operation; of an operation over 1,024 bytes, the first 1,024.
     pub op: Op,
-    /// The number of that submit's refusal, 1 to 15, if it was refused.
+    /// The number of that submit's refusal, 1 to 15; `None` where the submit was taken, and before any submit.
     pub refused: Option<u8>,
-    /// How many polls came since that submit. Here 2^64 - 1 stays.
+    /// The number of polls since that submit; it stays at 2^64 - 1.
     pub polls: u64,
-    /// What the last of these polls gave.
+    /// The answer that the last of these polls returned; `None` where it returned none, and before any poll.
     pub answer: Option<Answer>,
 }
 
 impl Asked {
-    /// Before any submit.
+    /// Returns the record of a port before any submit: number 0, an empty operation, no refusal and no poll.
+    /// Rules: Clients 2
     pub fn new() -> Asked
-        ensures { result ≡ unasked }
+        ensures { result ≡ new_asked }
     {
         Asked {
             client: 0,
@@ -47,29 +50,34 @@ impl Asked {
         }
     }
 
-    /// Notes that a call is submitted.
+    /// Records that a call is submitted, before the port passes it on. The call replaces that of the submit before,
+    /// whose refusal, polls and answer are forgotten. Of an operation over 1,024 bytes it keeps the first 1,024.
+    /// Rules: Clients 2
     pub fn note_submit<A: Allocator + Copy>(&mut self, call: &Call<A>)
-        ensures { self.new ≡ submitted call.now }
+        ensures { self.new ≡ asked_after_submit call.now }
     {
         let op = call.op.as_slice();
         self.client = call.client;
         self.number = call.number;
-        self.op = Op::from_slice(&op[..op.len().min(MOST_OPERATION)]);
+        self.op = Op::from_slice(&op[..op.len().min(MAX_OPERATION)]);
         self.refused = None;
         self.polls = 0;
         self.answer = None;
     }
 
-    /// Notes that the call was refused at its submit.
+    /// Records that the last submit was refused, by the number of this fault. The rest of the record stays.
+    /// Rules: Clients 2; Refusals 1
     pub fn note_refusal(&mut self, fault: Fault)
-        ensures { self.new ≡ refused_with fault self.old }
+        ensures { self.new ≡ asked_after_refusal fault self.old }
     {
         self.refused = Some(fault.number());
     }
 
-    /// Notes what a poll gives.
+    /// Records the result of a poll: the answer that it returned, or `None`. It counts the poll; the count stays at
+    /// 2^64 - 1.
+    /// Rules: Clients 2
     pub fn note_poll(&mut self, answer: Option<Answer>)
-        ensures { self.new ≡ polled answer self.old }
+        ensures { self.new ≡ asked_after_poll answer self.old }
     {
         self.polls = self.polls.saturating_add(1);
         self.answer = answer;

@@ -1,4 +1,5 @@
-//! A client, and what it does with a call.
+//! A client that numbers its calls and tries each at its ports.
+//! Rules: Clients 1, 3 to 7
 
 ghost use Rattle.std.specs.Prelude.{◌≡◌, ℕ, ◌<◌, ◌^◌, nat_lt, List, Some, None, is_some, IfOk, IfErr, if◌then◌else◌};
 ghost use Rattle.ring_payload.specs.Operations.{OpFits};
@@ -6,20 +7,22 @@ ghost use Rattle.ring_client.specs.Calling.{IsReady, IsReplied, AskingRefused, C
 ghost use Rattle.ring_client.specs.Calling.{IsRepliedWithin, AskingRefusedWithin, UntilRefused};
 
 use crate::asked::Op;
-use crate::asking::{CallOutcome, Question, ask_in_turn, reply_of};
 use crate::port::Port;
+use crate::submission::{CallOutcome, PortRequest, reply_of, submit_in_order};
 use ring_base::Fault;
 use ring_object::Reply;
-use ring_payload::MOST_OPERATION;
+use ring_payload::MAX_OPERATION;
 use std::marker::Model;
 
-/// A client, with its ports. It makes one call after the other, each under the next number, and has at most one that is
-/// open: one that no port has answered yet. Contracts see it as a `ClientOf`.
+/// A client with its ports. It makes one call after another, each under the next number.
+/// At most one call is open: one that was tried at the ports, and that none has answered yet. Contracts see a
+/// `ClientOf`.
+/// Rules: Clients 1 and 7
 #[derive(Drop)]
 pub struct Client<P: Port> {
     alloc: P::Alloc,
     client: u32,
-    /// The number of the last call that was replied, 0 if none was.
+    /// The number of the last call that got a reply; 0 if none did.
     replied: u64,
     /// The operation of the open call, if one is open.
     open_call: Option<Op>,
@@ -39,9 +42,11 @@ impl<P: Port> Model for Client<P> {
 }
 
 impl<P: Port> Client<P> {
-    /// The client of this number before its first call. It tries the ports in this order, and polls each at most `turns`
-    /// times a call: with no port, or where that is 0, no call is answered. Two clients of one number are one to the sessions of
-    /// a group, so that each is answered by the other's calls.
+    /// Returns the client of this number before its first call.
+    /// It tries the ports in this order, and polls each at most `turns` times a call. No call is answered if there is no
+    /// port or `turns` is 0. The sessions of a group treat two clients of one number as one, so one may get the answer to
+    /// the other's call.
+    /// Rules: Clients 1 and 4
     pub fn new(alloc: P::Alloc, client: u32, ports: Vec<P, P::Alloc>, turns: u64) -> Client<P>
         ensures { result ≡ record { client = client; next = 1; open_call = None; turns = turns; ports = ports.items } }
     {
@@ -55,12 +60,13 @@ impl<P: Port> Client<P> {
         }
     }
 
-    /// Makes a call under the next number, and gives its reply, which closes it and raises the number.
-    ///
-    /// Refused: `NoAnswer` where a call is open, or number 2^64 - 1 is used up; `OpTooLong` over 1,024 bytes; `Conflict`,
-    /// `Stale`, `NumberGap` or `SessionsFull` where a port told it: the call is closed, the number stays; `NoAnswer` where
-    /// no port answered: the call is open; `Memory` where a port's copy of the call can't be made: the call is open if
-    /// a port before it had one. The first two and `Memory` at the first port leave the client as it was.
+    /// Makes a call under the next number and returns its reply, which closes the call and raises the number.
+    /// Errors: `NoAnswer` where a call is open or number 2^64 - 1 is used up, then `OpTooLong` for an operation over 1,024
+    /// bytes, then `Memory` where the first port's copy of the call can't be made; the client is unchanged. `Conflict`,
+    /// `Stale`, `NumberGap` and `SessionsFull` where a port answers with that refusal; the call is closed, and the number
+    /// stays. `NoAnswer` where no port answered, and `Memory` where a later port's copy of the call can't be made; the
+    /// call is open.
+    /// Rules: Clients 3 to 5 and 7
     pub fn call(&mut self, op: &[u8]) -> Result<Reply, Fault>
         ensures ready { IfOk result (λ _. IsReady self.old × OpFits op.now) }
         ensures replied { IfOk result (IsReplied P.asked_of self.old self.new op.now) }
@@ -69,16 +75,18 @@ impl<P: Port> Client<P> {
         if self.open_call.is_some() || self.replied == u64::MAX {
             return Err(Fault::NoAnswer);
         }
-        if op.len() > MOST_OPERATION {
+        if op.len() > MAX_OPERATION {
             return Err(Fault::OpTooLong);
         }
-        self.ask_ports(Op::from_slice(op))
+        self.try_ports(Op::from_slice(op))
     }
 
-    /// Tries the open call anew, from the first port on, under the same number. Its reply closes it and raises the number.
-    ///
-    /// Refused: `NoAnswer` where no call is open; else as [`call`](Client::call), with the call open after `NoAnswer` and
-    /// `Memory`, and closed after what a port told.
+    /// Tries the open call again, from the first port on, under the same number. Its reply closes the call and raises
+    /// the number.
+    /// Errors: `NoAnswer` where no call is open, as `is_open` shows; nothing has changed. `NoAnswer` where no port
+    /// answered, and `Memory` where a port's copy of the call can't be made; the call stays open. `Conflict`, `Stale`,
+    /// `NumberGap` and `SessionsFull` where a port answers with that refusal; the call is closed, and the number stays.
+    /// Rules: Clients 5 and 6
     pub fn again(&mut self) -> Result<Reply, Fault>
         ensures replied { IfOk result (λ reply. (op : List ℕ) × (self.old.open_call ≡ Some op) × IsReplied P.asked_of self.old self.new op reply) }
         ensures refused { IfErr result (AgainRefused P.asked_of self.old self.new) }
@@ -86,14 +94,15 @@ impl<P: Port> Client<P> {
         let Some(op) = self.open_call else {
             return Err(Fault::NoAnswer);
         };
-        self.ask_ports(op)
+        self.try_ports(op)
     }
 
-    /// Makes a call as [`call`](Client::call), and where no port answered tries it anew, up to `limit` times, each time from
-    /// the first port on and under the same number, so that it takes effect once.
-    ///
-    /// Refused as `call`, with `NoAnswer` where no port answered in all these tries: then the call is open. So it is after
-    /// `Memory` in a later try.
+    /// Makes a call as [`call`](Client::call) does, and tries it again up to `limit` times while no port answers. With
+    /// `limit` 0 it is `call`.
+    /// Each try starts at the first port and uses the same number, so the call takes effect once.
+    /// Errors: as `call`. Where no port answered, `NoAnswer` comes only after all these tries, and the call is open.
+    /// After `Memory` in a later try the call is open too.
+    /// Rules: Clients 6
     pub fn until_answered(&mut self, op: &[u8], limit: u64) -> Result<Reply, Fault>
         ensures ready { IfOk result (λ _. IsReady self.old × OpFits op.now) }
         ensures replied { IfOk result (IsRepliedWithin P.asked_of limit self.old self.new op.now) }
@@ -102,34 +111,39 @@ impl<P: Port> Client<P> {
         if self.is_open() || self.replied == u64::MAX {
             return Err(Fault::NoAnswer);
         }
-        if op.len() > MOST_OPERATION {
+        if op.len() > MAX_OPERATION {
             return Err(Fault::OpTooLong);
         }
-        self.ask_often(Op::from_slice(op), limit)
+        self.retry_ports(Op::from_slice(op), limit)
     }
 
-    /// The client's number.
+    /// Returns the client's number, which each of its calls carries.
+    /// Rules: Clients 1; Sessions 1
     pub fn client(&self) -> u32
         ensures { result ≡ self.now.client }
     {
         self.client
     }
 
-    /// The number of the next call, from 1, or of the open one. None once number 2^64 - 1 is used up.
+    /// Returns the number of the next call, or of the open one, from 1. Returns `None` once number 2^64 - 1 is used up.
+    /// Rules: Clients 1 and 3
     pub fn next_number(&self) -> Option<u64>
         ensures { result ≡ (if nat_lt self.now.next (2 ^ 64) then Some self.now.next else None) }
     {
         self.replied.checked_add(1)
     }
 
-    /// Whether a call is open: `again` tries it anew, and `call` is refused.
+    /// Returns whether a call is open: the last call was tried, and no port has answered it. Then `again` tries it
+    /// again, and `call` is refused.
+    /// Rules: Clients 1, 5 and 6
     pub fn is_open(&self) -> bool
         ensures { result ≡ is_some self.now.open_call }
     {
         self.open_call.is_some()
     }
 
-    /// The ports, in the order in which they are tried.
+    /// Returns the ports, in the order in which they are tried. The `asked` of each has the last request there.
+    /// Rules: Clients 1 and 2
     pub fn ports(&self) -> &[P]
         ensures { result.now ≡ self.now.ports }
     {
@@ -138,34 +152,34 @@ impl<P: Port> Client<P> {
 }
 
 impl<P: Port> Client<P> {
-    /// Asks the ports the call of the next number with this operation, and anew, up to `limit` times, where none answers.
-    fn ask_often(&mut self, op: Op, limit: u64) -> Result<Reply, Fault>
+    /// Tries the call at the ports, and again up to `limit` times while none answers.
+    fn retry_ports(&mut self, op: Op, limit: u64) -> Result<Reply, Fault>
         requires { self.old.next < 2 ^ 64 }
         ensures replied { IfOk result (IsRepliedWithin P.asked_of limit self.old self.new op) }
         ensures refused { IfErr result (AskingRefusedWithin P.asked_of limit self.old self.new op) }
     {
         for _ in 0..limit {
-            match self.ask_ports(op) {
+            match self.try_ports(op) {
                 Err(Fault::NoAnswer) => {}
                 answer => return answer,
             }
         }
-        self.ask_ports(op)
+        self.try_ports(op)
     }
 
-    /// Asks the ports the call of the next number with this operation.
-    fn ask_ports(&mut self, op: Op) -> Result<Reply, Fault>
+    /// Tries the call of the next number with this operation at the ports.
+    fn try_ports(&mut self, op: Op) -> Result<Reply, Fault>
         requires { self.old.next < 2 ^ 64 }
         ensures replied { IfOk result (IsReplied P.asked_of self.old self.new op) }
         ensures refused { IfErr result (AskingRefused P.asked_of self.old self.new op) }
     {
-        let question = Question {
+        let request = PortRequest {
             client: self.client,
             number: self.replied + 1,
             op,
         };
-        match ask_in_turn(self.ports.as_mut_slice(), self.alloc, &question, self.turns) {
-            CallOutcome::Answered(answer) => {
+        match submit_in_order(self.ports.as_mut_slice(), self.alloc, &request, self.turns) {
+            CallOutcome::TicketAnswer(answer) => {
                 self.open_call = None;
                 let reply = reply_of(answer)?;
                 self.replied += 1;
@@ -175,8 +189,8 @@ impl<P: Port> Client<P> {
                 self.open_call = Some(op);
                 Err(Fault::NoAnswer)
             }
-            CallOutcome::Unasked => Err(Fault::Memory),
-            CallOutcome::CutOff => {
+            CallOutcome::NotSubmitted => Err(Fault::Memory),
+            CallOutcome::NoMemoryAfterSubmit => {
                 self.open_call = Some(op);
                 Err(Fault::Memory)
             }

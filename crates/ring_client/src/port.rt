@@ -1,7 +1,8 @@
-//! What a port is.
+//! The trait of ports.
+//! Rules: Clients 2
 
 ghost use Rattle.std.specs.Prelude.{◌≡◌, IfSome, IfErr, OnOk};
-ghost use Rattle.ring_client.specs.Asking.{submitted, refused_with, polled, tellable, IsTold};
+ghost use Rattle.ring_client.specs.Asking.{asked_after_submit, asked_after_refusal, asked_after_poll, client_visible, IsClientVisible};
 
 use crate::asked::Asked;
 use ring_base::Fault;
@@ -9,43 +10,51 @@ use ring_payload::Call;
 use ring_session::Answer;
 use std::alloc::Allocator;
 
-/// A way to a node: calls are submitted there, and their tickets polled for the answers.
+/// A way to a node: a client submits calls there and polls their tickets for the answers.
 ///
-/// A port tells what it was asked last. [`Asked`] notes it as the clauses want it, so that a port has to keep one and to
-/// hand each submit, refusal and poll to it.
+/// A port reports its last request. [`Asked`] records it as the contracts require: a port keeps one and passes each
+/// submit, refusal and poll to it.
+/// Rules: Clients 2
 pub trait Port: Drop {
     ghost use Rattle.ring_client.specs.declared.asked.Asked.{Asked};
 
-    /// Where the memory of the calls comes from.
+    /// The allocator of the calls.
     type Alloc: Allocator + Copy + Drop;
 
-    /// What is polled for the answer to a submitted call.
+    /// The handle that is polled for the answer to a submitted call.
     type Ticket: Drop;
 
-    /// What the port was asked last.
+    /// The last request at the port.
     ghost asked_of: { Self → Asked };
 
-    /// Submits a call, which the port copies if it takes it. It may be refused for any reason.
+    /// Submits a call, which the port copies if it takes it, and returns the ticket to poll. `asked` then has the call,
+    /// and the refusal where there is one.
+    /// Errors: any refusal, as the port has it. A client then passes on to its next port.
+    /// Rules: Clients 2 and 4
     fn submit(&mut self, call: &Call<Self::Alloc>) -> Result<Self::Ticket, Fault>
-        ensures ok { OnOk result (asked_of self.new ≡ submitted call.now) }
-        ensures refused { IfErr result (λ fault. asked_of self.new ≡ refused_with fault (submitted call.now)) };
+        ensures ok { OnOk result (asked_of self.new ≡ asked_after_submit call.now) }
+        ensures refused { IfErr result (λ fault. asked_of self.new ≡ asked_after_refusal fault (asked_after_submit call.now)) };
 
-    /// The answer to the ticket's call, if it has come. A refused call is told by a number from 4 to 7.
+    /// Returns the answer to the ticket's call, or `None` if it hasn't arrived. An `Answer::Refused` has a number from
+    /// 4 to 7. `asked` counts the poll and has its result.
+    /// Rules: Clients 2
     fn poll(&mut self, ticket: &Self::Ticket) -> Option<Answer>
-        ensures asked { asked_of self.new ≡ polled result (asked_of self.old) }
-        ensures told { IfSome result IsTold };
+        ensures asked { asked_of self.new ≡ asked_after_poll result (asked_of self.old) }
+        ensures told { IfSome result IsClientVisible };
 
-    /// What the port was asked last: the call of the last submit, that submit's refusal, the polls since, and the last
-    /// poll's answer.
+    /// Returns the last request: the call of the last submit, that submit's refusal, the number of polls since, and the
+    /// last poll's answer.
+    /// Rules: Clients 2
     fn asked(&self) -> &Asked
         ensures { result.now ≡ asked_of self.now };
 }
 
-/// The answer, if a call can have it, for a port that asks a node: `Done`, `Kept`, or `Refused` with a number from 4 to 7. A node
-/// tells no other.
-pub fn tellable(answer: Answer) -> Option<Answer>
-    ensures value { result ≡ tellable answer }
-    ensures told { IfSome result IsTold }
+/// Returns the answer if a call can have it, else `None`: a call can have `Done`, `Kept`, or `Refused` with a number
+/// from 4 to 7. A node gives no other answer; a port that polls a node uses this to prove it.
+/// Rules: Clients 2; Sessions 3
+pub fn client_visible(answer: Answer) -> Option<Answer>
+    ensures value { result ≡ client_visible answer }
+    ensures told { IfSome result IsClientVisible }
 {
     match answer {
         Answer::Done(_) | Answer::Kept(_) => Some(answer),

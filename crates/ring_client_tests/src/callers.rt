@@ -1,9 +1,10 @@
-//! With what a run of callers is refused, and that no caller has called then.
+//! The refusals of a run of callers, and that no caller makes a call then.
+//! Rules: The book and the threads 28; Refusals 4
 
-use refusing_alloc::Refusing;
+use refusing_alloc::RefusingHeap;
 use ring_base::{Fault, Fixed};
-use ring_callers::{Caller, run_callers};
 use ring_client::{Client, Port};
+use ring_client_threads::{Caller, run_callers};
 use ring_object::Object;
 use ring_things::Counters;
 use std::alloc::{Allocator, Global};
@@ -11,7 +12,7 @@ use std::sync::Wait;
 use std::sync::atomic::{AtomicBool, Ordering};
 use std::thread::Threads;
 
-/// A client that makes no calls: the node that it would try first, and whether it was let make some.
+/// A client that makes no calls: the node that it would try first, and whether `make_calls` was called.
 #[derive(Drop)]
 struct Silent {
     first: u8,
@@ -30,10 +31,10 @@ impl Caller for Silent {
     }
 }
 
-/// What a run answers, how many calls or a refusal, and whether a caller was let make calls.
+/// The result of a run, as its number of calls or a refusal, and whether `make_calls` of a caller was called.
 type Seen = (Result<usize, Fault>, bool);
 
-/// How many calls were made in a run of a group, of whose nodes these have stopped, with these clients; or with what it is refused.
+/// Runs these clients over a group of which the nodes in `stopped` are stopped. Returns the number of calls made.
 fn calls_of<O: Object + Send, W: Threads + Wait + Sync>(
     rt: &W,
     alloc: O::Alloc,
@@ -50,7 +51,7 @@ where
     Ok(count)
 }
 
-/// Whether one of the clients was let make calls.
+/// Returns whether `make_calls` of one of the clients was called.
 fn is_any_let(callers: &[Silent]) -> bool {
     let mut is = false;
     for caller in callers {
@@ -59,7 +60,7 @@ fn is_any_let(callers: &[Silent]) -> bool {
     is
 }
 
-/// What is seen of such a run of so many nodes with counters, which take their memory from this allocator.
+/// Returns the result of such a run of `nodes` nodes with counters, whose memory is in `alloc`.
 fn run_of<A: Allocator + Copy + Drop + Send + Sync, W: Threads + Wait + Sync>(
     rt: &W,
     alloc: A,
@@ -72,7 +73,7 @@ fn run_of<A: Allocator + Copy + Drop + Send + Sync, W: Threads + Wait + Sync>(
     Ok((answered, is_any_let(callers)))
 }
 
-/// Clients with these first nodes.
+/// Returns clients with these first nodes.
 fn clients(alloc: Global, firsts: &[u8]) -> Result<Vec<Silent>, Fault> {
     let mut callers = Vec::new(alloc);
     for first in firsts {
@@ -84,7 +85,7 @@ fn clients(alloc: Global, firsts: &[u8]) -> Result<Vec<Silent>, Fault> {
     Ok(callers)
 }
 
-/// The same of clients with these first nodes.
+/// Returns the result of a run of clients with these first nodes.
 fn seen<W: Threads + Wait + Sync>(
     rt: &W,
     alloc: Global,
@@ -115,7 +116,7 @@ fn numbers_that_are_of_no_node_and_those_that_stand_twice(rt: HostRuntime) {
     }
 }
 
-/// What is seen of a node with 257 clients, and of 16 nodes with 17 and with 16.
+/// Returns the results of one node with 257 clients, and of 16 nodes with 17 and with 16.
 fn with_ports<W: Threads + Wait + Sync>(rt: &W, alloc: Global) -> [Result<Seen, Fault>; 3] {
     [
         seen(rt, alloc, 1, &[], &[1; 257]),
@@ -130,14 +131,15 @@ fn more_than_256_ports(rt: HostRuntime) {
     assert!(rt; with_ports(&rt, rt.alloc()) == [refused, refused, Ok((Ok(0), true))]);
 }
 
-/// What is seen where the first request for memory is refused, of three nodes and a client, and whether any request was made.
+/// Returns the result of three nodes and a client where the first request for memory is refused, and whether any request
+/// was made.
 fn without_memory<W: Threads + Wait + Sync>(
     rt: &W,
     alloc: Global,
     stopped: &[u8],
 ) -> Result<(Seen, bool), Fault> {
     let callers = clients(alloc, &[1])?;
-    let heap = Refusing::new(alloc, 0);
+    let heap = RefusingHeap::new(alloc, 0);
     let seen = run_of(rt, &heap, 3, stopped, callers.as_slice())?;
     Ok((seen, heap.requests() > 0))
 }

@@ -1,6 +1,6 @@
-//! What no contract of the client says: that a port is asked once a call, worked runs over ports that are scripted and
-//! over nodes of rings of one, and that a request for memory which is refused is answered as such. And that a run of callers is refused
-//! where the rules say, with the right one of several refusals, and before any caller calls.
+//! Tests of what the contracts of the client don't state: that a port is asked once a call, worked runs over scripted
+//! ports, and that a refused request for memory is reported as such. They also check the refusals of a run of callers, which
+//! of several refusals comes, and that no caller makes a call before them. Clients of nodes are in `ring_world_port_tests`.
 #![tactic(auto)]
 
 #[cfg(test)]
@@ -9,8 +9,6 @@ mod asked;
 mod callers;
 #[cfg(test)]
 mod memory;
-#[cfg(test)]
-mod nodes;
 #[cfg(test)]
 mod scripted;
 #[cfg(test)]

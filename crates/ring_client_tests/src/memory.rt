@@ -1,7 +1,8 @@
-//! Each request for memory of a call refused in turn.
+//! Refuses each request for memory of a call in turn.
+//! Rules: Clients 5; Refusals 3 and 5
 
 use crate::scripted::{Behaviour, client_of};
-use refusing_alloc::Refusing;
+use refusing_alloc::RefusingHeap;
 use ring_base::Fault;
 use ring_client::{Client, Port};
 use ring_object::Reply;
@@ -9,12 +10,12 @@ use ring_session::Answer;
 use std::alloc::{Allocator, Global};
 use std::test::Fail;
 
-/// The reply that the third port gives.
+/// Returns the reply that the third port gives.
 fn replied() -> Reply {
     Reply::from_slice(&[5])
 }
 
-/// What three ports do, of which the last answers.
+/// Returns the behaviour of three ports, of which the last answers.
 fn ports() -> [Behaviour; 3] {
     [
         Behaviour::IsSilent,
@@ -23,7 +24,7 @@ fn ports() -> [Behaviour; 3] {
     ]
 }
 
-/// How many ports were submitted a call at.
+/// Returns the number of ports at which a call was submitted.
 fn asked_ports<P: Port>(client: &Client<P>) -> usize {
     client
         .ports()
@@ -32,7 +33,7 @@ fn asked_ports<P: Port>(client: &Client<P>) -> usize {
         .count()
 }
 
-/// What a client is told that calls, or tries its open call again.
+/// Makes a call, or tries the open call again, and returns its result.
 fn called<P: Port>(client: &mut Client<P>) -> Result<Reply, Fault> {
     if client.is_open() {
         client.again()
@@ -41,11 +42,11 @@ fn called<P: Port>(client: &mut Client<P>) -> Result<Reply, Fault> {
     }
 }
 
-/// How many requests for memory a port's call makes: its bytes, and the count of those who share them.
+/// The number of requests for memory for one port's call: its bytes, and its reference count.
 const A_CALL: u64 = 2;
 
-/// Whether a call whose copy for one port is refused memory, after so many requests, leaves the client as it was where it is the
-/// first port's, else leaves the call open, and is answered when it is tried again.
+/// Returns whether a call whose copy for one port is refused memory, after `passed` requests, is handled correctly. At the
+/// first port the client is unchanged; at a later port the call is open. A second try is answered.
 fn is_refused_once<P: Port>(client: &mut Client<P>, passed: u64) -> bool {
     let asked = passed / A_CALL;
     let is_refused = called(client) == Err(Fault::Memory) && asked_ports(client) as u64 == asked;
@@ -54,7 +55,7 @@ fn is_refused_once<P: Port>(client: &mut Client<P>, passed: u64) -> bool {
     is_refused && is_kept && is_replied
 }
 
-/// The same of a new client, whose calls have their memory in `heap`.
+/// Returns this for a new client whose calls have their memory in `heap`.
 fn is_new_refused<A: Allocator + Copy + Drop>(
     heap: A,
     ample: A,
@@ -66,14 +67,14 @@ fn is_new_refused<A: Allocator + Copy + Drop>(
     Ok(is_refused)
 }
 
-/// The same of one to whom the request after so many is refused.
+/// Returns this for a client that is refused the request after `passed` others.
 fn is_refused(alloc: Global, passed: u64) -> Result<bool, Fault> {
-    let ample = Refusing::new(alloc, u64::MAX);
-    let heap = Refusing::new(alloc, passed);
+    let ample = RefusingHeap::new(alloc, u64::MAX);
+    let heap = RefusingHeap::new(alloc, passed);
     is_new_refused(&heap, &ample, passed)
 }
 
-/// What the call of a new client is answered, whose calls have their memory in `heap`.
+/// Returns the result of a call of a new client whose calls have their memory in `heap`.
 fn answered<A: Allocator + Copy + Drop>(heap: A, ample: A) -> Result<Reply, Fault> {
     let mut client = client_of(heap, ample, &ports(), 2)?;
     let answer = called(&mut client);
@@ -81,15 +82,15 @@ fn answered<A: Allocator + Copy + Drop>(heap: A, ample: A) -> Result<Reply, Faul
     answer
 }
 
-/// How many requests for memory a call makes that isn't refused any, and what it is answered.
+/// Returns the number of requests for memory of a call without refusals, and its result.
 fn requests(alloc: Global) -> (u64, Result<Reply, Fault>) {
-    let ample = Refusing::new(alloc, u64::MAX);
-    let heap = Refusing::new(alloc, u64::MAX);
+    let ample = RefusingHeap::new(alloc, u64::MAX);
+    let heap = RefusingHeap::new(alloc, u64::MAX);
     let answer = answered(&heap, &ample);
     (heap.requests(), answer)
 }
 
-/// Each port's call takes memory of its own.
+/// Each port's call takes memory.
 #[test]
 fn each_request_is_refused_in_turn(rt: HostRuntime) -> Result<(), Fail> {
     for passed in 0..3 * A_CALL {

@@ -1,9 +1,9 @@
-//! A port that does what it is told beforehand, and lists its submits.
+//! A port with a scripted behaviour, which lists its submits.
 
 ghost use Rattle.std.specs.Prelude.{◌≡◌, IfSome};
-ghost use Rattle.ring_client.specs.Asking.{IsTold};
+ghost use Rattle.ring_client.specs.Asking.{IsClientVisible};
 
-use ring_base::{Fault, paired};
+use ring_base::{Fault, pair_result};
 use ring_client::{Asked, Client, Port};
 use ring_payload::Call;
 use ring_session::Answer;
@@ -16,13 +16,13 @@ pub enum Behaviour {
     Refuses(Fault),
     /// It never answers.
     IsSilent,
-    /// It is silent at so many polls, and then gives this answer.
+    /// It gives no answer at this number of polls, and then this answer.
     AnswersAfter(u64, Answer),
 }
 
-/// The answer, if a call can have it.
-pub fn told(answer: Answer) -> Option<Answer>
-    ensures { IfSome result IsTold }
+/// Returns the answer, if a call can have it: `Done`, `Kept`, or `Refused` with a number from 4 to 7.
+fn told(answer: Answer) -> Option<Answer>
+    ensures { IfSome result IsClientVisible }
 {
     match answer {
         Answer::Done(_) | Answer::Kept(_) => Some(answer),
@@ -36,9 +36,9 @@ pub fn told(answer: Answer) -> Option<Answer>
     }
 }
 
-/// What a port that behaves so gives at a poll, after so many since the submit.
+/// Returns the result of a poll at a port of this behaviour, after `polls` polls since the submit.
 fn answer_of(behaviour: &Behaviour, polls: u64) -> Option<Answer>
-    ensures { IfSome result IsTold }
+    ensures { IfSome result IsClientVisible }
 {
     match behaviour {
         Behaviour::AnswersAfter(silent, answer) => {
@@ -52,7 +52,7 @@ fn answer_of(behaviour: &Behaviour, polls: u64) -> Option<Answer>
     }
 }
 
-/// Whether a port that behaves so takes a call.
+/// Accepts a call at a port of this behaviour, or returns its refusal.
 fn takes(behaviour: &Behaviour) -> Result<(), Fault> {
     match behaviour {
         Behaviour::Refuses(fault) => Err(*fault),
@@ -60,7 +60,7 @@ fn takes(behaviour: &Behaviour) -> Result<(), Fault> {
     }
 }
 
-/// A port that behaves so.
+/// A port of this behaviour.
 #[derive(Drop)]
 pub struct Scripted<A: Allocator + Copy + Drop> {
     behaviour: Behaviour,
@@ -70,7 +70,7 @@ pub struct Scripted<A: Allocator + Copy + Drop> {
 }
 
 impl<A: Allocator + Copy + Drop> Scripted<A> {
-    /// The port, whose list of submits has its memory in `ample`.
+    /// Returns the port, whose list of submits has its memory in `ample`.
     pub fn new(ample: A, behaviour: Behaviour) -> Scripted<A> {
         Scripted {
             behaviour,
@@ -116,7 +116,7 @@ impl<A: Allocator + Copy + Drop> Port for Scripted<A> {
     }
 }
 
-/// Adds a port for each of these.
+/// Adds a port for each of these behaviours.
 fn add_ports<A: Allocator + Copy + Drop>(
     ample: A,
     ports: &mut Vec<Scripted<A>, A>,
@@ -128,7 +128,9 @@ fn add_ports<A: Allocator + Copy + Drop>(
     Ok(())
 }
 
-/// Client 7, whose calls have their memory in `heap`, with a port for each of these, which it polls at most so often.
+/// Returns client 7 with a port for each of these behaviours. Its calls have their memory in `heap`, and it polls each
+/// port at most `turns` times a call.
+/// Errors: `Memory`.
 pub fn client_of<A: Allocator + Copy + Drop>(
     heap: A,
     ample: A,
@@ -137,6 +139,6 @@ pub fn client_of<A: Allocator + Copy + Drop>(
 ) -> Result<Client<Scripted<A>>, Fault> {
     let mut ports = Vec::new(ample);
     let added = add_ports(ample, &mut ports, behaviours);
-    let (ports, ()) = paired(ports, added)?;
+    let (ports, ()) = pair_result(ports, added)?;
     Ok(Client::new(heap, 7, ports, turns))
 }

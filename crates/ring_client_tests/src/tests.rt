@@ -1,4 +1,5 @@
 //! Worked runs over scripted ports.
+//! Rules: Clients 2 to 7
 
 use crate::asked::{Told, tell};
 use crate::scripted::{Behaviour, Scripted, client_of};
@@ -10,53 +11,53 @@ use ring_session::Answer;
 use std::alloc::Allocator;
 use std::test::Fail;
 
-/// The reply of this byte.
+/// Returns the reply of this byte.
 fn reply(byte: u8) -> Reply {
     Reply::from_slice(&[byte])
 }
 
-/// What a port does that answers at the first poll.
+/// Returns the behaviour of a port that answers at the first poll.
 fn answers_at_once() -> Behaviour {
     Behaviour::AnswersAfter(0, Answer::Done(reply(1)))
 }
 
-/// What a client does.
+/// An action of a client.
 #[derive(Clone, Copy)]
-enum Deed {
+enum ClientAct {
     Call(&'static [u8]),
     Again,
-    /// A call that is tried anew up to so many times.
+    /// A call that is tried again up to this number of times.
     UntilAnswered(&'static [u8], u64),
 }
 
-/// The reply, or the refusal.
-fn done<P: Port>(client: &mut Client<P>, deed: Deed) -> Result<Reply, Fault> {
+/// Does the action, and returns the reply or the refusal.
+fn done<P: Port>(client: &mut Client<P>, deed: ClientAct) -> Result<Reply, Fault> {
     match deed {
-        Deed::Call(op) => client.call(op),
-        Deed::Again => client.again(),
-        Deed::UntilAnswered(op, limit) => client.until_answered(op, limit),
+        ClientAct::Call(op) => client.call(op),
+        ClientAct::Again => client.again(),
+        ClientAct::UntilAnswered(op, limit) => client.until_answered(op, limit),
     }
 }
 
-/// A step of a run: what a client does, or what is seen of it.
+/// A step of a run: an action of a client, or a check of its state.
 #[derive(Clone, Copy)]
 enum Step<'a> {
-    /// What it does, the byte that it is replied or why it is refused, and its next number and whether a call is open then.
-    Does(Deed, Result<u8, Fault>, u64, bool),
-    /// Its next number.
+    /// An action, the byte of its reply or its refusal, and the next number and whether a call is open afterwards.
+    Does(ClientAct, Result<u8, Fault>, u64, bool),
+    /// The next number.
     Next(u64),
-    /// What its ports tell.
+    /// The last submits of its ports.
     Tell(&'a [Told]),
-    /// The numbers of the calls that each of its ports was submitted, in order; all are client 7's.
+    /// The numbers of the calls that were submitted at each of its ports, in order; all are client 7's.
     Submitted(&'a [&'a [u64]]),
-    /// The operation that each of its ports was handed last.
+    /// The operation of the last submit at each of its ports.
     Handed(&'a [u8]),
 }
 
-/// Whether a client that does this comes to this.
+/// Returns whether the action has this result and this effect on the client.
 fn does<P: Port>(
     client: &mut Client<P>,
-    deed: Deed,
+    deed: ClientAct,
     want: Result<u8, Fault>,
     number: u64,
     is_open: bool,
@@ -65,7 +66,7 @@ fn does<P: Port>(
     is_done && client.next_number() == Some(number) && client.is_open() == is_open
 }
 
-/// Whether these are client 7's calls of these numbers.
+/// Returns whether these are client 7's calls of these numbers.
 fn are_calls(calls: &[(u32, u64)], numbers: &[u64]) -> bool {
     let mut are = calls.len() == numbers.len();
     for (call, number) in calls.iter().zip(numbers) {
@@ -74,7 +75,7 @@ fn are_calls(calls: &[(u32, u64)], numbers: &[u64]) -> bool {
     are
 }
 
-/// Whether the ports were submitted just these calls.
+/// Returns whether exactly these calls were submitted at the ports.
 fn were_submitted<A: Allocator + Copy + Drop>(
     client: &Client<Scripted<A>>,
     want: &[&[u64]],
@@ -86,7 +87,7 @@ fn were_submitted<A: Allocator + Copy + Drop>(
     were
 }
 
-/// Whether each port was handed this operation last.
+/// Returns whether each port was given this operation last.
 fn have_operation<P: Port>(client: &Client<P>, op: &[u8]) -> bool {
     let mut have = true;
     for port in client.ports() {
@@ -95,7 +96,7 @@ fn have_operation<P: Port>(client: &Client<P>, op: &[u8]) -> bool {
     have
 }
 
-/// Whether this step is so.
+/// Returns whether this step holds.
 fn is_so<A: Allocator + Copy + Drop>(client: &mut Client<Scripted<A>>, step: Step<'_>) -> bool {
     match step {
         Step::Does(deed, want, number, is_open) => does(client, deed, want, number, is_open),
@@ -106,7 +107,7 @@ fn is_so<A: Allocator + Copy + Drop>(client: &mut Client<Scripted<A>>, step: Ste
     }
 }
 
-/// Whether all these steps are so, one after another.
+/// Returns whether all these steps hold, one after another.
 fn are_so<A: Allocator + Copy + Drop>(
     client: &mut Client<Scripted<A>>,
     steps: &[Step<'_>],
@@ -118,7 +119,8 @@ fn are_so<A: Allocator + Copy + Drop>(
     are
 }
 
-/// Whether client 7 runs so over ports with ample memory, each of which it polls at most so often.
+/// Returns whether these steps hold for client 7 over these ports with ample memory. It polls each at most `turns` times a
+/// call.
 fn runs<A: Allocator + Copy + Drop>(
     alloc: A,
     ports: &[Behaviour],
@@ -131,7 +133,7 @@ fn runs<A: Allocator + Copy + Drop>(
     Ok(are_so)
 }
 
-/// The first port refuses, the second answers at the third poll. The next call has number 2.
+/// The first port refuses, and the second answers at the third poll. The next call has number 2.
 #[test]
 fn a_refused_submit_is_passed_over(rt: HostRuntime) -> Result<(), Fail> {
     let five = Answer::Done(reply(5));
@@ -141,27 +143,27 @@ fn a_refused_submit_is_passed_over(rt: HostRuntime) -> Result<(), Fail> {
     ];
     let told = [(1, Some(8), 0, None), (1, None, 3, Some(five))];
     let steps = [
-        Step::Does(Deed::Call(b"a"), Ok(5), 2, false),
+        Step::Does(ClientAct::Call(b"a"), Ok(5), 2, false),
         Step::Tell(&told),
-        Step::Does(Deed::Call(b"b"), Ok(5), 3, false),
+        Step::Does(ClientAct::Call(b"b"), Ok(5), 3, false),
         Step::Submitted(&[&[], &[1, 2]]),
     ];
     assert!(rt; runs(rt.alloc(), &ports, 3, &steps)?);
     Ok(())
 }
 
-/// Two ports that never answer are polled three times each. Then the call is open: another is refused at once, and
-/// `again` submits the same call anew.
+/// Two ports that never answer are polled three times each. Then the call is open: another is refused at once, and `again`
+/// submits the same call again.
 #[test]
 fn an_unanswered_call_stays_open(rt: HostRuntime) -> Result<(), Fail> {
     let ports = [Behaviour::IsSilent, Behaviour::IsSilent];
     let unanswered = Err(Fault::NoAnswer);
     let steps = [
-        Step::Does(Deed::Call(b"a"), unanswered, 1, true),
+        Step::Does(ClientAct::Call(b"a"), unanswered, 1, true),
         Step::Tell(&[(1, None, 3, None), (1, None, 3, None)]),
-        Step::Does(Deed::Call(b"b"), unanswered, 1, true),
+        Step::Does(ClientAct::Call(b"b"), unanswered, 1, true),
         Step::Submitted(&[&[1], &[1]]),
-        Step::Does(Deed::Again, unanswered, 1, true),
+        Step::Does(ClientAct::Again, unanswered, 1, true),
         Step::Submitted(&[&[1, 1], &[1, 1]]),
         Step::Handed(b"a"),
     ];
@@ -169,18 +171,23 @@ fn an_unanswered_call_stays_open(rt: HostRuntime) -> Result<(), Fail> {
     Ok(())
 }
 
-/// A call that is tried until it is answered is submitted once, and as often again as it may be tried anew.
+/// A call that is tried until it is answered is submitted once, and then once for each further try.
 #[test]
 fn a_call_is_tried_anew_so_often(rt: HostRuntime) -> Result<(), Fail> {
     let steps = [
-        Step::Does(Deed::UntilAnswered(b"a", 2), Err(Fault::NoAnswer), 1, true),
+        Step::Does(
+            ClientAct::UntilAnswered(b"a", 2),
+            Err(Fault::NoAnswer),
+            1,
+            true,
+        ),
         Step::Submitted(&[&[1, 1, 1]]),
     ];
     assert!(rt; runs(rt.alloc(), &[Behaviour::IsSilent], 1, &steps)?);
     Ok(())
 }
 
-/// Whether the call of this number is answered by the third of four ports.
+/// Returns whether the third of four ports answers the call of this number.
 fn third_answers<A: Allocator + Copy + Drop>(
     client: &mut Client<Scripted<A>>,
     number: u64,
@@ -194,13 +201,13 @@ fn third_answers<A: Allocator + Copy + Drop>(
     ];
     let steps = [
         Step::Next(number),
-        Step::Does(Deed::Call(&[]), Ok(9), number.saturating_add(1), false),
+        Step::Does(ClientAct::Call(&[]), Ok(9), number.saturating_add(1), false),
         Step::Tell(&told),
     ];
     are_so(client, &steps)
 }
 
-/// Whether three calls are, one after another.
+/// Returns whether this holds for three calls, one after another.
 fn third_answers_thrice<A: Allocator + Copy + Drop>(client: &mut Client<Scripted<A>>) -> bool {
     let mut are = true;
     for number in 1..4u64 {
@@ -209,7 +216,8 @@ fn third_answers_thrice<A: Allocator + Copy + Drop>(client: &mut Client<Scripted
     are
 }
 
-/// Whether three calls of a client are, and were submitted at the ports before the fourth once each, where not refused.
+/// Returns whether this holds for three calls of a client, and each was submitted once at each port before the fourth that
+/// doesn't refuse.
 fn asks_each_once<A: Allocator + Copy + Drop>(alloc: A) -> Result<bool, Fault> {
     let ports = [
         Behaviour::Refuses(Fault::PendingFull),
@@ -224,14 +232,14 @@ fn asks_each_once<A: Allocator + Copy + Drop>(alloc: A) -> Result<bool, Fault> {
     Ok(answers)
 }
 
-/// A refusing, a silent and an answering port, and one behind them that isn't asked.
+/// A refusing, a silent and an answering port, and one after them that isn't asked.
 #[test]
 fn each_port_is_asked_once_a_call(rt: HostRuntime) -> Result<(), Fail> {
     assert!(rt; asks_each_once(rt.alloc())?);
     Ok(())
 }
 
-/// Whether a call is closed where the first of two ports tells this refusal, twice.
+/// Returns whether a call is closed where the first of two ports answers with this refusal, twice.
 fn is_closed<A: Allocator + Copy + Drop>(
     alloc: A,
     number: u8,
@@ -242,16 +250,16 @@ fn is_closed<A: Allocator + Copy + Drop>(
         Behaviour::IsSilent,
     ];
     let steps = [
-        Step::Does(Deed::Call(b"a"), Err(fault), 1, false),
-        Step::Does(Deed::Again, Err(Fault::NoAnswer), 1, false),
-        Step::Does(Deed::Call(b"a"), Err(fault), 1, false),
-        Step::Does(Deed::Again, Err(Fault::NoAnswer), 1, false),
+        Step::Does(ClientAct::Call(b"a"), Err(fault), 1, false),
+        Step::Does(ClientAct::Again, Err(Fault::NoAnswer), 1, false),
+        Step::Does(ClientAct::Call(b"a"), Err(fault), 1, false),
+        Step::Does(ClientAct::Again, Err(Fault::NoAnswer), 1, false),
         Step::Submitted(&[&[1, 1], &[]]),
     ];
     runs(alloc, &ports, 1, &steps)
 }
 
-/// A refusal that a port tells closes the call. The next call has the same number.
+/// A refusal in an answer closes the call. The next call has the same number.
 #[test]
 fn a_told_refusal_closes_the_call(rt: HostRuntime) -> Result<(), Fail> {
     for (number, fault) in [
@@ -265,25 +273,25 @@ fn a_told_refusal_closes_the_call(rt: HostRuntime) -> Result<(), Fail> {
     Ok(())
 }
 
-/// With no ports and with no open call.
+/// There is no port, and no open call.
 #[test]
 fn no_port_is_asked(rt: HostRuntime) -> Result<(), Fail> {
     let steps = [
-        Step::Does(Deed::Again, Err(Fault::NoAnswer), 1, false),
-        Step::Does(Deed::Call(b"a"), Err(Fault::NoAnswer), 1, true),
-        Step::Does(Deed::Again, Err(Fault::NoAnswer), 1, true),
+        Step::Does(ClientAct::Again, Err(Fault::NoAnswer), 1, false),
+        Step::Does(ClientAct::Call(b"a"), Err(Fault::NoAnswer), 1, true),
+        Step::Does(ClientAct::Again, Err(Fault::NoAnswer), 1, true),
     ];
     assert!(rt; runs(rt.alloc(), &[], 3, &steps)?);
     Ok(())
 }
 
-/// With no turns.
+/// The client polls no port.
 #[test]
 fn a_port_is_not_polled(rt: HostRuntime) -> Result<(), Fail> {
     let steps = [
-        Step::Does(Deed::Again, Err(Fault::NoAnswer), 1, false),
+        Step::Does(ClientAct::Again, Err(Fault::NoAnswer), 1, false),
         Step::Submitted(&[&[]]),
-        Step::Does(Deed::Call(b"a"), Err(Fault::NoAnswer), 1, true),
+        Step::Does(ClientAct::Call(b"a"), Err(Fault::NoAnswer), 1, true),
         Step::Tell(&[(1, None, 0, None)]),
     ];
     assert!(rt; runs(rt.alloc(), &[answers_at_once()], 0, &steps)?);
@@ -293,16 +301,16 @@ fn a_port_is_not_polled(rt: HostRuntime) -> Result<(), Fail> {
 #[test]
 fn an_operation_has_at_most_1024_bytes(rt: HostRuntime) -> Result<(), Fail> {
     let steps = [
-        Step::Does(Deed::Call(&[7; 1025]), Err(Fault::OpTooLong), 1, false),
+        Step::Does(ClientAct::Call(&[7; 1025]), Err(Fault::OpTooLong), 1, false),
         Step::Submitted(&[&[]]),
-        Step::Does(Deed::Call(&[7; 1024]), Ok(1), 2, false),
+        Step::Does(ClientAct::Call(&[7; 1024]), Ok(1), 2, false),
         Step::Submitted(&[&[1]]),
     ];
     assert!(rt; runs(rt.alloc(), &[answers_at_once()], 1, &steps)?);
     Ok(())
 }
 
-/// What is noted of a call of this operation.
+/// Returns the record of a submitted call of this operation.
 fn noted<A: Allocator + Copy>(alloc: A, op: &[u8]) -> Result<Asked, Fault> {
     let mut asked = Asked::new();
     let call = Call {
@@ -314,7 +322,7 @@ fn noted<A: Allocator + Copy>(alloc: A, op: &[u8]) -> Result<Asked, Fault> {
     Ok(asked)
 }
 
-/// How many polls are noted after each of two more.
+/// Returns the number of recorded polls after each of two more.
 fn noted_polls(asked: &mut Asked) -> (u64, u64) {
     asked.note_poll(None);
     let first = asked.polls;
@@ -322,7 +330,7 @@ fn noted_polls(asked: &mut Asked) -> (u64, u64) {
     (first, asked.polls)
 }
 
-/// What is noted of a call whose operation is too long, and of polls that can't be counted.
+/// The record of a call whose operation is too long, and of more polls than can be counted.
 #[test]
 fn what_asked_has_no_room_for(rt: HostRuntime) -> Result<(), Fail> {
     let mut asked = noted(rt.alloc(), &[3; 2000])?;

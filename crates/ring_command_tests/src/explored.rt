@@ -1,14 +1,15 @@
-//! What is explored.
+//! Tests of `explore`.
+//! Formats: The command line
 
 use ring_explore::{ExplorePlan, explore};
-use ring_script_maker::made_script;
+use ring_script_generator::generate_script;
 use ring_sweep::script;
 use std::alloc::{AllocError, Global};
 use std::test::Fail;
 use std::thread::Threads;
 use std::time::Clock;
 
-/// What is printed of what is explored, by so many threads.
+/// Returns the output of `explore` with this number of threads: empty where it fails.
 fn printed<R: AllocGlobal + Threads + Clock + Sync>(
     rt: &R,
     plan: ExplorePlan<'_>,
@@ -46,7 +47,7 @@ fn threads_change_nothing(rt: HostRuntime) {
     }
 }
 
-/// How many answers are printed of a script.
+/// Returns the number of answers that a script prints.
 fn answers(alloc: Global, text: &str) -> usize {
     let mut out = Vec::new(alloc);
     let mut err = Vec::new(alloc);
@@ -55,15 +56,15 @@ fn answers(alloc: Global, text: &str) -> usize {
     printed.as_str().matches("reply ").count()
 }
 
-/// What must be printed of one seed with this script, of its calls and answers.
+/// Returns the expected totals of calls and answers for a seed with this script.
 fn told_of(alloc: Global, text: &str) -> Result<String, AllocError> {
     let calls = text.matches("\ncall ").count();
     let answered = answers(alloc, text);
     format!(in alloc; "\ncalls {calls}\nanswered {answered}\nrings ")
 }
 
-/// A seed has the script that is made of the same numbers: as many calls as it has, and as many answers as are printed of it. In it
-/// rings are installed.
+/// Exploring one seed runs the generated script of the same numbers: it counts that script's calls and printed answers, and
+/// installs rings.
 #[test]
 fn a_seed_has_its_own_script(rt: HostRuntime) -> Result<(), Fail> {
     for seed in [3, 7] {
@@ -73,7 +74,7 @@ fn a_seed_has_its_own_script(rt: HostRuntime) -> Result<(), Fail> {
             last: seed,
             lines: 300,
         };
-        let text = made_script(rt.alloc(), plan.votes, seed, plan.lines)?;
+        let text = generate_script(rt.alloc(), plan.votes, seed, plan.lines)?;
         let told = told_of(rt.alloc(), text.as_str())?;
         let shown = String::from_utf8(printed(&rt, plan, 1)).unwrap_or(String::new(rt.alloc()));
         let shown = shown.as_str();

@@ -1,4 +1,5 @@
-//! The records that a node tells, one after the other.
+//! A node's output records.
+//! Formats: Records
 
 /// A record: its kind and its bytes.
 #[derive(Clone, Copy)]
@@ -7,7 +8,7 @@ pub(crate) struct Record<'a> {
     pub(crate) bytes: &'a [u8],
 }
 
-/// The first record of these bytes, and what stands behind it. None where no whole record stands there.
+/// Splits off the first record, and returns it with the rest: `None` where there is no whole record.
 pub(crate) fn first_record(told: &[u8]) -> Option<(Record<'_>, &[u8])> {
     if told.len() < 3 {
         return None;
@@ -23,8 +24,8 @@ pub(crate) fn first_record(told: &[u8]) -> Option<(Record<'_>, &[u8])> {
     Some((record, &told[end..]))
 }
 
-/// The number that so many bytes at the front spell, the greatest digit first, and the bytes behind them. Of fewer bytes, the
-/// number of those.
+/// Splits off the big-endian number in the first `count` bytes, and returns it with the rest. Where there are fewer bytes, the
+/// number has all of them.
 pub(crate) fn first_number(bytes: &[u8], count: usize) -> (u64, &[u8]) {
     let (front, behind) = bytes.split_at(bytes.len().min(count));
     let mut number = 0u64;

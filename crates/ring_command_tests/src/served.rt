@@ -1,35 +1,35 @@
-//! A node that takes the records of some bytes.
+//! A node that serves the records of some bytes.
 
 use ring_base::{Fault, Fixed};
 use ring_object::Object;
-use ring_pipe::serve;
+use ring_record_node::serve;
 use std::alloc::Allocator;
 
-/// What a node wrote on standard output and on standard error, and the exit status.
+/// The standard output and standard error of a node, and its exit status.
 #[derive(Drop)]
-pub(crate) struct Written<A: Allocator + Copy + Drop> {
+pub(crate) struct ServedOutput<A: Allocator + Copy + Drop> {
     pub(crate) out: Vec<u8, A>,
     pub(crate) err: Vec<u8, A>,
     pub(crate) status: u8,
 }
 
-/// What the processor of this number writes where its memory comes from `heap`. What it writes on takes none of it.
+/// Runs `serve` for this processor, with its memory from `heap`. The memory of its outputs is from `ample`.
 pub(crate) fn served_on<O: Object, A: Allocator + Copy + Drop>(
     ample: A,
     heap: O::Alloc,
     fixed: Fixed,
     me: u8,
     input: &[u8],
-) -> Written<A> {
+) -> ServedOutput<A> {
     let mut input = input;
     let mut out = Vec::new(ample);
     let mut err = Vec::new(ample);
     let status = serve::<O, _, _, _>(heap, fixed, me, &mut input, &mut out, &mut err);
-    Written { out, err, status }
+    ServedOutput { out, err, status }
 }
 
-/// Whether the node of a group of one writes this on standard output and this line, or nothing, on standard error, and ends with
-/// this exit status.
+/// Whether the node of a group of one writes this on standard output and this line, or nothing, on standard error, and ends
+/// with this exit status.
 pub(crate) fn serves<O: Object>(
     alloc: O::Alloc,
     input: &[u8],

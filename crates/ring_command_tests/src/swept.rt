@@ -1,15 +1,16 @@
-//! A sweep by several threads.
+//! Sweeps with several threads.
+//! Formats: The command line
 
 use ring_sweep::sweep_by_threads;
 use std::test::Fail;
 use std::thread::Threads;
 use std::time::Clock;
 
-/// A node alone forms its ring, and answers a call.
+/// A single node forms its ring, and answers a call.
 const FIRST_REPLY: &[u8] = b"nodes 1\ntimeout 1 join\npump 4\ncall 1 7 1 add 0 5\npump 2\nshow\n";
 
-/// After a sweep by so many threads: whether this stands on standard output, nothing on standard error, and nothing on a terminal:
-/// nothing was told there, or it was taken away.
+/// Sweeps with this number of threads. Returns whether standard output is this text, whether standard error is empty, and
+/// whether the progress is empty or cleared at the end.
 fn is_swept<R: AllocGlobal + Threads + Clock + Sync>(
     rt: &R,
     threads: u16,

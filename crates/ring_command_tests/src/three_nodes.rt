@@ -1,24 +1,25 @@
-//! Three nodes that records drive tell what `totem script` prints of the same events.
+//! Three nodes driven by records report what `totem script` prints for the same events.
+//! Rules: Nodes that records drive 2 to 5
 
-use crate::beside::Beside;
-use crate::by_script::ScriptNodes;
+use crate::recorded_node::RecordedNode;
+use crate::script_driver::ScriptNodes;
 use crate::served::served_on;
 use ring_base::{Fault, Fixed};
 use ring_object::Object;
-use ring_sweep::{Script, ShelfWords, Things, script_of};
+use ring_sweep::{Script, ShelfVocabulary, StandardObjects, script_of};
 use std::alloc::Global;
 use std::str;
 use std::test::Fail;
 
-/// A call is cut off before it is safe, and tried again at node 2. Of the calls behind it one comes again, one has a gap before it.
-/// Node 1 stops at last, and is asked once more.
+/// A cut comes before a call is safe, and the call is retried at node 2. Of later calls one is repeated, and one has a number
+/// gap. At last node 1 stops, and is called again.
 const CUT_AND_STOPPED: &str =
     "nodes 3\ntimeout 1 join\ntimeout 2 join\ntimeout 3 join\npump 100\ncall 1 7 1 add 0 5\npump 2\n\
     cut 1 2,3\npump 10\ntimeout 1 loss\ntimeout 2 loss\npump 10\ntimeout 1 consensus\ntimeout 2 consensus\npump 200\n\
     call 2 7 1 add 0 5\npump 100\nheal\nnoise 2 00\ntimeout 1 join\npump 300\ncall 3 8 1 read 0\ndeliver 2 1\n\
     call 1 7 1 add 0 5\ncall 2 7 3 pop\npump 100\nshow\nstop 1\ncall 1 7 2 pop\nshow\n";
 
-/// What is among the lines that it prints.
+/// Words that the printed lines contain.
 const TOLD: [&str; 5] = [
     " done ",
     " kept ",
@@ -27,12 +28,12 @@ const TOLD: [&str; 5] = [
     " stopped ",
 ];
 
-/// What the script prints, but for how long the one order is: no node knows that of all.
+/// Returns the text that the script prints, without the length of the one order, which no node knows.
 fn printed<O: Object>(alloc: O::Alloc, text: &str) -> Result<String<O::Alloc>, Fault> {
     let mut out = Vec::new(alloc);
     let mut err = Vec::new(alloc);
     let mut input = text.as_bytes();
-    let _ = script_of::<O, ShelfWords, _, _, _>(alloc, &mut input, false, &mut out, &mut err);
+    let _ = script_of::<O, ShelfVocabulary, _, _, _>(alloc, &mut input, false, &mut out, &mut err);
     let mut printed = String::new(alloc);
     for line in str::from_utf8(out.as_slice()).unwrap_or("").lines() {
         if !line.starts_with("order ") {
@@ -42,8 +43,8 @@ fn printed<O: Object>(alloc: O::Alloc, text: &str) -> Result<String<O::Alloc>, F
     Ok(printed)
 }
 
-/// How many of the nodes, handed all their records once more, one after the other, tell the same.
-fn tell_again<O: Object>(alloc: O::Alloc, fixed: Fixed, nodes: &[Beside<O>]) -> u8 {
+/// Returns the number of nodes that give the same output when all their records are served again.
+fn tell_again<O: Object>(alloc: O::Alloc, fixed: Fixed, nodes: &[RecordedNode<O>]) -> u8 {
     let mut me = 0u8;
     let mut telling = 0u8;
     for node in nodes {
@@ -57,7 +58,7 @@ fn tell_again<O: Object>(alloc: O::Alloc, fixed: Fixed, nodes: &[Beside<O>]) -> 
     telling
 }
 
-/// Nodes that were handed the events of a script.
+/// Returns nodes that went through the events of a script.
 fn driven<O: Object>(alloc: O::Alloc, text: &str) -> Result<ScriptNodes<O>, Fault> {
     let Ok(script) = Script::parse(alloc, text.as_bytes()) else {
         return Err(Fault::BadScript);
@@ -67,8 +68,8 @@ fn driven<O: Object>(alloc: O::Alloc, text: &str) -> Result<ScriptNodes<O>, Faul
     Ok(driven)
 }
 
-/// Of nodes that were handed the events of a script: whether they tell what it prints, and all these words; how many they are,
-/// and how many tell the same once more.
+/// Drives nodes through the events of a script. Returns whether they print the script's text, whether it has all these words,
+/// the number of nodes, and the number that give the same output again.
 fn seen<O: Object>(
     alloc: O::Alloc,
     text: &str,
@@ -91,7 +92,7 @@ fn seen<O: Object>(
 
 #[test]
 fn three_nodes_tell_what_a_script_prints(rt: HostRuntime) -> Result<(), Fail> {
-    let seen = seen::<Things<Global>>(rt.alloc(), CUT_AND_STOPPED, &TOLD)?;
+    let seen = seen::<StandardObjects<Global>>(rt.alloc(), CUT_AND_STOPPED, &TOLD)?;
     assert!(rt; seen == (true, true, 3, 3));
     Ok(())
 }

@@ -1,19 +1,20 @@
-//! What is traced.
+//! Tests of `trace`.
+//! Formats: The command line
 
 use ring_base::Proc;
-use ring_script_maker::made_script;
+use ring_script_generator::generate_script;
 use ring_sweep::{frames, script};
 use ring_trace::{Format, Selection, TraceOptions, trace};
 use std::alloc::{AllocError, Allocator, Global};
 use std::fmt::Write;
 use std::test::Fail;
 
-/// How often a word stands in a text.
+/// Returns the number of times a word occurs in a text.
 fn count(text: &str, word: &str) -> usize {
     text.matches(word).count()
 }
 
-/// What a script prints.
+/// Returns the text that a script prints.
 fn printed(alloc: Global, text: &str) -> String {
     let mut out = Vec::new(alloc);
     let mut err = Vec::new(alloc);
@@ -21,7 +22,7 @@ fn printed(alloc: Global, text: &str) -> String {
     String::from_utf8(out).unwrap_or(String::new(alloc))
 }
 
-/// What a trace of a script tells.
+/// Returns the trace of a script: empty where it fails.
 fn traced(alloc: Global, text: &str, format: Format, selection: Selection) -> String {
     let mut out = Vec::new(alloc);
     let mut err = Vec::new(alloc);
@@ -41,13 +42,13 @@ fn traced(alloc: Global, text: &str, format: Format, selection: Selection) -> St
     String::from_utf8(out).unwrap_or(String::new(alloc))
 }
 
-/// What stands before these words, as a node does, and the word behind them, if they stand there.
+/// Splits the part at these words, and returns the text before them, which is a node, and the word after them.
 fn word_behind<'a>(part: &'a str, words: &str) -> Option<(&'a str, &'a str)> {
     let (node, rest) = part.split_once(words)?;
     Some((node, rest.split(' ').next().unwrap_or("")))
 }
 
-/// Whether this is the word that a trace tells last of a node behind these words. Where it tells none: whether none need be told.
+/// Whether this is the word that the trace last gives for a node after these words; `at_first` where it gives none.
 fn is_told_last(text: &str, node: &str, words: &str, wanted: &str, at_first: bool) -> bool {
     let mut is_last = at_first;
     for line in text.lines() {
@@ -62,8 +63,8 @@ fn is_told_last(text: &str, node: &str, words: &str, wanted: &str, at_first: boo
     is_last
 }
 
-/// Whether a line of `show` says what a trace tells last of its node: its ring, and how much is committed.
-fn is_as_told(line: &str, told: &str) -> bool {
+/// Whether a node's line of `show` has the ring and committed length that the trace last gives for it.
+fn is_as_expected(line: &str, told: &str) -> bool {
     let mut words = line.split(' ');
     let node = words.nth(1).unwrap_or("");
     let ring = words.nth(1).unwrap_or("");
@@ -73,7 +74,7 @@ fn is_as_told(line: &str, told: &str) -> bool {
         && is_told_last(told, node, " has committed ", committed, committed == "0")
 }
 
-/// Whether there are replies, and those that a trace tells are those shown: their nodes and calls, in order.
+/// Whether there are replies, and the answers of the trace have the same nodes and calls, in order.
 fn has_same_replies<A: Allocator + Copy>(
     alloc: A,
     shown: &str,
@@ -98,14 +99,14 @@ fn has_same_replies<A: Allocator + Copy>(
     Ok(!replies.is_empty() && replies.as_str() == answers.as_str())
 }
 
-/// Whether a trace of a script tells the replies that are printed of it, and what `show` prints.
+/// Whether the trace of a script agrees with the replies that the script prints and with `show`.
 fn tells_what_is_printed(alloc: Global, text: &str) -> Result<bool, AllocError> {
     let shown = printed(alloc, text);
     let told = traced(alloc, text, Format::Text, Selection::all());
     let mut are_as_told = true;
     for line in shown.as_str().lines() {
         are_as_told = are_as_told
-            && (!line.starts_with("node ") || is_as_told(line, told.as_str()));
+            && (!line.starts_with("node ") || is_as_expected(line, told.as_str()));
     }
     Ok(are_as_told && has_same_replies(alloc, shown.as_str(), told.as_str())?)
 }
@@ -113,13 +114,13 @@ fn tells_what_is_printed(alloc: Global, text: &str) -> Result<bool, AllocError> 
 #[test]
 fn a_trace_tells_what_a_script_prints(rt: HostRuntime) -> Result<(), Fail> {
     for seed in 1..5u64 {
-        let text = made_script(rt.alloc(), &[1, 1, 1], seed, 80)?;
+        let text = generate_script(rt.alloc(), &[1, 1, 1], seed, 80)?;
         assert!(rt; tells_what_is_printed(rt.alloc(), text.as_str())?, "{seed}");
     }
     Ok(())
 }
 
-/// How many frames a trace counts.
+/// Returns the number of frames that a trace counts.
 fn frames_told(told: &str) -> usize {
     for line in told.lines() {
         if let Some(number) = line.strip_prefix("frames ") {
@@ -129,12 +130,12 @@ fn frames_told(told: &str) -> usize {
     0
 }
 
-/// A cut leaves a node alone, and its call has no answer.
+/// A cut isolates a node, and its call has no answer.
 const ALONE: &str =
     "nodes 3\nvotes 2 2 1\ntimeout 1 join\ntimeout 2 join\ntimeout 3 join\npump 100\ncut 1,2 3\ntimeout 3 loss\n\
     pump 50\ntimeout 3 consensus\npump 20\ncall 3 8 1 pop\npump 20\nstop 2\ncall 2 9 1 pop\n";
 
-/// Whether the trace of `ALONE` begins and ends so, and has each of these words so often.
+/// Whether the trace of `ALONE` begins and ends with these texts, and has each of these words this number of times.
 fn tells(
     alloc: Global,
     (format, selection): (Format, Selection),
@@ -163,7 +164,8 @@ fn why_a_call_waits_is_told(rt: HostRuntime) {
     assert!(rt; tells(rt.alloc(), asked, ("", end), &words));
 }
 
-/// How many frames the trace of `ALONE` counts, and how many lines the listing of those has that it sends, if both are told whole.
+/// Returns the number of frames that the trace of `ALONE` counts, and the number of lines in the listing of its frames, if both
+/// succeed.
 fn frames_counted(alloc: Global) -> Option<(usize, usize)> {
     let asked = TraceOptions {
         format: Format::Text,
@@ -190,7 +192,7 @@ fn the_frames_of_a_trace_are_listed(rt: HostRuntime) {
     assert!(rt; matches!(counted, Some((told, listed)) if told > 0 && listed == told));
 }
 
-/// What happens from this event on, at this node or at all.
+/// Selects the events from this one on, at this node or at all.
 fn from_event(from: u64, node: Option<Proc>) -> Selection {
     Selection {
         node,
@@ -227,7 +229,50 @@ fn each_form_tells_the_same_run(rt: HostRuntime) {
     assert!(rt; tells(rt.alloc(), asked, ("<svg ", "</svg>\n"), &words));
 }
 
-/// A later part of a picture shows how nodes stand.
+/// A name that would end the page's element with the lines.
+const ENDS_ELEMENT: &str = "nodes 1\ncall 1 7 1 insert </script>\n";
+
+/// The name is twice in the line of its event, and twice in a title of the picture.
+#[test]
+fn a_page_has_no_end_in_its_lines(rt: HostRuntime) {
+    let page = traced(rt.alloc(), ENDS_ELEMENT, Format::Html, Selection::all());
+    let text = page.as_str();
+    assert!(rt; text.starts_with("<!DOCTYPE html>\n") && text.ends_with("</html>\n"));
+    assert!(rt; count(text, "</script>") == 2);
+    assert!(rt; count(text, "insert \\u003c/script>") == 2);
+    assert!(rt; count(text, "insert &lt;/script></title>") == 2);
+}
+
+/// Returns the status of a trace of `ALONE`, and what it reports.
+fn refused(alloc: Global, selection: Selection) -> (u8, String) {
+    let mut out = Vec::new(alloc);
+    let mut err = Vec::new(alloc);
+    let mut sent = Vec::new(alloc);
+    let asked = TraceOptions {
+        format: Format::Text,
+        selection,
+    };
+    let text = ALONE.as_bytes();
+    let status = trace(alloc, text, asked, &mut out, &mut sent, &mut err);
+    let told = String::from_utf8(err).unwrap_or(String::new(alloc));
+    (if out.is_empty() { status } else { 0 }, told)
+}
+
+#[test]
+fn a_selection_of_nothing_is_refused(rt: HostRuntime) {
+    let beyond = refused(rt.alloc(), from_event(5_000, None));
+    assert!(rt;
+        beyond.0 == 1
+            && beyond
+                .1
+                .as_str()
+                .starts_with("totem: there is no event 5000, the last is ")
+    );
+    let (status, told) = refused(rt.alloc(), from_event(0, Some(Proc::new(4))));
+    assert!(rt; status == 1 && told.as_str() == "totem: there is no node 4, the last is 3\n");
+}
+
+/// A later part of a picture shows the state of the nodes.
 #[test]
 fn events_are_selected(rt: HostRuntime) {
     let asked = (Format::Text, from_event(4, None));
@@ -241,7 +286,7 @@ fn events_are_selected(rt: HostRuntime) {
     assert!(rt; tells(rt.alloc(), at_three, ("", ""), &words));
 }
 
-/// The one node loses the token 2,001 times.
+/// A single node loses the token 2,001 times.
 #[test]
 fn a_long_picture_says_where_it_goes_on(rt: HostRuntime) -> Result<(), Fail> {
     let mut text = String::from_str(rt.alloc(), "nodes 1\n")?;

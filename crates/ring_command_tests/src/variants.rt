@@ -1,27 +1,28 @@
-//! Which variant is named, and the exit status.
+//! Tests of the variant that a sweep reports, and of its exit status.
+//! Formats: The command line
 
 use ring_base::{Fault, Proc};
-use ring_report::Failure;
-use ring_sweep::{Blow, Swept, Upset, verdict_status};
+use ring_failure::Failure;
+use ring_sweep::{Injection, InjectionKind, SweepResult, verdict_status};
 
-/// Of a sweep of 40 events: what befalls which node before the event with so many before it, in the first variant that is not legal,
-/// and the line on standard error.
-const ILLEGAL: [(u64, u8, Blow, &str); 4] = [
-    (16, 2, Blow::Stop, "stop 2 before event 17\n"),
-    (16, 2, Blow::Cut, "cut 2 before event 17\n"),
-    (39, 3, Blow::Stop, "stop 3 before event 40\n"),
-    (40, 3, Blow::Cut, "cut 3 at the end\n"),
+/// Of a sweep of 40 events: the number of events before the injection of the first variant that is not legal, its node, its
+/// kind, and the line on standard error.
+const ILLEGAL: [(u64, u8, InjectionKind, &str); 4] = [
+    (16, 2, InjectionKind::Stop, "stop 2 before event 17\n"),
+    (16, 2, InjectionKind::Cut, "cut 2 before event 17\n"),
+    (39, 3, InjectionKind::Stop, "stop 3 before event 40\n"),
+    (40, 3, InjectionKind::Cut, "cut 3 at the end\n"),
 ];
 
 #[test]
 fn the_first_that_is_not_legal_is_named(rt: HostRuntime) {
-    for (before, node, blow, line) in ILLEGAL {
-        let illegal = Upset {
+    for (before, node, injection_kind, line) in ILLEGAL {
+        let illegal = Injection {
             before,
             node: Proc::new(node),
-            blow,
+            injection_kind,
         };
-        let swept = Swept {
+        let swept = SweepResult {
             events: 40,
             variants: 246,
             illegal: Some(illegal),
@@ -35,7 +36,7 @@ fn the_first_that_is_not_legal_is_named(rt: HostRuntime) {
 /// All variants are legal, or memory was refused.
 #[test]
 fn nothing_is_told_but_a_fault(rt: HostRuntime) {
-    let legal = Swept {
+    let legal = SweepResult {
         events: 40,
         variants: 246,
         illegal: None,

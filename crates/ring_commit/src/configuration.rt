@@ -1,10 +1,14 @@
-//! Rings with their members.
+//! Configurations.
+//! Rules: Rings and states 2
 
 use ring_wire::{ProcSet, RingId};
 
-/// A ring with its members.
+/// A configuration: the name of a ring with the set of its members.
+/// Rules: Rings and states 2
 #[derive(Clone, Copy, Debug, PartialEq, Eq)]
 pub struct Configuration {
+    /// The name of the ring, whose representative is the smallest of `members`.
     pub ring: RingId,
+    /// The members of the ring, at least one.
     pub members: ProcSet,
 }

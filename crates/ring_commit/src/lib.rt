@@ -1,4 +1,6 @@
-//! The commit token: how a ring is proposed, and handed round its members twice.
+//! The commit token: how a ring is proposed, and how its commit token makes two rounds of the members.
+//!
+//! Rules: The commit token 1, 2, 4 to 9 and 11
 #![tactic(auto)]
 
 pub mod configuration;

@@ -1,17 +1,20 @@
-//! What a commit token comes to.
+//! The outcome of a commit token at a node.
+//! Rules: The commit token 11
 
 use ring_wire::{CommitToken, Token};
 
-/// What a node does with a commit token.
+/// The outcome of a commit token, or of a proposal, at a node.
+/// Rules: The commit token 11
 #[derive(Drop)]
 pub enum CommitOutcome {
-    /// The first round: this goes to the next member, and the node has taken part in the ring from now on.
+    /// First round, or a proposal: the node sends this token to the next member, and takes part in the ring from this
+    /// moment.
     Pass(CommitToken),
-    /// The second round: this goes to the next member. It holds each member's report, and the node recovers
-    /// its old ring by them.
+    /// Second round: the node sends this token to the next member.
+    /// Its entries are the plan by which the node recovers its old ring.
     Recover(CommitToken),
-    /// Both rounds are over: the representative visits this token.
+    /// After both rounds: the representative visits this token, the first of the ring.
     Start(Token),
-    /// Nothing.
+    /// The node ignores the commit token, or proposes nothing.
     Ignored,
 }

@@ -1,17 +1,20 @@
-//! The two rounds of a commit token: when it is taken, and what goes on.
+//! The two rounds of a commit token: when a node takes it, and what it sends on.
+//! Rules: The commit token 1, 2, 4 to 9 and 11; Recovery 1
 
 ghost use Rattle.std.specs.Prelude.{◌≡◌, ℕ, suc, ◌+◌, ◌<◌, ◌≤◌, [], ◌∷◌, ◌++◌, length, slice_get, true};
 ghost use Rattle.ring_wire.specs.Base.{size};
 ghost use Rattle.ring_wire.specs.Commits.{entries_at};
 ghost use Rattle.ring_commit.specs.Reports.{same_entry, reports_of, safe_of, none_behind, is_sound};
-ghost use Rattle.ring_commit.specs.Rounds.{position_of_hop, receiver, hopped, proposal, is_of, is_own, is_first_round, is_second_round, is_start};
-ghost use Rattle.ring_commit.specs.Outcomes.{is_at, proposed, filled, learned, started};
+ghost use Rattle.ring_commit.specs.Rounds.{position_of_hop, receiver, hop_with_entries, proposal, is_of, is_own, is_first_round, is_second_round, is_start};
+ghost use Rattle.ring_commit.specs.Outcomes.{is_at, after_proposal, fill_outcome, learn_outcome, start_outcome};
 
 use crate::configuration::Configuration;
 use crate::outcome::CommitOutcome;
 use ring_wire::{CommitEntry, CommitToken, Entries, MAX, Proc, ProcSet, RingId, Token};
 
-/// The member that a commit token goes to.
+/// Returns the member to which the commit token goes: hop h of m members goes to the member at position h mod m,
+/// counted from 0. That the token names a member is the caller's condition.
+/// Rules: The commit token 1
 pub fn receiver(token: &CommitToken) -> Proc
     requires { 0 < size token.now.members }
     ensures { result ≡ receiver token.now }
@@ -20,15 +23,18 @@ pub fn receiver(token: &CommitToken) -> Proc
     token.members.at(position).unwrap()
 }
 
-/// Whether a commit token is at the member that it goes to.
+/// Returns whether `me` is the member to which the commit token goes. It is false for a token without members.
+/// Rules: The commit token 1
 pub fn is_at(me: Proc, token: &CommitToken) -> bool
     ensures { result ≡ is_at me token.now }
 {
     receiver_number(token) == me.number()
 }
 
-/// Whether a commit token is in its first round at a node in Gather: its members are those that the node
-/// has not given up (`proc_set` less `fail_set`), and its ring's number is above the node's floor.
+/// Returns whether a node in Gather takes the commit token in its first round, if the token is at it ([`is_at`]).
+/// That is so if the hop is below the number of members, the members are `candidates`, and the ring's number is above
+/// `floor`. `candidates` are the node's `proc_set` less `fail_set`, and `floor` is its floor.
+/// Rules: The commit token 5
 pub fn is_first_round(floor: u64, candidates: ProcSet, token: &CommitToken) -> bool
     ensures { result ≡ is_first_round floor candidates token.now }
 {
@@ -37,8 +43,11 @@ pub fn is_first_round(floor: u64, candidates: ProcSet, token: &CommitToken) -> b
         && floor < token.ring.seq
 }
 
-/// Whether a commit token is in its second round at a node that takes part in this ring: the node's own entry
-/// is what it would write now, and no member from its old ring is behind what one of them reported safe.
+/// Returns whether a node in Commit takes the commit token in its second round, if the token is at it ([`is_at`]).
+/// That is so if the hop is m to 2m - 1, of m members, ring and members are the ones of `running`, and the node's entry
+/// is `own`. Also, no member from the node's old ring reports a front below a safe mark that a member from this ring
+/// reports.
+/// Rules: The commit token 6
 pub fn is_second_round(running: &Configuration, own: &CommitEntry, token: &CommitToken) -> bool
     ensures { result ≡ is_second_round running.now own.now token.now }
 {
@@ -56,14 +65,17 @@ pub fn is_second_round(running: &Configuration, own: &CommitEntry, token: &Commi
     is_own(own, token) && is_sound(&own.old, token.entries.as_slice())
 }
 
-/// Whether a commit token has gone round twice, of the ring that runs.
+/// Returns whether the commit token has completed both rounds, at hop 2m of m members, and is of the ring and members
+/// of `running`.
+/// Rules: The commit token 7
 pub fn is_start(running: &Configuration, token: &CommitToken) -> bool
     ensures { result ≡ is_start running.now token.now }
 {
     u32::from(token.hop) == 2 * token.members.len() && is_of(running, token)
 }
 
-/// The greatest safe mark that a member from this old ring reported, 0 if there is none.
+/// Returns the greatest safe mark in the entries of members from the ring `old`, 0 if there is no such entry.
+/// Rules: Recovery 1
 pub fn safe_of(old: &RingId, entries: &[CommitEntry]) -> u64
     ensures { result ≡ safe_of (reports_of old.now entries.now) }
 {
@@ -76,10 +88,12 @@ pub fn safe_of(old: &RingId, entries: &[CommitEntry]) -> u64
     safe
 }
 
-/// Proposes a ring of these members, whose number is one more than the greatest that is known. Its commit
-/// token goes to the next member with the node's own entry. No number above 2^62 is proposed.
+/// Returns the proposal of a ring of these members, with the number after `greatest` and `me` as its representative.
+/// It is `Pass` with the commit token of hop 1, which has the node's own entry alone. It is `Ignored` if the number
+/// would be above `MAX`. Whether there is consensus isn't checked.
+/// Rules: Gather 10; The commit token 4
 pub fn propose(me: Proc, greatest: u64, members: ProcSet, own: CommitEntry) -> CommitOutcome
-    ensures { result ≡ proposed me (suc greatest) members own }
+    ensures { result ≡ after_proposal me (suc greatest) members own }
 {
     if greatest >= MAX {
         return CommitOutcome::Ignored;
@@ -98,8 +112,11 @@ pub fn propose(me: Proc, greatest: u64, members: ProcSet, own: CommitEntry) -> C
     })
 }
 
-/// The first round, in Gather: the node adds its own entry, and the token goes on. The ring core asks [`is_at`] and
-/// [`is_first_round`] as it decides, and adds the entry in place: `Machine::fill` of `ring_srp_acts`.
+/// Does the first round, in Gather: adds the node's entry and forwards the token as `Pass`.
+/// Returns `Ignored` where the token isn't at the node or [`is_first_round`] is false. That a token at hop h of m
+/// members has min(h, m) entries is the caller's condition. The ring core uses [`is_at`] and [`is_first_round`] as it
+/// decides, and adds the entry in place: `RunningCore::fill` of `ring_srp_transitions`.
+/// Rules: The commit token 5
 pub fn fill(
     me: Proc,
     floor: u64,
@@ -108,7 +125,7 @@ pub fn fill(
     mut token: CommitToken,
 ) -> CommitOutcome
     requires { length token.entries ≡ entries_at token.hop (size token.members) }
-    ensures { result ≡ filled me floor candidates own token }
+    ensures { result ≡ fill_outcome me floor candidates own token }
 {
     if !is_at(me, &token) {
         return CommitOutcome::Ignored;
@@ -121,15 +138,18 @@ pub fn fill(
     CommitOutcome::Pass(token)
 }
 
-/// The second round, in Commit: the token goes on as it is. Its entries are what recovery goes by. The ring core asks
-/// [`is_at`] and [`is_second_round`] as it decides, and passes the token on in place: `Machine::learn` of `ring_srp_acts`.
+/// Does the second round, in Commit: forwards the token, whose entries recovery uses, as `Recover`.
+/// Returns `Ignored` where the token isn't at the node or [`is_second_round`] is false. The ring core uses [`is_at`]
+/// and [`is_second_round`] as it decides, and forwards the token in place: `RunningCore::learn` of
+/// `ring_srp_transitions`.
+/// Rules: The commit token 6
 pub fn learn(
     me: Proc,
     running: &Configuration,
     own: &CommitEntry,
     mut token: CommitToken,
 ) -> CommitOutcome
-    ensures { result ≡ learned me running.now own.now token }
+    ensures { result ≡ learn_outcome me running.now own.now token }
 {
     if !is_at(me, &token) {
         return CommitOutcome::Ignored;
@@ -141,11 +161,13 @@ pub fn learn(
     CommitOutcome::Recover(token)
 }
 
-/// The end of the second round, in Recovery: the representative visits the token that the caller gives as the first
-/// of the ring. The ring core asks [`is_at`] and [`is_start`] as it decides, and whether it accepts that token:
-/// `Machine::decide` of `ring_srp_acts`.
+/// Ends the second round, in Recovery: returns `Start` with `first`, the first token of the ring, which the
+/// representative visits. Returns `Ignored` where the token isn't at the node or [`is_start`] is false. The ring core
+/// uses these two tests as it decides, and checks that it accepts `first`: `RunningCore::decide` of
+/// `ring_srp_transitions`.
+/// Rules: The commit token 7
 pub fn start(me: Proc, running: &Configuration, first: Token, token: &CommitToken) -> CommitOutcome
-    ensures { result ≡ started me running.now first token.now }
+    ensures { result ≡ start_outcome me running.now first token.now }
 {
     if is_at(me, token) && is_start(running, token) {
         CommitOutcome::Start(first)
@@ -154,7 +176,7 @@ pub fn start(me: Proc, running: &Configuration, first: Token, token: &CommitToke
     }
 }
 
-/// The number of the member that a commit token goes to, 0 where it names none.
+/// Returns the number of the member to which a commit token goes, 0 if it names none.
 fn receiver_number(token: &CommitToken) -> u8
     ensures { result ≡ receiver token.now }
 {
@@ -164,14 +186,14 @@ fn receiver_number(token: &CommitToken) -> u8
     receiver(token).number()
 }
 
-/// Whether a commit token is of this ring and of these members.
+/// Returns whether a commit token is of this ring and of these members.
 fn is_of(running: &Configuration, token: &CommitToken) -> bool
     ensures { result ≡ is_of running.now token.now }
 {
     token.ring == running.ring && token.members == running.members
 }
 
-/// Whether the entry at the member that the token goes to is this one.
+/// Returns whether the entry of the member to which the token goes is this one.
 fn is_own(own: &CommitEntry, token: &CommitToken) -> bool
     requires { 0 < size token.now.members }
     ensures { result ≡ is_own own.now (slice_get token.now.entries (position_of_hop token.now)) }
@@ -183,21 +205,20 @@ fn is_own(own: &CommitEntry, token: &CommitToken) -> bool
     }
 }
 
-/// Whether two entries say the same.
 fn is_same(a: &CommitEntry, b: &CommitEntry) -> bool
     ensures { result ≡ same_entry a.now b.now }
 {
     a.old == b.old && a.front == b.front && a.mark == b.mark && a.held == b.held
 }
 
-/// Whether no member from an old ring reports a front that is behind what one of them reported safe.
+/// Returns whether no member from an old ring reports a front below a safe mark that one of them reports.
 fn is_sound(old: &RingId, entries: &[CommitEntry]) -> bool
     ensures { result ≡ is_sound old.now entries.now }
 {
     none_behind(safe_of(old, entries), old, entries)
 }
 
-/// Whether no member from an old ring reports a front below this number.
+/// Returns whether no member from an old ring reports a front below `safe`.
 fn none_behind(safe: u64, old: &RingId, entries: &[CommitEntry]) -> bool
     ensures { result ≡ none_behind safe (reports_of old.now entries.now) }
 {

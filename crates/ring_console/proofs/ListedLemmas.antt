@@ -1,9 +1,9 @@
--- Numbers by commas, one more at the end.
+-- Numbers separated by commas, with one more at the end.
 use Rattle.std.proofs.Common.{◌≡◌, ℕ, List, [], ◌∷◌, Bool, true, false, refl}
 use Rattle.std.specs.Prelude.{codes}
 use Rattle.std.specs.Fmt.{decimal}
 use Rattle.std.specs.List.{join_by}
-use Rattle.ring_console.specs.Listed.{numbers_text}
+use Rattle.ring_console.specs.FrameLines.{numbers_text}
 
 -- whether there are no numbers
 abbrev pub is_none : List ℕ → Bool

@@ -1,4 +1,4 @@
--- How frames are taken from the front of an input, and how a listing goes on.
+-- Frames taken from the front of an input, and the progress of a listing.
 use Rattle.std.proofs.Common.{◌≡◌, ℕ, ◌+◌, ◌-◌, ◌≤◌, true, false, List, [], ◌∷◌, ◌++◌, length, take, drop, Option, Some}
 use Rattle.std.proofs.Common.{None, Result, Ok, Err, inl, inr, refl, sym, ap, subst, ◌∙◌, arith, append_assoc}
 use Rattle.std.specs.Prelude.{◌≢◌, ◌⊎◌, IsSome, IfSome, IsOk, OnOk, IfErr}
@@ -8,59 +8,59 @@ use Rattle.std.proofs.lemmas.List.{take-append-drop, take_at, take-append-le, ap
 use Rattle.std.proofs.KnownBytes.{Appends-trans}
 use Rattle.std.proofs.lemmas.List.Elements.{All-push}
 use Rattle.ring_base.proofs.ListFronts.{rest_whole}
-use Rattle.ring_wire.specs.Frames.{spelling_of, FrameFits, length-frame}
-use Rattle.ring_wire.specs.Fronts.{IsGot}
+use Rattle.ring_wire.specs.Frames.{encoding_of, FrameFits, length-frame}
+use Rattle.ring_wire.specs.Prefixes.{IsEncodedPrefix}
 use Rattle.ring_wire.specs.declared.frame.Frame.{Frame}
 use Rattle.ring_base.specs.declared.fault.Fault.TheVariants.{Memory}
-use Rattle.ring_report.specs.declared.failure.Failure.{Failure}
-use Rattle.ring_report.specs.declared.failure.Failure.TheVariants.{Refused, BadFrame, BadScript, Output}
-use Rattle.ring_report.specs.Texts.{line_of}
-use Rattle.ring_console.specs.declared.ahead.State.{State}
-use Rattle.ring_console.specs.declared.ahead.State.TheVariants.{Open, Ended, Failed}
-use Rattle.ring_console.specs.Listed.{frame_text, listing_of}
-use Rattle.ring_console.specs.declared.ahead.Ahead.{Ahead}
-use Rattle.ring_console.specs.Listings.{spellings_of, BeginsWithNone, untaken, left_of, IsEndRight, IsNext, IsStop, Lists, IsListed, IsCut, IsCutListing}
-use Rattle.ring_base.specs.Numbers.{most_frame}
+use Rattle.ring_failure.specs.declared.failure.Failure.{Failure}
+use Rattle.ring_failure.specs.declared.failure.Failure.TheVariants.{Refused, BadFrame, BadScript, Output}
+use Rattle.ring_failure.specs.Texts.{line_of}
+use Rattle.ring_console.specs.declared.frame_reader.InputState.{InputState}
+use Rattle.ring_console.specs.declared.frame_reader.InputState.TheVariants.{Open, Ended, Failed}
+use Rattle.ring_console.specs.FrameLines.{frame_text, listing_of}
+use Rattle.ring_console.specs.declared.frame_reader.FrameReader.{FrameReader}
+use Rattle.ring_console.specs.Listings.{encodings_of, BeginsWithNoFrame, unread_bytes, left_of, IsEndRight, IsNext, IsStop, AreListed, IsListed, IsCut, IsCutListing}
+use Rattle.ring_base.specs.Numbers.{max_frame_bytes}
 
 -- ---- one frame
 
--- what was got stood at the front of the bytes from a place on
-pub got_front : {A : Type 0} (bytes : List ℕ) (start n : ℕ) (frame : Frame A) → IsGot spelling_of FrameFits
+-- a decoded frame was a prefix of the bytes from a place on
+pub got_front : {A : Type 0} (bytes : List ℕ) (start n : ℕ) (frame : Frame A) → IsEncodedPrefix encoding_of FrameFits
     (take (length bytes - start) (drop start bytes)) frame n
-    → (drop start bytes ≡ spelling_of frame ++ drop (start + n) bytes) × (length (spelling_of frame) ≡ n)
+    → (drop start bytes ≡ encoding_of frame ++ drop (start + n) bytes) × (length (encoding_of frame) ≡ n)
 got_front bytes start n frame got =
     let rest = drop start bytes in
     let whole = rest_whole start bytes in
-    let front : take n rest ≡ spelling_of frame = subst (λ (t : List ℕ). take n t ≡ spelling_of frame) whole got.front in
+    let front : take n rest ≡ encoding_of frame = subst (λ (t : List ℕ). take n t ≡ encoding_of frame) whole got.front in
     let within : n ≤ length rest = subst (λ (t : List ℕ). n ≤ length t) whole got.within in
     let parts : rest ≡ take n rest ++ drop n rest = sym (take-append-drop n rest) in
     let after : drop n rest ≡ drop (start + n) bytes = drop-drop n start bytes in
     let sizes = ap length parts ∙ length-append (take n rest) (drop n rest) in
     let left = length-drop n rest in
     let size : length (take n rest) ≡ n = omega arith in
-    (parts ∙ ap (λ (t : List ℕ). t ++ drop n rest) front ∙ ap (λ (t : List ℕ). spelling_of frame ++ t) after, sym (ap length front) ∙ size)
+    (parts ∙ ap (λ (t : List ℕ). t ++ drop n rest) front ∙ ap (λ (t : List ℕ). encoding_of frame ++ t) after, sym (ap length front) ∙ size)
 
--- a frame that was got from there and put into its place is the next
+-- a frame decoded from there in place is the next one
 pub next_put : {A : Type 0} (bytes : List ℕ) (start n from to : ℕ) (place : Option (Frame A)) → IsSome place
-    → IfSome place (λ (frame : Frame A). IsGot spelling_of FrameFits (take (length bytes - start) (drop start bytes)) frame n) → to ≡ u64_saturate (from + n)
+    → IfSome place (λ (frame : Frame A). IsEncodedPrefix encoding_of FrameFits (take (length bytes - start) (drop start bytes)) frame n) → to ≡ u64_saturate (from + n)
     → IsNext (Some (drop start bytes)) (Some (drop (start + n) bytes)) from to place
 next_put bytes start n from to None some got place = absurd (let no : false ≡ true = some in cc)
 next_put bytes start n from to (Some frame) some got place =
     let front = got_front bytes start n frame got in
     (got.fits, front.0, place ∙ ap (λ (m : ℕ). u64_saturate (from + m)) (sym front.1))
 
--- where so many bytes begin with no frame, more of them don't either
-pub none_longer : (A : Type 0) (bytes more : List ℕ) → most_frame ≤ length bytes → BeginsWithNone A bytes → BeginsWithNone A (bytes ++ more)
+-- where at least this number of bytes begins with no frame, a longer text doesn't either
+pub none_longer : (A : Type 0) (bytes more : List ℕ) → max_frame_bytes ≤ length bytes → BeginsWithNoFrame A bytes → BeginsWithNoFrame A (bytes ++ more)
 none_longer A bytes more long none frame rest fits e =
-    let n = length (spelling_of frame) in
+    let n = length (encoding_of frame) in
     let short = length-frame frame fits in
     let within : n ≤ length bytes = omega (arith, short, long) in
-    let front : take n bytes ≡ spelling_of frame = sym (take-append-le n bytes more within) ∙ ap (take n) e ∙ take_at (spelling_of frame) rest n refl in
+    let front : take n bytes ≡ encoding_of frame = sym (take-append-le n bytes more within) ∙ ap (take n) e ∙ take_at (encoding_of frame) rest n refl in
     none frame (drop n bytes) fits (sym (take-append-drop n bytes) ∙ ap (λ (t : List ℕ). t ++ drop n bytes) front)
 
--- ---- what was read ahead, and what can still be read
+-- ---- the bytes read ahead, and those still to be read
 
--- the next of what was read ahead is the next of all that is left
+-- the next frame of the bytes read ahead is the next of the whole rest
 pub next_of_all : {A : Type 0} (bytes bytes' : List ℕ) (rest : Option (List ℕ)) (from to : ℕ)
     (next : Option (Frame A)) → IsNext (Some bytes) (Some bytes') from to next
     → (next ≡ None → IsAtEnd rest) → IsNext (prepend_known bytes rest) (prepend_known bytes' rest) from to next
@@ -69,30 +69,39 @@ next_of_all bytes bytes' (Some xs) from to None (same, none) end =
     (ap (λ (t : List ℕ). t ++ xs) same, ap (λ (t : List ℕ). t ++ xs) none ∙ end refl)
 next_of_all bytes bytes' None from to (Some frame) (fits, taken, passed) end = (fits, tt, passed)
 next_of_all bytes bytes' (Some xs) from to (Some frame) (fits, taken, passed) end =
-    (fits, ap (λ (t : List ℕ). t ++ xs) taken ∙ append_assoc (spelling_of frame) bytes' xs, passed)
+    (fits, ap (λ (t : List ℕ). t ++ xs) taken ∙ append_assoc (encoding_of frame) bytes' xs, passed)
 
--- where enough was read ahead, or nothing more can be read, a stop there is a stop of all that is left
-pub stop_of_all : (A : Type 0) (bytes : List ℕ) (rest : Option (List ℕ)) (from : ℕ) (state : State)
-    (failure : Failure) → IsStop A (Some bytes) from state failure
-    → (state ≡ Open → most_frame ≤ length bytes) → (state ≡ Ended → IsAtEnd rest) → IsStop A (prepend_known bytes rest) from state failure
+-- where enough was read ahead, or nothing more can be read, a stop there is a stop of the whole rest
+pub stop_of_all : (A : Type 0) (bytes : List ℕ) (rest : Option (List ℕ)) (from : ℕ) (state : InputState)
+    (failure : Failure) → IsStop A (Some bytes) (Some []) from state failure
+    → (state ≡ Open → max_frame_bytes ≤ length bytes) → (state ≡ Ended → IsAtEnd rest) → IsStop A (prepend_known bytes rest) rest from state failure
 stop_of_all A bytes rest from state (Refused fault) stop enough ended = stop
-stop_of_all A bytes rest from Failed (BadFrame byte) stop enough ended = stop
+stop_of_all A bytes None from Failed (BadFrame byte) stop enough ended = (stop.0, stop.1, tt, stop.3)
+stop_of_all A bytes (Some xs) from Failed (BadFrame byte) stop enough ended =
+    (stop.0, stop.1, ap (λ (t : List ℕ). t ++ xs) (sym (append-nil stop.1) ∙ stop.2), stop.3)
 stop_of_all A bytes None from Open (BadFrame byte) stop enough ended = (stop.0, tt)
 stop_of_all A bytes None from Ended (BadFrame byte) stop enough ended = (stop.0, tt)
 stop_of_all A bytes (Some xs) from Open (BadFrame byte) stop enough ended = (stop.0, none_longer A bytes xs (enough refl) stop.1)
 stop_of_all A bytes (Some xs) from Ended (BadFrame byte) stop enough ended =
-    (stop.0, subst (BeginsWithNone A) (sym (ap (λ (t : List ℕ). bytes ++ t) (ended refl) ∙ append-nil bytes)) stop.1)
+    (stop.0, subst (BeginsWithNoFrame A) (sym (ap (λ (t : List ℕ). bytes ++ t) (ended refl) ∙ append-nil bytes)) stop.1)
 stop_of_all A bytes rest from state (BadScript line) stop enough ended = absurd stop
 stop_of_all A bytes rest from state Output stop enough ended = absurd stop
 
--- where reading did not fail, and no frame begins there, the next frame's place is the one that is told
-pub stop_here : (A : Type 0) (bytes : List ℕ) (from : ℕ) (state : State) → (state ≡ Failed → ⊥)
-    → BeginsWithNone A bytes → IsStop A (Some bytes) from state (BadFrame from)
+-- where reading did not fail and no frame begins there, this byte is the reported one
+pub stop_here : (A : Type 0) (bytes : List ℕ) (from : ℕ) (state : InputState) → (state ≡ Failed → ⊥)
+    → BeginsWithNoFrame A bytes → IsStop A (Some bytes) (Some []) from state (BadFrame from)
 stop_here A bytes from Open unfailed none = (refl, none)
 stop_here A bytes from Ended unfailed none = (refl, none)
 stop_here A bytes from Failed unfailed none = absurd (unfailed refl)
 
--- ---- after a step that keeps what is left
+-- where reading failed and no frame begins in the bytes that were read, byte 0 is the reported one
+pub stop_failed : (A : Type 0) (bytes : List ℕ) (from : ℕ) (state : InputState) → state ≡ Failed
+    → BeginsWithNoFrame A bytes → IsStop A (Some bytes) (Some []) from state (BadFrame 0)
+stop_failed A bytes from Open failed none = absurd cc
+stop_failed A bytes from Ended failed none = absurd cc
+stop_failed A bytes from Failed failed none = (refl, bytes, append-nil bytes, none)
+
+-- ---- after a step that keeps the rest of the input
 
 pub next_after : {A : Type 0} (old mid new : Option (List ℕ)) (from to : ℕ) (next : Option (Frame A)) → Keeps old mid
     → IsNext mid new from to next → IsNext old new from to next
@@ -105,39 +114,46 @@ next_after (Some xs) (Some ys) (Some zs) from to (Some frame) kept (fits, taken,
 next_after (Some xs) (Some ys) None from to (Some frame) kept (fits, taken, passed) = absurd taken
 next_after (Some xs) None new from to (Some frame) kept next = absurd kept
 
-pub stop_after : (A : Type 0) (old mid : Option (List ℕ)) (from : ℕ) (state : State) (failure : Failure)
-    → Keeps old mid → IsStop A mid from state failure → IsStop A old from state failure
-stop_after A old mid from state (Refused fault) kept stop = stop
-stop_after A old mid from Failed (BadFrame byte) kept stop = stop
-stop_after A None mid from Open (BadFrame byte) kept stop = (stop.0, tt)
-stop_after A None mid from Ended (BadFrame byte) kept stop = (stop.0, tt)
-stop_after A (Some xs) None from Open (BadFrame byte) kept stop = absurd kept
-stop_after A (Some xs) None from Ended (BadFrame byte) kept stop = absurd kept
-stop_after A (Some xs) (Some ys) from Open (BadFrame byte) kept stop = (stop.0, subst (BeginsWithNone A) kept stop.1)
-stop_after A (Some xs) (Some ys) from Ended (BadFrame byte) kept stop = (stop.0, subst (BeginsWithNone A) kept stop.1)
-stop_after A old mid from state (BadScript line) kept stop = absurd stop
-stop_after A old mid from state Output kept stop = absurd stop
+keeps_both : (old mid new : Option (List ℕ)) → Keeps old mid → Keeps mid new → Keeps old new
+keeps_both None mid new kept more = tt
+keeps_both (Some xs) None new kept more = absurd kept
+keeps_both (Some xs) (Some ys) None kept more = absurd more
+keeps_both (Some xs) (Some ys) (Some zs) kept more = more ∙ kept
+
+pub stop_after : (A : Type 0) (old mid rest : Option (List ℕ)) (from : ℕ) (state : InputState) (failure : Failure)
+    → Keeps old mid → IsStop A mid rest from state failure → IsStop A old rest from state failure
+stop_after A old mid rest from state (Refused fault) kept stop = stop
+stop_after A old mid rest from Failed (BadFrame byte) kept stop =
+    (stop.0, stop.1, keeps_both old mid (prepend_known stop.1 rest) kept stop.2, stop.3)
+stop_after A None mid rest from Open (BadFrame byte) kept stop = (stop.0, tt)
+stop_after A None mid rest from Ended (BadFrame byte) kept stop = (stop.0, tt)
+stop_after A (Some xs) None rest from Open (BadFrame byte) kept stop = absurd kept
+stop_after A (Some xs) None rest from Ended (BadFrame byte) kept stop = absurd kept
+stop_after A (Some xs) (Some ys) rest from Open (BadFrame byte) kept stop = (stop.0, subst (BeginsWithNoFrame A) kept stop.1)
+stop_after A (Some xs) (Some ys) rest from Ended (BadFrame byte) kept stop = (stop.0, subst (BeginsWithNoFrame A) kept stop.1)
+stop_after A old mid rest from state (BadScript line) kept stop = absurd stop
+stop_after A old mid rest from state Output kept stop = absurd stop
 
 -- ---- a result's facts
 
--- what follows at `Ok` from two facts there
+-- a fact that two facts at `Ok` imply there
 pub both_at_ok : {T E : Type 0} (r : Result T E) (P Q R : Type 0) → OnOk r P → OnOk r Q → (P → Q → R) → OnOk r R
 both_at_ok (Ok x) P Q R p q more = more p q
 both_at_ok (Err e) P Q R p q more = tt
 
--- what follows at `Err` from what is told there
+-- a fact that a fact at `Err` implies there
 pub weaker_at_err : {T E : Type 0} (r : Result T E) (P Q : E → Type 0) → IfErr r P → ((e : E) → P e → Q e) → IfErr r Q
 weaker_at_err (Ok x) P Q told more = tt
 weaker_at_err (Err e) P Q told more = more e told
 
 -- ---- a listing that goes on
 
--- some frames stood at the front of the input and are listed, and the next begins where `ahead` says
-pub record IsSoFar {A : Type 0} (ahead : Ahead A) (input input' out out' : Option (List ℕ)) : Type 0 where
+-- some frames were a prefix of the input and are listed, and the next begins where `frame_reader` says
+pub record IsSoFar {A : Type 0} (frame_reader : FrameReader A) (input input' out out' : Option (List ℕ)) : Type 0 where
   pub frames : List (Frame A)
-  pub lists : Lists input (left_of ahead input') out out' frames
-  pub position : ahead.position ≡ u64_saturate (length (spellings_of frames))
-  pub ended : IsEndRight ahead input'
+  pub lists : AreListed input (left_of frame_reader input') out out' frames
+  pub position : frame_reader.position ≡ u64_saturate (length (encodings_of frames))
+  pub ended : IsEndRight frame_reader input'
 
 consumes_none : (bytes : List ℕ) (input : Option (List ℕ)) → bytes ≡ [] → Consumes input (prepend_known bytes input) []
 consumes_none bytes None e = tt
@@ -152,11 +168,11 @@ appends_none None = tt
 appends_none (Some xs) = sym (append-nil xs)
 
 -- nothing is read yet
-pub so_far_none : {A : Type 0} (ahead : Ahead A) (input out : Option (List ℕ)) → untaken ahead ≡ []
-    → ahead.position ≡ 0 → ahead.state ≡ Open → IsSoFar ahead input input out out
-so_far_none ahead input out empty first fresh = record {
+pub so_far_none : {A : Type 0} (frame_reader : FrameReader A) (input out : Option (List ℕ)) → unread_bytes frame_reader ≡ []
+    → frame_reader.position ≡ 0 → frame_reader.state ≡ Open → IsSoFar frame_reader input input out out
+so_far_none frame_reader input out empty first fresh = record {
   frames = [];
-  lists = record { fit = λ k d low. absurd (omega arith); read = consumes_none (untaken ahead) input empty; printed = appends_none out };
+  lists = record { fit = λ k d low. absurd (omega arith); read = consumes_none (unread_bytes frame_reader) input empty; printed = appends_none out };
   position = first;
   ended = λ ended. absurd (let e : Open ≡ Ended = sym fresh ∙ ended in cc);
 }
@@ -167,38 +183,38 @@ consumes_more (Some as') None c xs ys h k = absurd h
 consumes_more (Some as') (Some bs) None xs ys h k = absurd k
 consumes_more (Some as') (Some bs) (Some cs) xs ys h k = h ∙ ap (λ (t : List ℕ). xs ++ t) k ∙ sym (append_assoc xs ys cs)
 
--- the next place, where places past the greatest stand as that
+-- the index of the next frame, at most the greatest u64
 saturated : (p p' m n all : ℕ) → p ≡ u64_saturate m → p' ≡ u64_saturate (p + n) → all ≡ m + n → p' ≡ u64_saturate all
 saturated p p' m n all e f sum = omega arith
 
 -- nothing is listed where memory is refused at once
-pub none_cut : (A : Type 0) (input out : Option (List ℕ)) (failure : Failure) → failure ≡ Refused Memory → IsCut A input out out failure
-none_cut A input out failure e =
-    let nothing : Lists {A = A} input input out out [] = record {
+pub none_cut : (A : Type 0) (input left out : Option (List ℕ)) (failure : Failure) → failure ≡ Refused Memory → IsCut A input left out out failure
+none_cut A input left out failure e =
+    let nothing : AreListed {A = A} input input out out [] = record {
       fit = λ k d low. absurd (omega arith);
       read = consumes_same input;
       printed = appends_none out;
     } in
-    subst (IsCut A input out out) (sym e) ([], input, Open, nothing, refl)
+    subst (IsCut A input left out out) (sym e) ([], input, Open, nothing, refl)
 
 -- one more frame is taken, and its line is printed
-pub so_far_more : {A : Type 0} (ahead ahead' : Ahead A) (input mid last out printed out' : Option (List ℕ))
-    (frame : Frame A) → IsSoFar ahead input mid out printed
-    → IsNext (left_of ahead mid) (left_of ahead' last) ahead.position ahead'.position (Some frame)
-    → Appends printed out' (line_of (frame_text frame)) → IsEndRight ahead' last
-    → IsSoFar ahead' input last out out'
-so_far_more {A} ahead ahead' input mid last out printed out' frame so (fits, taken, passed) line ended =
-    let spelled : spellings_of so.frames ++ spelling_of frame ≡ spellings_of (so.frames ++ frame ∷ []) = flat_map_more spelling_of [] so.frames frame in
+pub so_far_more : {A : Type 0} (frame_reader frame_reader' : FrameReader A) (input mid last out printed out' : Option (List ℕ))
+    (frame : Frame A) → IsSoFar frame_reader input mid out printed
+    → IsNext (left_of frame_reader mid) (left_of frame_reader' last) frame_reader.position frame_reader'.position (Some frame)
+    → Appends printed out' (line_of (frame_text frame)) → IsEndRight frame_reader' last
+    → IsSoFar frame_reader' input last out out'
+so_far_more {A} frame_reader frame_reader' input mid last out printed out' frame so (fits, taken, passed) line ended =
+    let encoded : encodings_of so.frames ++ encoding_of frame ≡ encodings_of (so.frames ++ frame ∷ []) = flat_map_more encoding_of [] so.frames frame in
     let lines : listing_of so.frames ++ line_of (frame_text frame) ≡ listing_of (so.frames ++ frame ∷ []) =
     flat_map_more (λ (one : Frame A). line_of (frame_text one)) [] so.frames frame in
     let before = so.position in
-    let sizes = sym (ap length spelled) ∙ length-append (spellings_of so.frames) (spelling_of frame) in
+    let sizes = sym (ap length encoded) ∙ length-append (encodings_of so.frames) (encoding_of frame) in
     record {
       frames = so.frames ++ frame ∷ [];
       lists = record {
         fit = All-push FrameFits so.frames frame so.lists.fit fits;
-        read = subst (Consumes input (left_of ahead' last)) spelled (consumes_more input (left_of ahead mid)
-            (left_of ahead' last) (spellings_of so.frames) (spelling_of frame) so.lists.read taken);
+        read = subst (Consumes input (left_of frame_reader' last)) encoded (consumes_more input (left_of frame_reader mid)
+            (left_of frame_reader' last) (encodings_of so.frames) (encoding_of frame) so.lists.read taken);
         printed = subst (Appends out out') lines (Appends-trans out printed out' (listing_of so.frames) (line_of (frame_text frame)) so.lists.printed line);
       };
       position = saturated _ _ _ _ _ before passed sizes;
@@ -209,61 +225,63 @@ nil_right : (a b : List ℕ) → a ++ b ≡ [] → b ≡ []
 nil_right [] b e = e
 nil_right (x ∷ xs) b e = cc
 
-all_consumed : (input mid last : Option (List ℕ)) (bytes spelled : List ℕ) → Consumes input mid spelled
+all_consumed : (input mid last : Option (List ℕ)) (bytes encoded : List ℕ) → Consumes input mid encoded
     → Keeps mid (prepend_known bytes last) → IsAtEnd (prepend_known bytes last)
-    → Consumes input last spelled × IsAtEnd last
-all_consumed None mid None bytes spelled read kept end = (tt, tt)
-all_consumed None mid (Some zs) bytes spelled read kept end = (tt, nil_right bytes zs end)
-all_consumed (Some xs) None last bytes spelled read kept end = absurd read
-all_consumed (Some xs) (Some ys) None bytes spelled read kept end = absurd kept
-all_consumed (Some xs) (Some ys) (Some zs) bytes spelled read kept end =
+    → Consumes input last encoded × IsAtEnd last
+all_consumed None mid None bytes encoded read kept end = (tt, tt)
+all_consumed None mid (Some zs) bytes encoded read kept end = (tt, nil_right bytes zs end)
+all_consumed (Some xs) None last bytes encoded read kept end = absurd read
+all_consumed (Some xs) (Some ys) None bytes encoded read kept end = absurd kept
+all_consumed (Some xs) (Some ys) (Some zs) bytes encoded read kept end =
     let none = nil_right bytes zs end in
-    (read ∙ ap (λ (t : List ℕ). spelled ++ t) (sym kept ∙ end ∙ sym none), none)
+    (read ∙ ap (λ (t : List ℕ). encoded ++ t) (sym kept ∙ end ∙ sym none), none)
 
 -- where nothing is left, all of the input is listed
-pub so_far_whole : {A : Type 0} (ahead ahead' : Ahead A) (input mid last out out' : Option (List ℕ)) → IsSoFar ahead input mid out out'
-    → IsNext {A = A} (left_of ahead mid) (left_of ahead' last) ahead.position ahead'.position None → IsListed A input last out out'
-so_far_whole ahead ahead' input mid last out out' so (kept, end) =
-    let whole = all_consumed input (left_of ahead mid) last (untaken ahead') (spellings_of so.frames) so.lists.read kept end in
+pub so_far_whole : {A : Type 0} (frame_reader frame_reader' : FrameReader A) (input mid last out out' : Option (List ℕ)) → IsSoFar frame_reader input mid out out'
+    → IsNext {A = A} (left_of frame_reader mid) (left_of frame_reader' last) frame_reader.position frame_reader'.position None → IsListed A input last out out'
+so_far_whole frame_reader frame_reader' input mid last out out' so (kept, end) =
+    let whole = all_consumed input (left_of frame_reader mid) last (unread_bytes frame_reader') (encodings_of so.frames) so.lists.read kept end in
     (so.frames, record { fit = so.lists.fit; read = whole.0; printed = so.lists.printed }, whole.1)
 
 -- where there is no next frame, the listing is cut there
-pub so_far_cut : {A : Type 0} (ahead : Ahead A) (input mid out out' : Option (List ℕ)) (state : State) (failure : Failure) → IsSoFar ahead input mid out out'
-    → IsStop A (left_of ahead mid) ahead.position state failure → IsCut A input out out' failure
-so_far_cut {A} ahead input mid out out' state (Refused fault) so stop = (so.frames, left_of ahead mid, state, so.lists, stop)
-so_far_cut {A} ahead input mid out out' state (BadFrame byte) so stop =
-    (so.frames, left_of ahead mid, state, so.lists, subst (λ (p : ℕ). IsStop A (left_of ahead mid) p state (BadFrame byte)) so.position stop)
-so_far_cut {A} ahead input mid out out' state (BadScript line) so stop = absurd stop
-so_far_cut {A} ahead input mid out out' state Output so stop = tt
+pub so_far_cut : {A : Type 0} (frame_reader : FrameReader A) (input mid left out out' : Option (List ℕ)) (state : InputState) (failure : Failure)
+    → IsSoFar frame_reader input mid out out' → IsStop A (left_of frame_reader mid) left frame_reader.position state failure
+    → IsCut A input left out out' failure
+so_far_cut {A} frame_reader input mid left out out' state (Refused fault) so stop = (so.frames, left_of frame_reader mid, state, so.lists, stop)
+so_far_cut {A} frame_reader input mid left out out' state (BadFrame byte) so stop =
+    (so.frames, left_of frame_reader mid, state, so.lists, subst (λ (p : ℕ). IsStop A (left_of frame_reader mid) left p state (BadFrame byte)) so.position stop)
+so_far_cut {A} frame_reader input mid left out out' state (BadScript line) so stop = absurd stop
+so_far_cut {A} frame_reader input mid left out out' state Output so stop = tt
 
 -- ---- a listing that has ended
 
--- the lines came to the output as they were written
-moved_cut : (A : Type 0) (input mid mid' out out' : Option (List ℕ)) (failure : Failure) → failure ≢ Output
-    → ((text : List ℕ) → Appends mid mid' text → Appends out out' text) → IsCut A input mid mid' failure → IsCutListing A input out out'
-moved_cut A input mid mid' out out' (Refused fault) other moved cut = (
+-- the lines reached the output as they were written
+moved_cut : (A : Type 0) (input left mid mid' out out' : Option (List ℕ)) (failure : Failure) → failure ≢ Output
+    → ((text : List ℕ) → Appends mid mid' text → Appends out out' text) → IsCut A input left mid mid' failure → IsCutListing A input left out out'
+moved_cut A input left mid mid' out out' (Refused fault) other moved cut = (
   Refused fault,
   other,
   (cut.0, cut.1, cut.2, record { fit = cut.3.fit; read = cut.3.read; printed = moved (listing_of cut.0) cut.3.printed }, cut.4),
 )
-moved_cut A input mid mid' out out' (BadFrame byte) other moved cut = (
+moved_cut A input left mid mid' out out' (BadFrame byte) other moved cut = (
   BadFrame byte,
   other,
   (cut.0, cut.1, cut.2, record { fit = cut.3.fit; read = cut.3.read; printed = moved (listing_of cut.0) cut.3.printed }, cut.4),
 )
-moved_cut A input mid mid' out out' (BadScript line) other moved cut = absurd cut.4
-moved_cut A input mid mid' out out' Output other moved cut = absurd (other refl)
+moved_cut A input left mid mid' out out' (BadScript line) other moved cut = absurd cut.4
+moved_cut A input left mid mid' out out' Output other moved cut = absurd (other refl)
 
--- nothing is told where the listing is done or its output failed, nor where its lines did not come to the output; else it is cut there
-pub cut_told : {T : Type 0} (A : Type 0) (done : Result T Failure) (input mid mid' out out' : Option (List ℕ)) (Untold Emptied Unread : Type 0)
-    → (done ≡ Err Output → Untold) → (IsOk done → Untold) → Untold ⊎ Emptied → IfErr done (IsCut A input mid mid')
-    → ((text : List ℕ) → Emptied → Appends mid mid' text → Appends out out' text) → Untold ⊎ (Unread ⊎ IsCutListing A input out out')
-cut_told A (Ok x) input mid mid' out out' Untold Emptied Unread output well stands cut moved = inl (well refl)
-cut_told A (Err failure) input mid mid' out out' Untold Emptied Unread output well (inl untold) cut moved = inl untold
-cut_told A (Err Output) input mid mid' out out' Untold Emptied Unread output well (inr emptied) cut moved = inl (output refl)
-cut_told A (Err (Refused fault)) input mid mid' out out' Untold Emptied Unread output well (inr emptied) cut moved =
-    inr (inr (moved_cut A input mid mid' out out' (Refused fault) (λ e. cc) (λ text written. moved text emptied written) cut))
-cut_told A (Err (BadFrame byte)) input mid mid' out out' Untold Emptied Unread output well (inr emptied) cut moved =
-    inr (inr (moved_cut A input mid mid' out out' (BadFrame byte) (λ e. cc) (λ text written. moved text emptied written) cut))
-cut_told A (Err (BadScript line)) input mid mid' out out' Untold Emptied Unread output well (inr emptied) cut moved =
-    inr (inr (moved_cut A input mid mid' out out' (BadScript line) (λ e. cc) (λ text written. moved text emptied written) cut))
+-- nothing is reported where the listing is complete or its output failed, or where its lines did not reach the output; else it
+-- is cut there
+pub cut_told : {T : Type 0} (A : Type 0) (done : Result T Failure) (input left mid mid' out out' : Option (List ℕ)) (Untold Emptied Unread : Type 0)
+    → (done ≡ Err Output → Untold) → (IsOk done → Untold) → Untold ⊎ Emptied → IfErr done (IsCut A input left mid mid')
+    → ((text : List ℕ) → Emptied → Appends mid mid' text → Appends out out' text) → Untold ⊎ (Unread ⊎ IsCutListing A input left out out')
+cut_told A (Ok x) input left mid mid' out out' Untold Emptied Unread output well stands cut moved = inl (well refl)
+cut_told A (Err failure) input left mid mid' out out' Untold Emptied Unread output well (inl untold) cut moved = inl untold
+cut_told A (Err Output) input left mid mid' out out' Untold Emptied Unread output well (inr emptied) cut moved = inl (output refl)
+cut_told A (Err (Refused fault)) input left mid mid' out out' Untold Emptied Unread output well (inr emptied) cut moved =
+    inr (inr (moved_cut A input left mid mid' out out' (Refused fault) (λ e. cc) (λ text written. moved text emptied written) cut))
+cut_told A (Err (BadFrame byte)) input left mid mid' out out' Untold Emptied Unread output well (inr emptied) cut moved =
+    inr (inr (moved_cut A input left mid mid' out out' (BadFrame byte) (λ e. cc) (λ text written. moved text emptied written) cut))
+cut_told A (Err (BadScript line)) input left mid mid' out out' Untold Emptied Unread output well (inr emptied) cut moved =
+    inr (inr (moved_cut A input left mid mid' out out' (BadScript line) (λ e. cc) (λ text written. moved text emptied written) cut))

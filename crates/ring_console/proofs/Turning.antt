@@ -1,27 +1,27 @@
--- A script that runs a turn at a time.
+-- A script that runs turn by turn.
 use Rattle.std.proofs.Common.{◌≡◌, ℕ, zero, suc, ◌<◌, ◌≤◌, List, [], ◌∷◌, slice_get, Option, Some, None}
 use Rattle.std.proofs.Common.{refl, sym, ap, subst, ◌∙◌, arith}
 use Rattle.ring_object.specs.Operations.{Sequential}
-use Rattle.ring_console.specs.Running.{Pair, RunView, Turns, TurnsTimes, Pumps}
+use Rattle.ring_console.specs.Running.{OpenCopy, RunView, IsTurnDone, AreTurnsDone, IsPumpDone}
 
 -- a list with a first element is not empty
-never_empty : (pairs : List Pair) (pair : Pair) → pairs ≡ [] → slice_get pairs 0 ≡ Some pair → ⊥
+never_empty : (open_copies : List OpenCopy) (pair : OpenCopy) → open_copies ≡ [] → slice_get open_copies 0 ≡ Some pair → ⊥
 never_empty [] pair none first = cc
 never_empty (p ∷ ps) pair none first = cc
 
 -- no copy is open where there is no first one
-pub none_open : (pairs : List Pair) → slice_get pairs 0 ≡ None → pairs ≡ []
+pub none_open : (open_copies : List OpenCopy) → slice_get open_copies 0 ≡ None → open_copies ≡ []
 none_open [] none = refl
 none_open (p ∷ ps) none = absurd (cc none)
 
 module _ {O A : Type 0} (object : Sequential O) where
-  taken_once : (n : ℕ) (old new : RunView A) (pair : Pair) → n ≤ 1 → TurnsTimes object n old new → (n < 1 → new.open_pairs ≡ [])
-      → slice_get old.open_pairs 0 ≡ Some pair → Turns object old new
+  taken_once : (n : ℕ) (old new : RunView A) (pair : OpenCopy) → n ≤ 1 → AreTurnsDone object n old new → (n < 1 → new.open_copies ≡ [])
+      → slice_get old.open_copies 0 ≡ Some pair → IsTurnDone object old new
   taken_once zero old new pair most same rest first =
-      absurd (never_empty old.open_pairs pair (ap (λ (r : RunView A). r.open_pairs) (sym same) ∙ rest (omega arith)) first)
-  taken_once (suc zero) old new pair most turn rest first = subst (λ (r : RunView A). Turns object r new) turn.1.0 turn.1.1
+      absurd (never_empty old.open_copies pair (ap (λ (r : RunView A). r.open_copies) (sym same) ∙ rest (omega arith)) first)
+  taken_once (suc zero) old new pair most turn rest first = subst (λ (r : RunView A). IsTurnDone object r new) turn.1.0 turn.1.1
   taken_once (suc (suc n)) old new pair most turn rest first = absurd (omega (arith, most))
 
   -- a pump of one turn takes it, where a copy is open
-  pub one_turn : (old new : RunView A) (pair : Pair) → Pumps object 1 old new → slice_get old.open_pairs 0 ≡ Some pair → Turns object old new
+  pub one_turn : (old new : RunView A) (pair : OpenCopy) → IsPumpDone object 1 old new → slice_get old.open_copies 0 ≡ Some pair → IsTurnDone object old new
   one_turn old new pair pumps first = taken_once pumps.taken old new pair pumps.most pumps.turn pumps.rest first

@@ -1,5 +1,5 @@
-pub mod Printed
+pub mod OutputLines
 pub mod Running
-pub mod Listed
+pub mod FrameLines
 pub mod Listings
 pub mod Worlds

@@ -1,69 +1,72 @@
--- Frames that stand one after another in an input, and what is listed of them.
--- Listing frames, of docs/FORMATS.md.
+-- Consecutive frames of an input, and their listing.
+-- Formats: Listing frames
 use Rattle.std.specs.Prelude.{◌≡◌, ◌≢◌, ℕ, ◌+◌, List, length, drop, All, IfSome, Option, Some, None, flat_map}
 use Rattle.std.specs.Io.Iter.{u64_saturate}
 use Rattle.std.specs.Io.KnownBytes.{Keeps, Appends, Consumes, IsAtEnd, prepend_known}
 use Rattle.ring_base.specs.declared.fault.Fault.TheVariants.{Memory}
-use Rattle.ring_wire.specs.Frames.{spelling_of, FrameFits}
-use Rattle.ring_wire.specs.Fronts.{IsNoFront}
+use Rattle.ring_wire.specs.Frames.{encoding_of, FrameFits}
+use Rattle.ring_wire.specs.Prefixes.{HasNoEncodedPrefix}
 use Rattle.ring_wire.specs.declared.frame.Frame.{Frame}
-use Rattle.ring_report.specs.declared.failure.Failure.{Failure}
-use Rattle.ring_report.specs.declared.failure.Failure.TheVariants.{Refused, BadFrame, BadScript, Output}
-use Rattle.ring_console.specs.Listed.{listing_of}
-use Rattle.ring_console.specs.declared.ahead.Ahead.{Ahead}
-use Rattle.ring_console.specs.declared.ahead.State.{State}
-use Rattle.ring_console.specs.declared.ahead.State.TheVariants.{Ended, Failed}
+use Rattle.ring_failure.specs.declared.failure.Failure.{Failure}
+use Rattle.ring_failure.specs.declared.failure.Failure.TheVariants.{Refused, BadFrame, BadScript, Output}
+use Rattle.ring_console.specs.FrameLines.{listing_of}
+use Rattle.ring_console.specs.declared.frame_reader.FrameReader.{FrameReader}
+use Rattle.ring_console.specs.declared.frame_reader.InputState.{InputState}
+use Rattle.ring_console.specs.declared.frame_reader.InputState.TheVariants.{Ended, Failed}
 
--- the frames' spellings, one after another
-abbrev pub spellings_of : {A : Type 0} → List (Frame A) → List ℕ
-spellings_of frames = flat_map spelling_of frames
+-- the encodings of the frames, one after another
+abbrev pub encodings_of : {A : Type 0} → List (Frame A) → List ℕ
+encodings_of frames = flat_map encoding_of frames
 
--- no frame stands at the front of the bytes
-abbrev pub BeginsWithNone : Type 0 → List ℕ → Type 0
-BeginsWithNone A bytes = IsNoFront {A = Frame A} spelling_of FrameFits bytes
+-- no frame is a prefix of the bytes
+abbrev pub BeginsWithNoFrame : Type 0 → List ℕ → Type 0
+BeginsWithNoFrame A bytes = HasNoEncodedPrefix {A = Frame A} encoding_of FrameFits bytes
 
--- what was read ahead and not taken yet
-abbrev pub untaken : {A : Type 0} → Ahead A → List ℕ
-untaken ahead = drop ahead.taken ahead.bytes.items
+-- the bytes that were read ahead and not taken yet
+abbrev pub unread_bytes : {A : Type 0} → FrameReader A → List ℕ
+unread_bytes frame_reader = drop frame_reader.taken frame_reader.bytes.items
 
--- what is left of an input: what was read ahead and not taken yet, and then what can still be read
-abbrev pub left_of : {A : Type 0} → Ahead A → Option (List ℕ) → Option (List ℕ)
-left_of ahead rest = prepend_known (untaken ahead) rest
+-- the rest of an input: the bytes read ahead and not taken yet, and then those still to be read
+abbrev pub left_of : {A : Type 0} → FrameReader A → Option (List ℕ) → Option (List ℕ)
+left_of frame_reader rest = prepend_known (unread_bytes frame_reader) rest
 
--- nothing can be read any more of an input that was seen to end
-abbrev pub IsEndRight : {A : Type 0} → Ahead A → Option (List ℕ) → Type 0
-IsEndRight ahead rest = ahead.state ≡ Ended → IsAtEnd rest
+-- where the reader has seen the end of the input, nothing more can be read
+abbrev pub IsEndRight : {A : Type 0} → FrameReader A → Option (List ℕ) → Type 0
+IsEndRight frame_reader rest = frame_reader.state ≡ Ended → IsAtEnd rest
 
--- nothing is left, or a frame's spelling stood at the front of what was left, and it is taken: the next begins that much later
+-- nothing is left, or the encoding of this frame was a prefix of the rest and is taken; the next frame begins that much later
 abbrev pub IsNext : {A : Type 0} → Option (List ℕ) → Option (List ℕ) → ℕ → ℕ → Option (Frame A) → Type 0
 IsNext old new from to None = Keeps old new × IsAtEnd new
-IsNext old new from to (Some frame) = FrameFits frame × Consumes old new (spelling_of frame) × (to ≡ u64_saturate (from + length (spelling_of frame)))
+IsNext old new from to (Some frame) = FrameFits frame × Consumes old new (encoding_of frame) × (to ≡ u64_saturate (from + length (encoding_of frame)))
 
--- why there is no next frame: for want of memory, or since none begins at this byte; byte 0 where reading failed
-abbrev pub IsStop : Type 0 → Option (List ℕ) → ℕ → State → Failure → Type 0
-IsStop A old from state (Refused fault) = fault ≡ Memory
-IsStop A old from Failed (BadFrame byte) = byte ≡ 0
-IsStop A old from state (BadFrame byte) = (byte ≡ from) × IfSome old (BeginsWithNone A)
-IsStop A old from state (BadScript line) = ⊥
-IsStop A old from state Output = ⊥
+-- why there is no next frame: memory was refused; or none begins at this byte; or reading failed, which is reported as byte 0,
+-- and none begins in the bytes that were read, which come before those still to be read
+abbrev pub IsStop : Type 0 → Option (List ℕ) → Option (List ℕ) → ℕ → InputState → Failure → Type 0
+IsStop A old rest from state (Refused fault) = fault ≡ Memory
+IsStop A old rest from Failed (BadFrame byte) =
+    (byte ≡ 0) × (unread : List ℕ) × Keeps old (prepend_known unread rest) × BeginsWithNoFrame A unread
+IsStop A old rest from state (BadFrame byte) = (byte ≡ from) × IfSome old (BeginsWithNoFrame A)
+IsStop A old rest from state (BadScript line) = ⊥
+IsStop A old rest from state Output = ⊥
 
--- the frames stood one after another at the front of the input, of which the rest is left, and a line was printed for each
-pub record Lists {A : Type 0} (input rest out out' : Option (List ℕ)) (frames : List (Frame A)) : Type 0 where
+-- the frames were a prefix of the input, the rest is left, and a line was printed for each
+pub record AreListed {A : Type 0} (input rest out out' : Option (List ℕ)) (frames : List (Frame A)) : Type 0 where
   pub fit : All FrameFits frames
-  pub read : Consumes input rest (spellings_of frames)
+  pub read : Consumes input rest (encodings_of frames)
   pub printed : Appends out out' (listing_of frames)
 
--- the input was some frames one after another, nothing of it is left, and a line was printed for each frame
+-- the input was a list of frames, nothing is left of it, and a line was printed for each
 abbrev pub IsListed : Type 0 → Option (List ℕ) → Option (List ℕ) → Option (List ℕ) → Option (List ℕ) → Type 0
-IsListed A input input' out out' = (frames : List (Frame A)) × Lists input input' out out' frames × IsAtEnd input'
+IsListed A input input' out out' = (frames : List (Frame A)) × AreListed input input' out out' frames × IsAtEnd input'
 
--- why a listing fails, where that is not for its output: after the lines of the frames so far
-abbrev pub IsCut : Type 0 → Option (List ℕ) → Option (List ℕ) → Option (List ℕ) → Failure → Type 0
-IsCut A input out out' Output = Unit {0}
-IsCut A input out out' failure =
-    (frames : List (Frame A)) × (rest : Option (List ℕ)) × (state : State) × Lists input rest out out' frames
-    × IsStop A rest (u64_saturate (length (spellings_of frames))) state failure
+-- why a listing fails, if its output doesn't: after the lines of the frames so far
+abbrev pub IsCut : Type 0 → Option (List ℕ) → Option (List ℕ) → Option (List ℕ) → Option (List ℕ) → Failure → Type 0
+IsCut A input input' out out' Output = Unit {0}
+IsCut A input input' out out' failure =
+    (frames : List (Frame A)) × (rest : Option (List ℕ)) × (state : InputState) × AreListed input rest out out' frames
+    × IsStop A rest input' (u64_saturate (length (encodings_of frames))) state failure
 
--- a listing failed for such a reason, and not for its output: just the lines of the frames so far were printed
-abbrev pub IsCutListing : Type 0 → Option (List ℕ) → Option (List ℕ) → Option (List ℕ) → Type 0
-IsCutListing A input out out' = (failure : Failure) × (failure ≢ Output) × IsCut A input out out' failure
+-- a listing failed, not by its output: exactly the lines of the frames so far were printed, and no whole frame that was read is
+-- left out, unless memory was refused
+abbrev pub IsCutListing : Type 0 → Option (List ℕ) → Option (List ℕ) → Option (List ℕ) → Option (List ℕ) → Type 0
+IsCutListing A input input' out out' = (failure : Failure) × (failure ≢ Output) × IsCut A input input' out out' failure

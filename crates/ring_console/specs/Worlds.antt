@@ -1,3 +1,3 @@
--- Words of worlds, passed on to what runs scripts.
-pub use Rattle.ring_world.specs.Played.{Played, Goes, world_of}
-pub use Rattle.ring_world.specs.Stored.{text_of}
+-- Definitions of worlds, re-exported for the crates that run scripts.
+pub use Rattle.ring_world.specs.WorldView.{WorldView, IsEventOutcome, world_of}
+pub use Rattle.ring_world.specs.StoredFramesView.{text_of}

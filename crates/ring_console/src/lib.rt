@@ -1,11 +1,11 @@
-//! What the program `totem` prints: listings of frames and runs of scripts, over any reader and two
-//! writers. Each function writes what belongs on standard output and on standard error, and answers
-//! the exit status.
+//! The output of the program `totem`: listings of frames and runs of scripts, over any reader and two writers. Each function
+//! writes the bytes for standard output and standard error, and returns the exit status.
+//! Formats: The command line
 #![tactic(auto)]
 
-mod ahead;
+mod frame_lines;
+mod frame_reader;
 mod line;
-mod listed;
 mod listing;
 mod printed;
 mod run;
@@ -13,11 +13,12 @@ mod running;
 
 pub use listing::frames;
 pub use ring_checker::is_linearization;
-pub use ring_report::{Failure, report};
+pub use ring_failure::{Failure, report};
 pub use ring_script::{
-    Groups, Line, NoWords, Numbered, Script, ScriptFault, ShelfWords, Vocabulary,
+    EmptyVocabulary, Groups, NumberedLine, Script, ScriptFault, ScriptLine, ShelfVocabulary,
+    Vocabulary,
 };
-pub use ring_things::Things;
-pub use ring_world::{Event, Pair, Told, World};
-pub use run::Run;
+pub use ring_things::StandardObjects;
+pub use ring_world::{Event, OpenCopy, Told, World};
+pub use run::ScriptRun;
 pub use running::{is_legal, script, script_check, script_of};

@@ -1,30 +1,31 @@
-//! A line as it is put together, in place, before it is written at once: without `write!`, since there is one for each answer and each frame.
-//! The one line of the order's length is put together so too.
+//! A buffer in which a line is built before it is written in one piece. It doesn't use `write!`, since there is one line for
+//! each answer and each frame. The line `order` uses it too.
 
 ghost use Rattle.std.specs.Prelude.{◌≡◌, ◌+◌, ◌<◌, ◌≤◌, [], ◌++◌, length, OnOk, IfErr};
 ghost use Rattle.std.specs.Fmt.{decimal};
 ghost use Rattle.std.specs.Io.KnownBytes.{Appends};
-ghost use Rattle.ring_report.specs.declared.failure.Failure.TheVariants.{Output};
-ghost use Rattle.ring_report.specs.Texts.{line_of};
+ghost use Rattle.ring_failure.specs.declared.failure.Failure.TheVariants.{Output};
+ghost use Rattle.ring_failure.specs.Texts.{line_of};
 
 use arrayvec::ArrayVec;
 use itoa::Buffer;
-use ring_report::{Failure, or_output};
+use ring_failure::{Failure, output_result};
 use std::io::Write;
 use std::marker::Model;
 
-/// Room for the longest line and its end: that of a token that asks for 32 numbers of 20 digits each has less than 900 bytes.
-pub(crate) const LONGEST_LINE: usize = 1_024;
+/// The capacity of a line in bytes, its line feed included. The longest line is that of a token that requests 32 numbers of
+/// 20 digits each, and has less than 900 bytes.
+pub(crate) const MAX_LINE_BYTES: usize = 1_024;
 
-/// A line, as far as it is put together. Contracts see its bytes.
+/// A line under construction, of at most 1,024 bytes. Contracts see its bytes.
 #[derive(Drop)]
-pub(crate) struct PrintedLine {
-    text: ArrayVec<u8, LONGEST_LINE>,
-    /// Room for the digits of a number, which is cleared but once.
+pub(crate) struct LineBuffer {
+    text: ArrayVec<u8, MAX_LINE_BYTES>,
+    /// A buffer for a number's digits, which is zeroed only once.
     digits: Buffer,
 }
 
-impl Model for PrintedLine {
+impl Model for LineBuffer {
     ghost use Rattle.std.specs.Prelude.{ℕ, List};
 
     ghost Value = { List ℕ };
@@ -32,20 +33,20 @@ impl Model for PrintedLine {
     ghost view = { λ line. line.text.items };
 }
 
-impl PrintedLine {
-    /// Nothing yet.
-    pub(crate) fn new() -> PrintedLine
+impl LineBuffer {
+    /// Returns an empty line.
+    pub(crate) fn new() -> LineBuffer
         ensures { result ≡ [] }
     {
-        PrintedLine {
+        LineBuffer {
             text: ArrayVec::new(),
             digits: Buffer::new(),
         }
     }
 
-    /// Adds the bytes, for which there is room.
+    /// Adds the bytes at the end. The line must have room for them.
     pub(crate) fn add(&mut self, bytes: &[u8])
-        requires { length self.old + length bytes.now ≤ LONGEST_LINE }
+        requires { length self.old + length bytes.now ≤ MAX_LINE_BYTES }
         ensures text { self.new ≡ self.old ++ bytes.now }
         ensures len { length self.new ≡ length self.old + length bytes.now }
     {
@@ -54,9 +55,9 @@ impl PrintedLine {
         };
     }
 
-    /// Adds a word and a number.
+    /// Adds a word, and directly after it the number in decimal digits. The line must have room for the word and 20 digits.
     pub(crate) fn add_number(&mut self, word: &str, number: u64)
-        requires { length self.old + length word.now + 20 ≤ LONGEST_LINE }
+        requires { length self.old + length word.now + 20 ≤ MAX_LINE_BYTES }
         ensures text { self.new ≡ self.old ++ word.now ++ decimal number }
         ensures len { length self.new ≤ length self.old + length word.now + 20 }
     {
@@ -67,9 +68,10 @@ impl PrintedLine {
         };
     }
 
-    /// Prints the line and its end, and begins another. Otherwise `Output`.
+    /// Writes the line with its line feed, and clears it. The line must have room for the line feed.
+    /// Errors: `Output` where writing fails. The line is cleared then too, and a part of it may be written.
     pub(crate) fn print_to<W: Write>(&mut self, out: &mut W) -> Result<(), Failure>
-        requires { length self.old < LONGEST_LINE }
+        requires { length self.old < MAX_LINE_BYTES }
         ensures written { OnOk result (Appends (W.contents out.old) (W.contents out.new) (line_of self.old)) }
         ensures begun { self.new ≡ [] }
         ensures failed { IfErr result (λ failure. failure ≡ Output) }
@@ -77,6 +79,6 @@ impl PrintedLine {
         self.text.push(b'\n');
         let written = out.write_all(self.text.as_slice());
         self.text.clear();
-        or_output(written)
+        output_result(written)
     }
 }

@@ -1,30 +1,34 @@
-//! Listing the frames of a file.
+//! The command `frames`: listing the frames of a file.
+//! Formats: Listing frames
 
 ghost use Rattle.std.specs.Prelude.{◌≡◌, ◌≤◌, ◌⊎◌, [], OnOk, IfErr};
 ghost use Rattle.std.specs.Io.KnownBytes.{Keeps, Appends};
-ghost use Rattle.ring_report.specs.declared.failure.Failure.TheVariants.{Output};
-ghost use Rattle.ring_report.specs.Texts.{line_of};
-ghost use Rattle.ring_console.specs.Listed.{frame_text};
+ghost use Rattle.ring_failure.specs.declared.failure.Failure.TheVariants.{Output};
+ghost use Rattle.ring_failure.specs.Texts.{line_of};
+ghost use Rattle.ring_console.specs.FrameLines.{frame_text};
 ghost use Rattle.ring_console.specs.Listings.{IsListed, IsCut, IsCutListing};
-ghost use Rattle.ring_console.specs.declared.ahead.State.TheVariants.{Open};
+ghost use Rattle.ring_console.specs.declared.frame_reader.InputState.TheVariants.{Open};
 
-use crate::ahead::Ahead;
-use crate::line::PrintedLine;
-use crate::listed::add_frame;
+use crate::frame_lines::add_frame;
+use crate::frame_reader::FrameReader;
+use crate::line::LineBuffer;
 use ring_base::Fault;
-use ring_report::{Failure, Lent, exit_status, report};
+use ring_failure::{BorrowedWriter, Failure, exit_status, report};
 use ring_wire::Frame;
 use std::alloc::Allocator;
 use std::io::{BufWriter, Read, Write};
 
-/// Reads frames back to back and prints a line for each on `out`. The exit status is 0, or else 1:
+/// Reads consecutive frames and prints a line for each on `out`. Returns the exit status: 0 at the end of the input, else
+/// 1.
 ///
-/// - where the rest of the input does not begin with a frame, or the input fails, `err` is told so;
-/// - where memory is refused, `err` is told so;
-/// - where `out` fails, or there are more frames than can be counted, nothing is told.
+/// Errors, each reported on `err` unless stated otherwise:
+/// - `BadFrame` where the rest of the input begins with no frame, or reading fails;
+/// - `Memory`;
+/// - `out` fails, or there are 2^64 - 1 frames: nothing is reported.
 ///
-/// The lines of the frames before that stand on `out`, wherever `err` was told and the input was read at all. The memory taken is the
-/// same for every input.
+/// Wherever an error is reported and the input was read at all, the lines of all frames before are on `out`; with `BadFrame`
+/// these are all frames that were read. It takes the same amount of memory for every input.
+/// Formats: Listing frames
 pub fn frames<A: Allocator + Copy, R: Read, O: Write, E: Write>(
     alloc: A,
     input: &mut R,
@@ -33,17 +37,17 @@ pub fn frames<A: Allocator + Copy, R: Read, O: Write, E: Write>(
 ) -> u8
     ensures status { result ≤ 1 }
     ensures quiet { result ≡ 0 → Keeps (E.contents err.old) (E.contents err.new) }
-    ensures listed { result ≡ 0 → IsListed A (R.remaining input.old) (R.remaining input.new)
+    ensures frame_lines { result ≡ 0 → IsListed A (R.remaining input.old) (R.remaining input.new)
         (O.contents out.old) (O.contents out.new) }
     ensures cut { result ≡ 1 → (err.new ≡ err.old) ⊎ ((input.new ≡ input.old)
-        ⊎ IsCutListing A (R.remaining input.old) (O.contents out.old) (O.contents out.new)) }
+        ⊎ IsCutListing A (R.remaining input.old) (R.remaining input.new) (O.contents out.old) (O.contents out.new)) }
 {
-    match BufWriter::new(alloc, Lent { writer: out }) {
+    match BufWriter::new(alloc, BorrowedWriter { writer: out }) {
         Ok(mut buffer) => {
             let done = list_frames(alloc, input, &mut buffer);
             let status = exit_status(&mut buffer, err, done);
-            let (Lent { writer }, _) = buffer.into_parts();
-            // No effect at run time. The proof reads what `out` holds from this use.
+            let (BorrowedWriter { writer }, _) = buffer.into_parts();
+            // No effect at run time. The proof reads the contents of `out` from this use.
             let _ = &*writer;
             status
         }
@@ -51,45 +55,45 @@ pub fn frames<A: Allocator + Copy, R: Read, O: Write, E: Write>(
     }
 }
 
-/// Lists the frames of the input on `out`, and answers where it ends before the input does. Otherwise `Output`,
-/// also where there are more frames than can be counted.
+/// Lists the frames of the input on `out`. Returns the failure that ends the listing before the input: `Output` also where
+/// there are more frames than a u64 counts.
 fn list_frames<A: Allocator + Copy, R: Read, W: Write>(
     alloc: A,
     input: &mut R,
     out: &mut W,
 ) -> Result<(), Failure>
-    ensures listed { OnOk result (IsListed A (R.remaining input.old) (R.remaining input.new)
+    ensures frame_lines { OnOk result (IsListed A (R.remaining input.old) (R.remaining input.new)
         (W.contents out.old) (W.contents out.new)) }
-    ensures cut { IfErr result (IsCut A (R.remaining input.old) (W.contents out.old) (W.contents out.new)) }
+    ensures cut { IfErr result (IsCut A (R.remaining input.old) (R.remaining input.new) (W.contents out.old) (W.contents out.new)) }
 {
-    match Ahead::new(alloc) {
-        Ok(mut ahead) => {
+    match FrameReader::new(alloc) {
+        Ok(mut frame_reader) => {
             let mut next = None;
-            let mut line = PrintedLine::new();
-            list_ahead(alloc, input, &mut ahead, &mut next, &mut line, out)
+            let mut line = LineBuffer::new();
+            list_with_reader(alloc, input, &mut frame_reader, &mut next, &mut line, out)
         }
         Err(failure) => Err(failure),
     }
 }
 
-/// As [`list_frames`], where nothing was read ahead yet. Each frame is put into this place, and its line is put together in this one.
-fn list_ahead<A: Allocator + Copy, R: Read, W: Write>(
+/// As [`list_frames`], with a reader that has read nothing. Each frame is decoded into `next`, and its line built in `line`.
+fn list_with_reader<A: Allocator + Copy, R: Read, W: Write>(
     alloc: A,
     input: &mut R,
-    ahead: &mut Ahead<A>,
+    frame_reader: &mut FrameReader<A>,
     next: &mut Option<Frame<A>>,
-    line: &mut PrintedLine,
+    line: &mut LineBuffer,
     out: &mut W,
 ) -> Result<(), Failure>
-    requires empty { ahead.old.bytes.items ≡ [] }
-    requires open { (ahead.old.position ≡ 0) × (ahead.old.taken ≡ 0) × (ahead.old.state ≡ Open) }
+    requires empty { frame_reader.old.bytes.items ≡ [] }
+    requires open { (frame_reader.old.position ≡ 0) × (frame_reader.old.taken ≡ 0) × (frame_reader.old.state ≡ Open) }
     requires begun { line.old ≡ [] }
-    ensures listed { OnOk result (IsListed A (R.remaining input.old) (R.remaining input.new)
+    ensures frame_lines { OnOk result (IsListed A (R.remaining input.old) (R.remaining input.new)
         (W.contents out.old) (W.contents out.new)) }
-    ensures cut { IfErr result (IsCut A (R.remaining input.old) (W.contents out.old) (W.contents out.new)) }
+    ensures cut { IfErr result (IsCut A (R.remaining input.old) (R.remaining input.new) (W.contents out.old) (W.contents out.new)) }
 {
     for _ in 0..u64::MAX {
-        ahead.next_frame(alloc, input, next)?;
+        frame_reader.next_frame(alloc, input, next)?;
         let Some(frame) = &*next else {
             return Ok(());
         };
@@ -98,10 +102,10 @@ fn list_ahead<A: Allocator + Copy, R: Read, W: Write>(
     Err(Failure::Output)
 }
 
-/// Prints a frame's line, which is put together in this one. Otherwise `Output`.
+/// Prints a frame's line, which it builds in `line`. `Output` where writing fails.
 fn print_frame<A: Allocator + Copy, W: Write>(
     out: &mut W,
-    line: &mut PrintedLine,
+    line: &mut LineBuffer,
     frame: &Frame<A>,
 ) -> Result<(), Failure>
     requires empty { line.old ≡ [] }

@@ -1,28 +1,31 @@
 //! The lines that a script prints.
+//! Formats: What a script prints
 
 ghost use Rattle.std.specs.Prelude.{◌≡◌, ◌+◌, ◌≤◌, [], ◌++◌, length, codes, IfErr, OnOk};
 ghost use Rattle.std.specs.Fmt.{decimal};
 ghost use Rattle.std.specs.Io.KnownBytes.{Appends};
 ghost use Rattle.hex.specs.Hex.{encode_lower};
-ghost use Rattle.ring_report.specs.declared.failure.Failure.TheVariants.{Output};
-ghost use Rattle.ring_report.specs.Texts.{line_of, legal_text};
-ghost use Rattle.ring_console.specs.Printed.{one_text, told_text, answer_text, refused_text, node_text, order_text};
+ghost use Rattle.ring_failure.specs.declared.failure.Failure.TheVariants.{Output};
+ghost use Rattle.ring_failure.specs.Texts.{line_of, legal_text};
+ghost use Rattle.ring_console.specs.OutputLines.{one_text, told_text, answer_text, refused_text, node_text, order_text};
 
-use crate::line::{LONGEST_LINE, PrintedLine};
+use crate::line::{LineBuffer, MAX_LINE_BYTES};
 use ring_base::{Proc, RingId, State};
+use ring_failure::{Failure, output_result, state_name};
 use ring_object::Reply;
 use ring_payload::Call;
-use ring_report::{Failure, or_output, state_word};
 use ring_session::Answer;
 use ring_world::Told;
 use std::alloc::Allocator;
 use std::fmt;
 use std::io::Write;
 
-/// The hexadecimal digits of the longest reply: two for each of its 64 bytes.
-const MOST_DIGITS: usize = 128;
+/// The number of hexadecimal digits of the longest reply: two for each of its 64 bytes.
+const MAX_DIGITS: usize = 128;
 
-/// Prints what nodes told, a line each. Otherwise `Output`.
+/// Prints the line of each report of a node, in order: an answer, or a call that the node refused to take.
+/// Errors: `Output` where writing fails. A part of the lines may be written.
+/// Formats: What a script prints
 pub(crate) fn print_told<A: Allocator + Copy + Drop, W: Write>(
     out: &mut W,
     told: &[Told<A>],
@@ -36,7 +39,7 @@ pub(crate) fn print_told<A: Allocator + Copy + Drop, W: Write>(
     Ok(())
 }
 
-/// Prints what a node told. Otherwise `Output`.
+/// Prints one report of a node. `Output` where writing fails.
 fn print_one<A: Allocator + Copy + Drop, W: Write>(
     out: &mut W,
     told: &Told<A>,
@@ -50,7 +53,7 @@ fn print_one<A: Allocator + Copy + Drop, W: Write>(
     }
 }
 
-/// Prints the answer that a node gives to a call. Otherwise `Output`. Each call has such a line, so it is put together without `write!`.
+/// Prints a node's answer to a call. `Output` where writing fails. Each call has such a line, so this doesn't use `write!`.
 fn print_answer<A: Allocator + Copy + Drop, W: Write>(
     out: &mut W,
     node: Proc,
@@ -60,7 +63,7 @@ fn print_answer<A: Allocator + Copy + Drop, W: Write>(
     ensures line { OnOk result (Appends (W.contents out.old) (W.contents out.new) (line_of (answer_text node call.now answer.now))) }
     ensures failed { IfErr result (λ failure. failure ≡ Output) }
 {
-    let mut line = PrintedLine::new();
+    let mut line = LineBuffer::new();
     add_call(&mut line, "reply ", node, call);
     match answer {
         Answer::Done(reply) => add_reply(&mut line, " done ", reply),
@@ -70,7 +73,7 @@ fn print_answer<A: Allocator + Copy + Drop, W: Write>(
     line.print_to(out)
 }
 
-/// Prints that a node does not take a call, for the reason of this number. Otherwise `Output`.
+/// Prints that a node refused to take a call, with the number of its reason. `Output` where writing fails.
 fn print_refused<A: Allocator + Copy + Drop, W: Write>(
     out: &mut W,
     node: Proc,
@@ -80,15 +83,14 @@ fn print_refused<A: Allocator + Copy + Drop, W: Write>(
     ensures line { OnOk result (Appends (W.contents out.old) (W.contents out.new) (line_of (refused_text node call.now reason))) }
     ensures failed { IfErr result (λ failure. failure ≡ Output) }
 {
-    let mut line = PrintedLine::new();
+    let mut line = LineBuffer::new();
     add_call(&mut line, "refused ", node, call);
     line.add_number(" ", u64::from(reason));
     line.print_to(out)
 }
 
-/// Adds a word, the node, and the call's client and number.
 fn add_call<A: Allocator + Copy + Drop>(
-    line: &mut PrintedLine,
+    line: &mut LineBuffer,
     word: &str,
     node: Proc,
     call: &Call<A>,
@@ -103,13 +105,13 @@ fn add_call<A: Allocator + Copy + Drop>(
     line.add_number(".", call.number);
 }
 
-/// Adds a word and a reply, as two hexadecimal digits a byte in lower case.
-fn add_reply(line: &mut PrintedLine, word: &str, reply: &Reply)
-    requires { length line.old + length word.now + MOST_DIGITS ≤ LONGEST_LINE }
+/// Adds a word and a reply, as two lower-case hexadecimal digits a byte.
+fn add_reply(line: &mut LineBuffer, word: &str, reply: &Reply)
+    requires { length line.old + length word.now + MAX_DIGITS ≤ MAX_LINE_BYTES }
     ensures text { line.new ≡ line.old ++ word.now ++ encode_lower reply.now }
-    ensures len { length line.new ≤ length line.old + length word.now + MOST_DIGITS }
+    ensures len { length line.new ≤ length line.old + length word.now + MAX_DIGITS }
 {
-    let mut room = [0u8; MOST_DIGITS];
+    let mut room = [0u8; MAX_DIGITS];
     let digits = &mut room[..2 * reply.len()];
     let Ok(()) = hex::encode_to_slice(reply.as_slice(), digits) else {
         unreachable!();
@@ -118,13 +120,13 @@ fn add_reply(line: &mut PrintedLine, word: &str, reply: &Reply)
     line.add(digits);
 }
 
-/// How many places of a log are dropped, at the end of what is told of it: nothing where that is 0.
+/// The number of dropped places, displayed as the end of a node's line: nothing where it is 0.
 #[derive(Drop)]
-struct Trimmed(u64);
+struct TrimmedSuffix(u64);
 
-impl fmt::Display for Trimmed {
+impl fmt::Display for TrimmedSuffix {
     ghost use Rattle.std.specs.Prelude.{Some};
-    ghost use Rattle.ring_console.specs.Printed.{trimmed_text};
+    ghost use Rattle.ring_console.specs.OutputLines.{trimmed_text};
 
     ghost output = { λ trimmed. Some (trimmed_text trimmed.0) };
 
@@ -137,8 +139,10 @@ impl fmt::Display for Trimmed {
     }
 }
 
-/// Prints a node's state, its last installed ring, how much of its log is committed, and how much it has dropped. Otherwise
-/// `Output`.
+/// Prints the line of a node in `show`: its state, its last installed ring, its committed length and its log's length, both
+/// with the dropped places, and the number of dropped places, left out where it is 0.
+/// Errors: `Output` where writing fails.
+/// Formats: What a script prints
 pub(crate) fn print_node<W: Write>(
     out: &mut W,
     node: Proc,
@@ -151,28 +155,32 @@ pub(crate) fn print_node<W: Write>(
     ensures line { OnOk result (Appends (W.contents out.old) (W.contents out.new) (line_of (node_text node state ring committed log trimmed))) }
     ensures failed { IfErr result (λ failure. failure ≡ Output) }
 {
-    let (node, state, dropped) = (node.number(), state_word(state), Trimmed(trimmed));
-    or_output(writeln!(
+    let (node, state, dropped) = (node.number(), state_name(state), TrimmedSuffix(trimmed));
+    output_result(writeln!(
         out,
         "node {node} {state} {ring} committed {committed} log {log}{dropped}"
     ))
 }
 
-/// Prints the length of the one order. Otherwise `Output`.
+/// Prints the last line of `show`, with the length of the one order.
+/// Errors: `Output` where writing fails.
+/// Formats: What a script prints
 pub(crate) fn print_order<W: Write>(out: &mut W, length: u64) -> Result<(), Failure>
     ensures line { OnOk result (Appends (W.contents out.old) (W.contents out.new) (line_of (order_text length))) }
     ensures failed { IfErr result (λ failure. failure ≡ Output) }
 {
-    let mut line = PrintedLine::new();
+    let mut line = LineBuffer::new();
     line.add_number("order ", length);
     line.print_to(out)
 }
 
-/// Prints whether a run is legal. Otherwise `Output`.
+/// Prints `legal yes` or `legal no`.
+/// Errors: `Output` where writing fails.
+/// Formats: The command line
 pub(crate) fn print_legal<W: Write>(out: &mut W, is_legal: bool) -> Result<(), Failure>
     ensures line { OnOk result (Appends (W.contents out.old) (W.contents out.new) (line_of (legal_text is_legal))) }
     ensures failed { IfErr result (λ failure. failure ≡ Output) }
 {
     let word = if is_legal { "yes" } else { "no" };
-    or_output(writeln!(out, "legal {word}"))
+    output_result(writeln!(out, "legal {word}"))
 }

@@ -1,81 +1,88 @@
-//! Running a script: what its lines ask for is done over a world, one event after another.
+//! The run of a script: the requests of its lines are carried out on a world, one event after another.
+//! Formats: Scripts; Pump; What a script prints
 
 ghost use Rattle.std.specs.Prelude.{◌≡◌, ◌≤◌, true, false, [], Some, None, length, drop, slice_get, IfOk, IfErr, OnOk, OnErr, IsTrue};
 ghost use Rattle.std.specs.Io.KnownBytes.{Appends};
 ghost use Rattle.ring_base.specs.declared.fault.Fault.TheVariants.{Memory};
 ghost use Rattle.ring_world.specs.Rules.{EventFits};
-ghost use Rattle.ring_world.specs.Pairs.{Takes};
-ghost use Rattle.ring_report.specs.Failures.{IsOutputOrMemory};
-ghost use Rattle.ring_report.specs.declared.failure.Failure.TheVariants.{Output};
+ghost use Rattle.ring_world.specs.OpenCopies.{IsFirstCopyTaken};
+ghost use Rattle.ring_failure.specs.Failures.{IsOutputOrMemory};
+ghost use Rattle.ring_failure.specs.declared.failure.Failure.TheVariants.{Output};
 ghost use Rattle.ring_script.specs.Fits.{IsFit, AreFit};
-ghost use Rattle.ring_console.specs.Printed.{told_text};
-ghost use Rattle.ring_console.specs.Running.{run_opening, hears, Prints, UnlessOutput, Rests, Happens, Turns, BreaksTurn, Comes, Pumps, BreaksPump};
-ghost use Rattle.ring_console.specs.Running.{Ends, EndsRun, text_of, show_text};
+ghost use Rattle.ring_console.specs.OutputLines.{told_text};
+ghost use Rattle.ring_console.specs.Running.{run_opening, is_connected, HasPrinted, UnlessOutputFailed, IsUnchanged, HasRunEvent, IsTurnDone, IsTurnInterrupted, IsCopyHandled, IsPumpDone, IsPumpInterrupted};
+ghost use Rattle.ring_console.specs.Running.{IsLineEnded, AreLinesEnded, text_of, show_text};
 
 use crate::printed::{print_node, print_order, print_told};
 use ring_base::{Fault, Fixed, Proc};
+use ring_failure::Failure;
 use ring_object::Object;
-use ring_report::Failure;
-use ring_script::{Groups, Line, Script};
-use ring_world::{Event, Noise, Pair, Pump, World};
+use ring_script::{Groups, Script, ScriptLine};
+use ring_world::{Event, Noise, OpenCopy, Pump, World};
 use std::io::Write;
 use std::marker::Model;
 
-/// A script under way: the world of its nodes with the copies of frames that are open, and the cut. Contracts see it as a
-/// `RunView`.
+/// A running script: the world of its nodes, the open copies of the frames sent, and the cut. A copy is for one receiver,
+/// and is open until a turn of delivery takes it. Contracts see the run as a `RunView`.
+/// Formats: Scripts; Pump
 #[derive(Drop)]
-pub struct Run<O: Object> {
+pub struct ScriptRun<O: Object> {
     pump: Pump<O>,
     /// The groups of the cut, if there is one.
     groups: Option<Groups>,
 }
 
-impl<O: Object> Model for Run<O> {
+impl<O: Object> Model for ScriptRun<O> {
     ghost use Rattle.ring_console.specs.Running.{RunView};
 
     ghost Value = { RunView O.Alloc };
 
-    ghost view = { λ r. record { played = r.pump.played; open_pairs = r.pump.open_pairs; groups = r.groups } };
+    ghost view = { λ r. record { world_view = r.pump.world_view; open_copies = r.pump.open_copies; groups = r.groups } };
 }
 
-impl<O: Object> Run<O> {
-    /// The nodes at their opening, or `Memory`.
-    pub fn new(alloc: O::Alloc, nodes: Fixed) -> Result<Run<O>, Fault>
+impl<O: Object> ScriptRun<O> {
+    /// Creates a run of these nodes, all at their opening, without a cut or a frame.
+    /// Errors: `Memory`.
+    pub fn new(alloc: O::Alloc, nodes: Fixed) -> Result<ScriptRun<O>, Fault>
         ensures ok { IfOk result (λ run. run ≡ run_opening nodes) }
         ensures refused { IfErr result (λ fault. fault ≡ Memory) }
     {
         let world = World::new(alloc, nodes)?;
-        Ok(Run {
+        Ok(ScriptRun {
             pump: Pump::new(world),
             groups: None,
         })
     }
 
-    /// Another run that has come as far as this one, or `Memory`. From there each goes on by itself.
-    pub fn copy(&self) -> Result<Run<O>, Fault>
+    /// Returns a copy of this run. From then on the two are independent.
+    /// Errors: `Memory`; this run is unchanged.
+    pub fn copy(&self) -> Result<ScriptRun<O>, Fault>
         ensures ok { IfOk result (λ copy. copy ≡ self.now) }
         ensures refused { IfErr result (λ fault. fault ≡ Memory) }
     {
         let pump = self.pump.copy()?;
-        Ok(Run {
+        Ok(ScriptRun {
             pump,
             groups: self.groups,
         })
     }
 
-    /// The world of its nodes.
+    /// Returns the world of the nodes, after all events run so far.
     pub fn world(&self) -> &World<O>
-        ensures { result.now ≡ self.now.played }
+        ensures { result.now ≡ self.now.world_view }
     {
         self.pump.world()
     }
 
-    /// Does what the lines ask for, in their order, and prints on `out` what comes of it. Otherwise `Output`, or
-    /// `Refused` with `Memory`, where that is refused to the world itself: what was done before stays done, and is printed.
+    /// Carries out the requests of the lines in order, and prints their outputs on `out`. Each call in them keeps the
+    /// limits of calls, as in every parsed script.
+    /// Errors: `Output` where `out` fails; `Refused` with `Memory` where memory is refused to the world itself. All events
+    /// before stay done; with `Memory` they are printed too.
+    /// Formats: Scripts; Pump; What a script prints
     pub fn take<W: Write>(&mut self, script: Script<O::Alloc>, out: &mut W) -> Result<(), Failure>
         requires { AreFit script.lines.items }
-        ensures ends { UnlessOutput result (Prints (W.contents out.old) (W.contents out.new)
-            (λ text. EndsRun O.sequential result script.lines.items self.old self.new text)) }
+        ensures ends { UnlessOutputFailed result (HasPrinted (W.contents out.old) (W.contents out.new)
+            (λ text. AreLinesEnded O.sequential result script.lines.items self.old self.new text)) }
         ensures failed { IfErr result IsOutputOrMemory }
     {
         for numbered in script.lines {
@@ -84,14 +91,18 @@ impl<O: Object> Run<O> {
         Ok(())
     }
 
-    /// Does what a line asks for, and prints what comes of it.
-    fn take_line<W: Write>(&mut self, line: Line<O::Alloc>, out: &mut W) -> Result<(), Failure>
+    /// Carries out the request of a line, and prints its outputs.
+    fn take_line<W: Write>(
+        &mut self,
+        line: ScriptLine<O::Alloc>,
+        out: &mut W,
+    ) -> Result<(), Failure>
         requires { IsFit line }
-        ensures ends { UnlessOutput result (Ends O.sequential result line self.old self.new) }
-        ensures prints { UnlessOutput result (Appends (W.contents out.old) (W.contents out.new) (text_of O.sequential line self.old.played self.new.played)) }
+        ensures ends { UnlessOutputFailed result (IsLineEnded O.sequential result line self.old self.new) }
+        ensures prints { UnlessOutputFailed result (Appends (W.contents out.old) (W.contents out.new) (text_of O.sequential line self.old.world_view self.new.world_view)) }
         ensures failed { IfErr result IsOutputOrMemory }
     {
-        if let Line::Show = &line {
+        if let ScriptLine::Show = &line {
             return self.show(out);
         }
         let before = self.world().told().len();
@@ -103,123 +114,140 @@ impl<O: Object> Run<O> {
         }
     }
 
-    /// Prints what was told since so much was told. Otherwise `Output`.
+    /// Prints the reports from this index on. `Output` where writing fails.
     fn print_since<W: Write>(&self, before: usize, out: &mut W) -> Result<(), Failure>
-        requires { before ≤ length self.now.played.told }
-        ensures lines { OnOk result (Appends (W.contents out.old) (W.contents out.new) (told_text (drop before self.now.played.told))) }
+        requires { before ≤ length self.now.world_view.told }
+        ensures lines { OnOk result (Appends (W.contents out.old) (W.contents out.new) (told_text (drop before self.now.world_view.told))) }
         ensures failed { IfErr result (λ failure. failure ≡ Output) }
     {
         let told = self.world().told();
         print_told(out, &told[before..])
     }
 
-    /// Does what a line asks for; nothing where it asks for the state. Otherwise `Memory`, where that is refused to the world itself: then
-    /// nothing was done, or, of turns that are taken, those before it, and the copy whose turn it was is closed and comes to nobody.
-    pub fn perform(&mut self, line: Line<O::Alloc>) -> Result<(), Fault>
+    /// Carries out the request of a line, and prints nothing. The line `show` does nothing.
+    /// Errors: `Memory` where it is refused to the world itself. Then nothing is done, except in a pump: the turns before
+    /// are done, and the copy whose turn it was is closed and not delivered.
+    /// Formats: Scripts; Pump
+    pub fn perform(&mut self, line: ScriptLine<O::Alloc>) -> Result<(), Fault>
         requires { IsFit line }
-        ensures ends { Ends O.sequential result line self.old self.new }
+        ensures ends { IsLineEnded O.sequential result line self.old self.new }
         ensures refused { IfErr result (λ fault. fault ≡ Memory) }
     {
         match line {
-            Line::Call { node, call } => self.happen(Event::Issue(node, call)),
-            Line::Deliver { node, frame } => self.happen(Event::Deliver(node, frame.unwrap_or(0))),
-            Line::Timeout { node, kind } => self.happen(Event::Timeout(node, kind)),
-            Line::Noise { node, bytes } => {
-                self.happen(Event::Noise(node, Noise::from_vec(bytes)))
+            ScriptLine::Call { node, call } => self.run_event(Event::Issue(node, call)),
+            ScriptLine::Deliver { node, frame } => self.run_event(Event::Deliver(
+                node,
+                frame.unwrap_or(0),
+            )),
+            ScriptLine::Timeout { node, kind } => self.run_event(Event::Timeout(node, kind)),
+            ScriptLine::Noise { node, bytes } => {
+                self.run_event(Event::Noise(node, Noise::from_vec(bytes)))
             }
-            Line::Stop { node } => self.happen(Event::Stop(node)),
-            Line::Cut(groups) => {
+            ScriptLine::Stop { node } => self.run_event(Event::Stop(node)),
+            ScriptLine::Cut(groups) => {
                 self.cut(groups);
                 Ok(())
             }
-            Line::Heal => {
+            ScriptLine::Heal => {
                 self.heal();
                 Ok(())
             }
-            Line::Pump { turns } => self.pump(turns),
-            Line::Show => Ok(()),
+            ScriptLine::Pump { turns } => self.pump(turns),
+            ScriptLine::Show => Ok(()),
         }
     }
 
-    /// From here on the nodes of different groups don't hear each other.
+    /// Cuts the nodes into these groups. From then on, nodes of different groups don't hear each other. It replaces an
+    /// earlier cut, and loses nothing before a turn of delivery.
+    /// Formats: Scripts; Pump
     pub fn cut(&mut self, groups: Groups)
         ensures { self.new ≡ record self.old { groups = Some groups } }
     {
         self.groups = Some(groups);
     }
 
-    /// From here on all nodes hear each other.
+    /// Removes the cut, if there is one. From then on, all nodes hear each other. Copies that the cut has lost stay closed.
+    /// Formats: Scripts; Pump
     pub fn heal(&mut self)
         ensures { self.new ≡ record self.old { groups = None } }
     {
         self.groups = None;
     }
 
-    /// The world runs an event. Otherwise `Memory`, where that is refused to the world itself: then nothing was done.
-    pub fn happen(&mut self, event: Event<O::Alloc>) -> Result<(), Fault>
+    /// Runs an event on the world, and opens a copy of each frame that the event sends for each of its receivers.
+    /// Errors: `Memory` where it is refused to the world itself: nothing is done. A node that is refused memory stops,
+    /// which isn't an error.
+    /// Formats: Scripts; Pump
+    pub fn run_event(&mut self, event: Event<O::Alloc>) -> Result<(), Fault>
         requires { EventFits event }
-        ensures done { OnOk result (Happens O.sequential event self.old self.new) }
-        ensures rests { OnErr result (Rests self.old self.new) }
+        ensures done { OnOk result (HasRunEvent O.sequential event self.old self.new) }
+        ensures rests { OnErr result (IsUnchanged self.old self.new) }
         ensures refused { IfErr result (λ fault. fault ≡ Memory) }
     {
-        self.pump.happen(event)
+        self.pump.run_event(event)
     }
 
-    /// Takes turns, fewer where no copy is open.
+    /// Takes this number of turns, fewer if no copy is open.
+    /// Formats: Pump
     fn pump(&mut self, turns: u32) -> Result<(), Fault>
-        ensures done { OnOk result (Pumps O.sequential turns self.old self.new) }
-        ensures breaks { OnErr result (BreaksPump O.sequential turns self.old self.new) }
+        ensures done { OnOk result (IsPumpDone O.sequential turns self.old self.new) }
+        ensures breaks { OnErr result (IsPumpInterrupted O.sequential turns self.old self.new) }
         ensures refused { IfErr result (λ fault. fault ≡ Memory) }
     {
         for _ in 0..turns {
-            let Some(pair) = self.close_first() else {
+            let Some(pair) = self.close_first_copy() else {
                 return Ok(());
             };
-            self.come(pair)?;
+            self.deliver_copy(pair)?;
         }
         Ok(())
     }
 
-    /// The first open copy. `None` where none is open.
-    pub fn first_open(&self) -> Option<Pair>
-        ensures { result ≡ slice_get self.now.open_pairs 0 }
+    /// Returns the open copy that the next turn takes: the one of the smallest frame number, and of these the one to the
+    /// smallest receiver. Returns `None` where none is open. Nothing changes.
+    /// Formats: Pump
+    pub fn first_open_copy(&self) -> Option<OpenCopy>
+        ensures { result ≡ slice_get self.now.open_copies 0 }
     {
-        self.pump.first_open()
+        self.pump.first_open_copy()
     }
 
-    /// Closes the first open copy, and gives it. `None` where none is open.
-    pub fn close_first(&mut self) -> Option<Pair>
-        ensures takes { Takes self.old.open_pairs result self.new.open_pairs }
-        ensures same { self.new ≡ record self.old { open_pairs = self.new.open_pairs } }
+    /// Closes the open copy that the next turn takes, without delivering it, and returns it. Returns `None` where none is
+    /// open.
+    /// Formats: Pump
+    pub fn close_first_copy(&mut self) -> Option<OpenCopy>
+        ensures takes { IsFirstCopyTaken self.old.open_copies result self.new.open_copies }
+        ensures same { self.new ≡ record self.old { open_copies = self.new.open_copies } }
     {
-        self.pump.close_first()
+        self.pump.close_first_copy()
     }
 
-    /// A copy that is closed comes to its receiver, or is lost at the cut. Otherwise as `happen`.
-    fn come(&mut self, pair: Pair) -> Result<(), Fault>
-        ensures done { OnOk result (Comes O.sequential (hears self.old.groups pair.sender pair.receiver) pair self.old self.new) }
-        ensures rests { OnErr result (Rests self.old self.new) }
+    /// Delivers a closed copy to its receiver, unless the cut loses it. Fails as `run_event` does.
+    fn deliver_copy(&mut self, pair: OpenCopy) -> Result<(), Fault>
+        ensures done { OnOk result (IsCopyHandled O.sequential (is_connected self.old.groups pair.sender pair.receiver) pair self.old self.new) }
+        ensures rests { OnErr result (IsUnchanged self.old self.new) }
         ensures refused { IfErr result (λ fault. fault ≡ Memory) }
     {
-        if !self.hears(pair.sender, pair.receiver) {
+        if !self.is_connected(pair.sender, pair.receiver) {
             return Ok(());
         }
-        self.happen(Event::Deliver(pair.receiver, pair.frame))
+        self.run_event(Event::Deliver(pair.receiver, pair.frame))
     }
 
-    /// Whether what the sender sends comes to the receiver: there is no cut, or they are in one group.
-    pub fn hears(&self, sender: Proc, receiver: Proc) -> bool
-        ensures { result ≡ hears self.now.groups sender receiver }
+    /// Returns whether the receiver hears the sender now: there is no cut, or the two nodes are in one group.
+    /// Formats: Pump
+    pub fn is_connected(&self, sender: Proc, receiver: Proc) -> bool
+        ensures { result ≡ is_connected self.now.groups sender receiver }
     {
         match &self.groups {
             None => true,
-            Some(groups) => groups.are_together(sender, receiver),
+            Some(groups) => groups.are_connected(sender, receiver),
         }
     }
 
-    /// Prints the state. Otherwise `Output`.
+    /// Prints the state of all nodes. `Output` where writing fails.
     fn show<W: Write>(&self, out: &mut W) -> Result<(), Failure>
-        ensures prints { OnOk result (Appends (W.contents out.old) (W.contents out.new) (show_text O.sequential self.now.played)) }
+        ensures prints { OnOk result (Appends (W.contents out.old) (W.contents out.new) (show_text O.sequential self.now.world_view)) }
         ensures failed { IfErr result (λ failure. failure ≡ Output) }
     {
         let world = self.world();

@@ -1,38 +1,42 @@
-//! What the program prints of a script.
+//! The command `script`: running a script, and checking that its order is legal.
+//! Rules: Sessions 10
+//! Formats: What a script prints; The command line
 
 ghost use Rattle.std.specs.Prelude.{◌≡◌, ℕ, ◌≤◌, ◌⊎◌, ◌↔◌, List, [], Some, Ok, Err, IsOk, OnOk, IfOk, IfErr, true, false, IsTrue};
 ghost use Rattle.std.specs.Io.Buffered.{writer_buffer, writer_contents};
 ghost use Rattle.std.specs.Io.KnownBytes.{Appends, Keeps};
 ghost use Rattle.ring_base.specs.declared.fault.Fault.TheVariants.{Memory};
 ghost use Rattle.ring_script.specs.Fits.{AreFit};
-ghost use Rattle.ring_script.specs.Scripts.{IsAllOf, AnswersInputBy, AnswersInput};
+ghost use Rattle.ring_script.specs.Scripts.{IsAllOf, IsScriptOfInputBy, IsScriptOfInput};
 ghost use Rattle.ring_script.specs.ScriptTexts.{IsNoScript};
-ghost use Rattle.ring_script.specs.ShelfWords.{shelf_forms};
+ghost use Rattle.ring_script.specs.ShelfVocabulary.{shelf_operation_forms};
 ghost use Rattle.ring_script.specs.declared.scripts.Script.{Script};
-ghost use Rattle.ring_report.specs.Failures.{IsOutputOrMemory};
-ghost use Rattle.ring_report.specs.declared.failure.Failure.TheVariants.{Output};
-ghost use Rattle.ring_console.specs.Running.{Prints, run_opening, IsTextOf, IsLegal, IsVerdict, legal_line};
+ghost use Rattle.ring_failure.specs.Failures.{IsOutputOrMemory};
+ghost use Rattle.ring_failure.specs.declared.failure.Failure.TheVariants.{Output};
+ghost use Rattle.ring_console.specs.Running.{HasPrinted, run_opening, IsTextOf, IsCutTextOf, IsLegal, IsVerdict, legal_line};
 
 use crate::printed::print_legal;
-use crate::run::Run;
+use crate::run::ScriptRun;
 use ring_base::Fault;
 use ring_checker::is_linearization;
+use ring_failure::{BorrowedWriter, Failure, NOT_LEGAL, exit_status, report};
 use ring_object::Object;
-use ring_report::{Failure, Lent, NOT_LEGAL, exit_status, report};
-use ring_script::{Script, ShelfWords, Vocabulary};
-use ring_things::Things;
+use ring_script::{Script, ShelfVocabulary, Vocabulary};
+use ring_things::StandardObjects;
 use std::alloc::Allocator;
 use std::io::{BufWriter, Read, Write};
 
-/// Reads a script, checks the whole of it, and runs it: what comes of its events is printed on `out`. The exit
-/// status is 0, or else 1:
+/// Reads a whole script over the program's object, checks it, runs it, and prints the outputs of its events on `out`.
+/// Returns the exit status: 0 at the script's end, else 1.
 ///
-/// - where the input is no script, `err` is told so, and nothing is printed;
-/// - where memory is refused to the run itself, `err` is told so;
-/// - where `out` fails, nothing is told.
+/// Errors, each reported on `err` unless stated otherwise:
+/// - `BadScript` where the input isn't a script: nothing is printed;
+/// - `Memory` where memory is refused to the reading or to the run itself;
+/// - `out` fails: nothing is reported.
 ///
-/// The lines of the events that were done before that stand on `out`. Where the status is 0, the whole input was a
-/// script, and what was printed is the text of a run of it.
+/// With `Memory`, the lines of all events before are on `out`. At status 0 the whole input was a script, and the printed
+/// text is that of a run of it.
+/// Formats: What a script prints; The command line
 pub fn script<A: Allocator + Copy + Drop, R: Read, O: Write, E: Write>(
     alloc: A,
     input: &mut R,
@@ -41,16 +45,19 @@ pub fn script<A: Allocator + Copy + Drop, R: Read, O: Write, E: Write>(
 ) -> u8
     ensures status { result ≤ 1 }
     ensures quiet { result ≡ 0 → Keeps (E.contents err.old) (E.contents err.new) }
-    ensures printed { let object = ⟦<Things<A> as Object>⟧ in
-        result ≡ 0 → (script : Script A) × (bytes : List ℕ) × IsAllOf (R.remaining input.old) bytes × AnswersInput (Ok script) bytes
-        × Prints (O.contents out.old) (O.contents out.new) (IsTextOf object.sequential script.nodes false script.lines.items true) }
-    ensures no_script { (bytes : List ℕ) → R.remaining input.old ≡ Some bytes → IsNoScript shelf_forms bytes → (result ≡ 1) × (out.new ≡ out.old) }
+    ensures printed { let object = ⟦<StandardObjects<A> as Object>⟧ in
+        result ≡ 0 → (script : Script A) × (bytes : List ℕ) × IsAllOf (R.remaining input.old) bytes × IsScriptOfInput (Ok script) bytes
+        × HasPrinted (O.contents out.old) (O.contents out.new) (IsTextOf object.sequential script.nodes false script.lines.items true) }
+    ensures no_script { (bytes : List ℕ) → R.remaining input.old ≡ Some bytes → IsNoScript shelf_operation_forms bytes → (result ≡ 1) × (out.new ≡ out.old) }
 {
-    script_of::<Things<A>, ShelfWords, R, O, E>(alloc, input, false, out, err)
+    script_of::<StandardObjects<A>, ShelfVocabulary, R, O, E>(alloc, input, false, out, err)
 }
 
-/// As [`script`], and behind all that prints `legal yes` or `legal no`: whether the order of the run's world explains its
-/// history, by a checker that knows nothing of how they came about. The exit status is 1 after `legal no` too.
+/// Runs a script as [`script`] does, and then prints `legal yes` or `legal no`: whether the order of the run's world is
+/// legal for its history. The checker knows nothing of how these arose. The exit status is 1 after `legal no` too.
+/// Errors: as for [`script`].
+/// Rules: Sessions 10
+/// Formats: The command line
 pub fn script_check<A: Allocator + Copy + Drop, R: Read, O: Write, E: Write>(
     alloc: A,
     input: &mut R,
@@ -59,15 +66,18 @@ pub fn script_check<A: Allocator + Copy + Drop, R: Read, O: Write, E: Write>(
 ) -> u8
     ensures status { result ≤ 1 }
     ensures quiet { result ≡ 0 → Keeps (E.contents err.old) (E.contents err.new) }
-    ensures printed { let object = ⟦<Things<A> as Object>⟧ in
-        result ≡ 0 → (script : Script A) × (bytes : List ℕ) × IsAllOf (R.remaining input.old) bytes × AnswersInput (Ok script) bytes
-        × Prints (O.contents out.old) (O.contents out.new) (IsTextOf object.sequential script.nodes true script.lines.items true) }
-    ensures no_script { (bytes : List ℕ) → R.remaining input.old ≡ Some bytes → IsNoScript shelf_forms bytes → (result ≡ 1) × (out.new ≡ out.old) }
+    ensures printed { let object = ⟦<StandardObjects<A> as Object>⟧ in
+        result ≡ 0 → (script : Script A) × (bytes : List ℕ) × IsAllOf (R.remaining input.old) bytes × IsScriptOfInput (Ok script) bytes
+        × HasPrinted (O.contents out.old) (O.contents out.new) (IsTextOf object.sequential script.nodes true script.lines.items true) }
+    ensures no_script { (bytes : List ℕ) → R.remaining input.old ≡ Some bytes → IsNoScript shelf_operation_forms bytes → (result ≡ 1) × (out.new ≡ out.old) }
 {
-    script_of::<Things<A>, ShelfWords, R, O, E>(alloc, input, true, out, err)
+    script_of::<StandardObjects<A>, ShelfVocabulary, R, O, E>(alloc, input, true, out, err)
 }
 
-/// The same of any object, as [`script`], or as [`script_check`] where that is asked for, with the words of its operations.
+/// Runs a script over an object with this vocabulary, as [`script`] does, or as [`script_check`] does if `is_checked`.
+/// Errors: as for [`script`].
+/// Rules: Sessions 10
+/// Formats: The command line
 pub fn script_of<T: Object, V: Vocabulary, R: Read, O: Write, E: Write>(
     alloc: T::Alloc,
     input: &mut R,
@@ -78,8 +88,8 @@ pub fn script_of<T: Object, V: Vocabulary, R: Read, O: Write, E: Write>(
     ensures status { result ≤ 1 }
     ensures quiet { result ≡ 0 → Keeps (E.contents err.old) (E.contents err.new) }
     ensures printed { result ≡ 0 → (script : Script T.Alloc) × (bytes : List ℕ) × IsAllOf (R.remaining input.old) bytes
-        × AnswersInputBy V.forms (Ok script) bytes
-        × Prints (O.contents out.old) (O.contents out.new) (IsTextOf T.sequential script.nodes is_checked script.lines.items true) }
+        × IsScriptOfInputBy V.forms (Ok script) bytes
+        × HasPrinted (O.contents out.old) (O.contents out.new) (IsTextOf T.sequential script.nodes is_checked script.lines.items true) }
     ensures no_script { (bytes : List ℕ) → R.remaining input.old ≡ Some bytes → IsNoScript V.forms bytes → (result ≡ 1) × (out.new ≡ out.old) }
 {
     match Script::read_by::<V, R>(alloc, input) {
@@ -88,7 +98,7 @@ pub fn script_of<T: Object, V: Vocabulary, R: Read, O: Write, E: Write>(
     }
 }
 
-/// Runs a script, as [`script_of`] does one that was read.
+/// Runs a parsed script, for [`script_of`].
 fn print_run<T: Object, O: Write, E: Write>(
     alloc: T::Alloc,
     script: Script<T::Alloc>,
@@ -99,14 +109,14 @@ fn print_run<T: Object, O: Write, E: Write>(
     requires { AreFit script.lines.items }
     ensures status { result ≤ 1 }
     ensures quiet { result ≡ 0 → Keeps (E.contents err.old) (E.contents err.new) }
-    ensures printed { result ≡ 0 → Prints (O.contents out.old) (O.contents out.new) (IsTextOf T.sequential script.nodes is_checked script.lines.items true) }
+    ensures printed { result ≡ 0 → HasPrinted (O.contents out.old) (O.contents out.new) (IsTextOf T.sequential script.nodes is_checked script.lines.items true) }
 {
-    match BufWriter::new(alloc, Lent { writer: out }) {
+    match BufWriter::new(alloc, BorrowedWriter { writer: out }) {
         Ok(mut buffer) => {
-            let done = Run::<T>::print_script(alloc, script, is_checked, &mut buffer);
+            let done = ScriptRun::<T>::print_script(alloc, script, is_checked, &mut buffer);
             let status = verdict_status(&mut buffer, err, done);
-            let (Lent { writer }, _) = buffer.into_parts();
-            // No effect at run time. The proof reads what `out` holds from this use.
+            let (BorrowedWriter { writer }, _) = buffer.into_parts();
+            // No effect at run time. The proof reads the contents of `out` from this use.
             let _ = &*writer;
             status
         }
@@ -114,12 +124,12 @@ fn print_run<T: Object, O: Write, E: Write>(
     }
 }
 
-// Functions of the type, and none beside it: in them the parameters of types stand in the places that they have in `Run::take`. Where
-// they stand in others, the checker compares the types of that call down to their last field, and its steps end.
-impl<O: Object> Run<O> {
-    /// Runs the script from the opening of its nodes, and prints whether its run is legal, where that is asked for. Answers what it
-    /// printed of that, and true where it isn't asked for. It ends before the script for one of two reasons alone: `Output`, or
-    /// refused with `Memory`.
+// These are functions of the type, not free functions: here the type parameters have the same positions as in
+// `ScriptRun::take`. With other positions, the checker compares the types of that call down to their last field and runs out of
+// steps.
+impl<O: Object> ScriptRun<O> {
+    /// Runs the script from the opening of its nodes, and then, if `is_checked`, prints whether the run is legal. Returns the
+    /// printed verdict, or true without a check. Errors: only `Output`, and `Refused` with `Memory`.
     fn print_script<W: Write>(
         alloc: O::Alloc,
         script: Script<O::Alloc>,
@@ -127,17 +137,19 @@ impl<O: Object> Run<O> {
         out: &mut W,
     ) -> Result<bool, Failure>
         requires { AreFit script.lines.items }
-        ensures ok { IfOk result (λ is_legal. Prints (W.contents out.old) (W.contents out.new)
+        ensures ok { IfOk result (λ is_legal. HasPrinted (W.contents out.old) (W.contents out.new)
             (IsTextOf O.sequential script.nodes is_checked script.lines.items is_legal)) }
+        ensures cut { IfErr result (λ failure. (failure ≡ Output) ⊎ HasPrinted (W.contents out.old) (W.contents out.new)
+            (IsCutTextOf O.sequential script.nodes is_checked script.lines.items)) }
         ensures failed { IfErr result IsOutputOrMemory }
     {
-        match Run::<O>::new(alloc, script.nodes) {
+        match ScriptRun::<O>::new(alloc, script.nodes) {
             Ok(mut run) => run.print_whole(alloc, script, is_checked, out),
             Err(fault) => Err(Failure::Refused(fault)),
         }
     }
 
-    /// As `print_script`, from the opening at which this run stands.
+    /// As `print_script`, with this run, which is at its opening.
     fn print_whole<W: Write>(
         &mut self,
         alloc: O::Alloc,
@@ -147,16 +159,18 @@ impl<O: Object> Run<O> {
     ) -> Result<bool, Failure>
         requires opening { self.old ≡ run_opening script.nodes }
         requires fit { AreFit script.lines.items }
-        ensures ok { IfOk result (λ is_legal. Prints (W.contents out.old) (W.contents out.new)
+        ensures ok { IfOk result (λ is_legal. HasPrinted (W.contents out.old) (W.contents out.new)
             (IsTextOf O.sequential script.nodes is_checked script.lines.items is_legal)) }
+        ensures cut { IfErr result (λ failure. (failure ≡ Output) ⊎ HasPrinted (W.contents out.old) (W.contents out.new)
+            (IsCutTextOf O.sequential script.nodes is_checked script.lines.items)) }
         ensures failed { IfErr result IsOutputOrMemory }
     {
         self.take(script, out)?;
         self.print_verdict(alloc, is_checked, out)
     }
 
-    /// Prints whether the run is legal, where that is asked for. Answers what it printed of that, and true where it isn't asked
-    /// for. Otherwise `Output`, or refused with `Memory`.
+    /// Prints, if `is_checked`, whether the run is legal. Returns the printed verdict, or true without a check. Errors: only
+    /// `Output`, and `Refused` with `Memory`.
     fn print_verdict<W: Write>(
         &self,
         alloc: O::Alloc,
@@ -164,7 +178,9 @@ impl<O: Object> Run<O> {
         out: &mut W,
     ) -> Result<bool, Failure>
         ensures line { IfOk result (λ is_legal. Appends (W.contents out.old) (W.contents out.new) (legal_line is_checked is_legal)) }
-        ensures verdict { IfOk result (λ is_legal. IsVerdict O.sequential is_checked is_legal self.now.played) }
+        ensures verdict { IfOk result (λ is_legal. IsVerdict O.sequential is_checked is_legal self.now.world_view) }
+        ensures cut { IfErr result (λ failure. (failure ≡ Output)
+            ⊎ ((is_checked ≡ true) × (W.contents out.new ≡ W.contents out.old))) }
         ensures failed { IfErr result IsOutputOrMemory }
     {
         if !is_checked {
@@ -176,16 +192,18 @@ impl<O: Object> Run<O> {
     }
 }
 
-/// Whether the order of a run's world explains its history. Or `Memory`.
-pub fn is_legal<O: Object>(alloc: O::Alloc, run: &Run<O>) -> Result<bool, Fault>
-    ensures ok { IfOk result (λ is_legal. IsTrue is_legal ↔ IsLegal O.sequential run.now.played) }
+/// Returns whether the order of the run's world is legal for its history: it explains each reply of the events run so far.
+/// Errors: `Memory`.
+/// Rules: Sessions 10
+pub fn is_legal<O: Object>(alloc: O::Alloc, run: &ScriptRun<O>) -> Result<bool, Fault>
+    ensures ok { IfOk result (λ is_legal. IsTrue is_legal ↔ IsLegal O.sequential run.now.world_view) }
     ensures refused { IfErr result (λ fault. fault ≡ Memory) }
 {
     let order = run.world().order()?;
     is_linearization::<O>(alloc, order.as_slice(), run.world().history())
 }
 
-/// Ends what writes on standard output as [`exit_status`] does, and answers the exit status: 1 also where a run is not legal.
+/// Flushes the buffer as [`exit_status`] does, and returns the exit status: 1 also where the run is not legal.
 fn verdict_status<O: Write + Drop, A: Allocator, E: Write>(
     out: &mut BufWriter<O, A>,
     err: &mut E,
@@ -203,7 +221,7 @@ fn verdict_status<O: Write + Drop, A: Allocator, E: Write>(
     match done {
         Ok(true) => exit_status(out, err, Ok(())),
         Ok(false) => {
-            // Whether the output failed makes no difference: the status is 1 all the same.
+            // The result of flushing makes no difference: the status is 1 in any case.
             let _ = exit_status(out, err, Ok(()));
             NOT_LEGAL
         }

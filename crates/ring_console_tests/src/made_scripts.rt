@@ -1,24 +1,25 @@
-//! What is made by seeds.
+//! Tests of generated scripts.
+//! Formats: The command line
 
 use ring_base::Fault;
-use ring_script::{NoWords, Script};
-use ring_script_maker::{made_script, made_script_by};
+use ring_script::{EmptyVocabulary, Script};
+use ring_script_generator::{generate_script, generate_script_by};
 use std::alloc::Allocator;
 use std::test::Fail;
 
-/// How many lines of the script of these numbers ask for something. `BadScript` where it is no script.
+/// Returns the number of requests of a generated script. `BadScript` where it is no script.
 fn lines_of<A: Allocator + Copy + Drop>(
     alloc: A,
     votes: &[u8],
     seed: u64,
     lines: u32,
 ) -> Result<usize, Fault> {
-    let text = made_script(alloc, votes, seed, lines)?;
+    let text = generate_script(alloc, votes, seed, lines)?;
     let script = Script::parse(alloc, text.as_bytes()).map_err(|_| Fault::BadScript)?;
     Ok(script.lines.len())
 }
 
-/// The votes, and how many lines are asked for.
+/// The votes, and the number of lines.
 const LENGTHS: [(&[u8], u32); 4] = [
     (&[1], 60),
     (&[1, 255], 60),
@@ -26,7 +27,7 @@ const LENGTHS: [(&[u8], u32); 4] = [
     (&[1, 1, 1, 1, 1, 1, 1, 1, 1, 1, 1, 1, 1, 1, 1, 1], 100),
 ];
 
-/// `show` stands behind as many lines as were asked for, of which the most are 10,000.
+/// The lines are as many as requested, at most 10,000, and then comes `show`.
 #[test]
 fn what_is_made_has_so_many_lines(rt: HostRuntime) -> Result<(), Fail> {
     for seed in 0..8u64 {
@@ -43,16 +44,16 @@ fn what_is_made_has_so_many_lines(rt: HostRuntime) -> Result<(), Fail> {
 
 #[test]
 fn a_seed_makes_one_script(rt: HostRuntime) -> Result<(), Fail> {
-    let one = made_script(rt.alloc(), &[1, 1, 1], 7, 50)?;
-    let again = made_script(rt.alloc(), &[1, 1, 1], 7, 50)?;
-    let other = made_script(rt.alloc(), &[1, 1, 1], 8, 50)?;
+    let one = generate_script(rt.alloc(), &[1, 1, 1], 7, 50)?;
+    let again = generate_script(rt.alloc(), &[1, 1, 1], 7, 50)?;
+    let other = generate_script(rt.alloc(), &[1, 1, 1], 8, 50)?;
     assert!(rt;
         one.as_str() == again.as_str() && drawn_in(one.as_str()) != drawn_in(other.as_str())
     );
     Ok(())
 }
 
-/// A made script without its first line, which names the seed.
+/// Returns a generated script without its first line, which names the seed.
 fn drawn_in(text: &str) -> &str {
     match text.split_once("\n") {
         Some((_, rest)) => rest,
@@ -70,16 +71,16 @@ fn votes_are_told_where_one_is_more(rt: HostRuntime) -> Result<(), Fail> {
         ),
     ];
     for (votes, front) in cases {
-        let text = made_script(rt.alloc(), votes, 7, 5)?;
+        let text = generate_script(rt.alloc(), votes, 7, 5)?;
         assert!(rt; text.as_str().starts_with(front), "{front}");
     }
     Ok(())
 }
 
-/// An object without words is called by the one byte 0.
+/// The calls of an object without vocabulary are the single byte 0.
 #[test]
 fn an_object_without_words_is_called_by_its_bytes(rt: HostRuntime) -> Result<(), Fail> {
-    let text = made_script_by::<NoWords, _>(rt.alloc(), &[1], 7, 50)?;
+    let text = generate_script_by::<EmptyVocabulary, _>(rt.alloc(), &[1], 7, 50)?;
     assert!(rt; text.as_str().contains(" raw 00\n"));
     Ok(())
 }

@@ -1,20 +1,20 @@
-//! What a run or a listing prints.
+//! The output of a run or a listing.
 
-/// What stands on standard output and on standard error, and the exit status.
+/// The standard output and standard error, and the exit status.
 #[derive(Drop)]
-pub struct Printed {
+pub struct RunOutput {
     pub out: Vec<u8>,
     pub err: Vec<u8>,
     pub status: u8,
 }
 
-impl Printed {
-    /// Whether it is these lines, this complaint and this status.
+impl RunOutput {
+    /// Whether the output is these lines, this error line and this status.
     pub fn is(&self, out: &str, err: &str, status: u8) -> bool {
         self.out.as_slice() == out.as_bytes() && self.is_refused(err, status)
     }
 
-    /// Whether it is this complaint and this status, whatever stands on standard output.
+    /// Whether it has this error line and this status, whatever standard output has.
     pub fn is_refused(&self, err: &str, status: u8) -> bool {
         self.err.as_slice() == err.as_bytes() && self.status == status
     }

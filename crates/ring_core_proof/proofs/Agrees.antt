@@ -1,23 +1,23 @@
--- Each join that a core keeps as heard says exactly its sets.
+-- Each join that a core has counted has exactly its sets.
 use Rattle.std.proofs.Common.{ℕ, List}
 use Rattle.ring_wire.specs.declared.frame.Frame.{Frame}
-use Rattle.ring_core.specs.Joins.{AllSaySame}
-use Rattle.ring_core.specs.declared.input.Input.{Input}
-use Rattle.ring_core.specs.State.{Core, opening}
-use Rattle.ring_core.specs.Stepping.{after_inputs}
+use Rattle.ring_core_spec.specs.Joins.{AllSaySame}
+use Rattle.ring_core_spec.specs.declared.input.Input.{Input}
+use Rattle.ring_core_spec.specs.State.{Core, opening}
+use Rattle.ring_core_spec.specs.Stepping.{after_inputs}
 use Rattle.ring_core_proof.specs.Moves.{Move, Idles, Enters, Learns, Visits, Takes, Installs, moved, MayMove}
 use Rattle.ring_core_proof.proofs.KeptByMoves.{IsKeptByMoves, always}
 
 abbrev pub SayingSame : {A : Type 0} → Core A → Type 0
 SayingSame c = AllSaySame c.gathering
 
-moved_same : {A : Type 0} → (came : Frame A → Type 0) (c : Core A) (m : Move A) → MayMove came c m → SayingSame c → SayingSame (moved c m)
-moved_same came c (Idles state gathering shown queue sends) h s = h.joins s
-moved_same came c (Enters k) h s = s
-moved_same came c (Learns k) h s = s
-moved_same came c (Visits t fresh requests again queue) h s = s
-moved_same came c (Takes x) h s = s
-moved_same came c Installs h s = s
+moved_same : {A : Type 0} → (received : Frame A → Type 0) (c : Core A) (m : Move A) → MayMove received c m → SayingSame c → SayingSame (moved c m)
+moved_same received c (Idles state gathering last_sent queue sends) h s = h.joins s
+moved_same received c (Enters k) h s = s
+moved_same received c (Learns k) h s = s
+moved_same received c (Visits t fresh requests again queue) h s = s
+moved_same received c (Takes x) h s = s
+moved_same received c Installs h s = s
 
 pub saying_same : {A : Type 0} → IsKeptByMoves (SayingSame {A = A})
 saying_same = record { moves = moved_same }

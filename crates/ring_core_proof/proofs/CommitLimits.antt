@@ -1,4 +1,5 @@
--- Commit tokens that a core sends keep the limits: a proposal, one with the own report added, and one that goes on as it came.
+-- The commit tokens that a core sends keep the limits: a proposal, a token with its own entry added, and a full
+-- token.
 use Rattle.std.proofs.Common.{◌≡◌, ℕ, ◌+◌, ◌*◌, ◌%◌, ◌^◌, ◌<◌, ◌≤◌, min, List, [], ◌∷◌, ◌++◌, length, Some, slice_get, ap, sym, ◌∙◌, subst, arith, append-nil}
 use Rattle.std.specs.List.{AllByRecursion as Each}
 use Rattle.std.proofs.lemmas.List.{length-append}
@@ -13,7 +14,7 @@ use Rattle.ring_wire.specs.declared.commit.CommitToken.{CommitToken}
 use Rattle.ring_wire.specs.declared.entries.CommitEntry.{CommitEntry}
 use Rattle.ring_wire.specs.Entries.{EntryFits}
 use Rattle.ring_wire.specs.Commits.{IsReport, AreReports, CommitFits}
-use Rattle.ring_core.specs.Commits.{receiver, hopped, proposal}
+use Rattle.ring_core_spec.specs.Commits.{receiver, hop_with_entries, proposal}
 
 -- Reports
 
@@ -27,10 +28,10 @@ reports-push r (n ∷ members) (x ∷ es) m e h g is = (h.0, reports-push r memb
 at_place : (members k : ℕ) → k < size members → slice_get (elements members) k ≡ Some (at members k)
 at_place members k l = slice_get-get_or (elements members) k 0 l
 
--- On the way
+-- Hops
 
 pub filled_fits : (k : CommitToken) (me : ℕ) (own : CommitEntry) → CommitFits k → k.hop < size k.members → receiver k ≡ me →
-    EntryFits own → IsReport k.ring me own → CommitFits (hopped k (own ∷ []))
+    EntryFits own → IsReport k.ring me own → CommitFits (hop_with_entries k (own ∷ []))
 filled_fits k me own f l here fits is =
     let count : length k.entries ≡ min k.hop (size k.members) = f.count in
     let hop : length k.entries ≡ k.hop = omega arith in
@@ -52,7 +53,7 @@ filled_fits k me own f l here fits is =
       reports = reports-push k.ring (elements k.members) k.entries me own f.reports there is;
     }
 
-pub learned_fits : (k : CommitToken) → CommitFits k → size k.members ≤ k.hop → k.hop < 2 * size k.members → CommitFits (hopped k [])
+pub learned_fits : (k : CommitToken) → CommitFits k → size k.members ≤ k.hop → k.hop < 2 * size k.members → CommitFits (hop_with_entries k [])
 learned_fits k f l h =
     let count : length k.entries ≡ min k.hop (size k.members) = f.count in
     let same : k.entries ≡ k.entries ++ [] = sym (append-nil k.entries) in

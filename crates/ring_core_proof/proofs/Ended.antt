@@ -1,4 +1,5 @@
--- In Recovery, once a core sent its End, nothing is left to wrap: what it takes of the old ring from then on comes with what wraps it.
+-- In Recovery, once a core has sent its End, nothing is left to wrap: each message of the old ring that it takes from
+-- then on comes as the inner message of a Wrapped.
 use Rattle.std.proofs.Common.{◌≡◌, ℕ, suc, ◌<◌, ◌≤◌, ◌⊎◌, inl, inr, true, ◌&&◌, ◌==◌, List, [], ◌∷◌, ◌++◌, Some, refl, ap, sym, ◌∙◌, subst, arith}
 use Rattle.std.specs.Prelude.{reverse}
 use Rattle.std.specs.List.{AllByRecursion as Each}
@@ -14,28 +15,28 @@ use Rattle.ring_payload.specs.declared.content.Wrapped.{Wrapped as WrappedMessag
 use Rattle.ring_wire.specs.declared.frame.Frame.{Frame}
 use Rattle.ring_wire.specs.declared.message.Message.{Message}
 use Rattle.ring_wire.specs.declared.token.Token.{Token}
-use Rattle.ring_core.specs.Windows.{is_numbered, found, is_new}
+use Rattle.ring_core_spec.specs.Windows.{is_numbered, found, is_new}
 use Rattle.ring_base.proofs.SameRing.{ring_same}
-use Rattle.ring_core.specs.Tokens.{Turn, numbered}
-use Rattle.ring_core.specs.Commits.{Configuration}
-use Rattle.ring_core.specs.Recoveries.{is_wrap_of, unwrapped, inner_message}
-use Rattle.ring_core.specs.declared.input.Input.{Input}
-use Rattle.ring_core.specs.State.{Core, floor, opening}
-use Rattle.ring_core.specs.Views.{mark}
-use Rattle.ring_core.specs.Acting.{gives_old, took}
-use Rattle.ring_core.specs.Stepping.{after_inputs}
-use Rattle.ring_core.proofs.Tokens.{numbered-ring}
+use Rattle.ring_core_spec.specs.Tokens.{TokenVisit, numbered}
+use Rattle.ring_core_spec.specs.Commits.{Configuration}
+use Rattle.ring_core_spec.specs.Recoveries.{is_wrap_of, inner_messages, inner_message}
+use Rattle.ring_core_spec.specs.declared.input.Input.{Input}
+use Rattle.ring_core_spec.specs.State.{Core, floor, opening}
+use Rattle.ring_core_spec.specs.Views.{mark}
+use Rattle.ring_core_spec.specs.Transitions.{old_ring_messages, message_taken}
+use Rattle.ring_core_spec.specs.Stepping.{after_inputs}
+use Rattle.ring_core_spec.proofs.Tokens.{numbered-ring}
 use Rattle.ring_core_proof.specs.FactWords.{IsIn}
 use Rattle.ring_core_proof.specs.LawWords.{EndsWrapping, HasEnded}
-pub use Rattle.ring_core_proof.specs.Standing.{StandsIn, IsPlaced}
+pub use Rattle.ring_core_proof.specs.WindowBounds.{HasRingOrder, HasOrderedRings}
 use Rattle.ring_core_proof.specs.Moves.{Move, Idles, Enters, Learns, Visits, Takes, Installs, turn_with, moved, MayMove, is_seen, IsWrapping, AreLast, AreWraps}
 use Rattle.ring_core_proof.proofs.InLists.{in-left, in-right, in-parts, in-each, each-in, in-reverse, some-each}
 use Rattle.ring_core_proof.proofs.WrapsAndEnd.{seen_by, seen_of}
 use Rattle.ring_core_proof.proofs.KeptByMoves.{IsKeptByMoves, always}
 
--- Where rings and visits stand
+-- The order of rings and visits
 
-pub installed_below : {A : Type 0} → (s : State) (running installed : Configuration) (turns : List (Turn A)) → StandsIn s running installed turns →
+pub installed_below : {A : Type 0} → (s : State) (running installed : Configuration) (turns : List (TokenVisit A)) → HasRingOrder s running installed turns →
     installed.ring.seq ≤ running.ring.seq
 installed_below Gather running installed turns h = h
 installed_below Commit running installed turns h = omega (arith, h.0)
@@ -44,40 +45,40 @@ installed_below Operational running installed turns h =
     (let e : installed.ring.seq ≡ running.ring.seq = ap (λ (x : Configuration). x.ring.seq) h in omega arith)
 installed_below Stopped running installed turns h = h
 
-left_stands : {A : Type 0} → (now next : State) (running installed : Configuration) (turns : List (Turn A)) →
-    (next ≡ now) ⊎ ((next ≡ Gather) ⊎ (next ≡ Stopped)) → StandsIn now running installed turns → StandsIn next running installed turns
-left_stands now next running installed turns (inl e) h = subst (λ s. StandsIn s running installed turns) (sym e) h
+left_stands : {A : Type 0} → (now next : State) (running installed : Configuration) (turns : List (TokenVisit A)) →
+    (next ≡ now) ⊎ ((next ≡ Gather) ⊎ (next ≡ Stopped)) → HasRingOrder now running installed turns → HasRingOrder next running installed turns
+left_stands now next running installed turns (inl e) h = subst (λ s. HasRingOrder s running installed turns) (sym e) h
 left_stands now next running installed turns (inr (inl e)) h =
-    subst (λ s. StandsIn s running installed turns) (sym e) (installed_below now running installed turns h)
+    subst (λ s. HasRingOrder s running installed turns) (sym e) (installed_below now running installed turns h)
 left_stands now next running installed turns (inr (inr e)) h =
-    subst (λ s. StandsIn s running installed turns) (sym e) (installed_below now running installed turns h)
+    subst (λ s. HasRingOrder s running installed turns) (sym e) (installed_below now running installed turns h)
 
--- a visit more leaves it
-turned_stands : {A : Type 0} → (s : State) (running installed : Configuration) (v : Turn A) (turns : List (Turn A)) → (s ≡ Recovery) ⊎ (s ≡ Operational) →
-    StandsIn s running installed turns → StandsIn s running installed (v ∷ turns)
+-- one more visit keeps it
+turned_stands : {A : Type 0} → (s : State) (running installed : Configuration) (v : TokenVisit A) (turns : List (TokenVisit A)) → (s ≡ Recovery) ⊎ (s ≡ Operational) →
+    HasRingOrder s running installed turns → HasRingOrder s running installed (v ∷ turns)
 turned_stands s running installed v turns (inl e) h =
-    subst (λ s. StandsIn s running installed (v ∷ turns)) (sym e) (subst (λ s. StandsIn s running installed turns) e h)
+    subst (λ s. HasRingOrder s running installed (v ∷ turns)) (sym e) (subst (λ s. HasRingOrder s running installed turns) e h)
 turned_stands s running installed v turns (inr e) h =
-    subst (λ s. StandsIn s running installed (v ∷ turns)) (sym e) (subst (λ s. StandsIn s running installed turns) e h)
+    subst (λ s. HasRingOrder s running installed (v ∷ turns)) (sym e) (subst (λ s. HasRingOrder s running installed turns) e h)
 
-pub moved_placed : {A : Type 0} → (came : Frame A → Type 0) (c : Core A) (m : Move A) → MayMove came c m → IsPlaced c → IsPlaced (moved c m)
-moved_placed came c (Idles state gathering shown queue sends) h p =
+pub moved_placed : {A : Type 0} → (received : Frame A → Type 0) (c : Core A) (m : Move A) → MayMove received c m → HasOrderedRings c → HasOrderedRings (moved c m)
+moved_placed received c (Idles state gathering last_sent queue sends) h p =
     record { stands = left_stands c.state state c.running c.installed c.turns h.leaves p.stands; turns = p.turns }
-moved_placed {A} came c (Enters k) h p =
+moved_placed {A} received c (Enters k) h p =
     let below : c.installed.ring.seq ≤ floor c = installed_below c.state c.running c.installed c.turns p.stands in
     let above : floor c < k.ring.seq = h.above in
-    let older = each-weaker (λ (v : Turn A). v.came.ring.seq ≤ floor c) (λ (v : Turn A). v.came.ring.seq < k.ring.seq) (λ v l. omega arith) c.turns p.turns in
-    record { stands = (omega arith, older); turns = each-weaker _ _ (λ (v : Turn A) l. omega arith) c.turns older }
-moved_placed came c (Learns k) h p = record { stands = (subst (λ s. StandsIn s c.running c.installed c.turns) h.state p.stands).0; turns = p.turns }
-moved_placed came c (Visits t fresh requests again queue) h p =
+    let older = each-weaker (λ (v : TokenVisit A). v.received.ring.seq ≤ floor c) (λ (v : TokenVisit A). v.received.ring.seq < k.ring.seq) (λ v l. omega arith) c.turns p.turns in
+    record { stands = (omega arith, older); turns = each-weaker _ _ (λ (v : TokenVisit A) l. omega arith) c.turns older }
+moved_placed received c (Learns k) h p = record { stands = (subst (λ s. HasRingOrder s c.running c.installed c.turns) h.state p.stands).0; turns = p.turns }
+moved_placed received c (Visits t fresh requests again queue) h p =
     let r : t.ring.seq ≡ floor c = ap (λ (r : RingId). r.seq) h.ring in
     record { stands = turned_stands c.state c.running c.installed (turn_with c t fresh requests) c.turns h.state p.stands; turns = (omega arith, p.turns) }
-moved_placed came c (Takes x) h p = record { stands = p.stands; turns = p.turns }
-moved_placed came c Installs h p = record { stands = refl; turns = p.turns }
+moved_placed received c (Takes x) h p = record { stands = p.stands; turns = p.turns }
+moved_placed received c Installs h p = record { stands = refl; turns = p.turns }
 
--- More is held
+-- More messages are held
 
--- what is found among more messages is one of these, or was found before
+-- a message found among more messages is a new one, or was found before
 found-append : {A : Type 0} → (xs ys : List (Message A)) (ring : RingId) (n : ℕ) (x : Message A) → found (xs ++ ys) ring n ≡ Some x →
     (IsIn x xs × (x.ring ≡ ring) × (x.number ≡ n)) ⊎ (found ys ring n ≡ Some x)
 found-append [] ys ring n x e = inr e
@@ -93,7 +94,7 @@ found-append {A} (y ∷ xs) ys ring n x e =
     )))
     (λ t k. elim (found-append xs ys ring n x k) [ inl (i, r, m) ↦ inl (inr i, r, m) | inr f ↦ inr f ]) e
 
--- a payload goes in one of the messages
+-- each payload is sent in one of the messages
 record IsCarried {A : Type 0} (ring : RingId) (xs : List (Message A)) (p : Payload A) : Type 0 where
   pub message : Message A
   pub there : IsIn message xs
@@ -114,7 +115,8 @@ module _ {A : Type 0} (c : Core A) (more : List (Message A)) where
       seen_by (more ++ c.held) c.running.ring c.installed.ring n k.message (in-left k.message more c.held k.there) k.ring_is
       (ap (is_wrap_of c.installed.ring n) k.payload_is ∙ t)
 
-  -- where these carry what was left to wrap, and those of the installed ring among them come with what wraps them, nothing is left
+  -- where these messages wrap all that was left, and those of the installed ring among them come with their Wrapped,
+  -- nothing is left to wrap
   none_after : (wraps : List (Payload A)) → Each (IsCarried c.running.ring more) wraps →
       ((x : Message A) → IsIn x more → x.ring ≡ c.installed.ring → is_seen grown x.number ≡ true) → AreLast c wraps → AreLast grown []
   none_after wraps carried new last n x l e u =
@@ -172,9 +174,9 @@ module _ {A : Type 0} (c : Core A) (below : c.installed.ring.seq < floor c) (t :
 
 -- Taking
 
--- what is unwrapped comes with what wraps it
+-- an inner message comes with its Wrapped
 inner_wrapped : {A : Type 0} → (old : RingId) (m : ℕ) (held : List (Message A)) (w : WrappedMessage A) →
-    Each (λ (y : Message A). is_wrap_of old y.number (Wrapped w) ≡ true) (unwrapped old m held (Wrapped w))
+    Each (λ (y : Message A). is_wrap_of old y.number (Wrapped w) ≡ true) (inner_messages old m held (Wrapped w))
 inner_wrapped {A} old m held w =
     cond_both (same_ring w.ring old && is_new held m old w.number) (inner_message w ∷ []) [] (Each (λ (y : Message A). is_wrap_of old y.number (Wrapped w) ≡ true))
     (λ t. (let p = and_parts (same_ring w.ring old) (is_new held m old w.number) t in
@@ -182,7 +184,7 @@ inner_wrapped {A} old m held w =
     (λ t. tt)
 
 unwrapped_wrapped : {A : Type 0} → (old : RingId) (m : ℕ) (held : List (Message A)) (p : Payload A) →
-    Each (λ (y : Message A). is_wrap_of old y.number p ≡ true) (unwrapped old m held p)
+    Each (λ (y : Message A). is_wrap_of old y.number p ≡ true) (inner_messages old m held p)
 unwrapped_wrapped old m held (Wrapped w) = inner_wrapped old m held w
 unwrapped_wrapped old m held (Call call) = tt
 unwrapped_wrapped old m held End = tt
@@ -192,16 +194,16 @@ unwrapped_wrapped old m held (Pack pack) = tt
 unwrapped_wrapped old m held (Snap snap) = tt
 
 gives_wrapped : {A : Type 0} → (s : State) (c : Core A) (x : Message A) →
-    Each (λ (y : Message A). is_wrap_of c.installed.ring y.number x.payload ≡ true) (gives_old s c x)
+    Each (λ (y : Message A). is_wrap_of c.installed.ring y.number x.payload ≡ true) (old_ring_messages s c x)
 gives_wrapped Recovery c x = unwrapped_wrapped c.installed.ring (mark c c.installed.ring) c.held x.payload
 gives_wrapped Gather c x = tt
 gives_wrapped Commit c x = tt
 gives_wrapped Operational c x = tt
 gives_wrapped Stopped c x = tt
 
-take_after : {A : Type 0} → (c : Core A) (x : Message A) → c.installed.ring.seq < floor c → x.ring ≡ c.running.ring → AreLast c [] → AreLast (took c x) []
+take_after : {A : Type 0} → (c : Core A) (x : Message A) → c.installed.ring.seq < floor c → x.ring ≡ c.running.ring → AreLast c [] → AreLast (message_taken c x) []
 take_after {A} c x below ring last =
-    let given = gives_old c.state c x in
+    let given = old_ring_messages c.state c x in
     let IsInner : Message A → Type 0 = λ y. is_wrap_of c.installed.ring y.number x.payload ≡ true in
     let other : x.ring ≡ c.installed.ring → ⊥ = λ e. (let s : floor c ≡ c.installed.ring.seq = ap (λ (r : RingId). r.seq) (sym ring ∙ e) in omega arith) in
     let one = none_after c (x ∷ []) [] tt
@@ -217,37 +219,37 @@ take_after {A} c x below ring last =
 -- Each move
 
 pub record IsOver {A : Type 0} (c : Core A) : Type 0 where
-  pub placed : IsPlaced c
+  pub placed : HasOrderedRings c
   pub ended : HasEnded c
 
-moved_ended : {A : Type 0} → (came : Frame A → Type 0) (c : Core A) (m : Move A) → MayMove came c m → IsOver c → HasEnded (moved c m)
-moved_ended came c (Idles state gathering shown queue sends) h o s =
+moved_ended : {A : Type 0} → (received : Frame A → Type 0) (c : Core A) (m : Move A) → MayMove received c m → IsOver c → HasEnded (moved c m)
+moved_ended received c (Idles state gathering last_sent queue sends) h o s =
     elim (h.leaves) [
       | inl e ↦ o.ended (sym e ∙ s)
       | inr (inl e) ↦ absurd (let q : Gather ≡ Recovery = sym e ∙ s in let x : ⊥ = cc in x)
       | inr (inr e) ↦ absurd (let q : Stopped ≡ Recovery = sym e ∙ s in let x : ⊥ = cc in x)
     ]
-moved_ended came c (Enters k) h o s = absurd (let x : ⊥ = cc in x)
-moved_ended {A} came c (Learns k) h o s =
-    let older = (subst (λ s. StandsIn s c.running c.installed c.turns) h.state o.placed.stands).1 in
-    each-weaker (λ (v : Turn A). v.came.ring.seq < floor c) (EndsWrapping (moved c (Learns k)))
-    (λ v l e i. (let q : v.came.ring.seq ≡ floor c = ap (λ (r : RingId). r.seq) e in absurd (omega arith))) c.turns older
-moved_ended {A} came c (Visits t fresh requests again queue) h o s =
-    let below : c.installed.ring.seq < floor c = subst (λ s. StandsIn s c.running c.installed c.turns) s o.placed.stands in (
+moved_ended received c (Enters k) h o s = absurd (let x : ⊥ = cc in x)
+moved_ended {A} received c (Learns k) h o s =
+    let older = (subst (λ s. HasRingOrder s c.running c.installed c.turns) h.state o.placed.stands).1 in
+    each-weaker (λ (v : TokenVisit A). v.received.ring.seq < floor c) (EndsWrapping (moved c (Learns k)))
+    (λ v l e i. (let q : v.received.ring.seq ≡ floor c = ap (λ (r : RingId). r.seq) e in absurd (omega arith))) c.turns older
+moved_ended {A} received c (Visits t fresh requests again queue) h o s =
+    let below : c.installed.ring.seq < floor c = subst (λ s. HasRingOrder s c.running c.installed c.turns) s o.placed.stands in (
       λ e i. end_last c below t fresh h.ring (h.wraps s) i,
       each-weaker (EndsWrapping c) (EndsWrapping (moved c (Visits t fresh requests again queue)))
           (λ v f e i. visit_after c below t fresh h.ring [] (λ p j. absurd j) (f e i)) c.turns (o.ended s),
     )
-moved_ended {A} came c (Takes x) h o s =
-    let below : c.installed.ring.seq < floor c = subst (λ s. StandsIn s c.running c.installed c.turns) s o.placed.stands in
+moved_ended {A} received c (Takes x) h o s =
+    let below : c.installed.ring.seq < floor c = subst (λ s. HasRingOrder s c.running c.installed c.turns) s o.placed.stands in
     elim (h.ring) [
-      | inl r ↦ each-weaker (EndsWrapping c) (EndsWrapping (took c x)) (λ v f e i. take_after c x below r.ring (f e i)) c.turns (o.ended s)
+      | inl r ↦ each-weaker (EndsWrapping c) (EndsWrapping (message_taken c x)) (λ v f e i. take_after c x below r.ring (f e i)) c.turns (o.ended s)
       | inr l ↦ absurd (let q : Gather ≡ Recovery = sym l.state ∙ s in let x : ⊥ = cc in x)
     ]
-moved_ended came c Installs h o s = absurd (let x : ⊥ = cc in x)
+moved_ended received c Installs h o s = absurd (let x : ⊥ = cc in x)
 
 pub ending : {A : Type 0} → IsKeptByMoves (IsOver {A = A})
-ending = record { moves = λ came c m h o. record { placed = moved_placed came c m h o.placed; ended = moved_ended came c m h o } }
+ending = record { moves = λ received c m h o. record { placed = moved_placed received c m h o.placed; ended = moved_ended received c m h o } }
 
 pub opening_over : {A : Type 0} → (n me : ℕ) → IsOver {A = A} (opening n me)
 opening_over n me = record { placed = record { stands = omega arith; turns = tt }; ended = λ s. tt }

@@ -1,4 +1,4 @@
--- What a decision has tested.
+-- The tests that a transition has passed.
 use Rattle.std.proofs.Common.{◌≡◌, Bool, true, false, inl, inr, refl}
 use Rattle.std.proofs.lemmas.Bool.{cond_both, cases_Bool, and_parts, eqb-true, cond-false}
 use Rattle.ring_payload.specs.declared.content.Payload.{Payload}
@@ -9,24 +9,24 @@ use Rattle.ring_wire.specs.declared.frame.Frame.TheVariants.{Message as MessageF
 use Rattle.ring_wire.specs.declared.join.Join.{Join}
 use Rattle.ring_wire.specs.declared.message.Message.{Message}
 use Rattle.ring_wire.specs.declared.token.Token.{Token}
-use Rattle.ring_core.specs.Tokens.{first_token}
-use Rattle.ring_core.specs.Joins.{Hearing, Ignored, Agrees, Widens}
-use Rattle.ring_core.specs.Commits.{receiver, is_at}
-use Rattle.ring_core.specs.declared.input.Input.{Input}
-use Rattle.ring_core.specs.declared.input.Input.TheVariants.{Frame as FrameInput, Timeout, Send}
+use Rattle.ring_core_spec.specs.Tokens.{first_token}
+use Rattle.ring_core_spec.specs.Joins.{JoinEffect, Ignored, Agrees, Merges}
+use Rattle.ring_core_spec.specs.Commits.{receiver, is_at}
+use Rattle.ring_core_spec.specs.declared.input.Input.{Input}
+use Rattle.ring_core_spec.specs.declared.input.Input.TheVariants.{Frame as FrameInput, Timeout, Send}
 use Rattle.ring_base.specs.declared.kind.Kind.{Kind}
 use Rattle.ring_base.specs.declared.kind.Kind.TheVariants.{Retransmit, Join as JoinTime, Consensus, Loss}
 use Rattle.ring_base.specs.declared.state.State.{State}
 use Rattle.ring_base.specs.declared.state.State.TheVariants.{Gather, Commit, Recovery, Operational, Stopped}
-use Rattle.ring_core.specs.State.{Core}
-use Rattle.ring_core.specs.Naming.{is_named}
-use Rattle.ring_core.specs.Visiting.{accepts}
-use Rattle.ring_core.specs.Joining.{regathered, hears, disturbs}
-use Rattle.ring_core.specs.Handing.{takes_first_round, takes_second_round, takes_start}
-use Rattle.ring_core.specs.Deciding.{Ignore, Enqueue, Take, Visit, Fill, Learn, is_taken, decide_message, decide_token}
-use Rattle.ring_core.specs.Deciding.{heard_in_gather, heard_elsewhere, overhear, decide_join, decide_round}
-use Rattle.ring_core.specs.Deciding.{decide_commit, decide_frame, decide_if_named, decide_time, decide_user}
-use Rattle.ring_core.specs.Deciding.{decide_payload, decide}
+use Rattle.ring_core_spec.specs.State.{Core}
+use Rattle.ring_core_spec.specs.Naming.{is_named}
+use Rattle.ring_core_spec.specs.Visiting.{accepts}
+use Rattle.ring_core_spec.specs.Joining.{gather_entered, join_effect_at, is_gather_trigger}
+use Rattle.ring_core_spec.specs.Handing.{takes_first_round, takes_second_round, takes_start}
+use Rattle.ring_core_spec.specs.Deciding.{Ignore, Enqueue, Take, Visit, Fill, Learn, is_taken, decide_message, decide_token}
+use Rattle.ring_core_spec.specs.Deciding.{transition_in_gather, transition_into_gather, decide_join_elsewhere, decide_join, decide_round}
+use Rattle.ring_core_spec.specs.Deciding.{decide_commit, decide_frame, decide_if_named, decide_time, decide_user}
+use Rattle.ring_core_spec.specs.Deciding.{decide_payload, decide}
 use Rattle.ring_core_proof.specs.LawWords.{IsAway, HasPassed, TakesCommit}
 
 in_message : {A : Type 0} → (c : Core A) (x : Message A) → HasPassed c (decide_message c x)
@@ -39,22 +39,22 @@ in_token Gather c t h = tt
 in_token Commit c t h = tt
 in_token Stopped c t h = tt
 
-in_gather : {A : Type 0} → (c : Core A) (j : Join) (x : Hearing) → c.state ≡ Gather → hears c j ≡ x → HasPassed c (heard_in_gather x j)
+in_gather : {A : Type 0} → (c : Core A) (j : Join) (x : JoinEffect) → c.state ≡ Gather → join_effect_at c j ≡ x → HasPassed c (transition_in_gather x j)
 in_gather c j Ignored h e = tt
 in_gather c j Agrees h e = (h, e)
-in_gather c j Widens h e = (h, e)
+in_gather c j Merges h e = (h, e)
 
-in_other : {A : Type 0} → (c : Core A) (j : Join) (x : Hearing) → (c.state ≡ Stopped → ⊥) → IsAway c.state
-    → disturbs c j ≡ true → hears (regathered c) j ≡ x → HasPassed c (heard_elsewhere x j)
+in_other : {A : Type 0} → (c : Core A) (j : Join) (x : JoinEffect) → (c.state ≡ Stopped → ⊥) → IsAway c.state
+    → is_gather_trigger c j ≡ true → join_effect_at (gather_entered c) j ≡ x → HasPassed c (transition_into_gather x j)
 in_other c j Ignored h a d e = h
-in_other c j Agrees h a d e = record { state = a; passes = d; heard = e }
-in_other c j Widens h a d e = record { state = a; passes = d; heard = e }
+in_other c j Agrees h a d e = record { state = a; passes = d; effect_is = e }
+in_other c j Merges h a d e = record { state = a; passes = d; effect_is = e }
 
-in_overhear : {A : Type 0} → (c : Core A) (j : Join) → (c.state ≡ Stopped → ⊥) → IsAway c.state → HasPassed c (overhear c j)
-in_overhear c j h a = cond_both (disturbs c j) _ Ignore (HasPassed c) (λ d. in_other c j (hears (regathered c) j) h a d refl) (λ d. tt)
+in_overhear : {A : Type 0} → (c : Core A) (j : Join) → (c.state ≡ Stopped → ⊥) → IsAway c.state → HasPassed c (decide_join_elsewhere c j)
+in_overhear c j h a = cond_both (is_gather_trigger c j) _ Ignore (HasPassed c) (λ d. in_other c j (join_effect_at (gather_entered c) j) h a d refl) (λ d. tt)
 
 in_join : {A : Type 0} → (s : State) (c : Core A) (j : Join) → c.state ≡ s → HasPassed c (decide_join s c j)
-in_join Gather c j h = in_gather c j (hears c j) h refl
+in_join Gather c j h = in_gather c j (join_effect_at c j) h refl
 in_join Stopped c j h = tt
 in_join Commit c j h = in_overhear c j (λ e. (let q : Commit ≡ Stopped = cc in cc)) (inl h)
 in_join Recovery c j h = in_overhear c j (λ e. (let q : Recovery ≡ Stopped = cc in cc)) (inr (inl h))
@@ -110,7 +110,7 @@ in_payload c Commit payload h = tt
 in_payload c Recovery payload h = tt
 in_payload c Stopped payload h = tt
 
--- each decision has made the tests of what it comes to
+-- each transition that is chosen has passed its tests
 pub guarded : {A : Type 0} → (c : Core A) (input : Input A) → HasPassed c (decide c input)
 guarded c (FrameInput frame) = in_named (is_named c.total frame) c frame
 guarded c (Timeout kind) = in_time c c.state kind refl

@@ -1,4 +1,4 @@
--- What stands in a list of facts, and what is so of each that stands there.
+-- Membership in a list of facts, and properties of all its items.
 use Rattle.std.proofs.Common.{◌≡◌, ℕ, zero, suc, ◌+◌, ◌-◌, ◌<◌, ◌≤◌, ◌⊎◌, inl, inr, Bool, true, List, [], ◌∷◌, ◌++◌}
 use Rattle.std.proofs.Common.{Option, Some, None, slice_get, refl, ap, sym, ◌∙◌, subst, arith, length}
 use Rattle.std.specs.Prelude.{filter, filter_map, find, reverse, slice_index_or, Contains}
@@ -8,7 +8,7 @@ use Rattle.std.proofs.lemmas.List.{reverse-append}
 use Rattle.ring_base.specs.Numbers.{numbers_from}
 use Rattle.ring_core_proof.specs.FactWords.{IsIn, SomeIs}
 
--- What stands in a list
+-- Membership
 
 pub in-left : {X : Type 0} (x : X) (xs ys : List X) → IsIn x xs → IsIn x (xs ++ ys)
 in-left x [] ys h = absurd h
@@ -91,13 +91,13 @@ some-get P [] k x e p = absurd cc
 some-get P (y ∷ xs) zero x e p = inl (let same : y ≡ x = cc in subst P (sym same) p)
 some-get P (y ∷ xs) (suc k) x e p = inr (some-get P xs k x e p)
 
--- where each is so, one that is found is so
+-- where all items have a property, an item that is found has it
 pub some-each : {X : Type 0} (P Q : X → Type 0) (C : Type 0) → ((x : X) → P x → Q x → C) → (xs : List X) → Each P xs → SomeIs Q xs → C
 some-each P Q C f [] h s = absurd s
 some-each P Q C f (x ∷ xs) h (inl q) = f x h.0 q
 some-each P Q C f (x ∷ xs) h (inr s) = some-each P Q C f xs h.1 s
 
--- What is so of each
+-- Properties of all items
 
 pub each-in : {X : Type 0} (P : X → Type 0) (xs : List X) → ((x : X) → IsIn x xs → P x) → Each P xs
 each-in P [] f = tt
@@ -112,7 +112,7 @@ numbers-above first (suc count) = (
       (numbers-above (suc first) count) i in omega arith)),
 )
 
--- what is found stands there, and passes
+-- an item that is found is in the list, and passes the test
 pub find-in : {X : Type 0} (p : X → Bool) (x : X) (xs : List X) → find p xs ≡ Some x → IsIn x xs × (p x ≡ true)
 find-in p x [] e = absurd cc
 find-in p x (y ∷ xs) e =
@@ -120,19 +120,19 @@ find-in p x (y ∷ xs) e =
     (λ t k. (let same : y ≡ x = cc in (inl (sym same), subst (λ z. p z ≡ true) same t)))
     (λ t k. (let r = find-in p x xs k in (inr r.0, r.1))) e
 
--- what a list contains stands in it
+-- an item that a list contains is in it
 pub contains-in : {X : Type 0} (xs : List X) (k : ℕ) (x : X) → k < length xs → slice_index_or xs k x ≡ x → IsIn x xs
 contains-in [] k x l e = absurd (omega arith)
 contains-in (y ∷ xs) zero x l e = inl (sym e)
 contains-in (y ∷ xs) (suc k) x l e = inr (contains-in xs k x (omega arith) e)
 
--- and the other way round
+-- and conversely
 pub in-contains : {X : Type 0} (xs : List X) (x : X) → IsIn x xs → Contains xs x
 in-contains [] x h = absurd h
 in-contains (y ∷ xs) x (inl e) = (zero, omega arith, sym e)
 in-contains (y ∷ xs) x (inr h) = (let r = in-contains xs x h in (suc r.0, omega (arith, r.1), r.2))
 
--- one that passes is found
+-- an item that passes is found
 pub find-some : {X : Type 0} (p : X → Bool) (x : X) (xs : List X) → IsIn x xs → p x ≡ true → (y : X) × (find p xs ≡ Some y)
 find-some p x [] i h = absurd i
 find-some p x (y ∷ xs) i h =

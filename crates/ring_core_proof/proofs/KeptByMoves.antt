@@ -1,49 +1,49 @@
--- What each move keeps holds of each core after all inputs, and of each core of every world.
+-- A property that each move keeps holds for each core after all inputs, and for each core of every world.
 use Rattle.std.proofs.Common.{◌≡◌, ℕ, Bool, true, false, ◌==◌, List, [], ◌∷◌, Option, Some, None, inr, refl, sym, subst}
 use Rattle.std.proofs.lemmas.Bool.{cond_both}
 use Rattle.ring_base.specs.Processors.{has}
 use Rattle.ring_base.specs.declared.state.State.TheVariants.{Stopped}
 use Rattle.ring_wire.specs.declared.frame.Frame.{Frame}
-use Rattle.ring_core.specs.declared.input.Input.{Input}
-use Rattle.ring_core.specs.declared.input.Input.TheVariants.{Frame as FrameInput, Timeout as TimeInput, Send as SendInput}
-use Rattle.ring_core.specs.declared.out.Out.{Out}
-use Rattle.ring_core.specs.State.{Core, halted, frame_at}
-use Rattle.ring_core.specs.Giving.{may_install, settle}
-use Rattle.ring_core.specs.Stepping.{ring_step, after_inputs}
+use Rattle.ring_core_spec.specs.declared.input.Input.{Input}
+use Rattle.ring_core_spec.specs.declared.input.Input.TheVariants.{Frame as FrameInput, Timeout as TimeInput, Send as SendInput}
+use Rattle.ring_core_spec.specs.declared.out.Out.{Out}
+use Rattle.ring_core_spec.specs.State.{Core, halted, frame_at}
+use Rattle.ring_core_spec.specs.Giving.{may_install, settle}
+use Rattle.ring_core_spec.specs.Stepping.{ring_step, after_inputs}
 use Rattle.ring_core_proof.specs.declared.event.RingEvent.{RingEvent}
 use Rattle.ring_core_proof.specs.declared.event.RingEvent.TheVariants.{Send, Deliver, Timeout, Stop}
-use Rattle.ring_core_proof.specs.Worlds.{Carried, World, put, is_node, stepped_if, stopped_if, handed_if, handed, happens, run}
+use Rattle.ring_core_proof.specs.Worlds.{Transmission, World, put, is_node, stepped_if, stopped_if, handed_if, handed, happens, run}
 use Rattle.ring_core_proof.specs.Moves.{Move, Idles, Installs, moved, MayIdle, MayMove, after_moves, MayAll, MayInstall}
 use Rattle.ring_core_proof.proofs.StepsAreMoves.{step_moves}
 
--- each move keeps it, whatever frames came
+-- each move keeps it, whatever frames arrived
 pub record IsKeptByMoves {A : Type 0} (P : Core A → Type 0) : Type 1 where
-  pub moves : (came : Frame A → Type 0) (c : Core A) (m : Move A) → MayMove came c m → P c → P (moved c m)
+  pub moves : (received : Frame A → Type 0) (c : Core A) (m : Move A) → MayMove received c m → P c → P (moved c m)
 
-kept_all : {A : Type 0} → (P : Core A → Type 0) → IsKeptByMoves P → (came : Frame A → Type 0) (c : Core A) (ms : List (Move A)) → MayAll came c ms → P c →
+kept_all : {A : Type 0} → (P : Core A → Type 0) → IsKeptByMoves P → (received : Frame A → Type 0) (c : Core A) (ms : List (Move A)) → MayAll received c ms → P c →
     P (after_moves c ms)
-kept_all P k came c [] h p = p
-kept_all P k came c (m ∷ ms) h p = kept_all P k came (moved c m) ms h.1 (k.moves came c m h.0 p)
+kept_all P k received c [] h p = p
+kept_all P k received c (m ∷ ms) h p = kept_all P k received (moved c m) ms h.1 (k.moves received c m h.0 p)
 
 kept_settled : {A : Type 0} → (P : Core A → Type 0) → IsKeptByMoves P → (b : Bool) (c : Core A) (outs : List (Out A)) → (b ≡ true → MayInstall c) → P c →
     P (settle b c outs).core
 kept_settled P k false c outs h p = p
 kept_settled P k true c outs h p = k.moves (λ frame. Unit {0}) c Installs (h refl) p
 
--- a step keeps it, and a stop
+-- a step keeps it, and so does a stop
 pub kept_step : {A : Type 0} → (P : Core A → Type 0) → IsKeptByMoves P → (c : Core A) (input : Input A) → P c → P (ring_step c input).core
 kept_step P k c input p =
     let s = step_moves c input in
     let d = after_moves c s.moves in
     subst (λ x. P x.core) (sym s.step) (kept_settled P k (may_install d) d _ s.installs (kept_all P k (λ frame. input ≡ FrameInput frame) c s.moves s.may p))
 
-pub may_halt : {A : Type 0} → (c : Core A) → MayIdle c Stopped c.gathering c.shown c.queue []
+pub may_halt : {A : Type 0} → (c : Core A) → MayIdle c Stopped c.gathering c.last_sent c.queue []
 may_halt c = record { leaves = inr (inr refl); joins = λ a. a; shows = inr refl; queued = λ q. q; sent = tt }
 
 pub kept_stop : {A : Type 0} → (P : Core A → Type 0) → IsKeptByMoves P → (c : Core A) → P c → P (halted c)
-kept_stop P k c p = k.moves (λ frame. Unit {0}) c (Idles Stopped c.gathering c.shown c.queue []) (may_halt c) p
+kept_stop P k c p = k.moves (λ frame. Unit {0}) c (Idles Stopped c.gathering c.last_sent c.queue []) (may_halt c) p
 
--- each step keeps it, and a stop: so by moves, or by the definition's acts
+-- each step and each stop keeps it: by moves, or by the definition's transitions
 pub record IsStepKept {A : Type 0} (P : Core A → Type 0) : Type 1 where
   pub steps : (c : Core A) (input : Input A) → P c → P (ring_step c input).core
   pub stops : (c : Core A) → P c → P (halted c)
@@ -80,7 +80,7 @@ kept_if : {A : Type 0} → (P : Core A → Type 0) → IsStepKept P → (b : Boo
 kept_if P k false w i frame h = h
 kept_if P k true w i frame h = kept_stepped P k (is_node w i) w i (FrameInput frame) h
 
-kept_handed : {A : Type 0} → (P : Core A → Type 0) → IsStepKept P → (w : World A) (i : ℕ) (f : Option (Carried A)) → Everywhere P w →
+kept_handed : {A : Type 0} → (P : Core A → Type 0) → IsStepKept P → (w : World A) (i : ℕ) (f : Option (Transmission A)) → Everywhere P w →
     Everywhere P (handed w i f)
 kept_handed P k w i None h = h
 kept_handed P k w i (Some f) h = kept_if P k (has f.to i) w i f.frame h

@@ -1,22 +1,22 @@
--- The laws of a core, of each core of every world.
+-- The laws of one core, for each core of every world.
 use Rattle.std.proofs.Common.{◌≡◌, ℕ, ◌+◌, ◌≤◌, true, List}
 use Rattle.ring_base.specs.Numbers.{window_size}
 use Rattle.ring_base.specs.declared.ring_id.RingId.{RingId}
-use Rattle.ring_core.specs.Windows.{holds}
-use Rattle.ring_core.specs.Joins.{AllSaySame}
-use Rattle.ring_core.specs.Views.{front, mark}
+use Rattle.ring_core_spec.specs.Windows.{holds}
+use Rattle.ring_core_spec.specs.Joins.{AllSaySame}
+use Rattle.ring_core_spec.specs.Views.{front, mark}
 use Rattle.ring_core_proof.specs.declared.event.RingEvent.{RingEvent}
 use Rattle.ring_core_proof.specs.Worlds.{run, unformed}
 use Rattle.ring_core_proof.specs.LawWords.{AreTurnsOf, AreFreshOf, HasEnded}
-use Rattle.ring_core_proof.proofs.WithinWindow.{Fit, fitting, mark_below, held_below}
+use Rattle.ring_core_proof.proofs.WithinWindow.{IsCoreInWindow, fitting, mark_below, held_below}
 use Rattle.ring_core_proof.proofs.Agrees.{SayingSame, saying_same}
 use Rattle.ring_core_proof.proofs.VisitsByRules.{Turned, turned}
 use Rattle.ring_core_proof.proofs.Fresh.{Made, making, opening_made}
 use Rattle.ring_core_proof.proofs.Ended.{IsOver, ending, opening_over}
 use Rattle.ring_core_proof.proofs.KeptByMoves.{Everywhere, everywhere, kept_run}
 
-fits : {A : Type 0} → (n : ℕ) (events : List (RingEvent A)) → Everywhere Fit (run (unformed n) events)
-fits n events = everywhere Fit fitting (unformed n) events (λ i. record { window = tt; visits = tt; raised = tt })
+fits : {A : Type 0} → (n : ℕ) (events : List (RingEvent A)) → Everywhere IsCoreInWindow (run (unformed n) events)
+fits n events = everywhere IsCoreInWindow fitting (unformed n) events (λ i. record { window = tt; visits = tt; raised = tt })
 
 pub marks_below : {A : Type 0} → (n i : ℕ) (events : List (RingEvent A)) (ring : RingId)
     → mark ((run (unformed n) events).cores i) ring ≤ front ((run (unformed n) events).cores i) ring

@@ -1,6 +1,6 @@
--- The members of each ring are processors of the group, and a processor that isn't one of the group never visits a token.
+-- The members of each ring are processors of the group, and a processor outside the group never visits a token.
 
--- Frames that name others are ignored, so all sets that a core goes by are of the group.
+-- Frames that name others are ignored, so all sets of a core are of the group.
 use Rattle.std.proofs.Common.{◌≡◌, ℕ, ◌-◌, ◌^◌, ◌<◌, ◌≤◌, Bool, true, false, ◌&&◌, ◌==◌, inl, inr, List, [], ◌∷◌, ◌++◌, Option, Some, None, refl, ap}
 use Rattle.std.proofs.Common.{sym, ◌∙◌, subst, arith}
 use Rattle.std.specs.Prelude.{nat_le, nat_lt, bit_and}
@@ -14,22 +14,22 @@ use Rattle.ring_wire.specs.declared.commit.CommitToken.{CommitToken}
 use Rattle.ring_wire.specs.declared.frame.Frame.{Frame}
 use Rattle.ring_wire.specs.declared.frame.Frame.TheVariants.{Join as JoinFrame}
 use Rattle.ring_wire.specs.declared.join.Join.{Join}
-use Rattle.ring_core.specs.Joins.{Gathering, has_same_sets, agreed, widened_sets, widened, candidates}
-use Rattle.ring_core.specs.Commits.{Configuration}
-use Rattle.ring_core.specs.declared.input.Input.{Input}
-use Rattle.ring_core.specs.declared.input.Input.TheVariants.{Frame as FrameInput, Timeout as TimeInput, Send as SendInput}
-use Rattle.ring_core.specs.declared.out.Out.{Out}
-use Rattle.ring_core.specs.State.{Core, Did, Carried, floor, opening, halted, frame_at}
-use Rattle.ring_core.specs.Naming.{is_named}
-use Rattle.ring_core.specs.Joining.{first_procs, regathered, proposes}
-use Rattle.ring_core.specs.Deciding.{Act, Ignore, Enqueue, Repeat, Announce, Invite, GiveUp, Regather, Agree, Widen, RegatherAndAgree}
-use Rattle.ring_core.specs.Deciding.{RegatherAndWiden}
-use Rattle.ring_core.specs.Deciding.{Take, Visit, Fill, Learn, decide_if_named, decide}
-use Rattle.ring_core.specs.Acting.{act, may_follow, proposed_after, done}
-use Rattle.ring_core.specs.Giving.{may_install, settle, sent, given}
-use Rattle.ring_core.specs.Stepping.{ring_step}
+use Rattle.ring_core_spec.specs.Joins.{Gathering, has_same_sets, agreed, sets_merged, join_merged, candidates}
+use Rattle.ring_core_spec.specs.Commits.{Configuration}
+use Rattle.ring_core_spec.specs.declared.input.Input.{Input}
+use Rattle.ring_core_spec.specs.declared.input.Input.TheVariants.{Frame as FrameInput, Timeout as TimeInput, Send as SendInput}
+use Rattle.ring_core_spec.specs.declared.out.Out.{Out}
+use Rattle.ring_core_spec.specs.State.{Core, TransitionResult, Transmission, floor, opening, halted, frame_at}
+use Rattle.ring_core_spec.specs.Naming.{is_named}
+use Rattle.ring_core_spec.specs.Joining.{first_procs, gather_entered, proposes}
+use Rattle.ring_core_spec.specs.Deciding.{Transition, Ignore, Enqueue, Repeat, Announce, Invite, GiveUp, EnterGather, Agree, MergeJoin, EnterGatherAndAgree}
+use Rattle.ring_core_spec.specs.Deciding.{EnterGatherAndMergeJoin}
+use Rattle.ring_core_spec.specs.Deciding.{Take, Visit, Fill, Learn, decide_if_named, decide}
+use Rattle.ring_core_spec.specs.Transitions.{apply_transition, may_propose_after, with_proposal_if, done}
+use Rattle.ring_core_spec.specs.Giving.{may_install, settle, sent, given}
+use Rattle.ring_core_spec.specs.Stepping.{ring_step}
 use Rattle.ring_core_proof.specs.FactWords.{IsIn}
-use Rattle.ring_core_proof.specs.LawWords.{HasPassed, CameWith}
+use Rattle.ring_core_proof.specs.LawWords.{HasPassed, IsInputOf}
 use Rattle.ring_core_proof.specs.declared.event.RingEvent.{RingEvent}
 use Rattle.ring_core_proof.specs.declared.event.RingEvent.TheVariants.{Send, Deliver, Timeout, Stop}
 use Rattle.ring_core_proof.specs.Worlds.{World, put, is_node, stepped_if, stopped_if, handed_if, handed, happens, run, unformed}
@@ -61,7 +61,7 @@ member_below n set i small m =
       | inr le ↦ le
     ]
 
--- A core that goes by such sets alone
+-- A core whose sets are all of the group
 
 pub record AreWithin (n total gathers runs last : ℕ) (all : List Configuration) : Type 0 where
   pub among : total ≡ n
@@ -74,27 +74,27 @@ abbrev pub IsWithin : {A : Type 0} → ℕ → Core A → Type 0
 IsWithin n c = AreWithin n c.total c.gathering.proc_set c.running.members c.installed.members c.rings
 
 -- a join that widens its sets names the group's processors alone
-abbrev NamesGroup : {A : Type 0} → ℕ → Act A → Type 0
-NamesGroup n (Widen j) = j.proc_set < 2 ^ n
-NamesGroup n (RegatherAndWiden j) = j.proc_set < 2 ^ n
+abbrev NamesGroup : {A : Type 0} → ℕ → Transition A → Type 0
+NamesGroup n (MergeJoin j) = j.proc_set < 2 ^ n
+NamesGroup n (EnterGatherAndMergeJoin j) = j.proc_set < 2 ^ n
 NamesGroup n Ignore = Unit {0}
 NamesGroup n (Enqueue p) = Unit {0}
 NamesGroup n Repeat = Unit {0}
 NamesGroup n Announce = Unit {0}
 NamesGroup n Invite = Unit {0}
 NamesGroup n GiveUp = Unit {0}
-NamesGroup n Regather = Unit {0}
+NamesGroup n EnterGather = Unit {0}
 NamesGroup n (Agree j) = Unit {0}
-NamesGroup n (RegatherAndAgree j) = Unit {0}
+NamesGroup n (EnterGatherAndAgree j) = Unit {0}
 NamesGroup n (Take x) = Unit {0}
 NamesGroup n (Visit t) = Unit {0}
 NamesGroup n (Fill k) = Unit {0}
 NamesGroup n (Learn k) = Unit {0}
 
-join_named : {A : Type 0} → (c : Core A) (input : Input A) (j : Join) (a : Act A) → (Ignore ≡ a → ⊥) → decide c input ≡ a → input ≡ FrameInput (JoinFrame j) →
+join_named : {A : Type 0} → (c : Core A) (input : Input A) (j : Join) (a : Transition A) → (Ignore ≡ a → ⊥) → decide c input ≡ a → input ≡ FrameInput (JoinFrame j) →
     j.proc_set < 2 ^ c.total
-join_named {A} c input j a never decided came =
-    by (is_named {A = A} c.total (JoinFrame j)) refl (subst (λ (x : Input A). decide c x ≡ a) came decided)
+join_named {A} c input j a never decided received =
+    by (is_named {A = A} c.total (JoinFrame j)) refl (subst (λ (x : Input A). decide c x ≡ a) received decided)
   where
     by : (b : Bool) → is_named {A = A} c.total (JoinFrame j) ≡ b → decide_if_named b c (JoinFrame j) ≡ a → j.proc_set < 2 ^ c.total
     by false named e = absurd (never e)
@@ -102,28 +102,28 @@ join_named {A} c input j a never decided came =
         let both = and_parts (nat_le j.sender c.total && within j.proc_set (everybody c.total)) (within j.fail_set (everybody c.total)) named in
         within_lt c.total j.proc_set (and_parts (nat_le j.sender c.total) (within j.proc_set (everybody c.total)) both.0).1
 
-names_group : {A : Type 0} → (c : Core A) (input : Input A) (a : Act A) → decide c input ≡ a → CameWith c input a → NamesGroup c.total a
-names_group c input (Widen j) e came = join_named c input j (Widen j) (λ k. (let n : ⊥ = cc in n)) e came
-names_group c input (RegatherAndWiden j) e came = join_named c input j (RegatherAndWiden j) (λ k. (let n : ⊥ = cc in n)) e came
-names_group c input Ignore e came = tt
-names_group c input (Enqueue p) e came = tt
-names_group c input Repeat e came = tt
-names_group c input Announce e came = tt
-names_group c input Invite e came = tt
-names_group c input GiveUp e came = tt
-names_group c input Regather e came = tt
-names_group c input (Agree j) e came = tt
-names_group c input (RegatherAndAgree j) e came = tt
-names_group c input (Take x) e came = tt
-names_group c input (Visit t) e came = tt
-names_group c input (Fill k) e came = tt
-names_group c input (Learn k) e came = tt
+names_group : {A : Type 0} → (c : Core A) (input : Input A) (a : Transition A) → decide c input ≡ a → IsInputOf c input a → NamesGroup c.total a
+names_group c input (MergeJoin j) e received = join_named c input j (MergeJoin j) (λ k. (let n : ⊥ = cc in n)) e received
+names_group c input (EnterGatherAndMergeJoin j) e received = join_named c input j (EnterGatherAndMergeJoin j) (λ k. (let n : ⊥ = cc in n)) e received
+names_group c input Ignore e received = tt
+names_group c input (Enqueue p) e received = tt
+names_group c input Repeat e received = tt
+names_group c input Announce e received = tt
+names_group c input Invite e received = tt
+names_group c input GiveUp e received = tt
+names_group c input EnterGather e received = tt
+names_group c input (Agree j) e received = tt
+names_group c input (EnterGatherAndAgree j) e received = tt
+names_group c input (Take x) e received = tt
+names_group c input (Visit t) e received = tt
+names_group c input (Fill k) e received = tt
+names_group c input (Learn k) e received = tt
 
--- Each act keeps to such sets
+-- Each transition keeps such sets
 
-widened_lt : (n me : ℕ) (g : Gathering) (j : Join) → g.proc_set < 2 ^ n → j.proc_set < 2 ^ n → (widened me g j).proc_set < 2 ^ n
+widened_lt : (n me : ℕ) (g : Gathering) (j : Join) → g.proc_set < 2 ^ n → j.proc_set < 2 ^ n → (join_merged me g j).proc_set < 2 ^ n
 widened_lt n me g j a b =
-    let s = widened_sets me g j in
+    let s = sets_merged me g j in
     let both : s.proc_set < 2 ^ n = or_lt n g.proc_set j.proc_set a b in
     cond_both (has_same_sets s j) (agreed s j) s (λ (h : Gathering). h.proc_set < 2 ^ n) (λ e. both) (λ e. both)
 
@@ -146,25 +146,25 @@ first_round n c k g w =
     let same : k.members ≡ candidates c.gathering = eqb-true k.members (candidates c.gathering) among.1 in
     subst (λ set. set < 2 ^ n) (sym same) (candidates_lt n c.gathering w.procs)
 
-act_within : {A : Type 0} → (n : ℕ) (c : Core A) (a : Act A) → HasPassed c a → NamesGroup n a → IsWithin n c → IsWithin n (act c a).core
+act_within : {A : Type 0} → (n : ℕ) (c : Core A) (a : Transition A) → HasPassed c a → NamesGroup n a → IsWithin n c → IsWithin n (apply_transition c a).core
 act_within n c Ignore g h w = w
 act_within n c (Enqueue p) g h w = w
 act_within n c Repeat g h w = w
 act_within n c Announce g h w = w
 act_within n c Invite g h w = w
 act_within n c GiveUp g h w = w
-act_within n c Regather g h w = regathers n (first_procs c) c (first_lt n c w) w
+act_within n c EnterGather g h w = regathers n (first_procs c) c (first_lt n c w) w
 act_within n c (Agree j) g h w = w
-act_within n c (Widen j) g h w = regathers n (widened c.me c.gathering j).proc_set c (widened_lt n c.me c.gathering j w.procs h) w
-act_within n c (RegatherAndAgree j) g h w = regathers n (first_procs c) c (first_lt n c w) w
-act_within n c (RegatherAndWiden j) g h w =
-    regathers n (widened c.me (regathered c).gathering j).proc_set c (widened_lt n c.me (regathered c).gathering j (first_lt n c w) h) w
+act_within n c (MergeJoin j) g h w = regathers n (join_merged c.me c.gathering j).proc_set c (widened_lt n c.me c.gathering j w.procs h) w
+act_within n c (EnterGatherAndAgree j) g h w = regathers n (first_procs c) c (first_lt n c w) w
+act_within n c (EnterGatherAndMergeJoin j) g h w =
+    regathers n (join_merged c.me (gather_entered c).gathering j).proc_set c (widened_lt n c.me (gather_entered c).gathering j (first_lt n c w) h) w
 act_within n c (Take x) g h w = w
 act_within n c (Visit t) g h w = w
 act_within n c (Fill k) g h w = enters n c (record { ring = k.ring; members = k.members }) (first_round n c k g w) w
 act_within n c (Learn k) g h w = w
 
-proposed_within : {A : Type 0} → (n : ℕ) (b : Bool) (d : Did A) → IsWithin n d.core → IsWithin n (proposed_after b d).core
+proposed_within : {A : Type 0} → (n : ℕ) (b : Bool) (d : TransitionResult A) → IsWithin n d.core → IsWithin n (with_proposal_if b d).core
 proposed_within n false d w = w
 proposed_within n true d w = enters n d.core _ (candidates_lt n d.core.gathering w.procs) w
 
@@ -177,14 +177,14 @@ unfolding ring_step
 step_within {A} n c input w =
     let a = decide c input in
     let names : NamesGroup n a = subst (λ total. NamesGroup total a) w.among (names_group c input a refl (caused c input)) in
-    let d = act c a in
+    let d = apply_transition c a in
     let e = done c a in
     settled_within n (may_install e.core) e.core (sent e.sends ++ given c e.core)
-    (proposed_within n (may_follow a && proposes d.core) d (act_within n c a (guarded c input) names w))
+    (proposed_within n (may_propose_after a && proposes d.core) d (act_within n c a (guarded c input) names w))
 
 -- Every world
 
--- a processor of the group is so; another never visited a token
+-- it holds for a processor of the group; any other never visited a token
 abbrev pub StandsAs : {A : Type 0} → Bool → ℕ → Core A → Type 0
 StandsAs true n c = IsWithin n c
 StandsAs false n c = c.turns ≡ []
@@ -213,7 +213,7 @@ module _ {A : Type 0} (w : World A) (all : AllStand w) where
   comes_stand false i frame = all
   comes_stand true i frame = steps_stand (is_node w i) i (FrameInput frame) refl
 
-  hands_stand : (i : ℕ) (o : Option (Carried A)) → AllStand (handed w i o)
+  hands_stand : (i : ℕ) (o : Option (Transmission A)) → AllStand (handed w i o)
   hands_stand i None = all
   hands_stand i (Some f) = comes_stand (has f.to i) i f.frame
 
@@ -240,7 +240,7 @@ opening_stands A n q true e =
 pub all_stand : {A : Type 0} → (n : ℕ) (events : List (RingEvent A)) → AllStand (run (unformed n) events)
 all_stand {A} n events = run_stands (unformed n) events (λ q. opening_stands A n q (nat_le 1 q && nat_le q n) refl)
 
--- so each member of a ring of a processor of the group is one of the group
+-- so each member of a ring of a processor of the group is of the group
 pub member_in : {A : Type 0} → (n : ℕ) (events : List (RingEvent A)) (i : ℕ) → is_node (run (unformed n) events) i ≡ true →
     (x : Configuration) → IsIn x ((run (unformed n) events).cores i).rings → (q : ℕ) → IsMember x.members q → is_node (run (unformed n) events) q ≡ true
 member_in {A} n events i node x there q m =

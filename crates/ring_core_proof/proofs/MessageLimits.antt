@@ -1,4 +1,5 @@
--- Messages that a core sends, repeats and takes keep the limits: each carries a queued payload, or wraps one that is held of an older ring.
+-- The messages that a core sends, repeats and takes keep the limits: each carries a queued payload, or wraps a held
+-- message of an older ring.
 use Rattle.std.proofs.Common.{◌≡◌, ℕ, suc, ◌+◌, ◌<◌, ◌≤◌, ◌⊎◌, inl, inr, true, ◌&&◌, List, [], ◌∷◌, length, ap, sym, subst, arith}
 use Rattle.std.specs.List.{AllByRecursion as Each}
 use Rattle.std.proofs.lemmas.Bool.{cond_both, false≢true}
@@ -22,12 +23,12 @@ use Rattle.ring_payload.specs.declared.content.Payload.TheVariants.{Call, Wrappe
 use Rattle.ring_payload.specs.declared.content.Wrapped.{Wrapped as WrappedMessage}
 use Rattle.ring_wire.specs.declared.message.Message.{Message}
 use Rattle.ring_wire.specs.Messages.{IsOlder, MessageFits}
-use Rattle.ring_core.specs.Windows.{is_new}
-use Rattle.ring_core.specs.Tokens.{numbered}
-use Rattle.ring_core.specs.Recoveries.{unwrapped, inner_message}
-use Rattle.ring_core.specs.State.{Core}
-use Rattle.ring_core.specs.Views.{mark}
-use Rattle.ring_core.specs.Acting.{gives_old}
+use Rattle.ring_core_spec.specs.Windows.{is_new}
+use Rattle.ring_core_spec.specs.Tokens.{numbered}
+use Rattle.ring_core_spec.specs.Recoveries.{inner_messages, inner_message}
+use Rattle.ring_core_spec.specs.State.{Core}
+use Rattle.ring_core_spec.specs.Views.{mark}
+use Rattle.ring_core_spec.specs.Transitions.{old_ring_messages}
 use Rattle.ring_core_proof.specs.Moves.{AllAreUsers, IsWrapping, MayEnd, AreWraps}
 use Rattle.ring_core_proof.proofs.InLists.{in-each}
 use Rattle.ring_core_proof.proofs.WrapsAndEnd.{found_in}
@@ -79,12 +80,12 @@ numbered_fit ring me seq (q ∷ ps) r c p l h = (
   numbered_fit ring me (suc seq) ps r c p (omega arith) h.1,
 )
 
--- in Operational users' payloads
+-- in Operational user payloads
 pub users_carry : {A : Type 0} → (ring : RingId) (ps : List (Payload A)) → Each PayloadFits ps → AllAreUsers ps → Each (MayCarry ring) ps
 users_carry ring [] f u = tt
 users_carry ring (p ∷ ps) f u = (record { fits = f.0; older = user_older p ring u.0 }, users_carry ring ps f.1 u.1)
 
--- in Recovery messages held of the installed ring, and an End
+-- in Recovery Wrapped of messages held of the installed ring, and an End
 wrap_carries : {A : Type 0} → (c : Core A) (ring : RingId) (p : Payload A) → Each MessageFits c.held → c.installed.ring.seq < ring.seq → IsWrapping c p →
     MayCarry ring p
 wrap_carries {A} c ring p held l (w, e, h) =
@@ -107,7 +108,7 @@ wraps_carry c ring ps held l ws =
     (each-append (MayCarry ring) ws.wraps ws.ends
     (each-weaker (IsWrapping c) (MayCarry ring) (λ p w. wrap_carries c ring p held l w) ws.wraps ws.handed) (ends_carry c ring ws.wraps ws.ends ws.ended))
 
--- What is unwrapped
+-- Inner messages
 
 inner_fits : {A : Type 0} → (w : WrappedMessage A) → WrappedFits w → MessageFits (inner_message w)
 inner_fits w f =
@@ -121,7 +122,7 @@ inner_fits w f =
       older = content_older w.payload w.ring;
     }
 
-unwrapped_fit : {A : Type 0} → (old : RingId) (m : ℕ) (held : List (Message A)) (p : Payload A) → PayloadFits p → Each MessageFits (unwrapped old m held p)
+unwrapped_fit : {A : Type 0} → (old : RingId) (m : ℕ) (held : List (Message A)) (p : Payload A) → PayloadFits p → Each MessageFits (inner_messages old m held p)
 unwrapped_fit old m held (Wrapped w) f =
     cond_both (same_ring w.ring old && is_new held m old w.number) (inner_message w ∷ []) [] (Each MessageFits)
     (λ t. (inner_fits w f, tt)) (λ t. tt)
@@ -132,7 +133,7 @@ unwrapped_fit old m held (Part part) f = tt
 unwrapped_fit old m held (Pack pack) f = tt
 unwrapped_fit old m held (Snap snap) f = tt
 
-pub gives_fit : {A : Type 0} → (s : State) (c : Core A) (x : Message A) → PayloadFits x.payload → Each MessageFits (gives_old s c x)
+pub gives_fit : {A : Type 0} → (s : State) (c : Core A) (x : Message A) → PayloadFits x.payload → Each MessageFits (old_ring_messages s c x)
 gives_fit Recovery c x f = unwrapped_fit c.installed.ring (mark c c.installed.ring) c.held x.payload f
 gives_fit Gather c x f = tt
 gives_fit Commit c x f = tt

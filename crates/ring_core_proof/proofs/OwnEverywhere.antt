@@ -2,22 +2,22 @@
 use Rattle.std.proofs.Common.{◌≡◌, ℕ, List}
 use Rattle.ring_base.specs.declared.state.State.TheVariants.{Gather, Commit}
 use Rattle.ring_wire.specs.declared.frame.Frame.{Frame}
-use Rattle.ring_core.specs.declared.input.Input.{Input}
-use Rattle.ring_core.specs.State.{Core, opening}
-use Rattle.ring_core.specs.Stepping.{after_inputs}
+use Rattle.ring_core_spec.specs.declared.input.Input.{Input}
+use Rattle.ring_core_spec.specs.State.{Core, opening}
+use Rattle.ring_core_spec.specs.Stepping.{after_inputs}
 use Rattle.ring_core_proof.specs.declared.event.RingEvent.{RingEvent}
 use Rattle.ring_core_proof.specs.Worlds.{run, unformed}
 use Rattle.ring_core_proof.specs.Moves.{Move, Idles, Enters, Learns, Visits, Takes, Installs, moved, MayMove}
 use Rattle.ring_core_proof.proofs.KeptByMoves.{IsKeptByMoves, always, everywhere}
-use Rattle.ring_core_proof.proofs.WithinWindow.{Fit, moved_fits}
-use Rattle.ring_core_proof.specs.Local.{RingsFit, FactsFit, VisitsRise, LocalFacts}
+use Rattle.ring_core_proof.proofs.WithinWindow.{IsCoreInWindow, moved_fits}
+use Rattle.ring_core_proof.specs.CoreInvariants.{RingsFit, FactsFit, VisitsRise, LocalFacts}
 use Rattle.ring_core_proof.proofs.OwnRings.{moved_rings, opening_rings}
 use Rattle.ring_core_proof.proofs.OwnFacts.{moved_facts}
 use Rattle.ring_core_proof.proofs.OwnMessages.{AreFit, moved_fit, AreHeldOf, moved_own}
 use Rattle.ring_core_proof.proofs.OwnReports.{AreTrue, moved_true, exact_now}
 
 pub record Holds {A : Type 0} (c : Core A) : Type 0 where
-  pub fit : Fit c
+  pub fit : IsCoreInWindow c
   pub rings : RingsFit c
   pub facts : FactsFit c
   pub messages : AreFit c.held
@@ -25,24 +25,24 @@ pub record Holds {A : Type 0} (c : Core A) : Type 0 where
   pub visits : VisitsRise c.turns
   pub reports : AreTrue c
 
-moved_rising : {A : Type 0} → (came : Frame A → Type 0) (c : Core A) (m : Move A) → MayMove came c m → VisitsRise c.turns → VisitsRise (moved c m).turns
-moved_rising came c (Visits t fresh requests again queue) h r = (h.newer, r)
-moved_rising came c (Idles state gathering shown queue sends) h r = r
-moved_rising came c (Enters k) h r = r
-moved_rising came c (Learns k) h r = r
-moved_rising came c (Takes x) h r = r
-moved_rising came c Installs h r = r
+moved_rising : {A : Type 0} → (received : Frame A → Type 0) (c : Core A) (m : Move A) → MayMove received c m → VisitsRise c.turns → VisitsRise (moved c m).turns
+moved_rising received c (Visits t fresh requests again queue) h r = (h.newer, r)
+moved_rising received c (Idles state gathering last_sent queue sends) h r = r
+moved_rising received c (Enters k) h r = r
+moved_rising received c (Learns k) h r = r
+moved_rising received c (Takes x) h r = r
+moved_rising received c Installs h r = r
 
-pub moved_holds : {A : Type 0} → (came : Frame A → Type 0) (c : Core A) (m : Move A) → MayMove came c m → Holds c → Holds (moved c m)
-moved_holds came c m h p =
+pub moved_holds : {A : Type 0} → (received : Frame A → Type 0) (c : Core A) (m : Move A) → MayMove received c m → Holds c → Holds (moved c m)
+moved_holds received c m h p =
     record {
-      fit = moved_fits came c m h p.fit;
-      rings = moved_rings came c m h p.rings;
-      facts = moved_facts came c m h p.rings p.facts;
-      messages = moved_fit came c m h p.rings p.messages;
+      fit = moved_fits received c m h p.fit;
+      rings = moved_rings received c m h p.rings;
+      facts = moved_facts received c m h p.rings p.facts;
+      messages = moved_fit received c m h p.rings p.messages;
       own = moved_own c m p.own;
-      visits = moved_rising came c m h p.visits;
-      reports = moved_true came c m h p.fit p.reports;
+      visits = moved_rising received c m h p.visits;
+      reports = moved_true received c m h p.fit p.reports;
     }
 
 holding : {A : Type 0} → IsKeptByMoves (Holds {A = A})

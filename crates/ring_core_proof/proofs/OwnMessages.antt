@@ -1,4 +1,5 @@
--- What a core holds: numbers begin at 1, one of a ring is held with one message, and what is held stays.
+-- The messages that a core holds: numbers begin at 1, a number of a ring is held with one message, and what is held
+-- stays held.
 
 -- A message is taken only where its number is new, and a visit's new numbers are above the highest held.
 use Rattle.std.proofs.Common.{◌≡◌, ℕ, suc, ◌+◌, ◌<◌, ◌≤◌, inl, inr, true, not, ◌&&◌, ◌==◌, List, [], ◌∷◌, ◌++◌, refl, ap, sym, ◌∙◌, subst, arith}
@@ -16,18 +17,18 @@ use Rattle.ring_payload.specs.declared.content.Payload.TheVariants.{Call, Wrappe
 use Rattle.ring_payload.specs.declared.content.Wrapped.{Wrapped as WrappedMessage}
 use Rattle.ring_wire.specs.declared.frame.Frame.{Frame}
 use Rattle.ring_wire.specs.declared.message.Message.{Message}
-use Rattle.ring_core.specs.Windows.{is_numbered, holds, highest, in_window, is_new}
-use Rattle.ring_core.proofs.Windows.{highest_covers}
+use Rattle.ring_core_spec.specs.Windows.{is_numbered, holds, highest, in_window, is_new}
+use Rattle.ring_core_spec.proofs.Windows.{highest_covers}
 use Rattle.ring_base.proofs.SameRing.{ring_same}
-use Rattle.ring_core.specs.Tokens.{Turn, numbered}
-use Rattle.ring_core.specs.Recoveries.{inner_if_new, unwrapped, inner_message}
-use Rattle.ring_core.specs.State.{Core, floor}
-use Rattle.ring_core.specs.Views.{mark}
-use Rattle.ring_core.specs.Acting.{gives_old}
+use Rattle.ring_core_spec.specs.Tokens.{TokenVisit, numbered}
+use Rattle.ring_core_spec.specs.Recoveries.{inner_if_new, inner_messages, inner_message}
+use Rattle.ring_core_spec.specs.State.{Core, floor}
+use Rattle.ring_core_spec.specs.Views.{mark}
+use Rattle.ring_core_spec.specs.Transitions.{old_ring_messages}
 use Rattle.ring_core_proof.specs.FactWords.{IsIn}
 use Rattle.ring_core_proof.specs.Moves.{Move, Idles, Enters, Learns, Visits, Takes, Installs, moved, MayTake, MayMove}
 use Rattle.ring_core_proof.proofs.InLists.{in-left, in-right, in-parts, in-reverse, in-each, each-in}
-use Rattle.ring_core_proof.specs.Local.{RingsFit}
+use Rattle.ring_core_proof.specs.CoreInvariants.{RingsFit}
 
 abbrev IsOne : {A : Type 0} → List (Message A) → Type 0
 IsOne {A} held = (x y : Message A) → IsIn x held → IsIn y held → x.ring ≡ y.ring → x.number ≡ y.number → x ≡ y
@@ -36,12 +37,12 @@ pub record AreFit {A : Type 0} (held : List (Message A)) : Type 0 where
   pub numbered : Each (λ (x : Message A). 1 ≤ x.number) held
   pub one : IsOne held
 
--- the message is new there: its number begins at 1, and none of that number is held
+-- the message is new: its number is at least 1, and no message of that number is held
 pub record IsNewIn {A : Type 0} (held : List (Message A)) (x : Message A) : Type 0 where
   pub low : 1 ≤ x.number
   pub other : (y : Message A) → IsIn y held → x.ring ≡ y.ring → x.number ≡ y.number → ⊥
 
--- new messages, one a number, before those held
+-- new messages, one for each number, before those held
 more_fit : {A : Type 0} → (xs held : List (Message A)) → IsOne xs → Each (IsNewIn held) xs → AreFit held → AreFit (xs ++ held)
 more_fit {A} xs held one new f =
     let Low : Message A → Type 0 = λ x. 1 ≤ x.number in
@@ -65,7 +66,7 @@ one_alone x y z (inl a) (inr b) r n = absurd b
 one_alone x y z (inr a) (inl b) r n = absurd a
 one_alone x y z (inr a) (inr b) r n = absurd a
 
--- what is held stands there under its number
+-- a held message is found under its number
 pub holds_in : {A : Type 0} → (held : List (Message A)) (x : Message A) → IsIn x held → holds held x.ring x.number ≡ true
 holds_in [] x i = absurd i
 holds_in {A} (y ∷ held) x (inl e) =
@@ -107,7 +108,7 @@ inner_new {A} old m held x w other f =
     (λ e. f)
 
 unwrapped_new : {A : Type 0} → (old : RingId) (m : ℕ) (held : List (Message A)) (x : Message A) (p : Payload A) → (x.ring ≡ old → ⊥) →
-    AreFit (x ∷ held) → AreFit (unwrapped old m held p ++ x ∷ held)
+    AreFit (x ∷ held) → AreFit (inner_messages old m held p ++ x ∷ held)
 unwrapped_new old m held x (Wrapped w) other f = inner_new old m held x w other f
 unwrapped_new old m held x (Call call) other f = f
 unwrapped_new old m held x End other f = f
@@ -117,7 +118,7 @@ unwrapped_new old m held x (Pack pack) other f = f
 unwrapped_new old m held x (Snap snap) other f = f
 
 gives_new : {A : Type 0} → (s : State) (c : Core A) (x : Message A) → (s ≡ Recovery → x.ring ≡ c.installed.ring → ⊥) →
-    AreFit (x ∷ c.held) → AreFit (gives_old s c x ++ x ∷ c.held)
+    AreFit (x ∷ c.held) → AreFit (old_ring_messages s c x ++ x ∷ c.held)
 gives_new Recovery c x other f = unwrapped_new c.installed.ring (mark c c.installed.ring) c.held x x.payload (other refl) f
 gives_new Gather c x other f = f
 gives_new Commit c x other f = f
@@ -125,9 +126,9 @@ gives_new Operational c x other f = f
 gives_new Stopped c x other f = f
 
 -- in Recovery the message is of the running ring
-not_old : {A : Type 0} → (came : Frame A → Type 0) (c : Core A) (x : Message A) → RingsFit c → MayTake came c x → c.state ≡ Recovery →
+not_old : {A : Type 0} → (received : Frame A → Type 0) (c : Core A) (x : Message A) → RingsFit c → MayTake received c x → c.state ≡ Recovery →
     x.ring ≡ c.installed.ring → ⊥
-not_old came c x f h s e =
+not_old received c x f h s e =
     let older : c.installed.ring.seq < floor c = f.changing (inr s) in
     elim (h.ring) [
       | inl r ↦ (let same : c.installed.ring.seq ≡ floor c = ap (λ (q : RingId). q.seq) (sym e ∙ r.ring) in omega arith)
@@ -157,7 +158,7 @@ numbered_one {A} ring me seq (p ∷ ps) x y (inr a) (inl b) r n =
     let here : y.number ≡ suc seq = ap (λ (z : Message A). z.number) b in omega arith)
 numbered_one ring me seq (p ∷ ps) x y (inr a) (inr b) r n = numbered_one ring me (suc seq) ps x y a b r n
 
--- what stands in a list turned round stands there
+-- an item of a reversed list is an item of the list
 in_reverse : {X : Type 0} (x : X) (xs : List X) → IsIn x (reverse xs) → IsIn x xs
 in_reverse {X} x xs i = let P : X → Type 0 = λ y. IsIn y xs in in-each P x (reverse xs) (each-reverse P xs (each-in P xs (λ y k. k))) i
 
@@ -177,43 +178,43 @@ visited_fit {A} held ring me seq ps top f =
 
 -- Moves
 
-pub moved_fit : {A : Type 0} → (came : Frame A → Type 0) (c : Core A) (m : Move A) → MayMove came c m → RingsFit c → AreFit c.held → AreFit (moved c m).held
-moved_fit came c (Takes x) h rings f =
-    gives_new c.state c x (λ s e. not_old came c x rings h s e)
+pub moved_fit : {A : Type 0} → (received : Frame A → Type 0) (c : Core A) (m : Move A) → MayMove received c m → RingsFit c → AreFit c.held → AreFit (moved c m).held
+moved_fit received c (Takes x) h rings f =
+    gives_new c.state c x (λ s e. not_old received c x rings h s e)
     (more_fit (x ∷ []) c.held (one_alone x) (new_number c.held (mark c x.ring) x.ring x refl h.new, tt) f)
-moved_fit came c (Visits t fresh requests again queue) h rings f = visited_fit c.held t.ring c.me t.seq fresh h.ahead f
-moved_fit came c (Idles state gathering shown queue sends) h rings f = f
-moved_fit came c (Enters k) h rings f = f
-moved_fit came c (Learns k) h rings f = f
-moved_fit came c Installs h rings f = f
+moved_fit received c (Visits t fresh requests again queue) h rings f = visited_fit c.held t.ring c.me t.seq fresh h.ahead f
+moved_fit received c (Idles state gathering last_sent queue sends) h rings f = f
+moved_fit received c (Enters k) h rings f = f
+moved_fit received c (Learns k) h rings f = f
+moved_fit received c Installs h rings f = f
 
--- What the core numbered
+-- The messages that the core numbered
 
-abbrev pub AreHeldOf : {A : Type 0} → ℕ → List (Message A) → List (Turn A) → Type 0
+abbrev pub AreHeldOf : {A : Type 0} → ℕ → List (Message A) → List (TokenVisit A) → Type 0
 AreHeldOf me held turns =
-    Each (λ (v : Turn _). Each (λ (x : Message _). IsIn x held) (numbered v.came.ring me v.came.seq v.fresh)) turns
+    Each (λ (v : TokenVisit _). Each (λ (x : Message _). IsIn x held) (numbered v.received.ring me v.received.seq v.fresh)) turns
 
-still_held : {A : Type 0} → (me : ℕ) (xs held : List (Message A)) (turns : List (Turn A)) → AreHeldOf me held turns → AreHeldOf me (xs ++ held) turns
+still_held : {A : Type 0} → (me : ℕ) (xs held : List (Message A)) (turns : List (TokenVisit A)) → AreHeldOf me held turns → AreHeldOf me (xs ++ held) turns
 still_held {A} me xs held turns h =
-    each-weaker _ _ (λ (v : Turn A) k. each-weaker (λ (x : Message A). IsIn x held) (λ (x : Message A). IsIn x (xs ++ held)) (λ x i. in-right x xs held i)
-    (numbered v.came.ring me v.came.seq v.fresh) k) turns h
+    each-weaker _ _ (λ (v : TokenVisit A) k. each-weaker (λ (x : Message A). IsIn x held) (λ (x : Message A). IsIn x (xs ++ held)) (λ x i. in-right x xs held i)
+    (numbered v.received.ring me v.received.seq v.fresh) k) turns h
 
 pub moved_own : {A : Type 0} → (c : Core A) (m : Move A) → AreHeldOf c.me c.held c.turns → AreHeldOf (moved c m).me (moved c m).held (moved c m).turns
 moved_own {A} c (Visits t fresh requests again queue) h =
     let new = numbered t.ring c.me t.seq fresh in
     let held : Each (λ (x : Message A). IsIn x (reverse new ++ c.held)) new = each-in _ new (λ x i. in-left x (reverse new) c.held (in-reverse x new i)) in
     (held, still_held c.me (reverse new) c.held c.turns h)
-moved_own c (Takes x) h = still_held c.me (gives_old c.state c x) (x ∷ c.held) c.turns (still_held c.me (x ∷ []) c.held c.turns h)
-moved_own c (Idles state gathering shown queue sends) h = h
+moved_own c (Takes x) h = still_held c.me (old_ring_messages c.state c x) (x ∷ c.held) c.turns (still_held c.me (x ∷ []) c.held c.turns h)
+moved_own c (Idles state gathering last_sent queue sends) h = h
 moved_own c (Enters k) h = h
 moved_own c (Learns k) h = h
 moved_own c Installs h = h
 
--- what is held stays, by each move
+-- each move keeps what is held
 pub held_stays : {A : Type 0} → (c : Core A) (m : Move A) (x : Message A) → IsIn x c.held → IsIn x (moved c m).held
-held_stays c (Idles state gathering shown queue sends) x i = i
+held_stays c (Idles state gathering last_sent queue sends) x i = i
 held_stays c (Enters k) x i = i
 held_stays c (Learns k) x i = i
 held_stays c (Visits t fresh requests again queue) x i = in-right x (reverse (numbered t.ring c.me t.seq fresh)) c.held i
-held_stays c (Takes y) x i = in-right x (gives_old c.state c y) (y ∷ c.held) (inr i)
+held_stays c (Takes y) x i = in-right x (old_ring_messages c.state c y) (y ∷ c.held) (inr i)
 held_stays c Installs x i = i

@@ -1,6 +1,7 @@
--- What a core would report is exact, and what it reported stays true.
+-- The entry that a core would report is exact, and its reports stay true.
 
--- All that is held lies within the 256 numbers after its front; fronts and marks only rise, and what is held stays.
+-- All that is held lies within the 256 numbers after its front; fronts and marks only rise, and what is held stays
+-- held.
 use Rattle.std.proofs.Common.{◌≡◌, ℕ, ◌+◌, ◌-◌, ◌<◌, ◌≤◌, inl, inr, Bool, true, false, ◌&&◌, ◌==◌, List, [], ◌∷◌, refl, ap, sym, ◌∙◌, arith}
 use Rattle.std.specs.Prelude.{nat_lt, nat_le, reverse}
 use Rattle.std.specs.List.{AllByRecursion as Each}
@@ -13,18 +14,18 @@ use Rattle.ring_base.proofs.Each.{each-weaker}
 use Rattle.ring_wire.specs.Entries.{bit_of}
 use Rattle.ring_wire.specs.declared.frame.Frame.{Frame}
 use Rattle.ring_wire.specs.declared.message.Message.{Message}
-use Rattle.ring_core.specs.Windows.{held_bits, is_numbered, holds, front_of}
-use Rattle.ring_core.proofs.Windows.{held_bit, front_is, holds-more}
-use Rattle.ring_core.specs.Tokens.{safe_mark, numbered}
-use Rattle.ring_core.proofs.Tokens.{safe_mark-turn, safe_mark-raise}
-use Rattle.ring_core.specs.Commits.{reports_of, safe_of}
-use Rattle.ring_core.specs.Recoveries.{is_reported}
-use Rattle.ring_core.specs.State.{Core, Report}
-use Rattle.ring_core.specs.Views.{front, mark, own_entry}
-use Rattle.ring_core.specs.Acting.{gives_old}
+use Rattle.ring_core_spec.specs.Windows.{held_bits, is_numbered, holds, front_of}
+use Rattle.ring_core_spec.proofs.Windows.{held_bit, front_is, holds-more}
+use Rattle.ring_core_spec.specs.Tokens.{safe_mark, numbered}
+use Rattle.ring_core_spec.proofs.Tokens.{safe_mark-turn, safe_mark-raise}
+use Rattle.ring_core_spec.specs.Commits.{reports_of, safe_of}
+use Rattle.ring_core_spec.specs.Recoveries.{is_reported}
+use Rattle.ring_core_spec.specs.State.{Core, Report}
+use Rattle.ring_core_spec.specs.Views.{front, mark, own_entry}
+use Rattle.ring_core_spec.specs.Transitions.{old_ring_messages}
 use Rattle.ring_core_proof.specs.Moves.{Move, Idles, Enters, Learns, Visits, Takes, Installs, turn_with, moved, MayMove}
-use Rattle.ring_core_proof.proofs.WithinWindow.{front-append, Fit, mark_below, held_below}
-use Rattle.ring_core_proof.specs.Local.{IsNewest, TellsExactly, IsTrueEntry}
+use Rattle.ring_core_proof.proofs.WithinWindow.{front-append, IsCoreInWindow, mark_below, held_below}
+use Rattle.ring_core_proof.specs.CoreInvariants.{IsNewest, IsExactEntry, IsTrueEntry}
 use Rattle.ring_core_proof.proofs.OwnRings.{idles_in}
 use Rattle.ring_core_proof.proofs.OwnMessages.{AreFit}
 use Rattle.ring_core_proof.proofs.OwnFacts.{running_not_commit, takes_not_commit}
@@ -64,7 +65,7 @@ module _ {A : Type 0} (c : Core A) where
             sym (bit_is n (ltb-true f n q.0) (leb-true n (f + window_size) q.1)) ∙ p.1)
       ]
 
-  held_reported : Fit c → AreFit c.held → (n : ℕ) → holds c.held last n ≡ true → is_reported n (own_entry c) ≡ true
+  held_reported : IsCoreInWindow c → AreFit c.held → (n : ℕ) → holds c.held last n ≡ true → is_reported n (own_entry c) ≡ true
   held_reported fit are n e =
       let f = front c last in
       let bit = bit_of (held_bits c.held last) (n - f - 1) in
@@ -81,10 +82,10 @@ module _ {A : Type 0} (c : Core A) where
             (and_from (nat_lt 0 n) (nat_le n f) (lt-ltb 0 n (omega arith)) (le-leb n f l))
       ]
 
-  pub exact_now : Fit c → AreFit c.held → TellsExactly c.held (own_entry c)
+  pub exact_now : IsCoreInWindow c → AreFit c.held → IsExactEntry c.held (own_entry c)
   exact_now fit are n = same_bool (is_reported n (own_entry c)) (holds c.held last n) (reported_held n) (held_reported fit are n)
 
-  true_now : Fit c → IsTrueEntry c (own_entry c)
+  true_now : IsCoreInWindow c → IsTrueEntry c (own_entry c)
   true_now fit = record { below = mark_below c last fit; front_is = omega arith; mark_is = omega arith; held = reported_held }
 
 -- True ever after
@@ -115,7 +116,7 @@ same_risen c d h t r =
     }
 
 moved_risen : {A : Type 0} → (c : Core A) (m : Move A) → HasRisen c (moved c m)
-moved_risen c (Idles state gathering shown queue sends) = same_risen c _ refl refl refl
+moved_risen c (Idles state gathering last_sent queue sends) = same_risen c _ refl refl refl
 moved_risen c (Enters k) = same_risen c _ refl refl refl
 moved_risen c Installs = same_risen c _ refl refl refl
 moved_risen c (Learns k) =
@@ -132,37 +133,37 @@ moved_risen c (Visits t fresh requests again queue) =
     }
 moved_risen c (Takes x) =
     record {
-      fronts = λ r. (let a = front-append (x ∷ []) c.held r in let b = front-append (gives_old c.state c x) (x ∷ c.held) r in omega (arith, a, b));
+      fronts = λ r. (let a = front-append (x ∷ []) c.held r in let b = front-append (old_ring_messages c.state c x) (x ∷ c.held) r in omega (arith, a, b));
       marks = λ r. omega arith;
-      held = λ r n e. holds-more (gives_old c.state c x) (x ∷ c.held) r n (holds-more (x ∷ []) c.held r n e);
+      held = λ r n e. holds-more (old_ring_messages c.state c x) (x ∷ c.held) r n (holds-more (x ∷ []) c.held r n e);
     }
 
-pub moved_true : {A : Type 0} → (came : Frame A → Type 0) (c : Core A) (m : Move A) → MayMove came c m → Fit c → AreTrue c → AreTrue (moved c m)
-moved_true came c (Enters k) h fit a =
+pub moved_true : {A : Type 0} → (received : Frame A → Type 0) (c : Core A) (m : Move A) → MayMove received c m → IsCoreInWindow c → AreTrue c → AreTrue (moved c m)
+moved_true received c (Enters k) h fit a =
     record {
       newest = λ s. (c.reports, refl);
       all_true = true_grows c (moved c (Enters k)) (moved_risen c (Enters k))
           (record { ring = k.ring; entry = own_entry c } ∷ c.reports) (true_now c fit, a.all_true);
     }
-moved_true came c (Idles state gathering shown queue sends) h fit a =
+moved_true received c (Idles state gathering last_sent queue sends) h fit a =
     record {
       newest = λ s. a.newest (idles_in c.state state Commit h.leaves s (λ q. cc) (λ q. cc));
-      all_true = true_grows c (moved c (Idles state gathering shown queue sends)) (moved_risen c (Idles state gathering shown queue sends))
+      all_true = true_grows c (moved c (Idles state gathering last_sent queue sends)) (moved_risen c (Idles state gathering last_sent queue sends))
           c.reports a.all_true;
     }
-moved_true came c (Learns k) h fit a =
+moved_true received c (Learns k) h fit a =
     record {
       newest = λ s. absurd (let q : Recovery ≡ Commit = s in let n : ⊥ = cc in n);
       all_true = true_grows c (moved c (Learns k)) (moved_risen c (Learns k)) c.reports a.all_true;
     }
-moved_true came c (Visits t fresh requests again queue) h fit a =
+moved_true received c (Visits t fresh requests again queue) h fit a =
     record {
       newest = λ s. absurd (running_not_commit c.state h.state s);
       all_true = true_grows c (moved c (Visits t fresh requests again queue)) (moved_risen c (Visits t fresh requests again queue)) c.reports a.all_true;
     }
-moved_true came c (Takes x) h fit a =
-    record { newest = λ s. absurd (takes_not_commit came c x h s); all_true = true_grows c (moved c (Takes x)) (moved_risen c (Takes x)) c.reports a.all_true }
-moved_true came c Installs h fit a =
+moved_true received c (Takes x) h fit a =
+    record { newest = λ s. absurd (takes_not_commit received c x h s); all_true = true_grows c (moved c (Takes x)) (moved_risen c (Takes x)) c.reports a.all_true }
+moved_true received c Installs h fit a =
     record {
       newest = λ s. absurd (let q : Operational ≡ Commit = s in let n : ⊥ = cc in n);
       all_true = true_grows c (moved c Installs) (moved_risen c Installs) c.reports a.all_true;

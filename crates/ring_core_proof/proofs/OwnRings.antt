@@ -1,4 +1,4 @@
--- A core's rings, those that it installed, and its state.
+-- A core's rings, its installed rings, and its state.
 use Rattle.std.proofs.Common.{◌≡◌, ℕ, ◌<◌, ◌≤◌, ◌⊎◌, inl, inr, List, [], ◌∷◌, refl, ap, sym, ◌∙◌, subst, arith, mod-lt}
 use Rattle.ring_base.specs.Processors.{IsProc, IsMember, size}
 use Rattle.ring_base.specs.Members.{only_members}
@@ -8,16 +8,16 @@ use Rattle.ring_base.specs.declared.state.State.TheVariants.{Gather, Commit, Rec
 use Rattle.ring_base.proofs.Each.{each-weaker}
 use Rattle.ring_wire.specs.declared.commit.CommitToken.{CommitToken}
 use Rattle.ring_wire.specs.declared.frame.Frame.{Frame}
-use Rattle.ring_core.specs.Commits.{Configuration, position_of_hop}
-use Rattle.ring_core.specs.State.{Core, floor, opening}
+use Rattle.ring_core_spec.specs.Commits.{Configuration, position_of_hop}
+use Rattle.ring_core_spec.specs.State.{Core, floor, opening}
 use Rattle.ring_core_proof.specs.FactWords.{IsIn}
 use Rattle.ring_core_proof.specs.LawWords.{IsFalling}
 use Rattle.ring_core_proof.specs.Moves.{Move, Idles, Enters, Learns, Visits, Takes, Installs, moved, MayEnter, MayMove}
-use Rattle.ring_core_proof.specs.Local.{IsNewest, RingsFit}
+use Rattle.ring_core_proof.specs.CoreInvariants.{IsNewest, RingsFit}
 
 -- States
 
--- a core that idles stays in its state, or is in Gather or stopped
+-- an idle move keeps the state, or enters Gather or Stopped
 abbrev pub IsIdling : State → State → Type 0
 IsIdling old new = (new ≡ old) ⊎ ((new ≡ Gather) ⊎ (new ≡ Stopped))
 
@@ -28,7 +28,7 @@ idles_in old new s (inr (inr a)) e g t = absurd (t (sym a ∙ e))
 
 -- Rings
 
--- a newer one before falling ones
+-- a newer ring before rings whose numbers fall
 falls_more : (rings : List Configuration) (x y : Configuration) → IsNewest y rings → y.ring.seq < x.ring.seq → IsFalling rings → IsFalling (x ∷ rings)
 falls_more rings x y (older, e) l f =
     let P : List Configuration → Type 0 = λ rs. IsFalling (x ∷ rs) in
@@ -37,13 +37,13 @@ falls_more rings x y (older, e) l f =
 pub newest_in : {X : Type 0} (x : X) (xs : List X) → IsNewest x xs → IsIn x xs
 newest_in {X} x xs (older, e) = let P : List X → Type 0 = λ ys. IsIn x ys in subst P (sym e) (inl refl)
 
-entered_member : {A : Type 0} → (came : Frame A → Type 0) (c : Core A) (k : CommitToken) → MayEnter came c k → IsProc c.me → IsMember k.members c.me
-entered_member came c k h proc =
+entered_member : {A : Type 0} → (received : Frame A → Type 0) (c : Core A) (k : CommitToken) → MayEnter received c k → IsProc c.me → IsMember k.members c.me
+entered_member received c k h proc =
     let inside : k.hop < size k.members = h.first proc.0 in
     subst (IsMember k.members) h.here (at_member k.members (position_of_hop k) (mod-lt k.hop (omega (arith, inside)))).1
 
-pub moved_rings : {A : Type 0} → (came : Frame A → Type 0) (c : Core A) (m : Move A) → MayMove came c m → RingsFit c → RingsFit (moved c m)
-moved_rings came c (Idles state gathering shown queue sends) h f =
+pub moved_rings : {A : Type 0} → (received : Frame A → Type 0) (c : Core A) (m : Move A) → MayMove received c m → RingsFit c → RingsFit (moved c m)
+moved_rings received c (Idles state gathering last_sent queue sends) h f =
     record {
       runs = f.runs;
       rise = f.rise;
@@ -58,7 +58,7 @@ moved_rings came c (Idles state gathering shown queue sends) h f =
         | inr b ↦ f.changing (inr (idles_in c.state state Recovery h.leaves b (λ q. cc) (λ q. cc)))
       ];
     }
-moved_rings came c (Enters k) h f =
+moved_rings received c (Enters k) h f =
     let new : Configuration = record { ring = k.ring; members = k.members } in
     let above : floor c < k.ring.seq = h.above in
     let older : c.installed.ring.seq < k.ring.seq = elim (f.in_order) [
@@ -71,12 +71,12 @@ moved_rings came c (Enters k) h f =
       last = f.last;
       installs_rise = f.installs_rise;
       taken_part = each-weaker (λ p. IsIn p c.rings) (λ p. IsIn p (new ∷ c.rings)) (λ p i. inr i) c.installs f.taken_part;
-      member = λ proc. (entered_member came c k h proc, f.member proc);
+      member = λ proc. (entered_member received c k h proc, f.member proc);
       in_order = inr older;
       operating = λ s. absurd (let q : Commit ≡ Operational = s in let n : ⊥ = cc in n);
       changing = λ s. older;
     }
-moved_rings came c (Learns k) h f =
+moved_rings received c (Learns k) h f =
     record {
       runs = f.runs;
       rise = f.rise;
@@ -88,7 +88,7 @@ moved_rings came c (Learns k) h f =
       operating = λ s. absurd (let q : Recovery ≡ Operational = s in let n : ⊥ = cc in n);
       changing = λ s. f.changing (inl h.state);
     }
-moved_rings came c (Visits t fresh requests again queue) h f =
+moved_rings received c (Visits t fresh requests again queue) h f =
     record {
       runs = f.runs;
       rise = f.rise;
@@ -100,7 +100,7 @@ moved_rings came c (Visits t fresh requests again queue) h f =
       operating = f.operating;
       changing = f.changing;
     }
-moved_rings came c (Takes x) h f =
+moved_rings received c (Takes x) h f =
     record {
       runs = f.runs;
       rise = f.rise;
@@ -112,7 +112,7 @@ moved_rings came c (Takes x) h f =
       operating = f.operating;
       changing = f.changing;
     }
-moved_rings came c Installs h f =
+moved_rings received c Installs h f =
     record {
       runs = f.runs;
       rise = f.rise;
@@ -145,7 +145,7 @@ opening_rings n me =
       ]);
     }
 
--- No ring is above the running one, and none installed above the last
+-- No ring is above the running one, and no installed ring above the last
 
 pub below_first : (x : Configuration) (rest : List Configuration) → IsFalling (x ∷ rest) → (y : Configuration) → IsIn y (x ∷ rest) → y.ring.seq ≤ x.ring.seq
 below_first x rest f y (inl e) = (let s : y.ring.seq ≡ x.ring.seq = ap (λ (p : Configuration). p.ring.seq) e in omega arith)

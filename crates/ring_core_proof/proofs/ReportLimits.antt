@@ -1,4 +1,5 @@
--- What a core reports of its last installed ring keeps the limits of an entry: by its marks, its window, and what each message held keeps.
+-- The entry that a core reports of its last installed ring keeps the limits, by its marks, its window and each
+-- message held.
 use Rattle.std.proofs.Common.{◌≡◌, ℕ, zero, suc, ◌+◌, ◌*◌, ◌<◌, ◌≤◌, inl, inr, Bool, true, false, ◌==◌, List, refl, ap, sym, ◌∙◌, arith}
 use Rattle.std.specs.Prelude.{if◌then◌else◌}
 use Rattle.std.specs.List.{AllByRecursion as Each}
@@ -10,16 +11,16 @@ use Rattle.ring_wire.specs.declared.message.Message.{Message}
 use Rattle.ring_wire.specs.Messages.{MessageFits}
 use Rattle.ring_wire.specs.Entries.{bit_of, AreZero, EntryFits}
 use Rattle.ring_wire.specs.Commits.{IsReport}
-use Rattle.ring_core.specs.Windows.{is_numbered, holds, front_of, bytes_of, held_bits}
-use Rattle.ring_core.proofs.Windows.{held_bit, front_is, length-bytes_of}
+use Rattle.ring_core_spec.specs.Windows.{is_numbered, holds, front_of, bytes_of, held_bits}
+use Rattle.ring_core_spec.proofs.Windows.{held_bit, front_is, length-bytes_of}
 use Rattle.ring_base.proofs.SameRing.{ring_same}
-use Rattle.ring_core.specs.State.{Core}
-use Rattle.ring_core.specs.Views.{front, mark, own_entry}
+use Rattle.ring_core_spec.specs.State.{Core}
+use Rattle.ring_core_spec.specs.Views.{front, mark, own_entry}
 use Rattle.ring_core_proof.proofs.InLists.{in-each, any-some}
 use Rattle.ring_core_proof.proofs.WithinWindow.{mark_below, held_below}
 use Rattle.ring_core_proof.specs.Limits.{CoreFits}
 
--- What is held
+-- Held messages
 
 record IsFound (A : Type 0) (ring : RingId) (n : ℕ) : Type 0 where
   pub message : Message A
@@ -27,7 +28,7 @@ record IsFound (A : Type 0) (ring : RingId) (n : ℕ) : Type 0 where
   pub ring_is : message.ring ≡ ring
   pub number_is : message.number ≡ n
 
--- a number that is held is of a message that keeps the limits
+-- each held number is that of a message that keeps the limits
 held_fits : {A : Type 0} → (held : List (Message A)) (ring : RingId) (n : ℕ) → Each MessageFits held → holds held ring n ≡ true → IsFound A ring n
 held_fits held ring n each h =
     let (x, i, t) = any-some (is_numbered ring n) held h in

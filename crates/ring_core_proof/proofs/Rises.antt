@@ -1,16 +1,16 @@
--- The rings that a core takes part in strictly rise.
+-- The numbers of the rings that a core takes part in strictly rise.
 use Rattle.std.proofs.Common.{◌≡◌, ℕ, ◌<◌, ◌≤◌, inl, inr, List, [], ◌∷◌, refl, ap, sym, ◌∙◌, subst, arith}
 use Rattle.ring_wire.specs.declared.frame.Frame.{Frame}
-use Rattle.ring_core.specs.Commits.{Configuration}
-use Rattle.ring_core.specs.declared.input.Input.{Input}
-use Rattle.ring_core.specs.State.{Core, floor, alone, opening}
-use Rattle.ring_core.specs.Stepping.{after_inputs}
+use Rattle.ring_core_spec.specs.Commits.{Configuration}
+use Rattle.ring_core_spec.specs.declared.input.Input.{Input}
+use Rattle.ring_core_spec.specs.State.{Core, floor, alone, opening}
+use Rattle.ring_core_spec.specs.Stepping.{after_inputs}
 use Rattle.ring_core_proof.specs.FactWords.{IsIn}
 use Rattle.ring_core_proof.specs.LawWords.{IsFalling}
 use Rattle.ring_core_proof.specs.Moves.{Move, Idles, Enters, Learns, Visits, Takes, Installs, moved, MayMove}
 use Rattle.ring_core_proof.proofs.KeptByMoves.{IsKeptByMoves, always}
 
--- the running ring is the newest, and above all before
+-- the running ring is the newest, and above all earlier rings
 pub record IsRising (rings : List Configuration) (running : Configuration) : Type 0 where
   pub older : List Configuration
   pub newest : rings ≡ running ∷ older
@@ -28,15 +28,15 @@ entered_rises c next h r =
           (next ∷ rings) in subst P (sym r.newest) (h, r.falls));
     }
 
-pub moved_rises : {A : Type 0} → (came : Frame A → Type 0) (c : Core A) (m : Move A) → MayMove came c m → Rising c → Rising (moved c m)
-moved_rises came c (Enters k) h r = entered_rises c (record { ring = k.ring; members = k.members }) h.above r
-moved_rises came c (Idles state gathering shown queue sends) h r = r
-moved_rises came c (Learns k) h r = r
-moved_rises came c (Visits t fresh requests again queue) h r = r
-moved_rises came c (Takes x) h r = r
-moved_rises came c Installs h r = r
+pub moved_rises : {A : Type 0} → (received : Frame A → Type 0) (c : Core A) (m : Move A) → MayMove received c m → Rising c → Rising (moved c m)
+moved_rises received c (Enters k) h r = entered_rises c (record { ring = k.ring; members = k.members }) h.above r
+moved_rises received c (Idles state gathering last_sent queue sends) h r = r
+moved_rises received c (Learns k) h r = r
+moved_rises received c (Visits t fresh requests again queue) h r = r
+moved_rises received c (Takes x) h r = r
+moved_rises received c Installs h r = r
 
--- the ring that a core opens in
+-- the opening ring of a core
 pub alone_rises : (ring : Configuration) → IsRising (ring ∷ []) ring
 alone_rises ring = record { older = []; newest = refl; falls = tt }
 
@@ -49,7 +49,7 @@ falls_of c r = let P : List Configuration → Type 0 = λ rings. IsFalling rings
 pub rings_fall : {A : Type 0} → (n me : ℕ) (inputs : List (Input A)) → IsFalling (after_inputs (opening n me) inputs).rings
 rings_fall n me inputs = falls_of (after_inputs (opening n me) inputs) (always Rising rising (opening n me) inputs (alone_rises (alone me)))
 
--- None is above the running one, and one number is one ring
+-- No ring is above the running one, and rings of one number are one ring
 
 pub all_below : (x : Configuration) (rest : List Configuration) → IsFalling (x ∷ rest) → (y : Configuration) → IsIn y rest → y.ring.seq < x.ring.seq
 all_below x [] f y h = absurd h

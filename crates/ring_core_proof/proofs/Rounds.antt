@@ -1,4 +1,5 @@
--- Who takes a commit token: the member at its position, in the second round with a report that it would write again. And the rings of each core rise.
+-- The member at its position takes a commit token, in the second round with a report that it would write again. And
+-- the ring numbers of each core rise.
 use Rattle.std.proofs.Common.{◌≡◌, ℕ, ◌<◌, Bool, true, false, not, ◌&&◌, ◌||◌, ◌==◌, List, [], ◌∷◌, Option, Some, None, refl, ◌∙◌, subst, arith, inl, inr}
 use Rattle.std.specs.Prelude.{◌*◌, nat_le, nat_lt, slice_get}
 use Rattle.std.specs.List.{list_all}
@@ -9,21 +10,21 @@ use Rattle.ring_base.specs.Processors.{has, size}
 use Rattle.ring_wire.specs.declared.commit.CommitToken.{CommitToken}
 use Rattle.ring_wire.specs.declared.frame.Frame.{Frame}
 use Rattle.ring_wire.specs.declared.frame.Frame.TheVariants.{Message as MessageFrame, Token as TokenFrame, Join as JoinFrame, Commit as CommitFrame}
-use Rattle.ring_core.specs.Tokens.{first_token}
-use Rattle.ring_core.specs.Joins.{candidates}
-use Rattle.ring_core.specs.Commits.{is_sound, Configuration, position_of_hop, receiver, is_of, is_own, is_at}
-use Rattle.ring_core.specs.declared.input.Input.TheVariants.{Frame as FrameInput}
+use Rattle.ring_core_spec.specs.Tokens.{first_token}
+use Rattle.ring_core_spec.specs.Joins.{candidates}
+use Rattle.ring_core_spec.specs.Commits.{is_sound, Configuration, position_of_hop, receiver, is_of, is_own, is_at}
+use Rattle.ring_core_spec.specs.declared.input.Input.TheVariants.{Frame as FrameInput}
 use Rattle.ring_base.specs.declared.state.State.{State}
 use Rattle.ring_base.specs.declared.state.State.TheVariants.{Gather, Commit, Recovery, Operational, Stopped}
-use Rattle.ring_core.specs.State.{Core, floor, alone, frame_at}
-use Rattle.ring_core.specs.Naming.{is_named}
-use Rattle.ring_core.specs.Views.{own_entry}
-use Rattle.ring_core.specs.Visiting.{accepts}
-use Rattle.ring_core.specs.Handing.{takes_first_round, takes_second_round, takes_start}
-use Rattle.ring_core.specs.Deciding.{Act, Ignore, decide, decide_round, decide_commit, decide_if_named}
+use Rattle.ring_core_spec.specs.State.{Core, floor, alone, frame_at}
+use Rattle.ring_core_spec.specs.Naming.{is_named}
+use Rattle.ring_core_spec.specs.Views.{own_entry}
+use Rattle.ring_core_spec.specs.Visiting.{accepts}
+use Rattle.ring_core_spec.specs.Handing.{takes_first_round, takes_second_round, takes_start}
+use Rattle.ring_core_spec.specs.Deciding.{Transition, Ignore, decide, decide_round, decide_commit, decide_if_named}
 use Rattle.ring_core_proof.specs.declared.event.RingEvent.{RingEvent}
 use Rattle.ring_core_proof.specs.declared.event.RingEvent.TheVariants.{Send, Deliver, Timeout, Stop}
-use Rattle.ring_core_proof.specs.Worlds.{Carried, World, is_node, happens, run, unformed}
+use Rattle.ring_core_proof.specs.Worlds.{Transmission, World, is_node, happens, run, unformed}
 use Rattle.ring_core_proof.specs.LawWords.{IsFalling}
 use Rattle.ring_core_proof.specs.CommitRounds.{all_pairs, is_above, has_rising_rings, Taking, is_ignored, taken_unless}
 use Rattle.ring_core_proof.specs.CommitRounds.{taken_at, taken_if, taken_of, taken_in, takings, is_second, still_reports}
@@ -53,7 +54,7 @@ in_start c k p s =
 in_second : {A : Type 0} → (c : Core A) (k : CommitToken) → takes_second_round c k ≡ true → Stands c k
 in_second c k p = (and_parts _ (is_own (own_entry c) (slice_get k.entries (position_of_hop k))) (and_parts _ (is_sound (own_entry c).old k.entries) p).0).1
 
--- a round that is not ignored, at a hop of the second round
+-- a round that isn't ignored, at a hop of the second round
 in_round : {A : Type 0} → (s : State) (c : Core A) (k : CommitToken) → (decide_round s c k ≡ Ignore → ⊥) → is_second k ≡ true → Stands c k
 in_round Gather c k h s =
     elim (cases_Bool (takes_first_round c k)) [
@@ -86,8 +87,8 @@ in_named true c k h s = in_commit c k h s
 
 -- Takings
 
-pub not_ignored : {A : Type 0} → (a : Act A) → is_ignored a ≡ false → a ≡ Ignore → ⊥
-not_ignored {A} a h e = true≢false (subst (λ (x : Act A). is_ignored x ≡ false) e h)
+pub not_ignored : {A : Type 0} → (a : Transition A) → is_ignored a ≡ false → a ≡ Ignore → ⊥
+not_ignored {A} a h e = true≢false (subst (λ (x : Transition A). is_ignored x ≡ false) e h)
 
 if_then : (a b : Bool) → (a ≡ true → b ≡ true) → (not a || b) ≡ true
 if_then true b f = f refl
@@ -118,7 +119,7 @@ taken_if-all : {A : Type 0} → (b : Bool) (c : Core A) (frame : Frame A) → li
 taken_if-all false c frame = refl
 taken_if-all true c frame = taken_at-all c frame
 
-taken_of-all : {A : Type 0} → (w : World A) (i : ℕ) (f : Option (Carried A)) → list_all is_taken (taken_of w i f) ≡ true
+taken_of-all : {A : Type 0} → (w : World A) (i : ℕ) (f : Option (Transmission A)) → list_all is_taken (taken_of w i f) ≡ true
 taken_of-all w i None = refl
 taken_of-all w i (Some f) = taken_if-all (has f.to i && is_node w i) (w.cores i) f.frame
 
@@ -137,7 +138,7 @@ all_taken w (e ∷ events) =
 
 -- Rings
 
--- a ring above the first of falling ones is above each of them
+-- a ring above the first of rings whose numbers fall is above each of them
 above_all : (x y : Configuration) (rest : List Configuration) → y.ring.seq < x.ring.seq → IsFalling (y ∷ rest) → list_all (is_above x) (y ∷ rest) ≡ true
 above_all x y [] h f = and_from (is_above x y) true (lt-ltb y.ring.seq x.ring.seq h) refl
 above_all x y (z ∷ rest) h f =

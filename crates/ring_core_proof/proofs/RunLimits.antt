@@ -10,28 +10,28 @@ use Rattle.ring_base.proofs.Each.{each-append, each-get, each-map, each-filter}
 use Rattle.ring_wire.specs.Frames.{FrameFits}
 use Rattle.ring_wire.specs.declared.frame.Frame.{Frame}
 use Rattle.ring_wire.specs.declared.token.Token.{Token}
-use Rattle.ring_core.specs.Tokens.{first_token}
-use Rattle.ring_core.specs.declared.input.Input.{Input}
-use Rattle.ring_core.specs.declared.input.Input.TheVariants.{Frame as FrameInput, Timeout as TimeInput, Send as SendInput}
-use Rattle.ring_core.specs.declared.out.Out.{Out}
-use Rattle.ring_core.specs.declared.out.Out.TheVariants.{Send as SendOut, Agreed, Safe, Trans, Rest, Regular}
-use Rattle.ring_core.specs.State.{Core, Sent, all_of, alone, opening, formed, halted, frame_at}
-use Rattle.ring_core.specs.Visiting.{room_at}
-use Rattle.ring_core.specs.Giving.{addressed}
-use Rattle.ring_core.specs.Deciding.{Visit}
-use Rattle.ring_core.specs.Acting.{act}
-use Rattle.ring_core.specs.Stepping.{ring_step}
+use Rattle.ring_core_spec.specs.Tokens.{first_token}
+use Rattle.ring_core_spec.specs.declared.input.Input.{Input}
+use Rattle.ring_core_spec.specs.declared.input.Input.TheVariants.{Frame as FrameInput, Timeout as TimeInput, Send as SendInput}
+use Rattle.ring_core_spec.specs.declared.out.Out.{Out}
+use Rattle.ring_core_spec.specs.declared.out.Out.TheVariants.{Send as SendOut, Agreed, Safe, Trans, Rest, Regular}
+use Rattle.ring_core_spec.specs.State.{Core, OutgoingFrame, all_of, alone, opening, formed, halted, frame_at}
+use Rattle.ring_core_spec.specs.Visiting.{room_at}
+use Rattle.ring_core_spec.specs.Giving.{addressed}
+use Rattle.ring_core_spec.specs.Deciding.{Visit}
+use Rattle.ring_core_spec.specs.Transitions.{apply_transition}
+use Rattle.ring_core_spec.specs.Stepping.{ring_step}
 use Rattle.ring_core_proof.specs.declared.event.RingEvent.{RingEvent}
 use Rattle.ring_core_proof.specs.declared.event.RingEvent.TheVariants.{Send, Deliver, Timeout, Stop}
 use Rattle.ring_core_proof.specs.Moves.{MayMove}
-use Rattle.ring_core_proof.specs.Worlds.{Carried, World, put, carried_by, is_node, stepped_if, stopped_if, handed_if, handed}
+use Rattle.ring_core_proof.specs.Worlds.{Transmission, World, put, transmission_by, is_node, stepped_if, stopped_if, handed_if, handed}
 use Rattle.ring_core_proof.specs.Worlds.{happens, run, unformed, ring_formed, acts_on_formed, run_formed}
 use Rattle.ring_core_proof.proofs.Ended.{installed_below}
 use Rattle.ring_core_proof.proofs.StepsAreMoves.{move_of, fresh_short, fresh_users, all_repeats, queue_kept}
 use Rattle.ring_core_proof.specs.Limits.{InputFits, EventFits, OutFits, RingFitsIn, CoreFits, WorldFits, SentFits}
 use Rattle.ring_core_proof.proofs.SetLimits.{only_lt, everybody_lt, entered_fits}
 use Rattle.ring_core_proof.proofs.TokenLimits.{MayGo, first_goes}
-use Rattle.ring_core_proof.proofs.ActLimits.{visited_fits, step_fits}
+use Rattle.ring_core_proof.proofs.TransitionLimits.{visited_fits, step_fits}
 
 -- Openings
 
@@ -59,7 +59,7 @@ opening_fits n me low high most =
       gathering = entered_fits me (everybody n) (everybody_lt n most) ((everybody_members n me).1 (low, high));
       queue = record { each = tt; users = tt };
       held = tt;
-      shown = λ s e. absurd (let x : ⊥ = cc in x);
+      last_sent = λ s e. absurd (let x : ⊥ = cc in x);
       window = record { window = tt; visits = tt; raised = tt };
       placed = record { stands = omega arith; turns = tt };
     }
@@ -76,7 +76,7 @@ formed_fits n me low high most =
       gathering = entered_fits me (everybody n) (everybody_lt n most) ((everybody_members n me).1 (low, high));
       queue = record { each = tt; users = tt };
       held = tt;
-      shown = λ s e. absurd (let x : ⊥ = cc in x);
+      last_sent = λ s e. absurd (let x : ⊥ = cc in x);
       window = record { window = tt; visits = tt; raised = tt };
       placed = record { stands = refl; turns = tt };
     }
@@ -93,15 +93,15 @@ halted_fits c f =
       gathering = f.gathering;
       queue = f.queue;
       held = f.held;
-      shown = f.shown;
+      last_sent = f.last_sent;
       window = f.window;
       placed = record { stands = installed_below c.state c.running c.installed c.turns f.placed.stands; turns = f.placed.turns };
     }
 
 -- Events
 
-one_carried : {A : Type 0} → (i : ℕ) (o : Out A) (rest : List (Carried A)) → OutFits o → Each (λ (g : Carried A). FrameFits g.frame) rest →
-    Each (λ (g : Carried A). FrameFits g.frame) (cons_option (carried_by i o) rest)
+one_carried : {A : Type 0} → (i : ℕ) (o : Out A) (rest : List (Transmission A)) → OutFits o → Each (λ (g : Transmission A). FrameFits g.frame) rest →
+    Each (λ (g : Transmission A). FrameFits g.frame) (cons_option (transmission_by i o) rest)
 one_carried i (SendOut to frame) rest f h = (f, h)
 one_carried i (Agreed ring n x) rest f h = h
 one_carried i (Safe ring upto) rest f h = h
@@ -109,9 +109,9 @@ one_carried i (Trans old new set) rest f h = h
 one_carried i (Rest ring n x) rest f h = h
 one_carried i (Regular ring set) rest f h = h
 
-all_carried : {A : Type 0} → (i : ℕ) (outs : List (Out A)) → Each OutFits outs → Each (λ (g : Carried A). FrameFits g.frame) (filter_map (carried_by i) outs)
+all_carried : {A : Type 0} → (i : ℕ) (outs : List (Out A)) → Each OutFits outs → Each (λ (g : Transmission A). FrameFits g.frame) (filter_map (transmission_by i) outs)
 all_carried i [] h = tt
-all_carried i (o ∷ outs) h = one_carried i o (filter_map (carried_by i) outs) h.0 (all_carried i outs h.1)
+all_carried i (o ∷ outs) h = one_carried i o (filter_map (transmission_by i) outs) h.0 (all_carried i outs h.1)
 
 module _ {A : Type 0} (w : World A) (f : WorldFits w) where
   put_fits : (i : ℕ) (c : Core A) → CoreFits c → (j : ℕ) → 1 ≤ j → j ≤ w.total → CoreFits (put w.cores i c j)
@@ -125,7 +125,7 @@ module _ {A : Type 0} (w : World A) (f : WorldFits w) where
       let outs = (ring_step (w.cores i) input).outs in
       record {
         cores = put_fits i (ring_step (w.cores i) input).core s.core;
-        frames = each-append (λ (g : Carried A). FrameFits g.frame) w.frames (filter_map (carried_by i) outs) f.frames (all_carried i outs s.outs);
+        frames = each-append (λ (g : Transmission A). FrameFits g.frame) w.frames (filter_map (transmission_by i) outs) f.frames (all_carried i outs s.outs);
       }
 
   pub stopped_fits : (b : Bool) (i : ℕ) → (b ≡ true → is_node w i ≡ true) → WorldFits (stopped_if b w i)
@@ -138,10 +138,10 @@ module _ {A : Type 0} (w : World A) (f : WorldFits w) where
   frame_fits false i frame h = f
   frame_fits true i frame h = stepped_fits (is_node w i) i (FrameInput frame) (λ e. e) h
 
-  pub handed_fits : (i m : ℕ) (o : Option (Carried A)) → frame_at w.frames m ≡ o → WorldFits (handed w i o)
+  pub handed_fits : (i m : ℕ) (o : Option (Transmission A)) → frame_at w.frames m ≡ o → WorldFits (handed w i o)
   handed_fits i m None e = f
   handed_fits i zero (Some g) e = absurd (let x : ⊥ = cc in x)
-  handed_fits i (suc m) (Some g) e = frame_fits (has g.to i) i g.frame (each-get (λ (g : Carried A). FrameFits g.frame) w.frames m g f.frames e)
+  handed_fits i (suc m) (Some g) e = frame_fits (has g.to i) i g.frame (each-get (λ (g : Transmission A). FrameFits g.frame) w.frames m g f.frames e)
 
   pub event_fits : (e : RingEvent A) → EventFits e → WorldFits (happens w e)
   event_fits (Send i payload) h = stepped_fits (is_node w i) i (SendInput payload) (λ e. e) h
@@ -183,12 +183,12 @@ start_goes n = first_goes (all_of n).ring (record { seq = omega arith; rep = (om
 pub start_fits : {A : Type 0} → (n : ℕ) → 1 ≤ n → n ≤ 16 → WorldFits {A = A} (ring_formed n)
 start_fits {A} n low most =
     let c : Core A = formed n 1 in
-    let d = act c (Visit (first_of n)) in
+    let d = apply_transition c (Visit (first_of n)) in
     let v = visited_fits c (formed_fits n 1 (omega arith) low most) (λ frame. Unit {0}) (first_of n) (start_goes n) (start_visits n) in
-    let carry : Sent A → Carried A = λ s. record { from = 1; to = s.to; frame = s.frame } in
+    let carry : OutgoingFrame A → Transmission A = λ s. record { from = 1; to = s.to; frame = s.frame } in
     record {
       cores = λ i l h. cond_both (i == 1) d.core (formed n i) CoreFits (λ e. v.core) (λ e. formed_fits n i l h most);
-      frames = each-map (λ (g : Carried A). FrameFits g.frame) carry (addressed d.sends) (each-filter SentFits (λ s. not (s.to == nobody)) d.sends v.sends);
+      frames = each-map (λ (g : Transmission A). FrameFits g.frame) carry (addressed d.sends) (each-filter SentFits (λ s. not (s.to == nobody)) d.sends v.sends);
     }
 
 pub formed_run_fits : {A : Type 0} → (n : ℕ) (events : List (RingEvent A)) → 1 ≤ n → n ≤ 16 → Each EventFits events → WorldFits (run_formed n events)

@@ -1,4 +1,4 @@
--- Sets and joins: a processor is among whom it gathers and is never given up by itself, so its joins keep the limits.
+-- Sets and joins: a processor is always in its `proc_set` and never in its `fail_set`, so its joins keep the limits.
 use Rattle.std.proofs.Common.{◌≡◌, ℕ, ◌-◌, ◌^◌, ◌<◌, ◌≤◌, inl, inr, ◌==◌, cond, refl, sym, subst, arith, eq-eqb}
 use Rattle.std.proofs.lemmas.Bool.{cond_both, or_parts, both_ways}
 use Rattle.std.proofs.lemmas.Nat.{or_lt, pow_below, pow_pos}
@@ -8,9 +8,9 @@ use Rattle.ring_base.specs.Processors.{IsProc, IsMember, IsSubset, has, nobody, 
 use Rattle.ring_base.specs.Members.{has_member, nobody_member, only_members, union_members, less_members}
 use Rattle.ring_wire.specs.declared.join.Join.{Join}
 use Rattle.ring_wire.specs.Joins.{JoinFits}
-use Rattle.ring_core.specs.Joins.{Gathering, is_unheard, has_same_sets, has_smaller_sets, entered, own_join}
-use Rattle.ring_core.specs.Joins.{hearing, agreed, fails_with, widened_sets, widened, senders, agreeing, candidates, given_up, Hearing}
-use Rattle.ring_core.specs.Joins.{Ignored, Agrees, Widens}
+use Rattle.ring_core_spec.specs.Joins.{Gathering, is_own_or_failed, has_same_sets, has_smaller_sets, gathering_opening, own_join}
+use Rattle.ring_core_spec.specs.Joins.{join_effect, agreed, merged_fail_set, sets_merged, join_merged, senders, agreeing, candidates, silent_given_up, JoinEffect}
+use Rattle.ring_core_spec.specs.Joins.{Ignored, Agrees, Merges}
 use Rattle.ring_core_proof.specs.Limits.{GatheringFits}
 
 -- Sets of sixteen
@@ -29,14 +29,14 @@ less_le a b = omega arith
 
 -- Gathering
 
-pub entered_fits : (me set : ℕ) → set < 2 ^ 16 → IsMember set me → GatheringFits me (entered set)
+pub entered_fits : (me set : ℕ) → set < 2 ^ 16 → IsMember set me → GatheringFits me (gathering_opening set)
 entered_fits me set lt mine =
     record { proc_set = lt; fail_set = omega arith; mine = mine; alive = λ m. nobody_member me m; failed_in = λ i m. absurd (nobody_member i m) }
 
 pub agreed_fits : (me : ℕ) (g : Gathering) (j : Join) → GatheringFits me g → GatheringFits me (agreed g j)
 agreed_fits me g j f = record { proc_set = f.proc_set; fail_set = f.fail_set; mine = f.mine; alive = f.alive; failed_in = f.failed_in }
 
-pub given_up_fits : (me : ℕ) (g : Gathering) → 1 ≤ me → GatheringFits me g → GatheringFits me (given_up me g)
+pub given_up_fits : (me : ℕ) (g : Gathering) → 1 ≤ me → GatheringFits me g → GatheringFits me (silent_given_up me g)
 given_up_fits me g low f =
     let out = less (candidates g) (agreeing me g) in
     let a : out ≤ candidates g = less_le (candidates g) (agreeing me g) in
@@ -50,7 +50,7 @@ given_up_fits me g low f =
         | inl old ↦ f.alive old
         | inr new ↦
             ((less_members (candidates g) (agreeing me g) me).0 new).1
-            ((union_members (only me) (senders g.heard) me).1 (inl ((only_members me me low).1 refl)))
+            ((union_members (only me) (senders g.counted_joins) me).1 (inl ((only_members me me low).1 refl)))
       ];
       failed_in = λ i m. elim ((union_members g.fail_set out i).0 m) [
         | inl old ↦ f.failed_in i old
@@ -58,14 +58,14 @@ given_up_fits me g low f =
       ];
     }
 
--- whom a widening gives up
+-- the processors that a widening gives up
 record FailsFit (me procs fails : ℕ) : Type 0 where
   pub small : fails < 2 ^ 16
   pub alive : IsMember fails me → ⊥
   pub within : IsSubset fails procs
 
 fails_fit : (me : ℕ) (g : Gathering) (j : Join) → (me ≡ j.sender → ⊥) → JoinFits j → GatheringFits me g →
-    FailsFit me (union g.proc_set j.proc_set) (fails_with me g j)
+    FailsFit me (union g.proc_set j.proc_set) (merged_fail_set me g j)
 fails_fit me g j other fit f =
     cond_both (has j.fail_set me) (union g.fail_set (only j.sender)) (union g.fail_set j.fail_set) (FailsFit me (union g.proc_set j.proc_set))
     (λ e. record {
@@ -91,9 +91,9 @@ fails_fit me g j other fit f =
       ]);
     })
 
-pub widened_fits : (me : ℕ) (g : Gathering) (j : Join) → (me ≡ j.sender → ⊥) → JoinFits j → GatheringFits me g → GatheringFits me (widened me g j)
+pub widened_fits : (me : ℕ) (g : Gathering) (j : Join) → (me ≡ j.sender → ⊥) → JoinFits j → GatheringFits me g → GatheringFits me (join_merged me g j)
 widened_fits me g j other fit f =
-    let w = widened_sets me g j in
+    let w = sets_merged me g j in
     let fails = fails_fit me g j other fit f in
     let sets : GatheringFits me w = record {
       proc_set = or_lt 16 g.proc_set j.proc_set f.proc_set fit.proc_set;
@@ -104,10 +104,10 @@ widened_fits me g j other fit f =
     } in
     cond_both (has_same_sets w j) (agreed w j) w (GatheringFits me) (λ e. agreed_fits me w j sets) (λ e. sets)
 
--- a join that widens is of another
-pub widens_other : (me : ℕ) (g : Gathering) (j : Join) → hearing me g j ≡ Widens → me ≡ j.sender → ⊥
+-- a join that widens the sets is another processor's
+pub widens_other : (me : ℕ) (g : Gathering) (j : Join) → join_effect me g j ≡ Merges → me ≡ j.sender → ⊥
 widens_other me g j h same =
-    cond_both (is_unheard me g j) Ignored (cond (has_same_sets g j) Agrees (cond (has_smaller_sets g j) Ignored Widens)) (λ (x : Hearing). x ≡ Widens → ⊥)
+    cond_both (is_own_or_failed me g j) Ignored (cond (has_same_sets g j) Agrees (cond (has_smaller_sets g j) Ignored Merges)) (λ (x : JoinEffect). x ≡ Merges → ⊥)
     (λ e k. (let q : ⊥ = cc in q))
     (λ e k. both_ways (j.sender == me) (or_parts (j.sender == me) (has g.fail_set j.sender) e).0 (eq-eqb j.sender me (sym same))) h
 

@@ -1,4 +1,5 @@
--- Each step of the definition is moves: the act is one, a proposal after it is another, and an installation the last.
+-- Each step of the definition is a list of moves: the transition is one, a proposal after it another, and an
+-- installation the last.
 use Rattle.std.proofs.Common.{◌≡◌, ℕ, ◌+◌, ◌-◌, ◌*◌, ◌%◌, ◌≤◌, ◌⊎◌, inl, inr, Bool, true, false, ◌&&◌}
 use Rattle.std.proofs.Common.{◌==◌, eqb, List, [], ◌∷◌, ◌++◌, length, Option, Some, None, refl, ap, sym, ◌∙◌, subst}
 use Rattle.std.proofs.Common.{arith, append-nil}
@@ -14,33 +15,33 @@ use Rattle.ring_base.specs.declared.state.State.TheVariants.{Gather, Commit, Rec
 use Rattle.ring_base.proofs.Each.{each-push, each-filter_map}
 use Rattle.ring_payload.specs.Kinds.{is_user}
 use Rattle.ring_payload.specs.Packing.{is_queued}
-use Rattle.ring_payload.proofs.Packing.{packed-users, user-queued, left_behind-each}
+use Rattle.ring_payload.proofs.Packing.{packed_payloads-users, user-queued, unpacked_rest-each}
 use Rattle.ring_payload.specs.declared.content.Payload.{Payload}
 use Rattle.ring_wire.specs.declared.commit.CommitToken.{CommitToken}
 use Rattle.ring_wire.specs.declared.frame.Frame.{Frame}
 use Rattle.ring_wire.specs.declared.frame.Frame.TheVariants.{Token as TokenFrame}
 use Rattle.ring_wire.specs.declared.message.Message.{Message}
 use Rattle.ring_wire.specs.declared.token.Token.{Token}
-use Rattle.ring_core.specs.Windows.{found, highest}
+use Rattle.ring_core_spec.specs.Windows.{found, highest}
 use Rattle.ring_base.proofs.SameRing.{ring_same}
-use Rattle.ring_core.specs.Tokens.{first_token, is_newer, above_mark}
-use Rattle.ring_core.specs.Joins.{Gathering, AllSaySame, candidates, new_number, has_consensus, own_join, agreed, widened, given_up}
-use Rattle.ring_core.specs.Commits.{position_of_hop, receiver, is_of, is_own, is_sound}
-use Rattle.ring_core.specs.Recoveries.{is_ready, is_complete}
-use Rattle.ring_core.specs.declared.input.Input.{Input}
-use Rattle.ring_core.specs.declared.input.Input.TheVariants.{Frame as FrameInput}
-use Rattle.ring_core.specs.State.{Core, Sent, Did, floor}
-use Rattle.ring_core.specs.Views.{mark, own_entry, plan, takes_number}
-use Rattle.ring_core.specs.Visiting.{repeated, room_at, offers, new_payloads, held_after, requests_of, queue_after}
-use Rattle.ring_core.specs.Joining.{regathered, with_gathering, announced, invited, proposes, proposes_in}
-use Rattle.ring_core.specs.Giving.{ready_then_complete, installs_in, may_install, delivered}
-use Rattle.ring_core.specs.Deciding.{Act, Ignore, Enqueue, Repeat, Announce, Invite, GiveUp, Regather, Agree, Widen}
-use Rattle.ring_core.specs.Deciding.{RegatherAndAgree, RegatherAndWiden, Take, Visit, Fill, Learn, takes_of, members_of}
-use Rattle.ring_core.specs.Deciding.{decide_user, decide_payload, decide}
-use Rattle.ring_core.specs.Acting.{shown_again, act, may_follow, proposed_after, done}
-use Rattle.ring_core.specs.Stepping.{ring_step}
-use Rattle.ring_core.proofs.States.{installs_recovering, proposes_gathering, offers_few}
-use Rattle.ring_core_proof.specs.LawWords.{HasPassed, CameWith}
+use Rattle.ring_core_spec.specs.Tokens.{first_token, is_newer, above_mark}
+use Rattle.ring_core_spec.specs.Joins.{Gathering, AllSaySame, candidates, new_number, has_consensus, own_join, agreed, join_merged, silent_given_up}
+use Rattle.ring_core_spec.specs.Commits.{position_of_hop, receiver, is_of, is_own, is_sound}
+use Rattle.ring_core_spec.specs.Recoveries.{is_ready, is_complete}
+use Rattle.ring_core_spec.specs.declared.input.Input.{Input}
+use Rattle.ring_core_spec.specs.declared.input.Input.TheVariants.{Frame as FrameInput}
+use Rattle.ring_core_spec.specs.State.{Core, OutgoingFrame, TransitionResult, floor}
+use Rattle.ring_core_spec.specs.Views.{mark, own_entry, plan, takes_number}
+use Rattle.ring_core_spec.specs.Visiting.{repeated, room_at, offers, new_payloads, held_after, requests_of, queue_after}
+use Rattle.ring_core_spec.specs.Joining.{gather_entered, with_gathering, join_announcement, join_invitation, proposes, proposes_in}
+use Rattle.ring_core_spec.specs.Giving.{ready_then_complete, installs_in, may_install, delivered}
+use Rattle.ring_core_spec.specs.Deciding.{Transition, Ignore, Enqueue, Repeat, Announce, Invite, GiveUp, EnterGather, Agree, MergeJoin}
+use Rattle.ring_core_spec.specs.Deciding.{EnterGatherAndAgree, EnterGatherAndMergeJoin, Take, Visit, Fill, Learn, takes_of, members_of}
+use Rattle.ring_core_spec.specs.Deciding.{decide_user, decide_payload, decide}
+use Rattle.ring_core_spec.specs.Transitions.{last_sent_repeated, apply_transition, may_propose_after, with_proposal_if, done}
+use Rattle.ring_core_spec.specs.Stepping.{ring_step}
+use Rattle.ring_core_spec.proofs.States.{installs_recovering, proposes_gathering, offers_few}
+use Rattle.ring_core_proof.specs.LawWords.{HasPassed, IsInputOf}
 use Rattle.ring_core_proof.specs.FactWords.{IsIn}
 use Rattle.ring_core_proof.specs.Moves.{Move, Idles, Enters, Learns, Visits, Takes, moved, did, AllAreUsers, IsRepeated}
 use Rattle.ring_core_proof.specs.Moves.{MayIdle, MayEnter, AreWraps, IsStart, TakesFrom, TakesLate, MayInstall, MayMove}
@@ -51,26 +52,26 @@ use Rattle.ring_core_proof.proofs.WrapsAndEnd.{found_in, are_wraps}
 use Rattle.ring_core_proof.proofs.Agreeing.{agreed_same, widened_same}
 use Rattle.ring_core_proof.proofs.InLists.{each-in}
 
--- The move of each act
+-- The move of each transition
 
-abbrev pub idle : {A : Type 0} → Core A → Gathering → List (Sent A) → Move A
-idle c gathering sends = Idles c.state gathering c.shown c.queue sends
+abbrev pub idle : {A : Type 0} → Core A → Gathering → List (OutgoingFrame A) → Move A
+idle c gathering sends = Idles c.state gathering c.last_sent c.queue sends
 
 abbrev pub leave : {A : Type 0} → Core A → Gathering → Move A
-leave c gathering = Idles Gather gathering None [] (announced (with_gathering (regathered c) gathering) ∷ [])
+leave c gathering = Idles Gather gathering None [] (join_announcement (with_gathering (gather_entered c) gathering) ∷ [])
 
-abbrev pub move_of : {A : Type 0} → Core A → Act A → Move A
+abbrev pub move_of : {A : Type 0} → Core A → Transition A → Move A
 move_of c Ignore = idle c c.gathering []
-move_of c (Enqueue p) = Idles c.state c.gathering c.shown (c.queue ++ p ∷ []) []
-move_of c Repeat = idle c c.gathering (shown_again c.shown)
-move_of c Announce = idle c c.gathering (announced c ∷ [])
-move_of c Invite = idle c c.gathering (invited c ∷ [])
-move_of c GiveUp = idle c (given_up c.me c.gathering) (announced (with_gathering c (given_up c.me c.gathering)) ∷ [])
-move_of c Regather = leave c (regathered c).gathering
+move_of c (Enqueue p) = Idles c.state c.gathering c.last_sent (c.queue ++ p ∷ []) []
+move_of c Repeat = idle c c.gathering (last_sent_repeated c.last_sent)
+move_of c Announce = idle c c.gathering (join_announcement c ∷ [])
+move_of c Invite = idle c c.gathering (join_invitation c ∷ [])
+move_of c GiveUp = idle c (silent_given_up c.me c.gathering) (join_announcement (with_gathering c (silent_given_up c.me c.gathering)) ∷ [])
+move_of c EnterGather = leave c (gather_entered c).gathering
 move_of c (Agree j) = idle c (agreed c.gathering j) []
-move_of c (Widen j) = idle c (widened c.me c.gathering j) (announced (with_gathering c (widened c.me c.gathering j)) ∷ [])
-move_of c (RegatherAndAgree j) = leave c (agreed (regathered c).gathering j)
-move_of c (RegatherAndWiden j) = leave c (widened c.me (regathered c).gathering j)
+move_of c (MergeJoin j) = idle c (join_merged c.me c.gathering j) (join_announcement (with_gathering c (join_merged c.me c.gathering j)) ∷ [])
+move_of c (EnterGatherAndAgree j) = leave c (agreed (gather_entered c).gathering j)
+move_of c (EnterGatherAndMergeJoin j) = leave c (join_merged c.me (gather_entered c).gathering j)
 move_of c (Take x) = Takes x
 move_of c (Visit t) = Visits t (new_payloads c t)
     (requests_of c t (held_after c t) (t.seq + length (new_payloads c t))) (repeated c t)
@@ -78,26 +79,26 @@ move_of c (Visit t) = Visits t (new_payloads c t)
 move_of c (Fill k) = Enters k
 move_of c (Learn k) = Learns k
 
-pub acted : {A : Type 0} → (c : Core A) (a : Act A) → act c a ≡ did c (move_of c a)
+pub acted : {A : Type 0} → (c : Core A) (a : Transition A) → apply_transition c a ≡ did c (move_of c a)
 acted c Ignore = refl
 acted c (Enqueue p) = refl
 acted c Repeat = refl
 acted c Announce = refl
 acted c Invite = refl
 acted c GiveUp = refl
-acted c Regather = refl
+acted c EnterGather = refl
 acted c (Agree j) = refl
-acted c (Widen j) = refl
-acted c (RegatherAndAgree j) = refl
-acted c (RegatherAndWiden j) = refl
+acted c (MergeJoin j) = refl
+acted c (EnterGatherAndAgree j) = refl
+acted c (EnterGatherAndMergeJoin j) = refl
 acted c (Take x) = refl
 acted c (Visit t) = refl
 acted c (Fill k) = refl
 acted c (Learn k) = refl
 
--- What is queued is a user's
+-- A queued payload is a user's
 
-abbrev pub IsAsked : {A : Type 0} → Act A → Type 0
+abbrev pub IsAsked : {A : Type 0} → Transition A → Type 0
 IsAsked (Enqueue p) = is_user p ≡ true
 IsAsked _ = Unit {0}
 
@@ -111,18 +112,18 @@ asked_payload Commit q = tt
 asked_payload Recovery q = tt
 asked_payload Stopped q = tt
 
-pub asked_by : {A : Type 0} → (c : Core A) (input : Input A) (a : Act A) → decide c input ≡ a → CameWith c input a → IsAsked a
+pub asked_by : {A : Type 0} → (c : Core A) (input : Input A) (a : Transition A) → decide c input ≡ a → IsInputOf c input a → IsAsked a
 asked_by c input (Enqueue p) e h = subst (λ a. IsAsked a) (sym (ap (λ i. decide c i) h) ∙ e) (asked_payload c.state p)
 asked_by c input Ignore e h = tt
 asked_by c input Repeat e h = tt
 asked_by c input Announce e h = tt
 asked_by c input Invite e h = tt
 asked_by c input GiveUp e h = tt
-asked_by c input Regather e h = tt
+asked_by c input EnterGather e h = tt
 asked_by c input (Agree j) e h = tt
-asked_by c input (Widen j) e h = tt
-asked_by c input (RegatherAndAgree j) e h = tt
-asked_by c input (RegatherAndWiden j) e h = tt
+asked_by c input (MergeJoin j) e h = tt
+asked_by c input (EnterGatherAndAgree j) e h = tt
+asked_by c input (EnterGatherAndMergeJoin j) e h = tt
 asked_by c input (Take x) e h = tt
 asked_by c input (Visit t) e h = tt
 asked_by c input (Fill k) e h = tt
@@ -130,20 +131,20 @@ asked_by c input (Learn k) e h = tt
 
 -- Idling
 
-shown_repeats : {A : Type 0} → (shown : Option (Sent A)) → Each (IsRepeated shown) (shown_again shown)
+shown_repeats : {A : Type 0} → (last_sent : Option (OutgoingFrame A)) → Each (IsRepeated last_sent) (last_sent_repeated last_sent)
 shown_repeats None = tt
 shown_repeats (Some s) = (inl refl, tt)
 
-idles : {A : Type 0} → (c : Core A) (g : Gathering) (sends : List (Sent A)) → (AllSaySame c.gathering → AllSaySame g) → Each (IsRepeated c.shown) sends →
-    MayIdle c c.state g c.shown c.queue sends
+idles : {A : Type 0} → (c : Core A) (g : Gathering) (sends : List (OutgoingFrame A)) → (AllSaySame c.gathering → AllSaySame g) → Each (IsRepeated c.last_sent) sends →
+    MayIdle c c.state g c.last_sent c.queue sends
 idles c g sends h s = record { leaves = inl refl; joins = h; shows = inr refl; queued = λ q. q; sent = s }
 
-leaves : {A : Type 0} → (c : Core A) (g : Gathering) → AllSaySame g → MayIdle c Gather g None [] (announced (with_gathering (regathered c) g) ∷ [])
+leaves : {A : Type 0} → (c : Core A) (g : Gathering) → AllSaySame g → MayIdle c Gather g None [] (join_announcement (with_gathering (gather_entered c) g) ∷ [])
 leaves c g h = record { leaves = inr (inl refl); joins = λ a. h; shows = inl refl; queued = λ q. tt; sent = (inr (own_join c.me (floor c) g, refl), tt) }
 
 -- Visiting
 
--- no more messages than a visit has room for
+-- at most as many messages as a visit has room for
 pub fresh_few : {A : Type 0} → (c : Core A) (t : Token) → length (new_payloads c t) ≤ room_at c t
 fresh_few c t = offers_few c.state c (room_at c t)
 
@@ -151,14 +152,14 @@ pub fresh_short : {A : Type 0} → (c : Core A) (t : Token) → length (new_payl
 fresh_short c t = omega (arith, fresh_few c t)
 
 pub fresh_users : {A : Type 0} → (c : Core A) (t : Token) → c.state ≡ Operational → AllAreUsers c.queue → AllAreUsers (new_payloads c t)
-fresh_users c t s h = subst (λ s. AllAreUsers (offers s c (room_at c t))) (sym s) (packed-users (room_at c t) c.queue h)
+fresh_users c t s h = subst (λ s. AllAreUsers (offers s c (room_at c t))) (sym s) (packed_payloads-users (room_at c t) c.queue h)
 
 fresh_wraps : {A : Type 0} → (c : Core A) (t : Token) → c.state ≡ Recovery → AreWraps c (new_payloads c t)
 fresh_wraps c t s = subst (λ s. AreWraps c (offers s c (room_at c t))) (sym s) (are_wraps c (room_at c t))
 
--- what holds of each payload that waits holds of each that still waits after a visit
+-- a property of each queued payload holds for each that is left after a visit
 pub queue_each : {A : Type 0} → (P : Payload A → Type 0) (s : State) (n : ℕ) (queue : List (Payload A)) → Each P queue → Each P (queue_after s n queue)
-queue_each P Operational n queue h = left_behind-each P n queue h
+queue_each P Operational n queue h = unpacked_rest-each P n queue h
 queue_each P Gather n queue h = h
 queue_each P Commit n queue h = h
 queue_each P Recovery n queue h = h
@@ -175,7 +176,7 @@ all_repeats {A} c t =
 double : (m : ℕ) → (2 * m) % m ≡ 0
 double m = grind arith
 
-starts : {A : Type 0} → (c : Core A) (input : Input A) (t : Token) → CameWith c input (Visit t) → IsStart c t ⊎ (input ≡ FrameInput (TokenFrame t))
+starts : {A : Type 0} → (c : Core A) (input : Input A) (t : Token) → IsInputOf c input (Visit t) → IsStart c t ⊎ (input ≡ FrameInput (TokenFrame t))
 starts c input t (inl e) = inr e
 starts c input t (inr s) =
     let k = s.commit in
@@ -190,7 +191,7 @@ starts c input t (inr s) =
       first = ap (λ ms. at ms 0) (sym members) ∙ ap (at k.members) (sym zero) ∙ here;
     })
 
-visits : {A : Type 0} → (c : Core A) (input : Input A) (t : Token) → HasPassed c (Visit t) → CameWith c input (Visit t) →
+visits : {A : Type 0} → (c : Core A) (input : Input A) (t : Token) → HasPassed c (Visit t) → IsInputOf c input (Visit t) →
     MayMove (λ frame. input ≡ FrameInput frame) c (move_of c (Visit t))
 visits c input t g h =
     let p = and_parts ((same_ring t.ring c.running.ring && is_newer c.turns t) && nat_lt t.number max_number) (nat_le (highest c.held t.ring) t.seq) g.1 in
@@ -209,16 +210,16 @@ visits c input t g h =
       from = starts c input t h;
     }
 
--- Handing on a commit token
+-- Sending on a commit token
 
-enters : {A : Type 0} → (c : Core A) (input : Input A) (k : CommitToken) → HasPassed c (Fill k) → CameWith c input (Fill k) →
+enters : {A : Type 0} → (c : Core A) (input : Input A) (k : CommitToken) → HasPassed c (Fill k) → IsInputOf c input (Fill k) →
     MayMove (λ frame. input ≡ FrameInput frame) c (Enters k)
 enters c input k g h =
     let p = and_parts (nat_lt k.hop (size k.members) && (k.members == candidates c.gathering)) (nat_lt (floor c) k.ring.seq) g.passes in
     let q = and_parts (nat_lt k.hop (size k.members)) (k.members == candidates c.gathering) p.0 in
     record { state = g.state; above = ltb-true _ _ p.1; first = λ low. ltb-true _ _ q.0; here = eqb-true _ _ g.here; from = inr h }
 
-pub learns : {A : Type 0} → (c : Core A) (input : Input A) (k : CommitToken) → HasPassed c (Learn k) → CameWith c input (Learn k) →
+pub learns : {A : Type 0} → (c : Core A) (input : Input A) (k : CommitToken) → HasPassed c (Learn k) → IsInputOf c input (Learn k) →
     MayMove (λ frame. input ≡ FrameInput frame) c (Learns k)
 learns c input k g h =
     let e = and_parts _ (is_sound c.installed.ring k.entries) g.passes in
@@ -250,16 +251,16 @@ taken_from c x Gather e r m =
 taken_from c x Commit e r m = absurd (false≢true r)
 taken_from c x Stopped e r m = absurd (false≢true r)
 
-takes : {A : Type 0} → (c : Core A) (input : Input A) (x : Message A) → HasPassed c (Take x) → CameWith c input (Take x) →
+takes : {A : Type 0} → (c : Core A) (input : Input A) (x : Message A) → HasPassed c (Take x) → IsInputOf c input (Take x) →
     MayMove (λ frame. input ≡ FrameInput frame) c (Takes x)
 takes c input x g h =
     let p = and_parts (takes_of c.state c x.ring && has (members_of c.state c) x.sender) (takes_number c x.ring x.number) g in
     let q = and_parts (takes_of c.state c x.ring) (has (members_of c.state c) x.sender) p.0 in
     record { ring = taken_from c x c.state refl q.0 q.1; new = p.1; from = h }
 
--- Each act has passed what its move asks
+-- Each transition meets the conditions of its move
 
-pub may_act : {A : Type 0} → (c : Core A) (input : Input A) (a : Act A) → HasPassed c a → CameWith c input a → IsAsked a →
+pub may_act : {A : Type 0} → (c : Core A) (input : Input A) (a : Transition A) → HasPassed c a → IsInputOf c input a → IsAsked a →
     MayMove (λ frame. input ≡ FrameInput frame) c (move_of c a)
 may_act c input Ignore g h u = idles c c.gathering [] (λ a. a) tt
 may_act {A} c input (Enqueue p) g h u = record {
@@ -269,16 +270,16 @@ may_act {A} c input (Enqueue p) g h u = record {
   queued = λ q. each-push (λ (p : Payload A). is_user p ≡ true) c.queue p q u;
   sent = tt;
 }
-may_act c input Repeat g h u = idles c c.gathering (shown_again c.shown) (λ a. a) (shown_repeats c.shown)
-may_act c input Announce g h u = idles c c.gathering (announced c ∷ []) (λ a. a) (inr (own_join c.me (floor c) c.gathering, refl), tt)
-may_act c input Invite g h u = idles c c.gathering (invited c ∷ []) (λ a. a) (inr (_, refl), tt)
-may_act c input GiveUp g h u = idles c (given_up c.me c.gathering) _ (λ a. tt) (inr (own_join c.me (floor c) (given_up c.me c.gathering), refl), tt)
-may_act c input Regather g h u = leaves c (regathered c).gathering tt
+may_act c input Repeat g h u = idles c c.gathering (last_sent_repeated c.last_sent) (λ a. a) (shown_repeats c.last_sent)
+may_act c input Announce g h u = idles c c.gathering (join_announcement c ∷ []) (λ a. a) (inr (own_join c.me (floor c) c.gathering, refl), tt)
+may_act c input Invite g h u = idles c c.gathering (join_invitation c ∷ []) (λ a. a) (inr (_, refl), tt)
+may_act c input GiveUp g h u = idles c (silent_given_up c.me c.gathering) _ (λ a. tt) (inr (own_join c.me (floor c) (silent_given_up c.me c.gathering), refl), tt)
+may_act c input EnterGather g h u = leaves c (gather_entered c).gathering tt
 may_act c input (Agree j) g h u = idles c (agreed c.gathering j) [] (agreed_same c.me c.gathering j g.1) tt
-may_act c input (Widen j) g h u = idles c (widened c.me c.gathering j) _ (λ a. widened_same c.me c.gathering j)
-    (inr (own_join c.me (floor c) (widened c.me c.gathering j), refl), tt)
-may_act c input (RegatherAndAgree j) g h u = leaves c (agreed (regathered c).gathering j) (agreed_same c.me (regathered c).gathering j g.heard tt)
-may_act c input (RegatherAndWiden j) g h u = leaves c (widened c.me (regathered c).gathering j) (widened_same c.me (regathered c).gathering j)
+may_act c input (MergeJoin j) g h u = idles c (join_merged c.me c.gathering j) _ (λ a. widened_same c.me c.gathering j)
+    (inr (own_join c.me (floor c) (join_merged c.me c.gathering j), refl), tt)
+may_act c input (EnterGatherAndAgree j) g h u = leaves c (agreed (gather_entered c).gathering j) (agreed_same c.me (gather_entered c).gathering j g.effect_is tt)
+may_act c input (EnterGatherAndMergeJoin j) g h u = leaves c (join_merged c.me (gather_entered c).gathering j) (widened_same c.me (gather_entered c).gathering j)
 may_act c input (Take x) g h u = takes c input x g h
 may_act c input (Visit t) g h u = visits c input t g h
 may_act c input (Fill k) g h u = enters c input k g h
@@ -289,8 +290,8 @@ may_act c input (Learn k) g h u = learns c input k g h
 abbrev pub proposed_token : {A : Type 0} → Core A → CommitToken
 proposed_token c = record { ring = record { seq = new_number (floor c) c.gathering; rep = c.me }; members = candidates c.gathering; hop = 0; entries = [] }
 
-pub may_propose : {A : Type 0} → (came : Frame A → Type 0) (c : Core A) → proposes c ≡ true → MayEnter came c (proposed_token c)
-may_propose came c h =
+pub may_propose : {A : Type 0} → (received : Frame A → Type 0) (c : Core A) → proposes c ≡ true → MayEnter received c (proposed_token c)
+may_propose received c h =
     let s = proposes_gathering c.state c h in
     let k = subst (λ s. proposes_in s c ≡ true) s h in
     let p = and_parts (has_consensus c.me c.gathering && (smallest (candidates c.gathering) == c.me))
@@ -320,23 +321,23 @@ may_installs c h =
 
 -- A step
 
--- the act, and then perhaps a proposal
-record DoneBy {A : Type 0} (c : Core A) (input : Input A) (d : Did A) : Type 0 where
+-- the transition, and then perhaps a proposal
+record DoneBy {A : Type 0} (c : Core A) (input : Input A) (d : TransitionResult A) : Type 0 where
   pub moves : List (Move A)
   pub few : length moves ≤ 2
   pub may : MayAll (λ frame. input ≡ FrameInput frame) c moves
   pub is : d ≡ record { core = after_moves c moves; sends = all_sends c moves }
 
 then_proposed : {A : Type 0} → (c : Core A) (input : Input A) (m : Move A) → MayMove (λ frame. input ≡ FrameInput frame) c m → (b : Bool) →
-    (b ≡ true → proposes (moved c m) ≡ true) → DoneBy c input (proposed_after b (did c m))
+    (b ≡ true → proposes (moved c m) ≡ true) → DoneBy c input (with_proposal_if b (did c m))
 then_proposed c input m h false p = record { moves = m ∷ []; few = omega arith; may = (h, tt); is = rw append-nil refl }
 then_proposed c input m h true p =
     record { moves = m ∷ Enters (proposed_token (moved c m)) ∷ []; few = omega arith; may = (h, (may_propose _ (moved c m) (p refl), tt)); is = refl }
 
-done_moves : {A : Type 0} → (c : Core A) (input : Input A) (a : Act A) → MayMove (λ frame. input ≡ FrameInput frame) c (move_of c a) → DoneBy c input (done c a)
+done_moves : {A : Type 0} → (c : Core A) (input : Input A) (a : Transition A) → MayMove (λ frame. input ≡ FrameInput frame) c (move_of c a) → DoneBy c input (done c a)
 done_moves c input a h =
-    subst (λ d. DoneBy c input (proposed_after (may_follow a && proposes d.core) d)) (sym (acted c a))
-    (then_proposed c input (move_of c a) h (may_follow a && proposes (moved c (move_of c a))) (λ e. (and_parts (may_follow a) _ e).1))
+    subst (λ d. DoneBy c input (with_proposal_if (may_propose_after a && proposes d.core) d)) (sym (acted c a))
+    (then_proposed c input (move_of c a) h (may_propose_after a && proposes (moved c (move_of c a))) (λ e. (and_parts (may_propose_after a) _ e).1))
 
 pub step_moves : {A : Type 0} → (c : Core A) (input : Input A) → IsMoved c input
 unfolding ring_step

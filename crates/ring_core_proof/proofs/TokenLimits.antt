@@ -1,4 +1,5 @@
--- A token as a visit sends it on keeps the limits: its numbers by the visit's tests and its room, its requests as they are merged.
+-- A token that a visit forwards keeps the limits: its numbers by the tests and the room of the visit, its requests by
+-- how they are merged.
 use Rattle.std.proofs.Common.{◌≡◌, ℕ, zero, suc, ◌+◌, ◌-◌, ◌<◌, ◌≤◌, min, inl, inr, Bool, true, false, ◌==◌, cond, List}
 use Rattle.std.proofs.Common.{[], ◌∷◌, length, Option, Some, None, refl, sym, arith}
 use Rattle.std.specs.Prelude.{nat_lt, not, filter, take}
@@ -13,12 +14,12 @@ use Rattle.ring_wire.specs.declared.message.Message.{Message}
 use Rattle.ring_wire.specs.declared.token.Token.{Token}
 use Rattle.ring_wire.specs.Tokens.{TokenFits}
 use Rattle.ring_wire.specs.Ascending.{ascends, ascends-each, ascends-increasing, Between}
-use Rattle.ring_core.specs.Windows.{holds, missing}
-use Rattle.ring_core.specs.Tokens.{first_token, is_left, left, is_mine, may_set, requests_after, token_after}
+use Rattle.ring_core_spec.specs.Windows.{holds, missing}
+use Rattle.ring_core_spec.specs.Tokens.{first_token, is_left, requests_left, is_mine, may_set, requests_after, token_after}
 
 -- Requests
 
--- each is above the one before it, the first above low, and none is above high
+-- each request is above the one before it, the first above `low`, and none above `high`
 abbrev Climbs : ℕ → ℕ → List ℕ → Type 0
 Climbs low high [] = Unit {0}
 Climbs low high (x ∷ xs) = (low < x) × (x ≤ high) × Climbs x high xs
@@ -61,20 +62,20 @@ climbs-merged : (low high : ℕ) (xs ys : List ℕ) → Each (Between low high) 
 climbs-merged low high [] ys h c = c
 climbs-merged low high (x ∷ xs) ys h c = climbs-insert x low high (merged xs ys) h.0.0 h.0.1 (climbs-merged low high xs ys h.1 c)
 
--- what a visit asks for
+-- the requests of a visit
 pub requests_climb : {A : Type 0} → (held : List (Message A)) (ring : RingId) (mark : ℕ) (test : ℕ → Bool) (asked : List ℕ) (seq upto : ℕ) → seq ≤ upto →
-    Each (λ n. (1 ≤ n) × (n ≤ seq)) asked → Climbs 0 upto (requests_after (left mark test asked) (missing held ring mark upto))
+    Each (λ n. (1 ≤ n) × (n ≤ seq)) asked → Climbs 0 upto (requests_after (requests_left mark test asked) (missing held ring mark upto))
 requests_climb held ring mark test asked seq upto l each =
-    climbs-take 32 0 upto (merged (left mark test asked) (missing held ring mark upto))
-    (climbs-merged 0 upto (left mark test asked) (missing held ring mark upto)
-    (each-weaker (λ n. (1 ≤ n) × (n ≤ seq)) (Between 0 upto) (λ n b. (omega (arith, b.0), omega (arith, b.1))) (left mark test asked)
+    climbs-take 32 0 upto (merged (requests_left mark test asked) (missing held ring mark upto))
+    (climbs-merged 0 upto (requests_left mark test asked) (missing held ring mark upto)
+    (each-weaker (λ n. (1 ≤ n) × (n ≤ seq)) (Between 0 upto) (λ n b. (omega (arith, b.0), omega (arith, b.1))) (requests_left mark test asked)
     (each-filter (λ n. (1 ≤ n) × (n ≤ seq)) (is_left mark test) asked each))
     (climbs-filter (λ n. not (holds held ring n)) 0 upto (numbers_from (mark + 1) (min window_size (upto - mark)))
     (climbs-numbers 0 upto (mark + 1) (min window_size (upto - mark)) (omega arith) (omega arith))))
 
--- The aru and who holds it back
+-- The `aru` and the processor that holds it back
 
--- a token that is visited: one that came, or the ring's first
+-- a token that is visited: one that arrived, or the ring's first
 pub record MayGo (t : Token) : Type 0 where
   pub ring : RingFits t.ring
   pub ring_counted : 1 ≤ t.ring.seq
@@ -114,7 +115,7 @@ first_goes r f l =
       each = tt;
     }
 
--- of a token that another holds back
+-- a token that another processor holds back
 another : (me : ℕ) (o : Option ℕ) → is_mine me o ≡ false → o ≡ None → ⊥
 another me None h e = false≢true (sym h)
 another me (Some i) h e = (let x : ⊥ = cc in x)

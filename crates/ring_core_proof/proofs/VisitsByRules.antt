@@ -1,4 +1,4 @@
--- Each visit that a core took is one by the rules, and its front has only grown since.
+-- Each visit of a core follows the rules, and its front has only grown since.
 use Rattle.std.proofs.Common.{◌≡◌, ℕ, suc, ◌+◌, ◌≤◌, true, ◌==◌, List, [], ◌∷◌, ◌++◌, length, refl, arith, inl, inr}
 use Rattle.std.specs.Prelude.{reverse}
 use Rattle.std.specs.List.{AllByRecursion as Each}
@@ -10,19 +10,19 @@ use Rattle.ring_payload.specs.declared.content.Payload.{Payload}
 use Rattle.ring_wire.specs.declared.frame.Frame.{Frame}
 use Rattle.ring_wire.specs.declared.message.Message.{Message}
 use Rattle.ring_wire.specs.declared.token.Token.{Token}
-use Rattle.ring_core.specs.Windows.{is_numbered, holds, highest, front_of}
-use Rattle.ring_core.proofs.Windows.{front_is, highest_covers}
-use Rattle.ring_core.specs.Tokens.{Turn, numbered}
-use Rattle.ring_core.specs.declared.input.Input.{Input}
-use Rattle.ring_core.specs.State.{Core, opening}
-use Rattle.ring_core.specs.Acting.{gives_old}
-use Rattle.ring_core.specs.Stepping.{after_inputs}
+use Rattle.ring_core_spec.specs.Windows.{is_numbered, holds, highest, front_of}
+use Rattle.ring_core_spec.proofs.Windows.{front_is, highest_covers}
+use Rattle.ring_core_spec.specs.Tokens.{TokenVisit, numbered}
+use Rattle.ring_core_spec.specs.declared.input.Input.{Input}
+use Rattle.ring_core_spec.specs.State.{Core, opening}
+use Rattle.ring_core_spec.specs.Transitions.{old_ring_messages}
+use Rattle.ring_core_spec.specs.Stepping.{after_inputs}
 use Rattle.ring_core_proof.specs.LawWords.{AreTurnsOf}
 use Rattle.ring_core_proof.specs.Moves.{Move, Idles, Enters, Learns, Visits, Takes, Installs, held_in, turn_with, moved, MayMove}
 use Rattle.ring_core_proof.proofs.KeptByMoves.{IsKeptByMoves, always}
 use Rattle.ring_core_proof.proofs.WithinWindow.{front-append}
 
--- where nothing above a number is held, the front is at most that
+-- where no number above one is held, the front is at most that one
 front_below : {A : Type 0} → (held : List (Message A)) (ring : RingId) (seq : ℕ) → ((n : ℕ) → holds held ring n ≡ true → n ≤ seq) → front_of held ring ≤ seq
 front_below held ring seq h =
     elim (cases_lt seq (front_of held ring)) [
@@ -30,7 +30,7 @@ front_below held ring seq h =
       | inr l ↦ l
     ]
 
--- new messages have the numbers after seq
+-- new messages have the numbers after `seq`
 numbered_within : {A : Type 0} → (ring : RingId) (me seq bound : ℕ) (ps : List (Payload A)) → seq + length ps ≤ bound →
     Each (λ (x : Message A). x.number ≤ bound) (numbered ring me seq ps)
 numbered_within ring me seq bound [] h = tt
@@ -66,12 +66,12 @@ front_within c t fresh top =
     (λ e. held_within (reverse new) t.ring n bound within e)
     (λ e. (let q : n ≤ highest c.held t.ring = highest_covers c.held t.ring n e in omega arith)) k)
 
--- with messages more, the fronts of the visits are still reached
-still : {A : Type 0} → (me : ℕ) (xs held : List (Message A)) (turns : List (Turn A)) → AreTurnsOf me held turns → AreTurnsOf me (xs ++ held) turns
+-- with more messages, the fronts of the visits are still reached
+still : {A : Type 0} → (me : ℕ) (xs held : List (Message A)) (turns : List (TokenVisit A)) → AreTurnsOf me held turns → AreTurnsOf me (xs ++ held) turns
 still me xs held [] h = tt
 still me xs held (v ∷ turns) h =
-    let i : front_of held v.came.ring ≤ front_of (xs ++ held) v.came.ring = front-append xs held v.came.ring in
-    let j : v.front ≤ front_of held v.came.ring = (h.0).grown in
+    let i : front_of held v.received.ring ≤ front_of (xs ++ held) v.received.ring = front-append xs held v.received.ring in
+    let j : v.front ≤ front_of held v.received.ring = (h.0).grown in
     (record { goes = (h.0).goes; within = (h.0).within; grown = omega arith }, still me xs held turns h.1)
 
 abbrev pub Turned : {A : Type 0} → Core A → Type 0
@@ -83,16 +83,16 @@ visited_turned : {A : Type 0} → (c : Core A) (t : Token) (fresh : List (Payloa
 visited_turned c t fresh requests a h =
     (record { goes = refl; within = front_within c t fresh a; grown = omega arith }, still c.me (reverse (numbered t.ring c.me t.seq fresh)) c.held c.turns h)
 
-took_turned : {A : Type 0} → (c : Core A) (x : Message A) → Turned c → AreTurnsOf c.me (gives_old c.state c x ++ x ∷ c.held) c.turns
-took_turned c x h = still c.me (gives_old c.state c x) (x ∷ c.held) c.turns (still c.me (x ∷ []) c.held c.turns h)
+took_turned : {A : Type 0} → (c : Core A) (x : Message A) → Turned c → AreTurnsOf c.me (old_ring_messages c.state c x ++ x ∷ c.held) c.turns
+took_turned c x h = still c.me (old_ring_messages c.state c x) (x ∷ c.held) c.turns (still c.me (x ∷ []) c.held c.turns h)
 
-pub moved_turned : {A : Type 0} → (came : Frame A → Type 0) (c : Core A) (m : Move A) → MayMove came c m → Turned c → Turned (moved c m)
-moved_turned came c (Visits t fresh requests again queue) h p = visited_turned c t fresh requests h.ahead p
-moved_turned came c (Takes x) h p = took_turned c x p
-moved_turned came c (Idles state gathering shown queue sends) h p = p
-moved_turned came c (Enters k) h p = p
-moved_turned came c (Learns k) h p = p
-moved_turned came c Installs h p = p
+pub moved_turned : {A : Type 0} → (received : Frame A → Type 0) (c : Core A) (m : Move A) → MayMove received c m → Turned c → Turned (moved c m)
+moved_turned received c (Visits t fresh requests again queue) h p = visited_turned c t fresh requests h.ahead p
+moved_turned received c (Takes x) h p = took_turned c x p
+moved_turned received c (Idles state gathering last_sent queue sends) h p = p
+moved_turned received c (Enters k) h p = p
+moved_turned received c (Learns k) h p = p
+moved_turned received c Installs h p = p
 
 pub turned : {A : Type 0} → IsKeptByMoves (Turned {A = A})
 turned = record { moves = moved_turned }

@@ -1,4 +1,4 @@
--- After any inputs: a safe mark is at most its front, and what is held lies within the window after its mark.
+-- After any inputs a safe mark is at most its front, and all that is held lies within the window after its mark.
 use Rattle.std.proofs.Common.{◌≡◌, ℕ, suc, ◌+◌, ◌-◌, ◌≤◌, true, ◌&&◌, ltb, leb, eqb, List, [], ◌∷◌, ◌++◌}
 use Rattle.std.proofs.Common.{length, slice_get, sym, subst, inl, inr, arith}
 use Rattle.std.specs.Cmp.Lexicographic.{pointwise}
@@ -15,22 +15,22 @@ use Rattle.ring_wire.specs.declared.frame.Frame.{Frame}
 use Rattle.ring_wire.specs.declared.commit.CommitToken.{CommitToken}
 use Rattle.ring_wire.specs.declared.message.Message.{Message}
 use Rattle.ring_wire.specs.declared.token.Token.{Token}
-use Rattle.ring_core.specs.Windows.{is_numbered, holds, front_of, in_window, is_new}
-use Rattle.ring_core.proofs.Windows.{front_grows, holds-more}
+use Rattle.ring_core_spec.specs.Windows.{is_numbered, holds, front_of, in_window, is_new}
+use Rattle.ring_core_spec.proofs.Windows.{front_grows, holds-more}
 use Rattle.ring_base.proofs.SameRing.{ring_same}
-use Rattle.ring_core.specs.Tokens.{Turn, Raise, safe_mark, numbered, may_set, is_mine, aru_after}
-use Rattle.ring_core.proofs.Tokens.{safe_mark-below, safe_mark-turn, safe_mark-raise}
-use Rattle.ring_core.specs.Commits.{reports_of, safe_of, is_sound, position_of_hop, is_own}
-use Rattle.ring_core.specs.Recoveries.{inner_if_new, unwrapped, inner_message}
-use Rattle.ring_core.specs.declared.input.Input.{Input}
+use Rattle.ring_core_spec.specs.Tokens.{TokenVisit, Raise, safe_mark, numbered, may_set, is_mine, aru_after}
+use Rattle.ring_core_spec.proofs.Tokens.{safe_mark-below, safe_mark-turn, safe_mark-raise}
+use Rattle.ring_core_spec.specs.Commits.{reports_of, safe_of, is_sound, position_of_hop, is_own}
+use Rattle.ring_core_spec.specs.Recoveries.{inner_if_new, inner_messages, inner_message}
+use Rattle.ring_core_spec.specs.declared.input.Input.{Input}
 use Rattle.ring_base.specs.declared.state.State.{State}
 use Rattle.ring_base.specs.declared.state.State.TheVariants.{Gather, Commit, Recovery, Operational, Stopped}
-use Rattle.ring_core.specs.State.{Core, opening}
-use Rattle.ring_core.specs.Views.{front, mark, own_entry, takes_number}
-use Rattle.ring_core.specs.Acting.{gives_old}
-use Rattle.ring_core.specs.Stepping.{after_inputs}
-use Rattle.ring_core.proofs.Commits.{none_behind-at, own_stands}
-pub use Rattle.ring_core_proof.specs.Standing.{Within, IsFit, Fit}
+use Rattle.ring_core_spec.specs.State.{Core, opening}
+use Rattle.ring_core_spec.specs.Views.{front, mark, own_entry, takes_number}
+use Rattle.ring_core_spec.specs.Transitions.{old_ring_messages}
+use Rattle.ring_core_spec.specs.Stepping.{after_inputs}
+use Rattle.ring_core_spec.proofs.Commits.{none_behind-at, own_stands}
+pub use Rattle.ring_core_proof.specs.WindowBounds.{IsInWindow, IsHeldInWindow, IsCoreInWindow}
 use Rattle.ring_core_proof.specs.Moves.{Move, Idles, Enters, Learns, Visits, Takes, Installs, held_in, turn_with, moved, MayMove}
 use Rattle.ring_base.proofs.Each.{each-weaker, each-append, each-reverse}
 use Rattle.ring_core_proof.proofs.KeptByMoves.{IsKeptByMoves, always}
@@ -40,22 +40,22 @@ use Rattle.ring_core_proof.proofs.KeptByMoves.{IsKeptByMoves, always}
 pub front-append : {A : Type 0} → (xs ys : List (Message A)) (r : RingId) → front_of ys r ≤ front_of (xs ++ ys) r
 front-append xs ys r = front_grows ys (xs ++ ys) r (λ n h. holds-more xs ys r n h)
 
--- The invariant, over the facts alone
+-- The invariant, on the facts alone
 
-more_held : {A : Type 0} → (xs held : List (Message A)) (turns : List (Turn A)) (raises : List Raise)
-    → AllByRecursion (λ (x : Message A). Within turns raises x) xs → IsFit held turns raises
-    → IsFit (xs ++ held) turns raises
+more_held : {A : Type 0} → (xs held : List (Message A)) (turns : List (TokenVisit A)) (raises : List Raise)
+    → AllByRecursion (λ (x : Message A). IsInWindow turns raises x) xs → IsHeldInWindow held turns raises
+    → IsHeldInWindow (xs ++ held) turns raises
 more_held {A} xs held turns raises h f =
     record {
-      window = each-append (λ (x : Message A). Within turns raises x) xs held h f.window;
-      visits = each-weaker _ _ (λ (v : Turn A) h. (let i : front_of held v.came.ring ≤ front_of
-          (xs ++ held) v.came.ring = front-append xs held v.came.ring in omega arith)) turns f.visits;
+      window = each-append (λ (x : Message A). IsInWindow turns raises x) xs held h f.window;
+      visits = each-weaker _ _ (λ (v : TokenVisit A) h. (let i : front_of held v.received.ring ≤ front_of
+          (xs ++ held) v.received.ring = front-append xs held v.received.ring in omega arith)) turns f.visits;
       raised = each-weaker _ _ (λ (x : Raise) h. (let i : front_of held x.ring ≤ front_of
           (xs ++ held) x.ring = front-append xs held x.ring in omega arith)) raises f.raised;
     }
 
-more_turns : {A : Type 0} → (v : Turn A) (held : List (Message A)) (turns : List (Turn A)) (raises : List Raise)
-    → v.went.aru ≤ front_of held v.came.ring → IsFit held turns raises → IsFit held (v ∷ turns) raises
+more_turns : {A : Type 0} → (v : TokenVisit A) (held : List (Message A)) (turns : List (TokenVisit A)) (raises : List Raise)
+    → v.forwarded.aru ≤ front_of held v.received.ring → IsHeldInWindow held turns raises → IsHeldInWindow held (v ∷ turns) raises
 more_turns {A} v held turns raises h f =
     record {
       window = each-weaker _ _ (λ (x : Message A) k. (let i : safe_mark turns raises x.ring ≤ safe_mark
@@ -64,8 +64,8 @@ more_turns {A} v held turns raises h f =
       raised = f.raised;
     }
 
-more_raises : {A : Type 0} → (x : Raise) (held : List (Message A)) (turns : List (Turn A)) (raises : List Raise)
-    → x.mark ≤ front_of held x.ring → IsFit held turns raises → IsFit held turns (x ∷ raises)
+more_raises : {A : Type 0} → (x : Raise) (held : List (Message A)) (turns : List (TokenVisit A)) (raises : List Raise)
+    → x.mark ≤ front_of held x.ring → IsHeldInWindow held turns raises → IsHeldInWindow held turns (x ∷ raises)
 more_raises {A} y held turns raises h f =
     record {
       window = each-weaker _ _ (λ (x : Message A) k. (let i : safe_mark turns raises x.ring ≤ safe_mark turns
@@ -80,12 +80,12 @@ new_within : {A : Type 0} → (held : List (Message A)) (m : ℕ) (r : RingId) (
 new_within held m r n h = leb-true _ _ (and_parts _ (leb n (m + window_size)) (and_parts (in_window m n) _ h).0).1
 
 inner_within : {A : Type 0} → (c : Core A) (w : WrappedMessage A)
-    → AllByRecursion (λ (x : Message A). Within c.turns c.raises x)
+    → AllByRecursion (λ (x : Message A). IsInWindow c.turns c.raises x)
     (inner_if_new c.installed.ring (mark c c.installed.ring) c.held w)
 inner_within {A} c w =
     cond_both (same_ring w.ring c.installed.ring && is_new c.held (mark c c.installed.ring) c.installed.ring w.number)
     (inner_message w ∷ []) []
-    (λ (xs : List (Message A)). AllByRecursion (λ (x : Message A). Within c.turns c.raises x) xs)
+    (λ (xs : List (Message A)). AllByRecursion (λ (x : Message A). IsInWindow c.turns c.raises x) xs)
     (λ e. (
       let p = and_parts (same_ring w.ring c.installed.ring) (is_new c.held (mark c c.installed.ring) c.installed.ring w.number) e in
           let i : w.number ≤ mark c c.installed.ring + window_size = new_within c.held (mark c c.installed.ring) c.installed.ring w.number p.1 in
@@ -95,8 +95,8 @@ inner_within {A} c w =
     (λ e. tt)
 
 payload_within : {A : Type 0} → (c : Core A) (p : Payload A)
-    → AllByRecursion (λ (x : Message A). Within c.turns c.raises x)
-    (unwrapped c.installed.ring (mark c c.installed.ring) c.held p)
+    → AllByRecursion (λ (x : Message A). IsInWindow c.turns c.raises x)
+    (inner_messages c.installed.ring (mark c c.installed.ring) c.held p)
 payload_within c (Wrapped w) = inner_within c w
 payload_within c (Call call) = tt
 payload_within c End = tt
@@ -105,24 +105,24 @@ payload_within c (Part part) = tt
 payload_within c (Pack pack) = tt
 payload_within c (Snap snap) = tt
 
-gives_within : {A : Type 0} → (s : State) (c : Core A) (x : Message A) → AllByRecursion (λ (x : Message A). Within c.turns c.raises x) (gives_old s c x)
+gives_within : {A : Type 0} → (s : State) (c : Core A) (x : Message A) → AllByRecursion (λ (x : Message A). IsInWindow c.turns c.raises x) (old_ring_messages s c x)
 gives_within Recovery c x = payload_within c x.payload
 gives_within Gather c x = tt
 gives_within Commit c x = tt
 gives_within Operational c x = tt
 gives_within Stopped c x = tt
 
-taken_fits : {A : Type 0} → (c : Core A) (x : Message A) → takes_number c x.ring x.number ≡ true → Fit c
-    → IsFit (gives_old c.state c x ++ x ∷ c.held) c.turns c.raises
+taken_fits : {A : Type 0} → (c : Core A) (x : Message A) → takes_number c x.ring x.number ≡ true → IsCoreInWindow c
+    → IsHeldInWindow (old_ring_messages c.state c x ++ x ∷ c.held) c.turns c.raises
 taken_fits c x h f =
-    more_held (gives_old c.state c x) (x ∷ c.held) c.turns c.raises (gives_within c.state c x)
+    more_held (old_ring_messages c.state c x) (x ∷ c.held) c.turns c.raises (gives_within c.state c x)
     (more_held (x ∷ []) c.held c.turns c.raises (new_within c.held (mark c x.ring) x.ring x.number h, tt) f)
 
 -- Visiting
 
-numbered_below : {A : Type 0} → (turns : List (Turn A)) (raises : List Raise) (r : RingId) (me seq : ℕ)
+numbered_below : {A : Type 0} → (turns : List (TokenVisit A)) (raises : List Raise) (r : RingId) (me seq : ℕ)
     (ps : List (Payload A)) → length ps ≤ safe_mark turns raises r + window_size - seq
-    → AllByRecursion (λ (x : Message A). Within turns raises x) (numbered r me seq ps)
+    → AllByRecursion (λ (x : Message A). IsInWindow turns raises x) (numbered r me seq ps)
 numbered_below turns raises r me seq [] h = tt
 numbered_below turns raises r me seq (p ∷ ps) h = (omega arith, numbered_below turns raises r me (suc seq) ps (omega arith))
 
@@ -131,12 +131,12 @@ aru_below me f t = cond_both (may_set me f t) f t.aru (λ a. a ≤ f) (λ e. ome
     (λ e. ltb-false f t.aru (or_parts (ltb f t.aru) (is_mine me t.aru_id) e).0)
 
 visited_fits : {A : Type 0} → (c : Core A) (t : Token) (fresh : List (Payload A)) (requests : List ℕ)
-    → length fresh ≤ mark c t.ring + window_size - t.seq → Fit c → IsFit (held_in c t fresh)
+    → length fresh ≤ mark c t.ring + window_size - t.seq → IsCoreInWindow c → IsHeldInWindow (held_in c t fresh)
     (turn_with c t fresh requests ∷ c.turns) c.raises
 visited_fits c t fresh requests h f =
     more_turns (turn_with c t fresh requests) (held_in c t fresh) c.turns c.raises (aru_below c.me (front_of (held_in c t fresh) t.ring) t)
     (more_held (reverse (numbered t.ring c.me t.seq fresh)) c.held c.turns c.raises
-    (each-reverse (Within c.turns c.raises) (numbered t.ring c.me t.seq fresh) (numbered_below c.turns c.raises t.ring c.me t.seq fresh h)) f)
+    (each-reverse (IsInWindow c.turns c.raises) (numbered t.ring c.me t.seq fresh) (numbered_below c.turns c.raises t.ring c.me t.seq fresh h)) f)
 
 -- Learning
 
@@ -155,31 +155,31 @@ learned_front c k h g =
     subst (λ n. safe_of (reports_of c.installed.ring k.entries) ≤ n) j i
 
 learned_fits : {A : Type 0} → (c : Core A) (k : CommitToken) → is_own (own_entry c)
-    (slice_get k.entries (position_of_hop k)) ≡ true → is_sound c.installed.ring k.entries ≡ true → Fit c
-    → IsFit c.held c.turns (record { ring = c.installed.ring; mark = safe_of (reports_of c.installed.ring k.entries) }
+    (slice_get k.entries (position_of_hop k)) ≡ true → is_sound c.installed.ring k.entries ≡ true → IsCoreInWindow c
+    → IsHeldInWindow c.held c.turns (record { ring = c.installed.ring; mark = safe_of (reports_of c.installed.ring k.entries) }
     ∷ c.raises)
 learned_fits c k o s f =
     more_raises (record { ring = c.installed.ring; mark = safe_of (reports_of c.installed.ring k.entries) }) c.held c.turns c.raises (learned_front c k o s) f
 
 -- Each move
 
-pub moved_fits : {A : Type 0} → (came : Frame A → Type 0) (c : Core A) (m : Move A) → MayMove came c m → Fit c → Fit (moved c m)
-moved_fits came c (Takes x) h f = taken_fits c x h.new f
-moved_fits came c (Visits t fresh requests again queue) h f = visited_fits c t fresh requests h.room f
-moved_fits came c (Learns k) h f = learned_fits c k h.own h.sound f
-moved_fits came c (Idles state gathering shown queue sends) h f = f
-moved_fits came c (Enters k) h f = f
-moved_fits came c Installs h f = f
+pub moved_fits : {A : Type 0} → (received : Frame A → Type 0) (c : Core A) (m : Move A) → MayMove received c m → IsCoreInWindow c → IsCoreInWindow (moved c m)
+moved_fits received c (Takes x) h f = taken_fits c x h.new f
+moved_fits received c (Visits t fresh requests again queue) h f = visited_fits c t fresh requests h.room f
+moved_fits received c (Learns k) h f = learned_fits c k h.own h.sound f
+moved_fits received c (Idles state gathering last_sent queue sends) h f = f
+moved_fits received c (Enters k) h f = f
+moved_fits received c Installs h f = f
 
-pub fitting : {A : Type 0} → IsKeptByMoves (Fit {A = A})
+pub fitting : {A : Type 0} → IsKeptByMoves (IsCoreInWindow {A = A})
 fitting = record { moves = moved_fits }
 
-opening_fits : {A : Type 0} → (n me : ℕ) (inputs : List (Input A)) → Fit (after_inputs (opening n me) inputs)
-opening_fits n me inputs = always Fit fitting (opening n me) inputs (record { window = tt; visits = tt; raised = tt })
+opening_fits : {A : Type 0} → (n me : ℕ) (inputs : List (Input A)) → IsCoreInWindow (after_inputs (opening n me) inputs)
+opening_fits n me inputs = always IsCoreInWindow fitting (opening n me) inputs (record { window = tt; visits = tt; raised = tt })
 
 -- The laws
 
-pub mark_below : {A : Type 0} → (c : Core A) (r : RingId) → Fit c → mark c r ≤ front c r
+pub mark_below : {A : Type 0} → (c : Core A) (r : RingId) → IsCoreInWindow c → mark c r ≤ front c r
 mark_below c r f = safe_mark-below (front c) r _ _ f.visits f.raised
 
 pub marks_within : {A : Type 0} → (n me : ℕ) (inputs : List (Input A)) (r : RingId)
@@ -187,8 +187,8 @@ pub marks_within : {A : Type 0} → (n me : ℕ) (inputs : List (Input A)) (r : 
 marks_within n me inputs r = mark_below (after_inputs (opening n me) inputs) r (opening_fits n me inputs)
 
 -- each message held, of any ring
-in_window_of : {A : Type 0} → (turns : List (Turn A)) (raises : List Raise) (held : List (Message A)) (r : RingId)
-    (n : ℕ) → AllByRecursion (λ (x : Message A). Within turns raises x) held → holds held r n ≡ true
+in_window_of : {A : Type 0} → (turns : List (TokenVisit A)) (raises : List Raise) (held : List (Message A)) (r : RingId)
+    (n : ℕ) → AllByRecursion (λ (x : Message A). IsInWindow turns raises x) held → holds held r n ≡ true
     → n ≤ safe_mark turns raises r + window_size
 in_window_of turns raises [] r n f h = absurd (let q : ⊥ = cc in q)
 in_window_of turns raises (x ∷ held) r n f h =
@@ -200,7 +200,7 @@ in_window_of turns raises (x ∷ held) r n f h =
       | inr e ↦ in_window_of turns raises held r n f.1 e
     ]
 
-pub held_below : {A : Type 0} → (c : Core A) (r : RingId) (k : ℕ) → Fit c → holds c.held r k ≡ true → k ≤ mark c r + window_size
+pub held_below : {A : Type 0} → (c : Core A) (r : RingId) (k : ℕ) → IsCoreInWindow c → holds c.held r k ≡ true → k ≤ mark c r + window_size
 held_below c r k f h = in_window_of _ _ _ r k f.window h
 
 pub held_within : {A : Type 0} → (n me : ℕ) (inputs : List (Input A)) (r : RingId) (k : ℕ)

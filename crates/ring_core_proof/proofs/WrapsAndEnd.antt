@@ -1,6 +1,7 @@
--- What a core in Recovery sends: the messages of the old ring that it wraps, ascending, and behind the last of them, once, its End.
+-- The payloads of a core in Recovery: the Wrapped of the old ring's messages, ascending, and after the last of them
+-- one End.
 
--- It wraps the users' messages of the installed ring above the least front that it holds and did not see wrapped.
+-- It wraps the user messages of the installed ring above the least front that it holds and hasn't seen wrapped.
 use Rattle.std.proofs.Common.{◌≡◌, ℕ, zero, suc, ◌+◌, ◌-◌, ◌<◌, ◌≤◌, ◌⊎◌, inl, inr, Bool, true, false, ◌==◌, cond, eqb}
 use Rattle.std.proofs.Common.{List, [], ◌∷◌, length, Option, Some, None, refl, ap, sym, ◌∙◌, subst, arith}
 use Rattle.std.specs.Prelude.{filter, filter_map, not, take}
@@ -20,20 +21,20 @@ use Rattle.ring_payload.specs.declared.content.Content.TheVariants.{Snap as Snap
 use Rattle.ring_payload.specs.declared.content.Payload.{Payload}
 use Rattle.ring_payload.specs.declared.content.Payload.TheVariants.{Call, Wrapped, End, Head, Part, Pack, Snap}
 use Rattle.ring_wire.specs.declared.message.Message.{Message}
-use Rattle.ring_core.specs.Windows.{is_numbered, found, highest, of_ring}
+use Rattle.ring_core_spec.specs.Windows.{is_numbered, found, highest, of_ring}
 use Rattle.ring_base.proofs.SameRing.{ring_same, ring_itself}
-use Rattle.ring_core.proofs.Windows.{highest_covers, found-holds}
-use Rattle.ring_core.specs.Recoveries.{low, is_wrap_of, is_wrapped, wrap, wrap_content, above_low, to_wrap, has_ended, wraps_and_end}
-use Rattle.ring_core.specs.State.{Core}
-use Rattle.ring_core.specs.Views.{plan}
+use Rattle.ring_core_spec.proofs.Windows.{highest_covers, found-holds}
+use Rattle.ring_core_spec.specs.Recoveries.{low, is_wrap_of, is_wrapped, wrap, wrap_content, above_low, to_wrap, has_ended, wraps_and_end}
+use Rattle.ring_core_spec.specs.State.{Core}
+use Rattle.ring_core_spec.specs.Views.{plan}
 use Rattle.ring_core_proof.specs.FactWords.{IsIn, SomeIs}
 use Rattle.ring_core_proof.specs.Moves.{is_seen, IsWrapping, AreRising, AreLast, MayEnd, AreWraps}
 use Rattle.ring_core_proof.proofs.InLists.{in-filter, in-filtered, any-some, in-filter_map, in-numbers, some-in, any-in}
 use Rattle.ring_core_proof.proofs.InLists.{numbers-above, find-in}
 
--- What is found
+-- Messages that are found
 
--- what is found of a number stands there, and is of the ring and the number
+-- a message found under a number is in the list, and has that ring and number
 pub found_in : {A : Type 0} → (held : List (Message A)) (ring : RingId) (n : ℕ) (x : Message A) → found held ring n ≡ Some x →
     IsIn x held × (x.ring ≡ ring) × (x.number ≡ n)
 found_in held ring n x e =
@@ -41,7 +42,7 @@ found_in held ring n x e =
     let p = and_parts (same_ring x.ring ring) (eqb x.number n) f.1 in
     (f.0, ring_same x.ring ring p.0, eqb-true x.number n p.1)
 
--- what is seen wrapped
+-- the numbers seen wrapped
 
 pub seen_by : {A : Type 0} → (held : List (Message A)) (running old : RingId) (n : ℕ) (x : Message A) → IsIn x held → x.ring ≡ running →
     is_wrap_of old n x.payload ≡ true → is_wrapped (of_ring running held) old n ≡ true
@@ -62,7 +63,7 @@ seen_of held running old n h =
 abbrev wrapping : {A : Type 0} → Message A → Content A → Payload A
 wrapping x content = Wrapped (record { ring = x.ring; number = x.number; sender = x.sender; payload = content })
 
--- what may be wrapped is a user's, and comes back as it was
+-- a message that may be wrapped is a user's, and unwraps to itself
 content_back : {A : Type 0} → (p : Payload A) (content : Content A) → content_of p ≡ Some content → p ≡ payload_of content
 content_back (Call call) content e = (let k : CallContent call ≡ content = cc in ap payload_of k)
 content_back (Head head) content e = (let k : HeadContent head ≡ content = cc in ap payload_of k)
@@ -79,7 +80,7 @@ content_user (PartContent part) = refl
 content_user (PackContent pack) = refl
 content_user (SnapContent snap) = refl
 
--- and each user's may be
+-- and each user message may be wrapped
 user_content : {A : Type 0} → (p : Payload A) → is_user p ≡ true → (content : Content A) × (content_of p ≡ Some content)
 user_content (Call call) u = (CallContent call, refl)
 user_content (Head head) u = (HeadContent head, refl)
@@ -89,9 +90,9 @@ user_content (Snap snap) u = (SnapContent snap, refl)
 user_content (Wrapped w) u = absurd (let n : ⊥ = cc in n)
 user_content End u = absurd (let n : ⊥ = cc in n)
 
--- What is left to wrap
+-- The messages left to wrap
 
--- what stands above the least front, not yet seen wrapped
+-- the messages above the least front that weren't seen wrapped
 record IsWaiting {A : Type 0} (c : Core A) (x : Message A) : Type 0 where
   pub ring : x.ring ≡ c.installed.ring
   pub above : low (plan c) < x.number
@@ -127,7 +128,7 @@ module _ {A : Type 0} (c : Core A) where
       each-filtered (IsAbove c) (IsWaiting c) (λ (x : Message A). not (is_seen c x.number))
       (λ x a t. record { ring = a.ring; above = a.above; held = a.held; unseen = not-true _ t }) (above_low (plan c) c.held) all_above
 
-  -- a message that is handed on is a user's, wrapped
+  -- each Wrapped is of a user message
   handed_on : (x : Message A) (o : Option (Content A)) (q : Payload A) → content_of x.payload ≡ o → IsWaiting c x → wrap_content x o ≡ Some q → IsWrapping c q
   handed_on x None q e w h = absurd (let n : ⊥ = cc in n)
   handed_on x (Some content) q e w h =
@@ -143,7 +144,7 @@ module _ {A : Type 0} (c : Core A) where
   all_wraps : Each (IsWrapping c) (filter_map wrap waiting)
   all_wraps = each-filter_map (IsWaiting c) (IsWrapping c) wrap (λ x q w e. handed_on x (content_of x.payload) q refl w e) waiting all_waiting
 
-  -- each that is left is wrapped
+  -- each message that is left is wrapped
 
   wraps_it : (n : ℕ) (x : Message A) → (x.ring ≡ c.installed.ring) × (x.number ≡ n) → IsIn x waiting → is_user x.payload ≡ true →
       SomeIs (λ p. is_wrap_of c.installed.ring n p ≡ true) (filter_map wrap waiting)
@@ -215,7 +216,7 @@ take_rise zero below ps h = tt
 take_rise (suc n) below [] h = tt
 take_rise (suc n) below (p ∷ ps) (w, e, l, h) = (w, e, l, take_rise n w.number ps h)
 
--- A visit's part of it
+-- The part of one visit
 
 abbrev nothing : (X : Type 0) → List X
 nothing X = []
@@ -227,7 +228,7 @@ take_none : (X : Type 0) (n : ℕ) → take n (nothing X) ≡ []
 take_none X zero = refl
 take_none X (suc n) = refl
 
--- an End goes where the whole of what is left goes before it
+-- an End is sent where all that is left to wrap is sent before it
 may_end : {A : Type 0} → (c : Core A) (n : ℕ) (b : Bool) → has_ended c.me c.running.ring c.held ≡ b → (ws : List (Payload A)) → AreLast c ws →
     (k : ℕ) → k ≡ n - length ws → (take k (cond b [] (end_alone A)) ≡ []) ⊎ MayEnd c (take n ws) (take k (cond b [] (end_alone A)))
 may_end {A} c n true e ws h k is = inl (take_none (Payload A) k)

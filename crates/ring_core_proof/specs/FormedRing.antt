@@ -1,11 +1,13 @@
--- Two in a formed ring: one message is lost once, asked for, and sent again, until it is safe.
+-- A worked example: two processors in a formed ring lose one message, request it, and send it again, until it is
+-- safe.
+-- Formats: formed ring of two
 use Rattle.std.specs.Prelude.{ℕ, List, [], ◌∷◌, Some, None}
 use Rattle.std.specs.declared.alloc.Global.{Global}
 use Rattle.ring_base.specs.declared.kind.Kind.TheVariants.{Retransmit, Join as JoinTime, Consensus, Loss}
 use Rattle.ring_payload.specs.declared.content.Payload.TheVariants.{Call as CallPayload}
 use Rattle.ring_wire.specs.declared.frame.Frame.TheVariants.{Message as MessageFrame}
-use Rattle.ring_core.specs.declared.out.Out.{Out}
-use Rattle.ring_core.specs.declared.out.Out.TheVariants.{Send as SendOut, Agreed, Safe}
+use Rattle.ring_core_spec.specs.declared.out.Out.{Out}
+use Rattle.ring_core_spec.specs.declared.out.Out.TheVariants.{Send as SendOut, Agreed, Safe}
 use Rattle.ring_core_proof.specs.declared.event.RingEvent.{RingEvent}
 use Rattle.ring_core_proof.specs.declared.event.RingEvent.TheVariants.{Send, Deliver, Timeout}
 use Rattle.ring_core_proof.specs.Samples.{first_ring, add_five, call_at, token_frame}
@@ -17,7 +19,7 @@ loss_events =
     Deliver 2 1 ∷ Deliver 1 3 ∷ Deliver 2 4 ∷ Deliver 1 5 ∷ Deliver 1 5 ∷
     Deliver 1 6 ∷ Deliver 2 7 ∷ Deliver 1 8 ∷ Deliver 2 9 ∷ []
 
--- all that both give: the message is asked for, sent again, agreed at processor 1 too, and safe at both
+-- all outputs of both: the message is requested, sent again, agreed at processor 1 too, and safe at both
 abbrev pub loss_outs : List (ℕ × Out Global)
 loss_outs =
     (2, SendOut 1 (MessageFrame (call_at 2 1))) ∷
@@ -34,14 +36,14 @@ loss_outs =
     (2, SendOut 1 (token_frame 8 1 1 None [])) ∷
     (2, Safe first_ring 1) ∷ []
 
--- timeouts that do nothing on a ring formed from the start
+-- timeouts that do nothing in a formed ring
 abbrev pub idle_timeouts : List (RingEvent Global)
 idle_timeouts = Timeout 1 Loss ∷ Timeout 2 JoinTime ∷ Timeout 1 Consensus ∷ []
 
--- the one that acts there
+-- the timeout that acts there
 abbrev pub repeat_timeout : List (RingEvent Global)
 repeat_timeout = Timeout 1 Retransmit ∷ []
 
--- the ring's first frame goes out again: the token that the representative sent on
+-- the ring's first frame, sent again: the token that the representative forwarded
 abbrev pub first_token_again : List (ℕ × Out Global)
 first_token_again = (1, SendOut 2 (token_frame 1 0 0 None [])) ∷ []

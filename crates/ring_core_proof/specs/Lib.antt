@@ -2,11 +2,11 @@ pub mod Worlds
 pub mod Pumping
 pub mod FactWords
 pub mod Moves
-pub mod Standing
+pub mod WindowBounds
 pub mod LawWords
 pub mod CommitRounds
 pub mod Texts
-pub mod Lives
+pub mod EpochHistories
 pub mod Samples
 pub mod FormedRing
 pub mod FirstRings
@@ -14,6 +14,6 @@ pub mod ChangedRing
 pub mod SingleSteps
 pub mod PackedCalls
 pub mod Recoveries
-pub mod Local
-pub mod Left
+pub mod CoreInvariants
+pub mod KnowledgeOfRings
 pub mod Limits

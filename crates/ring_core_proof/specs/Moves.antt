@@ -1,7 +1,8 @@
--- All that can happen to a ring core. Each step of the definition is at most three of these six moves, and then its
--- outputs: Rings and states, rule 13 of docs/PROTOCOL.md. What a move has passed asks less than the definition's tests
--- do, so that what is proved of moves rests on no more than stands here: how a core comes to its sets in Gather, whom
--- it hears and when a time is over play no part.
+-- Six moves that make up every change of a ring core. Each step of the definition is at most three of them, and then
+-- its outputs. The conditions of a move are weaker than the tests of the definition, so that proofs about moves use
+-- no more than is stated here. How a core chooses its sets in Gather, which joins it hears and when a timeout is due
+-- play no part.
+-- Rules: Rings and states 13
 use Rattle.std.specs.Prelude.{◌≡◌, ℕ, ◌+◌, ◌-◌, ◌*◌, ◌<◌, ◌≤◌, ◌⊎◌, Bool, true, false, List, [], ◌∷◌, ◌++◌, reverse, length, Option, Some, None, slice_get}
 use Rattle.std.specs.List.{AllByRecursion}
 use Rattle.ring_base.specs.Numbers.{window_size}
@@ -18,116 +19,119 @@ use Rattle.ring_wire.specs.declared.frame.Frame.TheVariants.{Message as MessageF
 use Rattle.ring_wire.specs.declared.join.Join.{Join}
 use Rattle.ring_wire.specs.declared.message.Message.{Message}
 use Rattle.ring_wire.specs.declared.token.Token.{Token}
-use Rattle.ring_core.specs.Windows.{found, of_ring, highest, front_of}
-use Rattle.ring_core.specs.Tokens.{Turn, first_token, is_newer, numbered, token_after}
-use Rattle.ring_core.specs.Joins.{Gathering, AllSaySame}
-use Rattle.ring_core.specs.Commits.{is_sound, position_of_hop, receiver, hopped, is_own}
-use Rattle.ring_core.specs.Recoveries.{is_ready, is_complete, low, is_wrap_of, is_wrapped, has_ended, inner_message}
-use Rattle.ring_core.specs.State.{Core, Sent, Did, floor}
-use Rattle.ring_core.specs.Views.{mark, takes_number, own_entry, plan}
-use Rattle.ring_core.specs.Visiting.{to_others, to_next}
-use Rattle.ring_core.specs.Handing.{joined, learned}
-use Rattle.ring_core.specs.Acting.{took}
-use Rattle.ring_core.specs.Giving.{may_install, install, delivered}
-use Rattle.ring_core.specs.Stepping.{ring_step}
-use Rattle.ring_core.specs.declared.input.Input.{Input}
-use Rattle.ring_core.specs.declared.input.Input.TheVariants.{Frame as FrameInput}
+use Rattle.ring_core_spec.specs.Windows.{found, of_ring, highest, front_of}
+use Rattle.ring_core_spec.specs.Tokens.{TokenVisit, first_token, is_newer, numbered, token_after}
+use Rattle.ring_core_spec.specs.Joins.{Gathering, AllSaySame}
+use Rattle.ring_core_spec.specs.Commits.{is_sound, position_of_hop, receiver, hop_with_entries, is_own}
+use Rattle.ring_core_spec.specs.Recoveries.{is_ready, is_complete, low, is_wrap_of, is_wrapped, has_ended, inner_message}
+use Rattle.ring_core_spec.specs.State.{Core, OutgoingFrame, TransitionResult, floor}
+use Rattle.ring_core_spec.specs.Views.{mark, takes_number, own_entry, plan}
+use Rattle.ring_core_spec.specs.Visiting.{to_others, to_next}
+use Rattle.ring_core_spec.specs.Handing.{ring_joined, commit_learned}
+use Rattle.ring_core_spec.specs.Transitions.{message_taken}
+use Rattle.ring_core_spec.specs.Giving.{may_install, install, delivered}
+use Rattle.ring_core_spec.specs.Stepping.{ring_step}
+use Rattle.ring_core_spec.specs.declared.input.Input.{Input}
+use Rattle.ring_core_spec.specs.declared.input.Input.TheVariants.{Frame as FrameInput}
 use Rattle.ring_core_proof.specs.FactWords.{IsIn, SomeIs}
-use Rattle.ring_core_proof.specs.Worlds.{Carried}
+use Rattle.ring_core_proof.specs.Worlds.{Transmission}
 
--- one of the six things that can happen to a core, with what it is about
+-- one of the six moves of a core, with its data
 pub data Move (A : Type 0) : Type 0 where
-  -- no fact is added: another state, other sets, another queue; joins go out, or the last token again
-  Idles : (state : State) → (gathering : Gathering) → (shown : Option (Sent A)) → (queue : List (Payload A)) → (sends : List (Sent A)) → Move A
-  -- a ring is taken part in: by a commit token of the first round, or, with hop 0 and no reports, by a proposal
+  -- no fact is added: the state, the sets or the queue change; joins are sent, or the kept token again
+  Idles : (state : State) → (gathering : Gathering) → (last_sent : Option (OutgoingFrame A)) → (queue : List (Payload A)) → (sends : List (OutgoingFrame A)) → Move A
+  -- the core takes part in a ring: by a commit token of the first round, or by a proposal, which has hop 0 and no
+  -- entries
   Enters : (commit : CommitToken) → Move A
-  -- the full commit token comes in the second round: recovery begins
+  -- the full commit token arrives in the second round: Recovery begins
   Learns : (commit : CommitToken) → Move A
-  -- a token is visited: with these new payloads it goes on with these requests, after these messages once more, and leaves this queue
+  -- a token is visited: it is forwarded with these new payloads and these requests, after these messages are sent
+  -- again, and leaves this queue
   Visits : (token : Token) → (fresh : List (Payload A)) → (requests : List ℕ) → (again : List (Message A)) → (queue : List (Payload A)) → Move A
   -- a message is taken
   Takes : (message : Message A) → Move A
   -- the running ring is installed
   Installs : Move A
 
--- What each does
+-- The effect of each move
 
--- the messages held in a visit, its new ones the newest
+-- the messages held in a visit, the new ones first
 abbrev pub held_in : {A : Type 0} → Core A → Token → List (Payload A) → List (Message A)
 held_in c t fresh = reverse (numbered t.ring c.me t.seq fresh) ++ c.held
 
--- the token as it goes
-abbrev pub went_with : {A : Type 0} → Core A → Token → List (Payload A) → List ℕ → Token
-went_with c t fresh requests = token_after c.me (front_of (held_in c t fresh) t.ring) (length fresh) requests t
+-- the forwarded token
+abbrev pub forwarded_with : {A : Type 0} → Core A → Token → List (Payload A) → List ℕ → Token
+forwarded_with c t fresh requests = token_after c.me (front_of (held_in c t fresh) t.ring) (length fresh) requests t
 
 -- the visit as a fact
-abbrev pub turn_with : {A : Type 0} → Core A → Token → List (Payload A) → List ℕ → Turn A
-turn_with c t fresh requests = record { came = t; front = front_of (held_in c t fresh) t.ring; fresh = fresh; went = went_with c t fresh requests }
+abbrev pub turn_with : {A : Type 0} → Core A → Token → List (Payload A) → List ℕ → TokenVisit A
+turn_with c t fresh requests = record { received = t; front = front_of (held_in c t fresh) t.ring; fresh = fresh; forwarded = forwarded_with c t fresh requests }
 
 -- the core after a move
 abbrev pub moved : {A : Type 0} → Core A → Move A → Core A
-moved c (Idles state gathering shown queue sends) = record c { state = state; gathering = gathering; shown = shown; queue = queue }
-moved c (Enters k) = (joined c (hopped k (own_entry c ∷ []))).core
-moved c (Learns k) = (learned c k).core
+moved c (Idles state gathering last_sent queue sends) = record c { state = state; gathering = gathering; last_sent = last_sent; queue = queue }
+moved c (Enters k) = (ring_joined c (hop_with_entries k (own_entry c ∷ []))).core
+moved c (Learns k) = (commit_learned c k).core
 moved c (Visits t fresh requests again queue) =
     record c {
       held = held_in c t fresh;
       turns = turn_with c t fresh requests ∷ c.turns;
       queue = queue;
-      shown = Some (to_next c (went_with c t fresh requests));
+      last_sent = Some (to_next c (forwarded_with c t fresh requests));
     }
-moved c (Takes x) = took c x
+moved c (Takes x) = message_taken c x
 moved c Installs = install c
 
--- what it sends
-abbrev pub sends_of : {A : Type 0} → Core A → Move A → List (Sent A)
-sends_of c (Idles state gathering shown queue sends) = sends
-sends_of c (Enters k) = (joined c (hopped k (own_entry c ∷ []))).sends
-sends_of c (Learns k) = (learned c k).sends
-sends_of c (Visits t fresh requests again queue) = to_others c (again ++ numbered t.ring c.me t.seq fresh) ++ to_next c (went_with c t fresh requests) ∷ []
+-- the frames that a move sends
+abbrev pub sends_of : {A : Type 0} → Core A → Move A → List (OutgoingFrame A)
+sends_of c (Idles state gathering last_sent queue sends) = sends
+sends_of c (Enters k) = (ring_joined c (hop_with_entries k (own_entry c ∷ []))).sends
+sends_of c (Learns k) = (commit_learned c k).sends
+sends_of c (Visits t fresh requests again queue) = to_others c (again ++ numbered t.ring c.me t.seq fresh) ++ to_next c (forwarded_with c t fresh requests) ∷ []
 sends_of c (Takes x) = []
 sends_of c Installs = []
 
--- the core after a move, with what the move sends
-abbrev pub did : {A : Type 0} → Core A → Move A → Did A
+-- the core after a move, with the frames that the move sends
+abbrev pub did : {A : Type 0} → Core A → Move A → TransitionResult A
 did c m = record { core = moved c m; sends = sends_of c m }
 
--- What each has passed. `came` are the frames that came to the core
+-- The conditions of each move. `received` are the frames that arrived at the core
 
 -- all of these payloads are users'
 abbrev pub AllAreUsers : {A : Type 0} → List (Payload A) → Type 0
 AllAreUsers ps = AllByRecursion (λ (p : Payload _). is_user p ≡ true) ps
 
--- a join, or the last token or commit token once more
-abbrev pub IsRepeated : {A : Type 0} → Option (Sent A) → Sent A → Type 0
-IsRepeated shown s = (shown ≡ Some s) ⊎ ((j : Join) × (s.frame ≡ JoinFrame j))
+-- a join, or the kept token again
+abbrev pub IsRepeated : {A : Type 0} → Option (OutgoingFrame A) → OutgoingFrame A → Type 0
+IsRepeated last_sent s = (last_sent ≡ Some s) ⊎ ((j : Join) × (s.frame ≡ JoinFrame j))
 
--- to Gather, or to a stop, or nowhere; only joins go out and what went out before; what was true of the queue and of the joins heard stays so
-pub record MayIdle {A : Type 0} (c : Core A) (state : State) (gathering : Gathering) (shown : Option (Sent A))
-    (queue : List (Payload A)) (sends : List (Sent A)) : Type 0 where
+-- the state becomes Gather or Stopped or stays; the kept token stays or is dropped; only joins and the kept token are
+-- sent; the facts about the queue and the counted joins stay true
+pub record MayIdle {A : Type 0} (c : Core A) (state : State) (gathering : Gathering) (last_sent : Option (OutgoingFrame A))
+    (queue : List (Payload A)) (sends : List (OutgoingFrame A)) : Type 0 where
   pub leaves : (state ≡ c.state) ⊎ ((state ≡ Gather) ⊎ (state ≡ Stopped))
   pub joins : AllSaySame c.gathering → AllSaySame gathering
-  pub shows : (shown ≡ None) ⊎ (shown ≡ c.shown)
+  pub shows : (last_sent ≡ None) ⊎ (last_sent ≡ c.last_sent)
   pub queued : AllAreUsers c.queue → AllAreUsers queue
-  pub sent : AllByRecursion (IsRepeated c.shown) sends
+  pub sent : AllByRecursion (IsRepeated c.last_sent) sends
 
--- a proposal of its own: hop 0, and no report yet
+-- a proposal of the core itself: hop 0, and no entry yet
 pub record IsProposal (me : ℕ) (k : CommitToken) : Type 0 where
   pub hop : k.hop ≡ 0
   pub entries : k.entries ≡ []
   pub rep : k.ring.rep ≡ me
 
--- in Gather, at the position of the hop in the first round, of a ring above the floor
-pub record MayEnter {A : Type 0} (came : Frame A → Type 0) (c : Core A) (k : CommitToken) : Type 0 where
+-- the core is in Gather, at the position of the hop in the first round, and the ring is above the floor
+pub record MayEnter {A : Type 0} (received : Frame A → Type 0) (c : Core A) (k : CommitToken) : Type 0 where
   pub state : c.state ≡ Gather
   pub above : floor c < k.ring.seq
   pub first : 1 ≤ c.me → k.hop < size k.members
   pub here : receiver k ≡ c.me
-  pub from : IsProposal c.me k ⊎ came (CommitFrame k)
+  pub from : IsProposal c.me k ⊎ received (CommitFrame k)
 
--- in Commit, at the position of the hop in the second round, of the ring that runs; the own report still stands there,
--- and no front from the own old ring is below a safe mark of it
-pub record MayLearn {A : Type 0} (came : Frame A → Type 0) (c : Core A) (k : CommitToken) : Type 0 where
+-- the core is in Commit, at the position of the hop in the second round, and the ring is its newest; its own entry is
+-- in the token, and no transitional member reports a front below a safe mark
+pub record MayLearn {A : Type 0} (received : Frame A → Type 0) (c : Core A) (k : CommitToken) : Type 0 where
   pub state : c.state ≡ Commit
   pub ring : k.ring ≡ c.running.ring
   pub members : k.members ≡ c.running.members
@@ -136,13 +140,14 @@ pub record MayLearn {A : Type 0} (came : Frame A → Type 0) (c : Core A) (k : C
   pub here : receiver k ≡ c.me
   pub own : is_own (own_entry c) (slice_get k.entries (position_of_hop k)) ≡ true
   pub sound : is_sound c.installed.ring k.entries ≡ true
-  pub from : came (CommitFrame k)
+  pub from : received (CommitFrame k)
 
--- a number of the installed ring is seen wrapped: something held of the running ring wraps it
+-- a number of the installed ring is seen wrapped: a message held of the running ring wraps it
 abbrev pub is_seen : {A : Type 0} → Core A → ℕ → Bool
 is_seen c n = is_wrapped (of_ring c.running.ring c.held) c.installed.ring n
 
--- a message of the installed ring as it is handed on: the one that is held of its number, a user's, above the least front and not yet seen wrapped
+-- a Wrapped of a message of the installed ring: the one held under its number, a user's, above the least front and
+-- not yet seen wrapped
 pub record IsHandedOn {A : Type 0} (c : Core A) (w : WrappedMessage A) : Type 0 where
   pub ring : w.ring ≡ c.installed.ring
   pub user : is_user (payload_of w.payload) ≡ true
@@ -150,29 +155,29 @@ pub record IsHandedOn {A : Type 0} (c : Core A) (w : WrappedMessage A) : Type 0 
   pub held : found c.held w.ring w.number ≡ Some (inner_message w)
   pub unseen : is_seen c w.number ≡ false
 
--- the payload is a Wrapped that hands on such a message
+-- the payload is such a Wrapped
 abbrev pub IsWrapping : {A : Type 0} → Core A → Payload A → Type 0
 IsWrapping {A} c p = (w : WrappedMessage A) × (p ≡ Wrapped w) × IsHandedOn c w
 
--- each wraps a greater number than the one before it
+-- each payload wraps a greater number than the one before it
 abbrev pub AreRising : {A : Type 0} → ℕ → List (Payload A) → Type 0
 AreRising below [] = Unit {0}
 AreRising {A} below (p ∷ ps) = (w : WrappedMessage A) × (p ≡ Wrapped w) × (below < w.number) × AreRising w.number ps
 
--- nothing but these is left to wrap: where a users' message of the installed ring is held above the least front, its
+-- nothing but these is left to wrap: where a user message of the installed ring is held above the least front, its
 -- number is seen wrapped, or one of these wraps it
 abbrev pub AreLast : {A : Type 0} → Core A → List (Payload A) → Type 0
 AreLast {A} c wraps =
     (n : ℕ) (x : Message A) → low (plan c) < n → found c.held c.installed.ring n ≡ Some x → is_user x.payload ≡ true →
     (is_seen c n ≡ true) ⊎ SomeIs (λ p. is_wrap_of c.installed.ring n p ≡ true) wraps
 
--- an End, behind the last that was left to wrap, and where the core holds none of its own yet
+-- one End, after the last message left to wrap, where the core holds no End of its own yet
 pub record MayEnd {A : Type 0} (c : Core A) (wraps ends : List (Payload A)) : Type 0 where
   pub one : ends ≡ End ∷ []
   pub first : has_ended c.me c.running.ring c.held ≡ false
   pub last : AreLast c wraps
 
--- what is new in Recovery: first what is handed on, ascending, and then at most an End
+-- the new payloads in Recovery: first Wrapped, ascending, and then at most one End
 pub record AreWraps {A : Type 0} (c : Core A) (fresh : List (Payload A)) : Type 0 where
   pub wraps : List (Payload A)
   pub ends : List (Payload A)
@@ -186,9 +191,10 @@ pub record IsStart {A : Type 0} (c : Core A) (t : Token) : Type 0 where
   pub token : t ≡ first_token c.running.ring
   pub first : at c.running.members 0 ≡ c.me
 
--- of the ring that runs, newer than each visited, not behind what is held; what is new is within the window after the
--- safe mark, in Operational users' alone; what goes out again is held
-pub record MayVisit {A : Type 0} (came : Frame A → Type 0) (c : Core A) (t : Token) (fresh : List (Payload A))
+-- the token is of the running ring, newer than each visited one, and its `seq` covers what is held; the new messages
+-- fit the window after the safe mark, are users' in Operational, and in Recovery Wrapped and the End; the messages sent
+-- again are held
+pub record MayVisit {A : Type 0} (received : Frame A → Type 0) (c : Core A) (t : Token) (fresh : List (Payload A))
     (again : List (Message A)) (queue : List (Payload A)) : Type 0 where
   pub state : (c.state ≡ Recovery) ⊎ (c.state ≡ Operational)
   pub ring : t.ring ≡ c.running.ring
@@ -199,64 +205,66 @@ pub record MayVisit {A : Type 0} (came : Frame A → Type 0) (c : Core A) (t : T
   pub wraps : c.state ≡ Recovery → AreWraps c fresh
   pub repeats : AllByRecursion (λ (x : Message A). IsIn x c.held) again
   pub queued : AllAreUsers c.queue → AllAreUsers queue
-  pub from : IsStart c t ⊎ came (TokenFrame t)
+  pub from : IsStart c t ⊎ received (TokenFrame t)
 
--- while a ring runs: a message of that ring, sent by a member of it
+-- a ring runs: the message is of that ring, and a member sent it
 pub record TakesFrom {A : Type 0} (c : Core A) (x : Message A) : Type 0 where
   pub state : (c.state ≡ Recovery) ⊎ (c.state ≡ Operational)
   pub ring : x.ring ≡ c.running.ring
   pub sender : has c.running.members x.sender ≡ true
 
--- in Gather, while no newer ring was taken part in: a message of the installed ring, sent by a member of it
+-- in Gather, before a newer ring is taken part in: the message is of the installed ring, and a member sent it
 pub record TakesLate {A : Type 0} (c : Core A) (x : Message A) : Type 0 where
   pub state : c.state ≡ Gather
   pub ring : x.ring ≡ c.installed.ring
   pub newest : floor c ≡ x.ring.seq
   pub sender : has c.installed.members x.sender ≡ true
 
--- a message that came, of a ring whose messages are taken, as these two say; its number is new and in the window
-pub record MayTake {A : Type 0} (came : Frame A → Type 0) (c : Core A) (x : Message A) : Type 0 where
+-- a message arrived, of a ring whose messages are taken by one of these two rules; its number is new and in the
+-- window
+pub record MayTake {A : Type 0} (received : Frame A → Type 0) (c : Core A) (x : Message A) : Type 0 where
   pub ring : TakesFrom c x ⊎ TakesLate c x
   pub new : takes_number c x.ring x.number ≡ true
-  pub from : came (MessageFrame x)
+  pub from : received (MessageFrame x)
 
--- in Recovery, where every member ended and all is held that one of those from the old ring holds
+-- the core is in Recovery, every member's End is in the front, and the core holds every number that a transitional
+-- member holds
 pub record MayInstall {A : Type 0} (c : Core A) : Type 0 where
   pub state : c.state ≡ Recovery
   pub ready : is_ready c.held c.running.ring c.running.members (mark c c.running.ring) ≡ true
   pub complete : is_complete (plan c) c.held ≡ true
 
--- a core may make a move: the move has passed what it asks for, and the frame that made it, if one did, came to the core
+-- a core may make a move: its conditions hold, and the frame that causes it, if any, arrived at the core
 abbrev pub MayMove : {A : Type 0} → (Frame A → Type 0) → Core A → Move A → Type 0
-MayMove came c (Idles state gathering shown queue sends) = MayIdle c state gathering shown queue sends
-MayMove came c (Enters k) = MayEnter came c k
-MayMove came c (Learns k) = MayLearn came c k
-MayMove came c (Visits t fresh requests again queue) = MayVisit came c t fresh again queue
-MayMove came c (Takes x) = MayTake came c x
-MayMove came c Installs = MayInstall c
+MayMove received c (Idles state gathering last_sent queue sends) = MayIdle c state gathering last_sent queue sends
+MayMove received c (Enters k) = MayEnter received c k
+MayMove received c (Learns k) = MayLearn received c k
+MayMove received c (Visits t fresh requests again queue) = MayVisit received c t fresh again queue
+MayMove received c (Takes x) = MayTake received c x
+MayMove received c Installs = MayInstall c
 
--- Moves one after another
+-- Lists of moves
 
--- the core after them
+-- the core after a list of moves
 abbrev pub after_moves : {A : Type 0} → Core A → List (Move A) → Core A
 after_moves c [] = c
 after_moves c (m ∷ ms) = after_moves (moved c m) ms
 
--- all that they send
-abbrev pub all_sends : {A : Type 0} → Core A → List (Move A) → List (Sent A)
+-- all frames that they send
+abbrev pub all_sends : {A : Type 0} → Core A → List (Move A) → List (OutgoingFrame A)
 all_sends c [] = []
 all_sends c (m ∷ ms) = sends_of c m ++ all_sends (moved c m) ms
 
--- each has passed where it comes
+-- the conditions of each hold where it is made
 abbrev pub MayAll : {A : Type 0} → (Frame A → Type 0) → Core A → List (Move A) → Type 0
-MayAll came c [] = Unit {0}
-MayAll came c (m ∷ ms) = MayMove came c m × MayAll came (moved c m) ms
+MayAll received c [] = Unit {0}
+MayAll received c (m ∷ ms) = MayMove received c m × MayAll received (moved c m) ms
 
--- frames that came to a processor: they were sent, and to it
-abbrev pub CameTo : {A : Type 0} → List (Carried A) → ℕ → Frame A → Type 0
-CameTo frames i frame = SomeIs (λ (f : Carried _). (has f.to i ≡ true) × (f.frame ≡ frame)) frames
+-- the frame was sent to this processor
+abbrev pub IsReceivedFrame : {A : Type 0} → List (Transmission A) → ℕ → Frame A → Type 0
+IsReceivedFrame frames i frame = SomeIs (λ (f : Transmission _). (has f.to i ≡ true) × (f.frame ≡ frame)) frames
 
--- A step of the definition: one or two moves, its outputs, and then perhaps the ring is installed
+-- a step of the definition: one or two moves, the outputs, and perhaps an installation
 pub record IsMoved {A : Type 0} (c : Core A) (input : Input A) : Type 0 where
   pub moves : List (Move A)
   pub few : length moves ≤ 2

@@ -1,4 +1,5 @@
--- Values that the worked examples are made of: calls, messages, tokens, joins, reports, and cores that hold some numbers of a ring.
+-- Values for the worked examples: calls, messages, tokens, joins, reports, and cores that hold some numbers of a
+-- ring.
 use Rattle.std.specs.Prelude.{ℕ, List, [], ◌∷◌, map, Option, None}
 use Rattle.std.specs.declared.alloc.Global.{Global}
 use Rattle.ring_base.specs.Numbers.{has_bit}
@@ -14,8 +15,8 @@ use Rattle.ring_wire.specs.declared.frame.Frame.TheVariants.{Token as TokenFrame
 use Rattle.ring_wire.specs.declared.join.Join.{Join}
 use Rattle.ring_wire.specs.declared.message.Message.{Message}
 use Rattle.ring_wire.specs.declared.token.Token.{Token}
-use Rattle.ring_core.specs.Windows.{bytes_of}
-use Rattle.ring_core.specs.State.{Core, formed}
+use Rattle.ring_core_spec.specs.Windows.{bytes_of}
+use Rattle.ring_core_spec.specs.State.{Core, formed}
 
 -- the ring of a number and a representative
 abbrev pub ring_of : ℕ → ℕ → RingId
@@ -33,19 +34,19 @@ second_ring = ring_of 2 1
 abbrev pub add_five : Call Global
 add_five = record { client = 7; number = 1; op = 1 ∷ 1 ∷ 0 ∷ 0 ∷ 0 ∷ 0 ∷ 0 ∷ 0 ∷ 0 ∷ 0 ∷ 5 ∷ [] }
 
--- the head of a log with no place
+-- the Head of an empty log
 abbrev pub empty_head : Payload Global
 empty_head = Head (record { last = None; length = 0; committed = 0; trimmed = 0 })
 
--- a message of a ring: its number, its sender and its payload
+-- a message of a ring with its number, sender and payload
 abbrev pub message_of : RingId → ℕ → ℕ → Payload Global → Message Global
 message_of ring number sender payload = record { ring = ring; number = number; sender = sender; payload = payload }
 
--- the call as the first ring's message of a number
+-- call 7.1 as the message of this number of the first ring
 abbrev pub call_at : ℕ → ℕ → Message Global
 call_at sender number = message_of first_ring number sender (CallPayload add_five)
 
--- the same on the second ring, wrapped
+-- the same call as a Wrapped
 abbrev pub wrapped_call : ℕ → ℕ → Payload Global
 wrapped_call sender number = Wrapped (record { ring = first_ring; number = number; sender = sender; payload = CallContent add_five })
 
@@ -57,11 +58,11 @@ token_of number seq aru aru_id requests = record { ring = first_ring; number = n
 abbrev pub token_frame : ℕ → ℕ → ℕ → Option ℕ → List ℕ → Frame Global
 token_frame number seq aru aru_id requests = TokenFrame (token_of number seq aru aru_id requests)
 
--- a token that nobody holds back
+-- a token whose `aru` is its `seq`
 abbrev pub token_at : ℕ → ℕ → Token
 token_at number seq = token_of number seq seq None []
 
--- a join: its sender, that one's floor, and the two sets
+-- a join with its sender, the sender's floor, and the two sets
 abbrev pub join_of : ℕ → ℕ → ℕ → ℕ → Join
 join_of sender number proc_set fail_set = record { sender = sender; number = number; proc_set = proc_set; fail_set = fail_set }
 
@@ -69,7 +70,7 @@ join_of sender number proc_set fail_set = record { sender = sender; number = num
 abbrev pub join_frame : ℕ → ℕ → ℕ → ℕ → Frame Global
 join_frame sender number proc_set fail_set = JoinFrame (join_of sender number proc_set fail_set)
 
--- what a report says: its bits as one number, the least for the number after the front
+-- an entry with its bits as one number, whose least bit is that of the number after the front
 abbrev pub report_of : RingId → ℕ → ℕ → ℕ → CommitEntry
 report_of old front mark bits = record { old = old; front = front; mark = mark; held = bytes_of (has_bit bits) 0 32 }
 
@@ -77,7 +78,7 @@ report_of old front mark bits = record { old = old; front = front; mark = mark; 
 abbrev pub empty_report : ℕ → CommitEntry
 empty_report i = report_of (ring_of 0 i) 0 0 0
 
--- a commit token of a ring: its members, its hop and its entries
+-- a commit token of a ring with its members, hop and entries
 abbrev pub commit_of : RingId → ℕ → ℕ → List CommitEntry → CommitToken
 commit_of ring members hop entries = record { ring = ring; members = members; hop = hop; entries = entries }
 

@@ -1,55 +1,55 @@
--- Worlds of ring cores, Rings and states, rule 14 of docs/PROTOCOL.md: the cores, all frames ever sent, and all that
--- the cores gave; and how an event changes a world.
+-- Worlds of ring cores: the cores, all frames ever sent, and all outputs; and how an event changes a world.
+-- Rules: Rings and states 5, 14 and 15
 use Rattle.std.specs.Prelude.{ℕ, Bool, true, false, ◌&&◌, ◌==◌, nat_le, if◌then◌else◌, List, [], ◌∷◌, ◌++◌}
 use Rattle.std.specs.Prelude.{map, filter, filter_map, Option, Some, None}
 use Rattle.ring_base.specs.Processors.{has}
 use Rattle.ring_base.specs.declared.kind.Kind.{Kind}
 use Rattle.ring_base.specs.declared.kind.Kind.TheVariants.{Retransmit, Join as JoinTime, Consensus, Loss}
 use Rattle.ring_wire.specs.declared.frame.Frame.{Frame}
-use Rattle.ring_core.specs.Tokens.{first_token}
-use Rattle.ring_core.specs.declared.input.Input.{Input}
-use Rattle.ring_core.specs.declared.input.Input.TheVariants.{Frame as FrameInput, Timeout as TimeInput, Send as SendInput}
-use Rattle.ring_core.specs.declared.out.Out.{Out}
-use Rattle.ring_core.specs.declared.out.Out.TheVariants.{Send as SendOut, Agreed, Safe, Trans, Rest, Regular}
-pub use Rattle.ring_core.specs.State.{Carried}
-use Rattle.ring_core.specs.State.{Core, Sent, Did, Stepped, all_of, opening, formed, halted, frame_at}
-use Rattle.ring_core.specs.Visiting.{visited}
-use Rattle.ring_core.specs.Giving.{addressed}
-use Rattle.ring_core.specs.Stepping.{ring_step}
+use Rattle.ring_core_spec.specs.Tokens.{first_token}
+use Rattle.ring_core_spec.specs.declared.input.Input.{Input}
+use Rattle.ring_core_spec.specs.declared.input.Input.TheVariants.{Frame as FrameInput, Timeout as TimeInput, Send as SendInput}
+use Rattle.ring_core_spec.specs.declared.out.Out.{Out}
+use Rattle.ring_core_spec.specs.declared.out.Out.TheVariants.{Send as SendOut, Agreed, Safe, Trans, Rest, Regular}
+pub use Rattle.ring_core_spec.specs.State.{Transmission}
+use Rattle.ring_core_spec.specs.State.{Core, OutgoingFrame, TransitionResult, StepResult, all_of, opening, formed, halted, frame_at}
+use Rattle.ring_core_spec.specs.Visiting.{token_visited}
+use Rattle.ring_core_spec.specs.Giving.{addressed}
+use Rattle.ring_core_spec.specs.Stepping.{ring_step}
 use Rattle.ring_core_proof.specs.declared.event.RingEvent.{RingEvent}
 use Rattle.ring_core_proof.specs.declared.event.RingEvent.TheVariants.{Send, Deliver, Timeout, Stop}
 
--- a world of ring cores: the cores of its processors, all frames ever sent, and all that the cores gave
+-- a world of ring cores: the cores of its processors, all frames ever sent, and all outputs
 pub record World (A : Type 0) : Type 0 where
-  -- processors 1 to this
+  -- the number of processors; they are 1 to this
   pub total : ℕ
   pub cores : ℕ → Core A
-  -- all frames ever sent, in order: the first is frame 1
-  pub frames : List (Carried A)
-  -- all that was given, in order, each with the processor that gave it
+  -- all frames ever sent, in order; the first is frame 1
+  pub frames : List (Transmission A)
+  -- all outputs in order, each with its processor
   pub outs : List (ℕ × Out A)
 
 -- Steps
 
--- of one processor the core is another
+-- the cores with that of one processor replaced
 abbrev pub put : {A : Type 0} → (ℕ → Core A) → ℕ → Core A → ℕ → Core A
 put cores i c j = if j == i then c else cores j
 
--- the frame among outputs
-abbrev pub carried_by : {A : Type 0} → ℕ → Out A → Option (Carried A)
-carried_by i (SendOut to frame) = Some (record { from = i; to = to; frame = frame })
-carried_by i (Agreed ring n x) = None
-carried_by i (Safe ring upto) = None
-carried_by i (Trans old new set) = None
-carried_by i (Rest ring n x) = None
-carried_by i (Regular ring set) = None
+-- the frame of an output, with its sender and receivers
+abbrev pub transmission_by : {A : Type 0} → ℕ → Out A → Option (Transmission A)
+transmission_by i (SendOut to frame) = Some (record { from = i; to = to; frame = frame })
+transmission_by i (Agreed ring n x) = None
+transmission_by i (Safe ring upto) = None
+transmission_by i (Trans old new set) = None
+transmission_by i (Rest ring n x) = None
+transmission_by i (Regular ring set) = None
 
--- a core stepped
-abbrev pub after_step : {A : Type 0} → World A → ℕ → Stepped A → World A
+-- a world after a step of one core
+abbrev pub after_step : {A : Type 0} → World A → ℕ → StepResult A → World A
 after_step w i s =
     record w {
       cores = put w.cores i s.core;
-      frames = w.frames ++ filter_map (carried_by i) s.outs;
+      frames = w.frames ++ filter_map (transmission_by i) s.outs;
       outs = w.outs ++ map (λ o. (i, o)) s.outs;
     }
 
@@ -57,74 +57,74 @@ after_step w i s =
 abbrev pub is_node : {A : Type 0} → World A → ℕ → Bool
 is_node w i = nat_le 1 i && nat_le i w.total
 
--- the core of a processor steps by an input, where the processor is known
+-- a step of a processor's core with an input, where the processor exists
 abbrev pub stepped_if : {A : Type 0} → Bool → World A → ℕ → Input A → World A
 stepped_if false w i input = w
 stepped_if true w i input = after_step w i (ring_step (w.cores i) input)
 
--- an unknown processor changes nothing
+-- the same; an unknown processor changes nothing
 abbrev pub stepped : {A : Type 0} → World A → ℕ → Input A → World A
 stepped w i input = stepped_if (is_node w i) w i input
 
--- the core of a processor stops, where the processor is known: nothing is given
+-- a stop of a processor's core, where the processor exists; there are no outputs
 abbrev pub stopped_if : {A : Type 0} → Bool → World A → ℕ → World A
 stopped_if false w i = w
 stopped_if true w i = record w { cores = put w.cores i (halted (w.cores i)) }
 
--- a frame comes to a processor, where it was sent to it
+-- a frame arrives at a processor, where it was sent to it
 abbrev pub handed_if : {A : Type 0} → Bool → World A → ℕ → Frame A → World A
 handed_if false w i frame = w
 handed_if true w i frame = stepped w i (FrameInput frame)
 
--- a frame that was not sent, or not to this processor, changes nothing
-abbrev pub handed : {A : Type 0} → World A → ℕ → Option (Carried A) → World A
+-- the same; a frame that wasn't sent, or not to this processor, changes nothing
+abbrev pub handed : {A : Type 0} → World A → ℕ → Option (Transmission A) → World A
 handed w i None = w
 handed w i (Some f) = handed_if (has f.to i) w i f.frame
 
--- an event happens
+-- the world after an event
 abbrev pub happens : {A : Type 0} → World A → RingEvent A → World A
 happens w (Send i payload) = stepped w i (SendInput payload)
 happens w (Deliver i k) = handed w i (frame_at w.frames k)
 happens w (Timeout i kind) = stepped w i (TimeInput kind)
 happens w (Stop i) = stopped_if (is_node w i) w i
 
--- the world after events, in their order
+-- the world after a list of events, in order
 abbrev pub run : {A : Type 0} → World A → List (RingEvent A) → World A
 run w [] = w
 run w (e ∷ es) = run (happens w e) es
 
 -- Openings
 
--- all n in Gather, each alone
+-- the opening: all n in Gather, each alone
 abbrev pub unformed : {A : Type 0} → ℕ → World A
 unformed n = record { total = n; cores = opening n; frames = []; outs = [] }
 
--- frames as they are sent
-abbrev pub carried_from : {A : Type 0} → ℕ → List (Sent A) → List (Carried A)
-carried_from i sends = map (λ s. record { from = i; to = s.to; frame = s.frame }) (addressed sends)
+-- the frames of these sends, as sent by processor i
+abbrev pub transmissions_from : {A : Type 0} → ℕ → List (OutgoingFrame A) → List (Transmission A)
+transmissions_from i sends = map (λ s. record { from = i; to = s.to; frame = s.frame }) (addressed sends)
 
--- the representative of a ring of all n has visited the first token
-abbrev pub started : {A : Type 0} → ℕ → Did A
-started n = visited (formed n 1) (first_token (all_of n).ring)
+-- the representative of the formed ring of n, after it visited the first token
+abbrev pub representative_started : {A : Type 0} → ℕ → TransitionResult A
+representative_started n = token_visited (formed n 1) (first_token (all_of n).ring)
 
--- all n in one ring
+-- the formed ring: all n in one ring
 abbrev pub ring_formed : {A : Type 0} → ℕ → World A
-ring_formed n = record { total = n; cores = put (formed n) 1 (started n).core; frames = carried_from 1 (started n).sends; outs = [] }
+ring_formed n = record { total = n; cores = put (formed n) 1 (representative_started n).core; frames = transmissions_from 1 (representative_started n).sends; outs = [] }
 
--- on a ring that is formed from the start, retransmit alone of the timeouts acts
+-- of the timeouts, retransmit alone acts in a formed ring
 abbrev pub is_repeat : Kind → Bool
 is_repeat Retransmit = true
 is_repeat JoinTime = false
 is_repeat Consensus = false
 is_repeat Loss = false
 
--- the events that act there: all but the other three timeouts
+-- the events that act in a formed ring: all but the other three timeouts
 abbrev pub acts_on_formed : {A : Type 0} → RingEvent A → Bool
 acts_on_formed (Timeout i kind) = is_repeat kind
 acts_on_formed (Send i payload) = true
 acts_on_formed (Deliver i k) = true
 acts_on_formed (Stop i) = true
 
--- the world after events on a ring of all n that is formed from the start; those that don't act there are left out
+-- the world after these events from the formed ring of n; those that don't act there are left out
 abbrev pub run_formed : {A : Type 0} → ℕ → List (RingEvent A) → World A
 run_formed n events = run (ring_formed n) (filter acts_on_formed events)

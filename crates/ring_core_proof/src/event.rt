@@ -1,19 +1,26 @@
-//! Events of a world of ring cores.
+//! The events of a world of ring cores.
+//! Rules: Rings and states 14
 
 use ring_base::{Kind, Proc};
 use ring_payload::Payload;
 use std::alloc::{Allocator, Global};
 
-/// What happens next in a world of ring cores.
+/// An event of a world of ring cores: one step of one core. An event of a processor that isn't 1 to N changes nothing.
+/// Rules: Rings and states 14
 #[derive(Drop)]
 pub enum RingEvent<A: Allocator + Copy = Global> {
-    /// The processor is handed a payload to send.
+    /// A payload is handed to the processor, to be sent as a message of its ring.
+    /// Rules: Rings and states 9
     Send(Proc, Payload<A>),
-    /// The processor is handed the frame of this number. Frames are numbered from 1 in the order sent; one that
-    /// was not sent, or not to this processor, changes nothing.
+    /// The frame of this number arrives at the processor.
+    /// Frames are numbered from 1 in the order in which they are sent. A frame that wasn't sent, or not to this
+    /// processor, changes nothing.
+    /// Rules: Rings and states 14
     Deliver(Proc, u64),
-    /// A time of the processor is over.
+    /// A timeout of this kind is due at the processor.
+    /// Rules: Timeouts 2
     Timeout(Proc, Kind),
     /// The processor stops for good.
+    /// Rules: Rings and states 12
     Stop(Proc),
 }

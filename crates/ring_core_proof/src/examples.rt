@@ -1,24 +1,25 @@
 //! Worked examples, computed from the definitions.
+//! Formats: Worked examples
 
 ghost use Rattle.std.specs.Prelude.{◌≡◌, ℕ, List, ◌+◌, ◌^◌, ◌-◌, length, drop, [], ◌∷◌, Some, None, map, false, true};
 ghost use Rattle.std.specs.declared.alloc.Global.{Global};
 ghost use Rattle.ring_base.specs.Numbers.{max_number, numbers_from};
 ghost use Rattle.ring_payload.specs.declared.content.Payload.TheVariants.{Call as CallPayload, End};
 ghost use Rattle.ring_wire.specs.declared.frame.Frame.TheVariants.{Message as MessageFrame, Join as JoinFrame, Commit as CommitFrame};
-ghost use Rattle.ring_core.specs.Tokens.{first_token, mark_by};
-ghost use Rattle.ring_core.specs.Joins.{entered, widened, given_up, new_number};
-ghost use Rattle.ring_core.specs.Recoveries.{safe, low, gap, least_mark, is_complete, rests, delivery, finish};
-ghost use Rattle.ring_core.specs.declared.input.Input.TheVariants.{Frame as FrameInput, Timeout, Send};
+ghost use Rattle.ring_core_spec.specs.Tokens.{first_token, mark_by};
+ghost use Rattle.ring_core_spec.specs.Joins.{gathering_opening, join_merged, silent_given_up, new_number};
+ghost use Rattle.ring_core_spec.specs.Recoveries.{safe, low, gap, least_mark, is_complete, rests, delivery, finish};
+ghost use Rattle.ring_core_spec.specs.declared.input.Input.TheVariants.{Frame as FrameInput, Timeout, Send};
 ghost use Rattle.ring_base.specs.declared.kind.Kind.TheVariants.{Retransmit, Join as JoinTime, Consensus, Loss};
-ghost use Rattle.ring_core.specs.declared.out.Out.TheVariants.{Agreed};
+ghost use Rattle.ring_core_spec.specs.declared.out.Out.TheVariants.{Agreed};
 ghost use Rattle.ring_base.specs.declared.state.State.TheVariants.{Recovery, Operational};
-ghost use Rattle.ring_core.specs.State.{opening, halted};
-ghost use Rattle.ring_core.specs.Views.{front, mark, takes_number, own_entry, plan};
-ghost use Rattle.ring_core.specs.Visiting.{accepts, repeated, offers, new_payloads, forwarded, visited};
-ghost use Rattle.ring_core.specs.Joining.{proposes};
-ghost use Rattle.ring_core.specs.Giving.{may_install};
-ghost use Rattle.ring_core.specs.Deciding.{decide, Ignore, Take, Regather, Agree, Widen, RegatherAndAgree, RegatherAndWiden, Visit, Fill, Learn};
-ghost use Rattle.ring_core.specs.Stepping.{ring_step};
+ghost use Rattle.ring_core_spec.specs.State.{opening, halted};
+ghost use Rattle.ring_core_spec.specs.Views.{front, mark, takes_number, own_entry, plan};
+ghost use Rattle.ring_core_spec.specs.Visiting.{accepts, repeated, offers, new_payloads, token_forwarded, token_visited};
+ghost use Rattle.ring_core_spec.specs.Joining.{proposes};
+ghost use Rattle.ring_core_spec.specs.Giving.{may_install};
+ghost use Rattle.ring_core_spec.specs.Deciding.{decide, Ignore, Take, EnterGather, Agree, MergeJoin, EnterGatherAndAgree, EnterGatherAndMergeJoin, Visit, Fill, Learn};
+ghost use Rattle.ring_core_spec.specs.Stepping.{ring_step};
 ghost use Rattle.ring_core_proof.specs.Worlds.{run, run_formed, unformed};
 ghost use Rattle.ring_core_proof.specs.Samples.{first_ring, second_ring, ring_of, add_five, message_of, call_at};
 ghost use Rattle.ring_core_proof.specs.Samples.{wrapped_call, empty_head, token_of, token_frame, token_at, join_of};
@@ -38,37 +39,51 @@ ghost use Rattle.ring_core_proof.specs.PackedCalls.{around_head, two_and_head, f
 ghost use Rattle.ring_core_proof.specs.PackedCalls.{packed_message, with_pack, wrapped_pack, handed_on, piece};
 ghost use Rattle.ring_core_proof.specs.Recoveries.{with_four, with_three, with_all, with_ends, past_gap, mixed};
 
-/// Two in a formed ring: a message that is lost once is asked for, sent again, agreed and then safe.
+/// States a worked example: two processors in a formed ring lose a message once, request it, send it again, and then
+/// agree on it and report it as safe.
+/// Rules: Token and window 7, 8 and 10
+/// Formats: formed ring of two
 pub fn formed_ring_of_two()
     ensures loss { (run_formed 2 loss_events).outs ≡ loss_outs }
     ensures idle { (run_formed 2 idle_timeouts).outs ≡ [] }
     ensures again { (run_formed 2 repeat_timeout).outs ≡ first_token_again }
 {}
 
-/// Three gather and hand the commit token round twice.
+/// States a worked example: three processors gather and pass the commit token round twice. It gives all frames sent and
+/// the states, which are Recovery.
+/// Rules: Gather 10; The commit token 4 to 6
+/// Formats: commit token of three
 pub fn three_gather()
     ensures frames { (three_after 12).frames ≡ three_frames }
     ensures states { states_of_three (three_after 12) ≡ Recovery ∷ Recovery ∷ Recovery ∷ [] }
 {}
 
-/// Two give up a silent third.
+/// States a worked example: two processors give up a silent third and propose a ring of two. It gives all frames sent.
+/// Rules: Gather 4 to 7
+/// Formats: one silent
 pub fn third_is_silent()
     ensures { (run (unformed 3) silent_events).frames ≡ silent_frames }
 {}
 
-/// Three install their first ring, each once.
+/// States a worked example: three processors install their first ring, each once. It gives their configurations.
+/// Rules: Recovery 7; Outputs 1
+/// Formats: installed once
 pub fn three_install()
     ensures one { configurations_of 1 (three_after 100) ≡ first_configurations 1 }
     ensures two { configurations_of 2 (three_after 100) ≡ first_configurations 2 }
     ensures three { configurations_of 3 (three_after 100) ≡ first_configurations 3 }
 {}
 
-/// One alone, from its first timeout to a safe call.
+/// States a worked example: all outputs of one processor alone, from its first timeout to a call that is safe.
+/// Rules: The commit token 9; Outputs 1
 pub fn ring_of_one()
     ensures { (run (unformed 1) lone_events).outs ≡ lone_outs }
 {}
 
-/// A token at one that lacks messages, the same token again, and one that has them.
+/// States a worked example: a token arrives at a processor that lacks messages, and arrives there again, which changes
+/// nothing. Then it arrives at a processor that holds the messages requested.
+/// Rules: Token and window 6 to 8
+/// Formats: two tokens; repeated token
 pub fn token_asks_for_messages()
     ensures asks { (comes lacking token_of_ten).outs ≡ asks }
     ensures again_outs { (comes (comes lacking token_of_ten).core token_of_ten).outs ≡ [] }
@@ -76,7 +91,8 @@ pub fn token_asks_for_messages()
     ensures sends_again { (comes having asking_token).outs ≡ sends_again }
 {}
 
-/// The safe mark after each of four visits that forwarded 10, 8, 10 and 10.
+/// States the safe mark after each of four visits that forward the `aru` 10, 8, 10 and 10: it is 0, 8, 8 and 10.
+/// Rules: Token and window 10
 pub fn safe_marks()
     ensures first { mark_by (10 ∷ []) ≡ 0 }
     ensures second { mark_by (8 ∷ 10 ∷ []) ≡ 8 }
@@ -84,7 +100,10 @@ pub fn safe_marks()
     ensures fourth { mark_by (10 ∷ 10 ∷ 8 ∷ 10 ∷ []) ≡ 10 }
 {}
 
-/// Two from one ring wrap what the other lacks, and then deliver the same.
+/// States a worked example: two processors of one old ring wrap what the other lacks, and then deliver the same
+/// messages.
+/// Rules: Recovery 1, 4, 7 and 8
+/// Formats: wrapped plan
 pub fn plan_of_two()
     ensures low { low (plan with_four) ≡ 2 }
     ensures gap { gap (plan with_four) ≡ 5 }
@@ -98,9 +117,11 @@ pub fn plan_of_two()
     ensures second_gives { rests (plan (with_all 2)) (with_all 2).held ≡ map (call_at 1) (1 ∷ 2 ∷ 3 ∷ 4 ∷ []) }
 {}
 
-/// A third member comes from another ring; the safe marks are 1 and 2.
+/// States a worked example: the plan of two processors of one old ring, where the third member comes from another ring.
+/// The two report the safe marks 1 and 2.
+/// Rules: Recovery 1 and 8
 pub fn plan_of_mixed_rings()
-    ensures mates { (plan mixed).mates ≡ 3 }
+    ensures transitional_members { (plan mixed).transitional_members ≡ 3 }
     ensures least_mark { least_mark (plan mixed) ≡ 1 }
     ensures safe { safe (plan mixed) ≡ 2 }
     ensures low { low (plan mixed) ≡ 2 }
@@ -108,15 +129,21 @@ pub fn plan_of_mixed_rings()
     ensures parts { delivery (plan mixed) mixed.held ≡ record { regular = 2 ∷ []; transitional = 3 ∷ 4 ∷ []; past_gap = [] } }
 {}
 
-/// Past the gap, what an outsider sent is discarded.
+/// States a worked example of two messages past a gap: the one that a transitional member sent is delivered, and the
+/// one that an outsider sent is discarded.
+/// Rules: Recovery 8 and 9
+/// Formats: past the gap
 pub fn plan_with_gap()
-    ensures mates { (plan past_gap).mates ≡ 3 }
+    ensures transitional_members { (plan past_gap).transitional_members ≡ 3 }
     ensures gap { gap (plan past_gap) ≡ 3 }
     ensures parts { delivery (plan past_gap) past_gap.held ≡ record { regular = []; transitional = 1 ∷ 2 ∷ []; past_gap = 4 ∷ [] } }
     ensures gives { rests (plan past_gap) past_gap.held ≡ map (call_at 1) (1 ∷ 2 ∷ 4 ∷ []) }
 {}
 
-/// A window with holes, and after its safe mark rose.
+/// States a worked example: the front, the entry and the new numbers of a window with holes, before and after its safe
+/// mark rises.
+/// Rules: Token and window 2 to 4; The commit token 2
+/// Formats: window of bits
 pub fn window_with_holes()
     ensures front { front (holed (1 ∷ 2 ∷ 4 ∷ 256 ∷ [])) first_ring ≡ 2 }
     ensures report { own_entry (holed (1 ∷ 2 ∷ 4 ∷ 256 ∷ [])) ≡ report_of first_ring 2 0 (2 + 2 ^ 253) }
@@ -127,12 +154,13 @@ pub fn window_with_holes()
     ensures later_report { own_entry (marked 2 (holed (1 ∷ 2 ∷ 4 ∷ 256 ∷ 257 ∷ 258 ∷ []))) ≡ report_of first_ring 2 2 (2 + (2 ^ 253 + (2 ^ 254 + 2 ^ 255))) }
 {}
 
-/// The window, a visit's messages, the requests and the greatest numbers are kept.
+/// States examples at the limits: of the window, of a visit's messages, of requests, and of the greatest numbers.
+/// Rules: Limits 1 and 2
 pub fn limits()
     ensures window { length (new_payloads (sending 250) (token_at 5 250)) ≡ 6 }
-    ensures left_over { length (visited (sending 250) (token_at 5 250)).core.queue ≡ 4 }
+    ensures left_over { length (token_visited (sending 250) (token_at 5 250)).core.queue ≡ 4 }
     ensures batch { length (new_payloads (sending 10) (token_at 5 10)) ≡ 8 }
-    ensures requests { (forwarded (holding 3 2 []) (token_at 5 50)).requests ≡ numbers_from 1 32 }
+    ensures requests { (token_forwarded (holding 3 2 []) (token_at 5 50)).requests ≡ numbers_from 1 32 }
     ensures old_request { repeated marked_at_five asks_three_and_seven ≡ call_at 1 7 ∷ [] }
     ensures message { length (new_payloads near_greatest (token_at 5 (max_number - 2))) ≡ 2 }
     ensures token_below { accepts (sending 0) (token_at (max_number - 1) 0) ≡ true }
@@ -143,7 +171,10 @@ pub fn limits()
     ensures named { decide (opening 3 1) (FrameInput stranger) ≡ Ignore }
 {}
 
-/// A visit packs the calls in a row of its queue, as many as fit one message; what stands alone goes as it is.
+/// States examples of packing: a visit packs consecutive calls of its queue, as many as fit one message; any other
+/// payload goes alone. A Pack is wrapped and unwrapped whole.
+/// Rules: Token and window 9; Recovery 4 and 6
+/// Formats: runs of a queue; nine calls in one visit
 pub fn packed_calls()
     ensures nine { new_payloads (queueing (waiting (calls_from 1 9))) (token_at 5 0) ≡ pack_of (calls_from 1 9) ∷ [] }
     ensures nine_outs { drop 9 (run (unformed 1) nine_events).outs ≡ nine_outs }
@@ -155,24 +186,26 @@ pub fn packed_calls()
     ensures past_greatest { new_payloads (queueing (waiting (seven_and 163))) (token_at 5 0) ≡ pack_of (calls_of_size 1000 7) ∷ waiting (calls_of_size 163 1) }
     ensures around { new_payloads (queueing around_head) (token_at 5 0) ≡ pack_of (calls_from 1 2) ∷ empty_head ∷ pack_of (calls_from 3 3) ∷ [] }
     ensures batch { length (new_payloads (queueing five_times) (token_at 5 0)) ≡ 8 }
-    ensures left_over { (visited (queueing five_times) (token_at 5 0)).core.queue ≡ two_and_head 9 }
+    ensures left_over { (token_visited (queueing five_times) (token_at 5 0)).core.queue ≡ two_and_head 9 }
     ensures window { new_payloads (queueing five_times) (token_at 5 255) ≡ pack_of (calls_from 1 2) ∷ [] }
     ensures wraps { offers Recovery with_pack 8 ≡ wrapped_pack ∷ End ∷ [] }
     ensures unwraps { (comes with_three (MessageFrame handed_on)).core.held ≡ packed_message ∷ handed_on ∷ with_three.held }
 {}
 
-/// Corners of the states.
+/// States examples of rare cases in each state. They are messages of a ring left, joins that a node in a ring ignores
+/// or that make it enter Gather, proposals by a timeout, and joins to nobody.
+/// Rules: Rings and states 8; Gather 5, 10, 12 and 13; Timeouts 3 and 4; Token and window 11
 pub fn corners()
     ensures left_ring { decide (gathering_from 1) (FrameInput (MessageFrame (call_at 2 1))) ≡ Take (call_at 2 1) }
     ensures newer_floor { decide (gathering_from 2) (FrameInput (MessageFrame (call_at 2 1))) ≡ Ignore }
     ensures queue { (ring_step (sending 3) (Timeout Loss)).core.queue ≡ [] }
     ensures old_join { decide (in_ring_of_two Operational) (FrameInput (JoinFrame (join_of 2 0 7 0))) ≡ Ignore }
-    ensures member_join { decide (in_ring_of_two Operational) (FrameInput (JoinFrame (join_of 2 1 7 0))) ≡ RegatherAndWiden (join_of 2 1 7 0) }
-    ensures outside { decide (in_ring_of_two Operational) (FrameInput (JoinFrame (join_of 3 0 7 0))) ≡ RegatherAndWiden (join_of 3 0 7 0) }
+    ensures member_join { decide (in_ring_of_two Operational) (FrameInput (JoinFrame (join_of 2 1 7 0))) ≡ EnterGatherAndMergeJoin (join_of 2 1 7 0) }
+    ensures outside { decide (in_ring_of_two Operational) (FrameInput (JoinFrame (join_of 3 0 7 0))) ≡ EnterGatherAndMergeJoin (join_of 3 0 7 0) }
     ensures outside_ignored { decide (in_ring_of_two Recovery) (FrameInput (JoinFrame (join_of 3 0 7 0))) ≡ Ignore }
-    ensures smaller { decide (in_ring_of_two Operational) (FrameInput (JoinFrame (join_of 2 1 2 0))) ≡ Regather }
-    ensures gives_up_its_judge { (widened 1 (entered 7) (join_of 2 0 7 5)).fail_set ≡ 2 }
-    ensures gives_up_alike { (widened 1 (entered 7) (join_of 2 0 7 4)).fail_set ≡ 4 }
+    ensures smaller { decide (in_ring_of_two Operational) (FrameInput (JoinFrame (join_of 2 1 2 0))) ≡ EnterGather }
+    ensures gives_up_its_judge { (join_merged 1 (gathering_opening 7) (join_of 2 0 7 5)).fail_set ≡ 2 }
+    ensures gives_up_alike { (join_merged 1 (gathering_opening 7) (join_of 2 0 7 4)).fail_set ≡ 4 }
     ensures no_proposal { (ring_step (opening 1 1) (FrameInput token_of_ten)).outs ≡ [] }
     ensures repeat_proposes { (ring_step (opening 1 1) (Timeout Retransmit)).outs ≡ lone_hop 1 ∷ [] }
     ensures invites { (ring_step (in_ring_of_two Operational) (Timeout JoinTime)).outs ≡ invitation }
@@ -180,27 +213,31 @@ pub fn corners()
     ensures stopped { (ring_step (halted formed_three) (Timeout Loss)).outs ≡ [] }
 {}
 
-/// Joins in Gather, and what leads there.
+/// States examples of joins: what each does in Gather, which of them make a node enter it, and how giving up leads to a
+/// proposal.
+/// Rules: Gather 3 to 6, 10, 12 and 13
 pub fn joins()
     ensures own { decide (opening 3 1) (FrameInput (join_frame 1 0 7 0)) ≡ Ignore }
-    ensures given_up { decide gave_up_two (FrameInput (join_frame 2 0 7 0)) ≡ Ignore }
+    ensures silent_given_up { decide gave_up_two (FrameInput (join_frame 2 0 7 0)) ≡ Ignore }
     ensures same { decide (opening 3 1) (FrameInput (join_frame 2 0 7 0)) ≡ Agree (join_of 2 0 7 0) }
     ensures smaller { decide (opening 3 1) (FrameInput (join_frame 2 0 2 0)) ≡ Ignore }
-    ensures wider { decide (opening 3 1) (FrameInput (join_frame 2 0 7 4)) ≡ Widen (join_of 2 0 7 4) }
-    ensures agrees_at_once { widened 1 gathering_alone (join_of 2 5 3 0) ≡ record { proc_set = 3; fail_set = 0; heard = join_of 2 5 3 0 ∷ [] } }
-    ensures falls_back { widened 1 gathering_alone (join_of 2 5 2 0) ≡ record { proc_set = 3; fail_set = 0; heard = [] } }
-    ensures next_number { new_number 4 (widened 1 gathering_alone (join_of 2 9 3 0)) ≡ 10 }
-    ensures floor_counts { new_number 12 (widened 1 gathering_alone (join_of 2 9 3 0)) ≡ 13 }
-    ensures gives_up { given_up 1 (widened 1 gathering_alone (join_of 2 5 2 0)) ≡ record { proc_set = 3; fail_set = 2; heard = [] } }
+    ensures wider { decide (opening 3 1) (FrameInput (join_frame 2 0 7 4)) ≡ MergeJoin (join_of 2 0 7 4) }
+    ensures agrees_at_once { join_merged 1 gathering_alone (join_of 2 5 3 0) ≡ record { proc_set = 3; fail_set = 0; counted_joins = join_of 2 5 3 0 ∷ [] } }
+    ensures falls_back { join_merged 1 gathering_alone (join_of 2 5 2 0) ≡ record { proc_set = 3; fail_set = 0; counted_joins = [] } }
+    ensures next_number { new_number 4 (join_merged 1 gathering_alone (join_of 2 9 3 0)) ≡ 10 }
+    ensures floor_counts { new_number 12 (join_merged 1 gathering_alone (join_of 2 9 3 0)) ≡ 13 }
+    ensures gives_up { silent_given_up 1 (join_merged 1 gathering_alone (join_of 2 5 2 0)) ≡ record { proc_set = 3; fail_set = 2; counted_joins = [] } }
     ensures then_proposes { (ring_step (opening 2 1) (Timeout Consensus)).outs ≡ gives_up_and_proposes }
-    ensures in_commit { decide ((three_after 6).cores 1) (FrameInput (join_frame 2 1 7 0)) ≡ RegatherAndAgree (join_of 2 1 7 0) }
+    ensures in_commit { decide ((three_after 6).cores 1) (FrameInput (join_frame 2 1 7 0)) ≡ EnterGatherAndAgree (join_of 2 1 7 0) }
     ensures old_in_commit { decide ((three_after 6).cores 1) (FrameInput (join_frame 2 0 7 0)) ≡ Ignore }
     ensures stopped { decide (halted formed_three) (FrameInput (join_frame 2 1 7 0)) ≡ Ignore }
 {}
 
-/// Timeouts by state.
+/// States examples of timeouts by state: which of them act, and that a retransmission sends the kept token until Gather
+/// is entered.
+/// Rules: Timeouts 2 and 3
 pub fn timeouts()
-    ensures lost { decide formed_three (Timeout Loss) ≡ Regather }
+    ensures lost { decide formed_three (Timeout Loss) ≡ EnterGather }
     ensures waits { decide formed_three (Timeout Consensus) ≡ Ignore }
     ensures silent_in_commit { decide ((three_after 6).cores 1) (Timeout JoinTime) ≡ Ignore }
     ensures nothing_shown { (ring_step opened_three (Timeout Retransmit)).outs ≡ [] }
@@ -208,18 +245,21 @@ pub fn timeouts()
     ensures shows_no_more { (ring_step (ring_step (comes lacking token_of_ten).core (Timeout Loss)).core (Timeout Retransmit)).outs ≡ [] }
 {}
 
-/// Tokens that are accepted and that are not, and who sets the aru.
+/// States examples of tokens that are accepted and of tokens that aren't, and of each case of the `aru` rule.
+/// Rules: Token and window 6 and 8
 pub fn tokens()
     ensures other_ring { decide (gathering_from 1) (FrameInput token_of_ten) ≡ Ignore }
     ensures in_commit { decide ((three_after 6).cores 1) (FrameInput (token_frame 1 0 0 None [])) ≡ Ignore }
     ensures of_old_ring { decide with_four (FrameInput token_of_ten) ≡ Ignore }
-    ensures sets_own { forwarded (holding 3 2 (numbers_from 1 10)) (token_of 6 10 8 (Some 2) []) ≡ token_of 7 10 10 None [] }
-    ensures keeps_other { forwarded (holding 3 3 (numbers_from 1 10)) (token_of 6 10 8 (Some 2) []) ≡ token_of 7 10 8 (Some 2) [] }
-    ensures holds_back { forwarded (holding 3 3 (numbers_from 1 7)) (token_of 6 8 8 None []) ≡ token_of 7 8 7 (Some 3) (8 ∷ []) }
-    ensures lowers_other { forwarded (holding 3 3 (numbers_from 1 7)) (token_of 6 10 8 (Some 2) []) ≡ token_of 7 10 7 (Some 3) (8 ∷ 9 ∷ 10 ∷ []) }
+    ensures sets_own { token_forwarded (holding 3 2 (numbers_from 1 10)) (token_of 6 10 8 (Some 2) []) ≡ token_of 7 10 10 None [] }
+    ensures keeps_other { token_forwarded (holding 3 3 (numbers_from 1 10)) (token_of 6 10 8 (Some 2) []) ≡ token_of 7 10 8 (Some 2) [] }
+    ensures holds_back { token_forwarded (holding 3 3 (numbers_from 1 7)) (token_of 6 8 8 None []) ≡ token_of 7 8 7 (Some 3) (8 ∷ []) }
+    ensures lowers_other { token_forwarded (holding 3 3 (numbers_from 1 7)) (token_of 6 10 8 (Some 2) []) ≡ token_of 7 10 7 (Some 3) (8 ∷ 9 ∷ 10 ∷ []) }
 {}
 
-/// Messages that are taken and that are not.
+/// States examples of messages that are taken and of messages that aren't; a Wrapped that is taken brings its inner
+/// message.
+/// Rules: Token and window 11; Recovery 6
 pub fn messages()
     ensures taken { decide (holding 3 2 []) (FrameInput (MessageFrame (call_at 1 1))) ≡ Take (call_at 1 1) }
     ensures held { decide (holding 3 2 (1 ∷ [])) (FrameInput (MessageFrame (call_at 1 1))) ≡ Ignore }
@@ -236,7 +276,8 @@ pub fn messages()
         (call_at 1 3) ∷ Agreed first_ring 4 (call_at 1 4) ∷ [] }
 {}
 
-/// Commit tokens, round by round.
+/// States examples of commit tokens, round by round: which hop is taken where, and which tests refuse it.
+/// Rules: The commit token 1 and 5 to 8
 pub fn commit_tokens()
     ensures first { decide (opening 3 2) (FrameInput (hop_at_three 1 (empty_report 1 ∷ []))) ≡ Fill (commit_of first_ring 7 1 (empty_report 1 ∷ [])) }
     ensures elsewhere { decide (opening 3 3) (FrameInput (hop_at_three 1 (empty_report 1 ∷ []))) ≡ Ignore }
@@ -258,18 +299,21 @@ pub fn commit_tokens()
     ensures in_operational { decide formed_three (FrameInput (hop_at_three 6 three_reports)) ≡ Ignore }
 {}
 
-/// What is handed over to send.
+/// States examples of payloads to send: which are queued, in which state.
+/// Rules: Rings and states 9
 pub fn payloads()
     ensures queued { (ring_step formed_three (Send (CallPayload add_five))).core.queue ≡ CallPayload add_five ∷ [] }
     ensures end { decide formed_three (Send End) ≡ Ignore }
     ensures wrapped { decide formed_three (Send (wrapped_call 1 1)) ≡ Ignore }
-    ensures packed { decide formed_three (Send (pack_of (calls_from 1 2))) ≡ Ignore }
+    ensures packed_payloads { decide formed_three (Send (pack_of (calls_from 1 2))) ≡ Ignore }
     ensures piece { (ring_step formed_three (Send piece)).core.queue ≡ piece ∷ [] }
     ensures in_gather { decide (opening 3 1) (Send (CallPayload add_five)) ≡ Ignore }
     ensures in_recovery { decide with_four (Send (CallPayload add_five)) ≡ Ignore }
 {}
 
-/// One that stopped gives nothing any more; an unknown processor and an unknown frame change nothing.
+/// States examples without effect: a stopped processor has no outputs, and an unknown processor or frame changes
+/// nothing.
+/// Rules: Rings and states 12 and 14
 pub fn stops()
     ensures silent { (run (unformed 3) stop_events).outs ≡ [] }
     ensures idle { (run (unformed 3) idle_events).frames ≡ join_to_others 1 ∷ [] }

@@ -1,4 +1,5 @@
-//! Laws of the ring core: what holds of every core, whatever comes in, forged frames among it.
+//! Laws of the ring core: facts about every core after any inputs, forged frames included.
+//! Rules: Rings and states 7, 8 and 13; Gather 3 and 9; The commit token 1 and 10; Token and window 3, 4 and 7 to 9; Recovery 4
 
 ghost use Rattle.std.specs.Prelude.{◌≡◌, ℕ, List, ◌+◌, ◌≤◌, ◌++◌, length, true};
 ghost use Rattle.std.specs.declared.alloc.Global.{Global as Heap};
@@ -6,76 +7,92 @@ ghost use Rattle.std.specs.List.{list_all, flat_map, AllByRecursion};
 ghost use Rattle.ring_base.specs.Numbers.{numbers_from, window_size};
 ghost use Rattle.ring_base.specs.declared.ring_id.RingId.{RingId};
 ghost use Rattle.ring_payload.specs.declared.content.Payload.{Payload};
-ghost use Rattle.ring_payload.specs.Kinds.{is_user, units};
-ghost use Rattle.ring_payload.specs.Packing.{AreQueued, IsLongestRun, front_run, packed, left_behind};
+ghost use Rattle.ring_payload.specs.Kinds.{is_user, unpacked_payloads};
+ghost use Rattle.ring_payload.specs.Packing.{AreQueued, IsLongestRun, first_run, packed_payloads, unpacked_rest};
 ghost use Rattle.ring_payload.specs.Payloads.{PayloadFits};
 ghost use Rattle.ring_wire.specs.declared.commit.CommitToken.{CommitToken};
-ghost use Rattle.ring_core.specs.Windows.{holds};
-ghost use Rattle.ring_core.specs.Joins.{AllSaySame};
-ghost use Rattle.ring_core.specs.Commits.{receiver};
-ghost use Rattle.ring_core.specs.declared.input.Input.{Input};
-ghost use Rattle.ring_core.specs.State.{Core, opening};
-ghost use Rattle.ring_core.specs.Views.{front, mark};
-ghost use Rattle.ring_core.specs.Deciding.{decide};
-ghost use Rattle.ring_core.specs.Stepping.{after_inputs};
+ghost use Rattle.ring_core_spec.specs.Windows.{holds};
+ghost use Rattle.ring_core_spec.specs.Joins.{AllSaySame};
+ghost use Rattle.ring_core_spec.specs.Commits.{receiver};
+ghost use Rattle.ring_core_spec.specs.declared.input.Input.{Input};
+ghost use Rattle.ring_core_spec.specs.State.{Core, opening};
+ghost use Rattle.ring_core_spec.specs.Views.{front, mark};
+ghost use Rattle.ring_core_spec.specs.Deciding.{decide};
+ghost use Rattle.ring_core_spec.specs.Stepping.{after_inputs};
 ghost use Rattle.ring_core_proof.specs.declared.event.RingEvent.{RingEvent};
 ghost use Rattle.ring_core_proof.specs.Worlds.{World, run, unformed};
 ghost use Rattle.ring_core_proof.specs.CommitRounds.{has_rising_rings, is_taken, takings};
 ghost use Rattle.ring_core_proof.specs.Moves.{IsMoved};
-ghost use Rattle.ring_core_proof.specs.LawWords.{CameWith, HasPassed, IsFalling, TakesCommit, AreTurnsOf, AreFreshOf, HasEnded};
+ghost use Rattle.ring_core_proof.specs.LawWords.{IsInputOf, HasPassed, IsFalling, TakesCommit, AreTurnsOf, AreFreshOf, HasEnded};
 
-use ring_core::{bits_law, finish_law, front_law, safe_law};
+use ring_core_spec::{bits_law, finish_law, front_law, safe_law};
 use std::alloc::{Allocator, Global};
 
-/// What is decided has passed its tests.
+/// States that the transition chosen for an input has passed the tests that the rules name for it, for every core and
+/// every input.
+/// Rules: Rings and states 8
 pub fn decision_law<A: Allocator + Copy>()
     ensures { (c : Core A) (input : Input A) → HasPassed c (decide c input) }
 {}
 
-/// What is decided is about the input that came: each act names its frame, its timeout or its payload.
+/// States that the transition chosen for an input carries that input's frame, timeout or payload and no other, for
+/// every core and every input.
+/// Rules: Rings and states 8
 pub fn cause_law<A: Allocator + Copy>()
-    ensures { (c : Core A) (input : Input A) → CameWith c input (decide c input) }
+    ensures { (c : Core A) (input : Input A) → IsInputOf c input (decide c input) }
 {}
 
-/// A commit token is taken at one position alone: by the member that its hop goes to.
+/// States that a commit token is taken at one position alone, by the member that its hop is sent to. It holds for every
+/// core and every commit token, forged ones included.
+/// Rules: The commit token 1
 pub fn hop_law<A: Allocator + Copy>()
     ensures { (c : Core A) (k : CommitToken) → TakesCommit c k → receiver k ≡ c.me }
 {}
 
-/// Each step of a core is one or two moves, its outputs, and then perhaps an installation: at most three moves.
+/// States that each step of a core consists of at most three moves: at most two before the outputs of the step, and
+/// perhaps an installation after them.
+/// It holds for every core and every input. A move is one of the six kinds of change that the proofs about worlds
+/// follow.
+/// Rules: Rings and states 13
 pub fn moves_law<A: Allocator + Copy>()
     ensures { (c : Core A) (input : Input A) → IsMoved c input }
 {}
 
-/// The rings that a core takes part in strictly rise.
+/// States that the numbers of the rings that a core takes part in strictly rise, after any inputs from the opening.
+/// Rules: Rings and states 7; The commit token 10
 pub fn rings_law<A: Allocator + Copy>()
     ensures { (n me : ℕ) (inputs : List (Input A)) → IsFalling (after_inputs (opening n me) inputs).rings }
 {}
 
-/// A safe mark is at most the front of its ring.
+/// States that a core's safe mark in any ring is at most its front there, after any inputs from the opening.
+/// Rules: Token and window 3
 pub fn mark_law<A: Allocator + Copy>()
     ensures { (n me : ℕ) (inputs : List (Input A)) (ring : RingId) → mark (after_inputs (opening n me) inputs)
         ring ≤ front (after_inputs (opening n me) inputs) ring }
 {}
 
-/// No number is held that lies past the window.
+/// States that a core holds no number of any ring that is more than 256 above its safe mark there, after any inputs
+/// from the opening.
+/// Rules: Token and window 4
 pub fn window_law<A: Allocator + Copy>()
     ensures { (n me : ℕ) (inputs : List (Input A)) (ring : RingId) (k : ℕ)
         → holds (after_inputs (opening n me) inputs).held ring k ≡ true
         → k ≤ mark (after_inputs (opening n me) inputs) ring + window_size }
 {}
 
-/// Each join that a core keeps as heard says exactly its sets. So consensus, as `ring_join` tests it, is of
-/// processors that said exactly these sets.
+/// States that each join that a core has counted has exactly the core's present sets, after any inputs from the
+/// opening.
+/// So consensus, as `ring_join` tests it, is among processors that sent exactly these sets.
+/// Rules: Gather 3 and 9
 pub fn agreement_law<A: Allocator + Copy>()
     ensures { (n me : ℕ) (inputs : List (Input A)) → AllSaySame (after_inputs (opening n me) inputs).gathering }
 {}
 
-/// Each visit that a core took forwards the token by the rules, whatever it asks for, and its new messages are what
-/// some queue makes, each run of calls packed, or what is wrapped by some plan and the End. That it was of the token as the visit before it had sent it
-/// on, and by the member whose turn it was, holds in every run of cores, not of one core that hears forged frames:
-/// that stands in `ring_chain_proof`, and with it the visits of a ring are those of which `ring_token` says how far they
-/// make it safe.
+/// States that each visit of a core follows the rules, after any inputs from the opening, whatever the token requests.
+/// The new messages are made of some queue, with runs of calls packed, or are the Wrapped of some plan and the End.
+/// One core alone may receive forged tokens. For every run of cores `ring_chain_proof` states, besides, that each visit
+/// continues the visit before, at the member whose turn it is.
+/// Rules: Token and window 7 to 9
 pub fn visit_law<A: Allocator + Copy>()
     ensures turns { (n me : ℕ) (inputs : List (Input A)) → AreTurnsOf (after_inputs (opening n me) inputs).me
         (after_inputs (opening n me) inputs).held (after_inputs (opening n me) inputs).turns }
@@ -83,27 +100,32 @@ pub fn visit_law<A: Allocator + Copy>()
         (after_inputs (opening n me) inputs).held (after_inputs (opening n me) inputs).turns }
 {}
 
-/// In Recovery nothing is left to wrap once one of the core's own visits of the running ring sent an End: the number of
-/// each users' message of the installed ring that it holds above the least front is wrapped by something that it holds of
-/// the running ring. That an End of its own is held doesn't say so: a forged one may be.
+/// States that a core in Recovery that has sent an End has nothing left to wrap, after any inputs from the opening.
+/// Suppose that the core has sent an End when the running ring's token visited it. Each user message that it holds of
+/// the old ring above the least reported front is then wrapped by a message that it holds of the running ring.
+/// That the core holds an End of its own isn't enough, since a forged frame may have brought it.
+/// Rules: Recovery 4
 pub fn ended_law<A: Allocator + Copy>()
     ensures { (n me : ℕ) (inputs : List (Input A)) → HasEnded (after_inputs (opening n me) inputs) }
 {}
 
-/// What a visit makes of a queue: the run of calls that goes out first is the longest that fits one message; no
-/// payload of the queue is lost, doubled or moved; messages keep the limits that the payloads keep, and are users'.
+/// States how a visit packs a queue, for every queue: the run of calls that goes out first is the longest that fits one
+/// message. No payload is lost, doubled or moved. The messages keep the limits that the payloads keep, and are user
+/// messages.
+/// Rules: Token and window 9
 pub fn packing_law<A: Allocator + Copy>()
-    ensures longest { (queue : List (Payload A)) → IsLongestRun queue (front_run queue) }
-    ensures few { (count : ℕ) (queue : List (Payload A)) → length (packed count queue) ≤ count }
-    ensures units { (count : ℕ) (queue : List (Payload A)) → AreQueued queue → flat_map units (packed count queue) ++ left_behind count queue ≡ queue }
-    ensures fits { (count : ℕ) (queue : List (Payload A)) → AllByRecursion PayloadFits queue → AllByRecursion PayloadFits (packed count queue) }
+    ensures longest { (queue : List (Payload A)) → IsLongestRun queue (first_run queue) }
+    ensures few { (count : ℕ) (queue : List (Payload A)) → length (packed_payloads count queue) ≤ count }
+    ensures unpacked_payloads { (count : ℕ) (queue : List (Payload A)) → AreQueued queue → flat_map unpacked_payloads (packed_payloads count queue) ++ unpacked_rest count queue ≡ queue }
+    ensures fits { (count : ℕ) (queue : List (Payload A)) → AllByRecursion PayloadFits queue → AllByRecursion PayloadFits (packed_payloads count queue) }
     ensures users { (count : ℕ) (queue : List (Payload A)) → AllByRecursion (λ (p : Payload A). is_user p ≡ true)
-        queue → AllByRecursion (λ (p : Payload A). is_user p ≡ true) (packed count queue) }
+        queue → AllByRecursion (λ (p : Payload A). is_user p ≡ true) (packed_payloads count queue) }
 {}
 
-/// The same of each processor of every world: marks never pass fronts, nothing is held past the window, each
-/// visit went by the rules with new messages made by them, each join kept as heard says exactly the sets, and nothing
-/// is left to wrap behind an End.
+/// States five laws of one core for each processor of every world of ring cores, after any events from the opening.
+/// Safe marks are at most fronts. Nothing is held above the window. Each visit follows the rules. Each counted join has
+/// exactly the core's sets. After an End nothing is left to wrap.
+/// Rules: Gather 3; Token and window 3, 4 and 7 to 9; Recovery 4
 pub fn world_law<A: Allocator + Copy>()
     ensures marks { (n i : ℕ) (events : List (RingEvent A)) (ring : RingId) → mark ((run (unformed n) events).cores i)
         ring ≤ front ((run (unformed n) events).cores i) ring }
@@ -118,16 +140,19 @@ pub fn world_law<A: Allocator + Copy>()
     ensures ends { (n i : ℕ) (events : List (RingEvent A)) → HasEnded ((run (unformed n) events).cores i) }
 {}
 
-/// Of the commit token's rounds in every run: the rings that each processor takes part in rise; and each commit
-/// token that is taken, also a forged one, is taken by the member at its position, in the second round with a
-/// report that it would write again. Two of the five facts of `CommitRounds`; `ring_chain_proof` has all five.
+/// States two of the five facts of `CommitRounds`, the two rounds of the commit tokens, for every run of ring cores.
+/// The numbers of the rings that a processor takes part in rise. In the second round only the member at its position
+/// takes a commit token, even a forged one. The token then has a report that this member would write again.
+/// `ring_chain_proof` states all five facts.
+/// Rules: The commit token 10
 pub fn rounds_law<A: Allocator + Copy>()
     ensures rings { (n : ℕ) (events : List (RingEvent A)) → list_all (λ i. has_rising_rings ((run (unformed n) events).cores i)) (numbers_from 1 n) ≡ true }
     ensures taken { (w : World A) (events : List (RingEvent A)) → list_all is_taken (takings w events) ≡ true }
 {}
 
-/// The laws at the allocator that programs use; of one of them it says what it gives. Nothing calls it: a law is proved of all
-/// allocators that meet its bounds, and this shows one that does.
+/// States `mark_law` for the allocator that programs use. Nothing calls this function.
+/// A law is proved for all allocators that meet its bounds, and this function shows one that does.
+/// Rules: Token and window 3
 pub fn laws_at_global()
     ensures { (n me : ℕ) (inputs : List (Input Heap)) (ring : RingId) → mark (after_inputs (opening n me) inputs)
         ring ≤ front (after_inputs (opening n me) inputs) ring }

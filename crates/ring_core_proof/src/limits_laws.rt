@@ -1,19 +1,22 @@
-//! Laws of one core and of every world: inputs that keep the limits give frames that keep them.
+//! Laws of limits: with inputs that keep the limits of frames, a core and every world send frames that keep them.
+//! Rules: Limits 1
 
 ghost use Rattle.std.specs.Prelude.{◌≡◌, ℕ, ◌≤◌, List};
 ghost use Rattle.std.specs.declared.alloc.Global.{Global as Heap};
 ghost use Rattle.std.specs.List.{AllByRecursion};
-ghost use Rattle.ring_core.specs.declared.input.Input.{Input};
-ghost use Rattle.ring_core.specs.State.{Core, opening, formed, halted};
-ghost use Rattle.ring_core.specs.Stepping.{ring_step};
+ghost use Rattle.ring_core_spec.specs.declared.input.Input.{Input};
+ghost use Rattle.ring_core_spec.specs.State.{Core, opening, formed, halted};
+ghost use Rattle.ring_core_spec.specs.Stepping.{ring_step};
 ghost use Rattle.ring_core_proof.specs.declared.event.RingEvent.{RingEvent};
 ghost use Rattle.ring_core_proof.specs.Worlds.{run, unformed, run_formed};
 ghost use Rattle.ring_core_proof.specs.Limits.{InputFits, EventFits, OutFits, CoreFits, WorldFits};
 
 use std::alloc::{Allocator, Global};
 
-/// A core that keeps the limits, given an input that keeps them, sends frames that keep them, and keeps them after the
-/// step. Each of up to 16 processors keeps them at both openings, and when it stops.
+/// States that a core keeps the limits of frames, and sends frames that keep them, if its inputs keep them.
+/// Each processor of a group of up to 16 keeps them at both openings. A core that keeps them still does so after a step
+/// with such an input, and after a stop.
+/// Rules: Limits 1
 pub fn fits_law<A: Allocator + Copy>()
     ensures opens { (n me : ℕ) → 1 ≤ me → me ≤ n → n ≤ 16 → CoreFits (opening {A = A} n me) }
     ensures formed { (n me : ℕ) → 1 ≤ me → me ≤ n → n ≤ 16 → CoreFits (formed {A = A} n me) }
@@ -22,15 +25,18 @@ pub fn fits_law<A: Allocator + Copy>()
     ensures stops { (c : Core A) → CoreFits c → CoreFits (halted c) }
 {}
 
-/// Of up to 16 processors every core keeps the limits and every frame ever sent does, whatever events happen: from the
-/// opening in Gather, and on a ring of all that is formed from the start. What is handed over to be sent keeps them.
+/// States that every core and every frame ever sent keep the limits, in every world of up to 16 processors, from the
+/// opening and from a formed ring.
+/// It holds for all lists of events whose payloads to send keep the limits.
+/// Rules: Limits 1
 pub fn frames_law<A: Allocator + Copy>()
     ensures unformed { (n : ℕ) (events : List (RingEvent A)) → n ≤ 16 → AllByRecursion EventFits events → WorldFits (run (unformed n) events) }
     ensures formed { (n : ℕ) (events : List (RingEvent A)) → 1 ≤ n → n ≤ 16 → AllByRecursion EventFits events → WorldFits (run_formed n events) }
 {}
 
-/// The laws at the allocator that programs use; of one of them it says what it gives. Nothing calls it: a law is proved of all
-/// allocators that meet its bounds, and this shows one that does.
+/// States `frames_law` from the opening for the allocator that programs use. Nothing calls this function.
+/// A law is proved for all allocators that meet its bounds, and this function shows one that does.
+/// Rules: Limits 1
 pub fn laws_at_global()
     ensures { (n : ℕ) (events : List (RingEvent Heap)) → n ≤ 16 → AllByRecursion EventFits events → WorldFits (run (unformed n) events) }
 {

@@ -1,42 +1,52 @@
-//! Laws of one core, whatever comes in, forged frames among it.
+//! Laws of what one core knows of itself after any inputs, forged frames included.
+//! Rules: Rings and states 2 to 7; Token and window 1, 4 and 6; The commit token 2, 3, 5 and 6
 
 ghost use Rattle.std.specs.Prelude.{◌≡◌, ℕ, List};
 ghost use Rattle.std.specs.declared.alloc.Global.{Global as Heap};
 ghost use Rattle.ring_base.specs.declared.ring_id.RingId.{RingId};
-ghost use Rattle.ring_core.specs.declared.input.Input.{Input};
-ghost use Rattle.ring_core.specs.State.{Core, opening};
-ghost use Rattle.ring_core.specs.Stepping.{after_inputs};
+ghost use Rattle.ring_core_spec.specs.declared.input.Input.{Input};
+ghost use Rattle.ring_core_spec.specs.State.{Core, opening};
+ghost use Rattle.ring_core_spec.specs.Stepping.{after_inputs};
 ghost use Rattle.ring_core_proof.specs.declared.event.RingEvent.{RingEvent};
 ghost use Rattle.ring_core_proof.specs.Worlds.{run, unformed};
-ghost use Rattle.ring_core_proof.specs.Local.{LocalFacts};
-ghost use Rattle.ring_core_proof.specs.Left.{HasLeft, IsBetween, StaysLeft, StaysBetween};
+ghost use Rattle.ring_core_proof.specs.CoreInvariants.{LocalFacts};
+ghost use Rattle.ring_core_proof.specs.KnowledgeOfRings.{HasLeft, IsBetweenRings, KeepsKnowledge, KeepsReport};
 
 use std::alloc::{Allocator, Global};
 
-/// A core's rings and its state fit each other; each fact is of a ring that it takes part in, and in Commit none is of
-/// the ring taken part in; a number of a ring is held with one message, and what the core numbered itself it holds; the
-/// tokens of a ring are visited in the order of their numbers; what the core would report is exact, and what it
-/// reported is true. So it is after any inputs, and of each core of every world.
+/// States the local facts of a core, after any inputs from the opening, and for each core of every world.
+/// A core's rings fit its state. Each message that it holds, visit, raised mark and plan is of a ring that it takes
+/// part in, and in Commit none is of the newest ring. A number of a ring is held with one message, and the core holds
+/// what it numbered itself.
+/// The tokens of a ring visit the core in the order of their numbers. The entry that it would report is exact, and its
+/// reports are true.
+/// Rules: Rings and states 2 to 7; Token and window 1, 4 and 6; The commit token 2 and 3
 pub fn local_law<A: Allocator + Copy>()
     ensures core { (n me : ℕ) (inputs : List (Input A)) → LocalFacts (after_inputs (opening n me) inputs) }
     ensures world { (n i : ℕ) (events : List (RingEvent A)) → LocalFacts ((run (unformed n) events).cores i) }
 {}
 
-/// All that a core knows of a ring that it left never changes, whatever comes in; nor do its front and its safe mark
-/// there. A ring is left where it neither runs nor is installed, and its number is at most the floor.
+/// States that what a core knows of a ring that it has left never changes, whatever the inputs: messages, visits, front
+/// and safe mark.
+/// It holds for every core. A core has left a ring that neither runs nor is installed and whose number is at most the
+/// floor.
+/// Rules: Rings and states 7; The commit token 5
 pub fn left_law<A: Allocator + Copy>()
-    ensures { (c : Core A) (later : List (Input A)) (ring : RingId) → HasLeft c ring → StaysLeft ring c (after_inputs c later) }
+    ensures { (c : Core A) (later : List (Input A)) (ring : RingId) → HasLeft c ring → KeepsKnowledge ring c (after_inputs c later) }
 {}
 
-/// From the commit token's first round on, until the full one comes in the second, nothing changes of the ring
-/// installed: a report on the way into a new ring stays what the core would write again. Where a recovery breaks off,
-/// what was unwrapped and raised in it stays, until the next begins.
+/// States that nothing that a core knows of its installed ring changes from the first round of a commit token until the
+/// full one arrives in the second round.
+/// So the core would write again the report that it made on its way into the new ring. Where a recovery breaks off, the
+/// messages unwrapped and the mark raised in it stay until the next recovery begins.
+/// Rules: The commit token 3, 5 and 6; Recovery 10
 pub fn between_law<A: Allocator + Copy>()
-    ensures { (c : Core A) (later : List (Input A)) → IsBetween c → StaysBetween c (after_inputs c later) }
+    ensures { (c : Core A) (later : List (Input A)) → IsBetweenRings c → KeepsReport c (after_inputs c later) }
 {}
 
-/// The laws at the allocator that programs use; of one of them it says what it gives. Nothing calls it: a law is proved of all
-/// allocators that meet its bounds, and this shows one that does.
+/// States `local_law` for one core and for the allocator that programs use. Nothing calls this function.
+/// A law is proved for all allocators that meet its bounds, and this function shows one that does.
+/// Rules: Rings and states 2 to 7
 pub fn laws_at_global()
     ensures { (n me : ℕ) (inputs : List (Input Heap)) → LocalFacts (after_inputs (opening n me) inputs) }
 {

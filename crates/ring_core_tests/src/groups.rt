@@ -1,9 +1,10 @@
-//! Groups and sets as plain values, and which sets are primary.
+//! Tests of groups and sets as plain values, and of which sets are primary.
+//! Rules: Processors and sets 1 to 4
 
 use ring_base::{Fixed, ProcSet};
 use std::test::Fail;
 
-/// A group is another one where it has the same votes. It takes 17 bytes. A set begins with nobody.
+/// Groups are equal where their votes are; a group takes 17 bytes; a default set is empty.
 #[test]
 fn plain_values(rt: HostRuntime) {
     assert!(rt; Fixed::with_votes(&[1; 16]) == Fixed::new(16));
@@ -12,7 +13,7 @@ fn plain_values(rt: HostRuntime) {
     prove!(size_of::<Fixed>() == 17);
 }
 
-/// The votes of `docs/FORMATS.md`: half of all votes is no primary.
+/// The votes worked out in docs/FORMATS.md: half of all votes is no primary.
 #[test]
 fn primaries(rt: HostRuntime) -> Result<(), Fail> {
     let table: [(&[u8], u16, bool); 13] = [

@@ -1,12 +1,12 @@
-//! What no contract of the base and of the parts of a ring core says: the texts and numbers that users see, memory that is
-//! refused, and that it is enough where none is. And of `refusing_alloc`: which requests it refuses, for one thread and for two.
-//! And the votes that `docs/FORMATS.md` works out.
+//! Tests of what no contract of the base and of the parts of a ring core states: texts and numbers that users see,
+//! refusals of memory, and which requests `refusing_alloc` refuses, for one thread and for two. Also the votes that
+//! docs/FORMATS.md works out.
 #![tactic(auto)]
 
 #[cfg(test)]
-mod groups;
+mod ghost_value;
 #[cfg(test)]
-mod past;
+mod groups;
 #[cfg(test)]
 mod recoveries;
 #[cfg(test)]

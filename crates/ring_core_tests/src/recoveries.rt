@@ -1,7 +1,8 @@
-//! A call of ring 1.1 is wrapped, and unwrapped.
+//! Tests of `wrap` and `unwrap` where memory is refused, with a call of ring 1.1.
+//! Rules: Recovery 11
 
 use crate::rings::ring;
-use refusing_alloc::{Refusing, refuse_in_turn};
+use refusing_alloc::{RefusingHeap, refuse_in_turn};
 use ring_base::{Fault, Proc};
 use ring_payload::{Call, Content, Payload, Wrapped};
 use ring_recover::{unwrap, wrap};
@@ -9,7 +10,7 @@ use ring_window::Window;
 use ring_wire::Message;
 use std::alloc::{AllocError, Allocator};
 
-/// Client 7's first call, wrapped.
+/// Returns a Wrapped with client 7's first call.
 fn wrapped<A: Allocator + Copy>(alloc: A, number: u64) -> Result<Wrapped<A>, Fault> {
     Ok(Wrapped {
         ring: ring(1),
@@ -19,7 +20,7 @@ fn wrapped<A: Allocator + Copy>(alloc: A, number: u64) -> Result<Wrapped<A>, Fau
     })
 }
 
-/// Whether a message of client 7's first call is wrapped.
+/// Returns whether `wrap` returns a payload for a message with client 7's first call.
 fn wraps<A: Allocator + Copy>(heap: A) -> Result<bool, Fault> {
     let message = Message {
         ring: ring(1),
@@ -33,12 +34,12 @@ fn wraps<A: Allocator + Copy>(heap: A) -> Result<bool, Fault> {
     }
 }
 
-/// What is wrapped is copied.
+/// `wrap` makes one allocation, for the copy of the call: with that of the call itself there are two to refuse.
 #[test]
 fn wrapping_is_refused_memory(rt: HostRuntime) {
     let refused = refuse_in_turn(
         rt.alloc(),
-        &|heap: &Refusing| match wraps(heap) {
+        &|heap: &RefusingHeap| match wraps(heap) {
             Ok(true) => Ok(()),
             _ => Err(AllocError),
         },
@@ -46,7 +47,8 @@ fn wrapping_is_refused_memory(rt: HostRuntime) {
     assert!(rt; refused == Some(2));
 }
 
-/// Unwraps the wrapped call: whether that was refused memory. In the front it stands just where it was not.
+/// Unwraps into a window and returns whether memory was refused, or `None` where the front isn't as it should be: 1
+/// after a success, 0 after a refusal.
 fn is_refused<A: Allocator + Copy>(window: &mut Window<A>, wrapped: &Wrapped<A>) -> Option<bool> {
     match (unwrap(wrapped, window), window.front()) {
         (Ok(true), 1) => Some(false),
@@ -55,19 +57,19 @@ fn is_refused<A: Allocator + Copy>(window: &mut Window<A>, wrapped: &Wrapped<A>)
     }
 }
 
-/// A new window, and a call that is unwrapped into it.
+/// Unwraps a call into a new window.
 fn unwrapped<A: Allocator + Copy>(heap: A) -> Result<Option<bool>, Fault> {
     let mut window = Window::new(heap, ring(1))?;
     let wrapped = wrapped(heap, 1)?;
     Ok(is_refused(&mut window, &wrapped))
 }
 
-/// What is unwrapped is copied. Where that is refused memory, nothing changes.
+/// `unwrap` makes one allocation, for the copy of the call. Where it is refused the window is unchanged.
 #[test]
 fn unwrapping_is_refused_memory(rt: HostRuntime) {
     let refused = refuse_in_turn(
         rt.alloc(),
-        &|heap: &Refusing| match unwrapped(heap) {
+        &|heap: &RefusingHeap| match unwrapped(heap) {
             Ok(Some(true)) | Err(Fault::Memory) => Err(AllocError),
             _ => Ok(()),
         },

@@ -1,9 +1,9 @@
-//! Which requests are refused, for one thread and for two.
-use refusing_alloc::{Refusing, refuse_in_turn};
+//! Tests of `refusing_alloc`: which requests it refuses, for one thread and for two.
+use refusing_alloc::{RefusingHeap, refuse_in_turn};
 use std::alloc::{AllocError, Allocator, Global};
 use std::thread;
 
-/// Makes three requests of three kinds, one after another, and answers which of them were passed on.
+/// Makes three requests of three kinds, one after another, and returns which of them succeeded.
 fn three_requests<A: Allocator + Copy>(heap: A) -> [bool; 3] {
     let number = Box::new(heap, 1u64).is_ok();
     let room = Vec::<u8, A>::with_capacity(heap, 100).is_ok();
@@ -19,7 +19,7 @@ fn refuses_only_the_request_after_those_passed(rt: HostRuntime) {
         (2, [true, true, false]),
         (3, [true, true, true]),
     ] {
-        let heap = Refusing::new(rt.alloc(), *passed);
+        let heap = RefusingHeap::new(rt.alloc(), *passed);
         assert!(rt; !heap.has_refused(), "before, at {passed}");
         assert!(rt; three_requests(&heap) == *want, "at {passed}");
         assert!(rt;
@@ -29,7 +29,7 @@ fn refuses_only_the_request_after_those_passed(rt: HostRuntime) {
     }
 }
 
-/// A list of one byte, in room for so many.
+/// Returns a list of one byte with capacity `room`.
 fn list_in<A: Allocator>(heap: A, room: usize) -> Result<Vec<u8, A>, AllocError> {
     let mut list = Vec::with_capacity(heap, room)?;
     list.push(7)?;
@@ -38,7 +38,7 @@ fn list_in<A: Allocator>(heap: A, room: usize) -> Result<Vec<u8, A>, AllocError>
 
 #[test]
 fn counts_growth(rt: HostRuntime) -> Result<(), AllocError> {
-    let heap = Refusing::new(rt.alloc(), 2);
+    let heap = RefusingHeap::new(rt.alloc(), 2);
     let mut list = list_in(&heap, 1)?;
     assert!(rt; heap.requests() == 1 && list.reserve_exact(1).is_ok() && heap.requests() == 2);
     assert!(rt; !list.reserve_exact(100).is_ok() && heap.requests() == 3 && heap.has_refused());
@@ -49,18 +49,18 @@ fn counts_growth(rt: HostRuntime) -> Result<(), AllocError> {
 
 #[test]
 fn counts_shrinking(rt: HostRuntime) -> Result<(), AllocError> {
-    let heap = Refusing::new(rt.alloc(), 9);
+    let heap = RefusingHeap::new(rt.alloc(), 9);
     let mut list = list_in(&heap, 100)?;
     list.shrink_to_fit();
     assert!(rt; heap.requests() == 2 && list.as_slice() == [7].as_slice());
     Ok(())
 }
 
-/// Two lists over one allocator, made by two threads.
+/// Two threads each make a list with the same allocator.
 #[test]
 fn refuses_one_request_of_two_threads(rt: HostRuntime) {
     for passed in 0..3 {
-        let heap = Refusing::new(rt.alloc(), passed);
+        let heap = RefusingHeap::new(rt.alloc(), passed);
         let one = || Vec::from_slice(&heap, &[1u8, 2]);
         let (left, right) = thread::join(&rt, one, one);
         let refused = u8::from(left.is_err()) + u8::from(right.is_err());
@@ -71,7 +71,7 @@ fn refuses_one_request_of_two_threads(rt: HostRuntime) {
     }
 }
 
-/// Asks for memory `requests` times, and stops at the first refusal.
+/// Makes `requests` requests for memory, up to the first refusal.
 fn boxes<A: Allocator + Copy>(heap: A, requests: u8) -> Result<(), AllocError> {
     for value in 0..requests {
         let _value = Box::new(heap, value)?;
@@ -82,18 +82,18 @@ fn boxes<A: Allocator + Copy>(heap: A, requests: u8) -> Result<(), AllocError> {
 #[test]
 fn refuses_each_request_in_turn(rt: HostRuntime) {
     for requests in 0..4u8 {
-        let refused = refuse_in_turn(rt.alloc(), &|heap: &Refusing| boxes(heap, requests));
+        let refused = refuse_in_turn(rt.alloc(), &|heap: &RefusingHeap| boxes(heap, requests));
         assert!(rt; refused == Some(u64::from(requests)));
     }
 }
 
 #[test]
 fn tells_a_wrong_answer(rt: HostRuntime) {
-    let hides_a_refusal = |heap: &Refusing| {
+    let hides_a_refusal = |heap: &RefusingHeap| {
         let _hidden = boxes(heap, 2);
         Ok(())
     };
     assert!(rt; refuse_in_turn(rt.alloc(), &hides_a_refusal).is_none());
-    let only_gives_up = |_heap: &Refusing| Err(AllocError);
+    let only_gives_up = |_heap: &RefusingHeap| Err(AllocError);
     assert!(rt; refuse_in_turn(rt.alloc(), &only_gives_up).is_none());
 }

@@ -1,8 +1,8 @@
-//! Rings by their numbers.
+//! Ring names for the tests.
 
 use ring_base::{Proc, RingId};
 
-/// The ring of this number that processor 1 represents.
+/// Returns the ring of this number whose representative is processor 1.
 pub fn ring(seq: u64) -> RingId {
     RingId {
         seq,

@@ -1,2 +1,3 @@
 pub mod DriverLimits
 pub mod Firsts
+pub mod Steps

@@ -1,19 +1,25 @@
-//! A node that keeps the limits of frames.
+//! A node whose type keeps it within the limits of frames.
+//! Rules: The replicated log 13 to 15, 18 and 20; Timeouts 1; Refusals 4 to 6; A node with a clock 5 to 7 and 9
 
-ghost use Rattle.std.specs.Prelude.{◌≡◌, ◌≤◌, length, false, None, if◌then◌else◌, IfOk, IfErr, IsOk, OnOk, OnErr};
+ghost use Rattle.std.specs.Prelude.{◌≡◌, ◌≤◌, length, not, false, None, if◌then◌else◌, IfOk, IfErr, IsOk, OnOk, OnErr};
 ghost use Rattle.std.specs.Option.{option_map};
-ghost use Rattle.ring_payload.specs.Limits.{most_operation};
-ghost use Rattle.ring_base.specs.Group.{IsInGroup};
+ghost use Rattle.ring_payload.specs.Limits.{max_operation};
+ghost use Rattle.ring_base.specs.Group.{IsInGroup, is_primary};
+ghost use Rattle.ring_base.specs.Rings.{same_ring};
 ghost use Rattle.ring_base.specs.declared.fault.Fault.TheVariants.{Memory, Stopped as StoppedFault};
-ghost use Rattle.ring_driver.specs.Driving.{opened, stepped, ended, called, IsNotOpened, IsRefused, IsTaken, IsFirst};
-ghost use Rattle.ring_rules.specs.NodeLimits.{InputFits};
-ghost use Rattle.ring_rules.specs.Nodes.{node_reply, is_stopped};
-ghost use Rattle.ring_rules.specs.Stepping.{submit_fault};
-ghost use Rattle.ring_rules.specs.declared.input.Input.TheVariants.{Frame as FrameInput, Timeout as TimeoutInput, Stop as StopInput};
+ghost use Rattle.ring_timers.specs.Periods.{default_periods};
+ghost use Rattle.ring_clock.specs.Clocks.{first_due_at, next_time_of};
+ghost use Rattle.ring_driver.specs.Driving.{driver_opening, driver_after_step, driver_stopped, driver_after_call, IsNotOpened, IsRefused, IsTaken, IsFirstTaken};
+ghost use Rattle.ring_driver.specs.Driving.{driver_with_time, driver_at};
+ghost use Rattle.ring_node_spec.specs.NodeLimits.{InputFits};
+ghost use Rattle.ring_node_spec.specs.Nodes.{node_reply, is_stopped};
+ghost use Rattle.ring_node_spec.specs.Stepping.{submit_fault};
+ghost use Rattle.ring_node_spec.specs.declared.input.Input.TheVariants.{Frame as FrameInput, Timeout as TimeoutInput, Stop as StopInput};
 
-use crate::letter::Letter;
-use ring_base::{Fault, Fixed, Kind, ProcSet};
-use ring_core::Sent;
+use crate::valid_frame::ValidFrame;
+use ring_base::{Fault, Fixed, Kind, ProcSet, RingId};
+use ring_clock::{NodeClock, Periods, is_token, step_outcome, timeout_in};
+use ring_core_spec::OutgoingFrame;
 use ring_node::{Input, Node};
 use ring_object::Object;
 use ring_order_proof::fit_laws::node_fits_law;
@@ -22,127 +28,207 @@ use ring_session::{Answer, Ticket};
 use std::collections::VecDeque;
 use std::marker::Model;
 
-/// A node with what its last step sent. Whoever drives it
+/// A node, together with the outputs of its last step that have not been taken yet. The program that drives it
 ///
-/// - hands it each letter that comes for it ([`hear`](Driver::hear)), in the order in which its network hands them over;
-/// - tells it each timeout as it is due ([`timeout`](Driver::timeout)); how long each is, `docs/PROTOCOL.md` leaves open;
-/// - takes what it sends after each of these ([`next_send`](Driver::next_send)), and brings it to its receivers. Letters may be
-///   lost, repeated and reordered; what is left as the next step is done is lost.
+/// - passes it each frame that arrives for it ([`receive`](Driver::receive)), in the order of arrival;
+/// - brings it the time, until no timeout is due any more ([`at`](Driver::at)). A program with timers of its own passes each
+///   timeout that is due ([`timeout`](Driver::timeout)) and brings no time;
+/// - takes the frames that it sends after each of these ([`next_send`](Driver::next_send)), and brings them to their
+///   receivers. Frames may be lost, repeated and reordered. A frame that is not taken before the next step is lost.
 ///
-/// Its calls are submitted, and their answers asked for, by ticket. Whoever follows its log takes, after each step too, the calls
-/// newly committed ([`next_committed`](Driver::next_committed)). They go on where those of the steps before ended, or, where the step
-/// restored places ([`restored`](Driver::restored)), behind these.
+/// Calls are submitted, and their answers read, by ticket. A program that follows the log also takes the calls newly
+/// committed after each step ([`next_committed`](Driver::next_committed)). They continue those of the steps before or,
+/// where the step restored places ([`restored`](Driver::restored)), the restored places.
+/// Rules: The replicated log 13 to 15, 18 and 20
 #[derive(Drop)]
 pub struct Driver<O: Object> {
     alloc: O::Alloc,
+    group: Fixed,
     node: Node<O>,
-    sends: VecDeque<Sent<O::Alloc>, O::Alloc>,
+    clock: NodeClock,
+    sends: VecDeque<OutgoingFrame<O::Alloc>, O::Alloc>,
     committed: VecDeque<Call<O::Alloc>, O::Alloc>,
     dropped: VecDeque<Call<O::Alloc>, O::Alloc>,
     restored: Option<u64>,
+    has_installed: bool,
 }
 
 impl<O: Object> Model for Driver<O> {
     ghost use Rattle.ring_order_proof.specs.NodeFits.{NodeFits, SendsFit};
-    ghost use Rattle.ring_driver.specs.Driving.{Driven};
+    ghost use Rattle.ring_driver.specs.Driving.{DriverView};
 
-    ghost Value = { Driven O.Alloc };
+    ghost Value = { DriverView O.Alloc };
 
     ghost view = { λ d. record {
+      group = d.group;
       node = d.node;
+      clock = d.clock;
       sends = d.sends.items;
       committed = d.committed.items;
       dropped = d.dropped.items;
       restored = d.restored;
+      has_installed = d.has_installed;
     } };
 
     ghost invariant = { λ d. NodeFits d.node × SendsFit d.sends.items };
 }
 
 impl<O: Object> Driver<O> {
-    /// The node of this number in the group, at its opening. `NotMember` where the group has no such node, else `Memory`.
+    /// Returns a driver of the node of this number in the group, at its opening: no output waits to be taken. Its clock has the
+    /// default periods.
+    /// Errors: `NotMember` unless `number` is 1 to the number of processors, else `Memory`.
+    /// Rules: Processors and sets 2; Rings and states 5; A node with a clock 3
     pub fn new(alloc: O::Alloc, group: Fixed, number: u8) -> Result<Driver<O>, Fault>
-        ensures ok { IfOk result (λ driver. driver ≡ opened group number) }
+        ensures ok { IfOk result (λ driver. driver ≡ driver_opening group number default_periods) }
         ensures member { OnOk result (IsInGroup group number) }
         ensures refused { IfErr result (IsNotOpened group number) }
     {
-        // A law: no effect at run time. The proof takes from it that a node keeps the limits at its opening.
+        Driver::with_periods(alloc, group, number, Periods::default())
+    }
+
+    /// Returns a driver of the node of this number in the group, at its opening, whose clock has these periods.
+    /// Errors: `NotMember` unless `number` is 1 to the number of processors, else `Memory`.
+    /// Rules: Processors and sets 2; Rings and states 5; A node with a clock 3
+    pub fn with_periods(
+        alloc: O::Alloc,
+        group: Fixed,
+        number: u8,
+        periods: Periods,
+    ) -> Result<Driver<O>, Fault>
+        ensures ok { IfOk result (λ driver. driver ≡ driver_opening group number periods) }
+        ensures member { OnOk result (IsInGroup group number) }
+        ensures refused { IfErr result (IsNotOpened group number) }
+    {
+        // A law: no effect at run time. The proof takes from it that a node is within the limits at its opening.
         node_fits_law::<O>();
-        // No effect at run time. The proof reads from this call that a group has at most 16 processors.
+        // No effect at run time. The proof takes from this call that a group has at most 16 processors.
         let _ = group.count();
         let node = Node::new(alloc, group, group.proc(number)?)?;
         Ok(Driver {
             alloc,
+            group,
             node,
+            clock: NodeClock::new(periods),
             sends: VecDeque::new(alloc),
             committed: VecDeque::new(alloc),
             dropped: VecDeque::new(alloc),
             restored: None,
+            has_installed: false,
         })
     }
 
-    /// Submits a client's call of this number, counted from 1, and gives its ticket. Refused, in this order: `OpTooLong` over
-    /// 1,024 bytes; `NumberGap` for number 0; `Stopped` in a stopped node; `PendingFull` where 64 tickets have no answer, or 2^62
-    /// were given; `Memory`, which may come in place of these two, where the call can't be made. A refusal leaves the node as it was.
+    /// Submits a client's call and returns its ticket. Call numbers start at 1; an operation has at most 1,024 bytes.
+    /// Errors, in this order: `OpTooLong` for an operation over 1,024 bytes; `NumberGap` for number 0; `Stopped` in a
+    /// stopped node; `PendingFull` where 64 tickets are unanswered or 2^62 have been given; `Memory`. Where memory for
+    /// the call itself is refused, `Memory` also comes in place of `Stopped` and `PendingFull`. A refusal leaves the
+    /// node unchanged.
+    /// Rules: The replicated log 13; Sessions 1; Refusals 4
     #[tactic(auto, using(crate::proofs::DriverLimits::not_made, crate::proofs::DriverLimits::not_taken))]
     pub fn submit(&mut self, client: u32, number: u64, operation: &[u8]) -> Result<Ticket, Fault>
         ensures ticket { IfOk result (λ ticket. ticket ≡ length self.old.node.tickets) }
-        ensures fits { OnOk result ((length operation.now ≤ most_operation) × (1 ≤ number)) }
+        ensures fits { OnOk result ((length operation.now ≤ max_operation) × (1 ≤ number)) }
         ensures taken { OnOk result (submit_fault self.old.node ≡ None) }
-        ensures ok { OnOk result (self.new ≡ called self.old client number operation.now) }
+        ensures ok { OnOk result (self.new ≡ driver_after_call self.old client number operation.now) }
         ensures err { OnErr result (self.new ≡ self.old) }
         ensures refused { IfErr result (IsRefused self.old client number operation.now) }
     {
-        // A law: no effect at run time. The proof takes from it that a node keeps the limits where a call is submitted.
+        // A law: no effect at run time. The proof takes from it that a submit keeps a node within the limits.
         node_fits_law::<O>();
         let call = Call::new(self.alloc, client, number, operation)?;
         self.node.submit(call)
     }
 
-    /// A letter comes. Refused with `Stopped` in a stopped node, else with `Memory`: then the node has stopped for good. A refused
-    /// step gives nothing, and what the step before gave stays to be taken.
-    pub fn hear(&mut self, letter: Letter<O::Alloc>) -> Result<(), Fault>
+    /// Steps the node on a frame that arrived. Its outputs replace those of the step before, also where the node
+    /// ignores the frame.
+    /// Errors: `Stopped` in a stopped node, else `Memory`, which leaves the node stopped for good. A refused step has
+    /// no outputs, and the outputs of the step before can still be taken.
+    /// Rules: Rings and states 8 and 13; Refusals 4 and 6
+    pub fn receive(&mut self, valid_frame: ValidFrame<O::Alloc>) -> Result<(), Fault>
         ensures runs { OnOk result (is_stopped self.old.node.core.state ≡ false) }
-        ensures ok { OnOk result (self.new ≡ stepped O.sequential self.old (FrameInput letter)) }
-        ensures err { OnErr result (self.new ≡ ended self.old) }
+        ensures ok { OnOk result (self.new ≡ driver_after_step O.sequential self.old (FrameInput valid_frame)) }
+        ensures err { OnErr result (self.new ≡ driver_stopped self.old) }
         ensures refused { IfErr result (λ fault. fault ≡ (if is_stopped self.old.node.core.state then StoppedFault else Memory)) }
     {
-        self.step(Input::Frame(letter.into_frame()))
+        self.step(Input::Frame(valid_frame.into_frame()))
     }
 
-    /// A timeout comes. Refused as a letter is.
+    /// Steps the node on a timeout of this kind, which may come at any time. Its outputs replace those of the step
+    /// before.
+    /// Errors: `Stopped` in a stopped node, else `Memory`, with the same state left as by [`receive`](Driver::receive).
+    /// Rules: Timeouts 1 and 2; Refusals 4 and 6
     pub fn timeout(&mut self, kind: Kind) -> Result<(), Fault>
         ensures runs { OnOk result (is_stopped self.old.node.core.state ≡ false) }
-        ensures ok { OnOk result (self.new ≡ stepped O.sequential self.old (TimeoutInput kind)) }
-        ensures err { OnErr result (self.new ≡ ended self.old) }
+        ensures ok { OnOk result (self.new ≡ driver_after_step O.sequential self.old (TimeoutInput kind)) }
+        ensures err { OnErr result (self.new ≡ driver_stopped self.old) }
         ensures refused { IfErr result (λ fault. fault ≡ (if is_stopped self.old.node.core.state then StoppedFault else Memory)) }
     {
         self.step(Input::Timeout(kind))
     }
 
-    /// The node stops, for good, which gives nothing and takes no memory. Refused with `Stopped` where it had.
+    /// Steps the node on the first timeout that is due at this time, in milliseconds, and returns it: in the order join,
+    /// retransmit, consensus, loss. Its outputs replace those of the step before. Returns `None`, without a step, if none is due.
+    /// So call it again with the same time until it returns `None`. The first call opens the clock, and an earlier time than the
+    /// latest one counts as that one. Other steps count at the latest time brought.
+    /// Errors: `Stopped` in a stopped node, else `Memory`, with the same state left as by [`receive`](Driver::receive). The
+    /// timeout is taken nevertheless.
+    /// Rules: A node with a clock 2, 4 to 6 and 9; Refusals 4 and 6
+    pub fn at(&mut self, now: u64) -> Result<Option<Kind>, Fault>
+        ensures due { IfOk result (λ due. due ≡ first_due_at self.old.clock now) }
+        ensures ok { OnOk result (self.new ≡ driver_at O.sequential self.old now) }
+        ensures err { OnErr result (self.new ≡ driver_stopped (driver_with_time self.old now)) }
+        ensures refused { IfErr result (λ fault. fault ≡ (if is_stopped self.old.node.core.state then StoppedFault else Memory)) }
+        ensures none { first_due_at self.old.clock now ≡ None → IsOk result }
+    {
+        let due = self.clock.next_due(now);
+        if let Some(kind) = due {
+            self.step(Input::Timeout(kind))?;
+        }
+        Ok(due)
+    }
+
+    /// Returns the earliest time at which a timeout is due, in milliseconds, at most `u64::MAX`; before it none is due. Returns
+    /// `None` if no time was brought yet.
+    /// Rules: A node with a clock 7 and 9
+    pub fn next_time(&self) -> Option<u64>
+        ensures { result ≡ next_time_of self.now.clock }
+    {
+        self.clock.next_time()
+    }
+
+    /// Stops the node for good. A stop has no outputs and takes no memory; outputs of the step before that haven't been
+    /// taken are dropped.
+    /// Errors: `Stopped` where the node had stopped already; nothing has changed.
+    /// Rules: Rings and states 12; Refusals 4
     pub fn stop(&mut self) -> Result<(), Fault>
         ensures runs { OnOk result (is_stopped self.old.node.core.state ≡ false) }
-        ensures ok { OnOk result (self.new ≡ stepped O.sequential self.old StopInput) }
-        ensures err { OnErr result (self.new ≡ ended self.old) }
+        ensures ok { OnOk result (self.new ≡ driver_after_step O.sequential self.old StopInput) }
+        ensures err { OnErr result (self.new ≡ driver_stopped self.old) }
         ensures refused { IfErr result (λ fault. fault ≡ (if is_stopped self.old.node.core.state then StoppedFault else Memory)) }
         ensures stops { is_stopped self.old.node.core.state ≡ false → IsOk result }
     {
         self.step(Input::Stop)
     }
 
-    /// Does a step, and keeps what it gives.
+    /// Does a step and stores its outputs.
     fn step(&mut self, input: Input<O::Alloc>) -> Result<(), Fault>
         requires { InputFits input }
         ensures runs { OnOk result (is_stopped self.old.node.core.state ≡ false) }
-        ensures ok { OnOk result (self.new ≡ stepped O.sequential self.old input) }
-        ensures err { OnErr result (self.new ≡ ended self.old) }
+        ensures ok { OnOk result (self.new ≡ driver_after_step O.sequential self.old input) }
+        ensures err { OnErr result (self.new ≡ driver_stopped self.old) }
         ensures refused { IfErr result (λ fault. fault ≡ (if is_stopped self.old.node.core.state then StoppedFault else Memory)) }
         ensures stops { input ≡ StopInput → is_stopped self.old.node.core.state ≡ false → IsOk result }
     {
-        // A law: no effect at run time. The proof takes from it that a node keeps the limits along a step, and what it sends keeps them.
+        // A law: no effect at run time. The proof takes from it that a step keeps a node, and the frames that it sends,
+        // within the limits.
         node_fits_law::<O>();
+        let timeout = timeout_in(&input);
+        let is_token = is_token(&input);
+        let ring_before = self.node.ring();
         let outs = self.node.step(input)?;
+        self.clock
+            .note_step(step_outcome(timeout, is_token, outs.sends.as_slice()));
+        let has_installed = is_other_ring(ring_before, self.node.ring());
+        self.has_installed = has_installed;
         self.sends = VecDeque::from_vec(outs.sends);
         self.committed = VecDeque::from_vec(outs.committed);
         self.dropped = VecDeque::from_vec(outs.dropped);
@@ -150,51 +236,82 @@ impl<O: Object> Driver<O> {
         Ok(())
     }
 
-    /// The next letter of those that the last step sent, with its receivers, in the order in which they were sent. `None` once all
-    /// are taken. The node itself may be a receiver.
-    pub fn next_send(&mut self) -> Option<(ProcSet, Letter<O::Alloc>)>
+    /// Takes the next frame that the last step sent, with its receivers, in the order of sending. Returns `None` once
+    /// all are taken. The node itself may be a receiver.
+    /// Rules: Outputs 2
+    pub fn next_send(&mut self) -> Option<(ProcSet, ValidFrame<O::Alloc>)>
         ensures { IsTaken self.old self.new (option_map (λ taken. (taken.0, taken.1)) result) }
     {
         let sent = self.sends.pop_front()?;
-        Some((sent.to, Letter::of(sent.frame)))
+        Some((sent.to, ValidFrame::of(sent.frame)))
     }
 
-    /// The next call of those that the last step newly committed, in order. `None` once all are taken.
+    /// Takes the next call that the last step newly committed, in the order of the log, repeats included. Returns
+    /// `None` once all are taken.
+    /// Rules: The replicated log 12 and 18
     pub fn next_committed(&mut self) -> Option<Call<O::Alloc>>
-        ensures first { IsFirst self.old.committed self.new.committed result }
+        ensures first { IsFirstTaken self.old.committed self.new.committed result }
         ensures others { self.new ≡ record self.old { committed = self.new.committed } }
     {
         self.committed.pop_front()
     }
 
-    /// The next call of those of the committed places that the node dropped at the last step's end, in order. The places that a
-    /// restored snapshot stands for are none of them. `None` once all are taken.
+    /// Takes the next call of the committed places that the last step dropped at its end, in order. Places that a restored
+    /// snapshot replaces are not among them. Returns `None` once all are taken.
+    /// Rules: The replicated log 18 and 20
     pub fn next_dropped(&mut self) -> Option<Call<O::Alloc>>
-        ensures first { IsFirst self.old.dropped self.new.dropped result }
+        ensures first { IsFirstTaken self.old.dropped self.new.dropped result }
         ensures others { self.new ≡ record self.old { dropped = self.new.dropped } }
     {
         self.dropped.pop_front()
     }
 
-    /// How many of the log's first places the snapshot stands for that the last step restored, if it restored one. What that step
-    /// newly committed begins behind them.
+    /// Returns the number of the log's first places that came with a snapshot which the last step restored, or `None`
+    /// if it restored none. The calls newly committed in that step begin behind these places.
+    /// Rules: The replicated log 6 and 18
     pub fn restored(&self) -> Option<u64>
         ensures { result ≡ self.now.restored }
     {
         self.restored
     }
 
-    /// The answer to a ticket, if it is among the 64 that were answered last.
+    /// Returns whether the last step installed a ring. Its name and its members are those of [`node`](Driver::node).
+    /// Rules: Outputs 1
+    pub fn has_installed(&self) -> bool
+        ensures { result ≡ self.now.has_installed }
+    {
+        self.has_installed
+    }
+
+    /// Returns whether the last installed ring is primary; before any was installed, whether the node alone is.
+    /// Rules: Processors and sets 4
+    pub fn is_primary(&self) -> bool
+        ensures { result ≡ is_primary self.now.group self.now.node.core.installed.members }
+    {
+        self.group.is_primary(self.node.members())
+    }
+
+    /// Returns the answer of a ticket, if it is among the 64 tickets of this node that were answered last; otherwise
+    /// `None`.
+    /// Rules: The replicated log 15
     pub fn reply(&self, ticket: Ticket) -> Option<Answer>
         ensures { result ≡ node_reply self.now.node ticket }
     {
         self.node.reply(ticket)
     }
 
-    /// The node, which tells its state, its ring and its committed log.
+    /// Returns the node as the last step or submit left it. Its state, ring and committed log can be read.
+    /// Rules: The replicated log 18
     pub fn node(&self) -> &Node<O>
         ensures { result.now ≡ self.now.node }
     {
         &self.node
     }
+}
+
+/// Returns whether these are two rings.
+fn is_other_ring(before: RingId, after: RingId) -> bool
+    ensures { result ≡ not (same_ring before after) }
+{
+    before != after
 }

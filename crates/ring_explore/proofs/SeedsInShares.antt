@@ -1,15 +1,15 @@
--- Seeds that are tried in shares: what was found of two ranges, one behind the other.
+-- Seeds tried in shares: the results over two ranges, one after the other.
 use Rattle.std.proofs.Common.{◌≡◌, ℕ, ◌+◌, ◌<◌, ◌≤◌, ◌⊎◌, inl, inr, Bool, true}
 use Rattle.std.proofs.Common.{Option, Some, None, IsSome, Result, Ok, Err, IfOk, subst, arith}
 use Rattle.std.specs.Option.{option_or}
-use Rattle.ring_shares.specs.Shares.{share_begin}
-use Rattle.ring_shares.proofs.Sharing.{under_or_past, share_grows}
+use Rattle.ring_failure.specs.Shares.{share_begin}
+use Rattle.ring_failure.proofs.Sharing.{under_or_past, share_grows}
 use Rattle.std.specs.Prelude.{◌^◌}
-use Rattle.ring_explore.specs.declared.found.Found.{Found}
+use Rattle.ring_explore.specs.declared.explore_totals.ExploreTotals.{ExploreTotals}
 use Rattle.ring_explore.specs.Explored.{AreTried, seeds_in}
 
 module _ (IsTried : Bool → Type 0) where
-  -- no seeds were tried yet
+  -- no seeds were tried
   pub tried_none : (a : ℕ) → AreTried IsTried a a None
   tried_none a = λ seed from upto. absurd (omega (arith, from, upto))
 
@@ -26,7 +26,7 @@ module _ (IsTried : Bool → Type 0) where
       (omega (arith, le, g.0), g.1, g.2, λ seed from upto. none_none a b s f g.3 seed from upto (under_or_past seed b))
   tried_append a b c (Some s) g le more f h = (f.0, omega (arith, f.1, more), f.2, f.3)
 
-  -- none is tried behind the first whose run is not legal
+  -- no seed after the first whose run is not legal is tried
   pub tried_more : (a b c : ℕ) (f : Option ℕ) → IsSome f → b ≤ c → AreTried IsTried a b f → AreTried IsTried a c f
   tried_more a b c None some more f = absurd (cc some)
   tried_more a b c (Some s) some more f = (f.0, omega (arith, f.1, more), f.2, f.3)
@@ -49,7 +49,7 @@ module _ (IsTried : Bool → Type 0) where
       tried_append IsTried first (first + share_begin many shares k) (first + share_begin many shares (k + 1)) f g (omega arith)
       (omega (arith, grows)) h more
 
-  -- what was tried of a round is what was tried of its part of all seeds
+  -- the result of a round is the result over its part of all seeds
   pub tried_part : (first a b begin last : ℕ) (f : Option ℕ) → a < b → b < 2 ^ 64 → begin ≡ first + a → last + 1 ≡ first + b
       → AreTried IsTried begin (begin + seeds_in begin last) f → AreTried IsTried (first + a) (first + b) f
   tried_part first a b begin last f less small from upto h =
@@ -57,10 +57,10 @@ module _ (IsTried : Bool → Type 0) where
       subst (λ (n : ℕ). AreTried IsTried n (first + b) f) from (subst (λ (n : ℕ). AreTried IsTried begin n f) ends h)
 
   -- the rounds from the first seed on are all of them
-  pub tried_whole : {E : Type 0} (first many : ℕ) (r : Result Found E)
-      → IfOk r (λ (found : Found). 0 ≤ many → AreTried IsTried (first + 0) (first + many) found.illegal)
-      → IfOk r (λ (found : Found). AreTried IsTried first (first + many) found.illegal)
-  tried_whole first many (Ok found) h =
+  pub tried_whole : {E : Type 0} (first many : ℕ) (r : Result ExploreTotals E)
+      → IfOk r (λ (explore_totals : ExploreTotals). 0 ≤ many → AreTried IsTried (first + 0) (first + many) explore_totals.illegal)
+      → IfOk r (λ (explore_totals : ExploreTotals). AreTried IsTried first (first + many) explore_totals.illegal)
+  tried_whole first many (Ok explore_totals) h =
       let begin : first + 0 ≡ first = omega arith in
-      subst (λ (n : ℕ). AreTried IsTried n (first + many) found.illegal) begin (h (omega arith))
+      subst (λ (n : ℕ). AreTried IsTried n (first + many) explore_totals.illegal) begin (h (omega arith))
   tried_whole first many (Err e) h = tt

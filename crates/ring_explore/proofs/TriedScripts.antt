@@ -1,4 +1,4 @@
--- A script that runs line by line, a pump turn by turn, and what was found of it.
+-- A script that runs line by line, a pump turn by turn, and the result of its run.
 use Rattle.std.proofs.Common.{◌≡◌, ◌<◌, ◌≤◌, ℕ, ◌+◌, Bool, true, false, List, ◌++◌, Option, Some, None, Result, Ok, Err, IfOk}
 use Rattle.std.proofs.Common.{refl, sym, subst, arith}
 use Rattle.std.specs.Prelude.{◌↔◌, IsTrue}
@@ -6,24 +6,24 @@ use Rattle.std.specs.declared.alloc.Global.{Global}
 use Rattle.ring_base.specs.Group.{AreVotes}
 use Rattle.ring_object.specs.Operations.{Sequential}
 use Rattle.ring_script.specs.declared.scripts.Script.{Script}
-use Rattle.ring_script.specs.Operations.{Form}
+use Rattle.ring_script.specs.Operations.{OperationForm}
 use Rattle.ring_script.specs.Scripts.{script_by, schedule_by}
-use Rattle.ring_script_maker.specs.Made.{IsMadeBy}
-use Rattle.ring_console.specs.Running.{RunView, run_opening, Runs, IsLegal, legal_line}
-use Rattle.ring_explore.specs.declared.found.Found.{Found}
+use Rattle.ring_script_generator.specs.Generated.{IsGeneratedBy}
+use Rattle.ring_console.specs.Running.{RunView, run_opening, AreLinesDone, IsLegal, legal_line}
+use Rattle.ring_explore.specs.declared.explore_totals.ExploreTotals.{ExploreTotals}
 use Rattle.ring_explore.specs.Explored.{AreTried, illegal_of, seeds_in}
 use Rattle.ring_explore.specs.Tried.{IsTried, IsTriedIn}
 use Rattle.ring_explore.specs.declared.plan.ExplorePlan.{ExplorePlan}
 
--- what was found of one seed
+-- the result over one seed
 pub tried_one : (IsTried : Bool → Type 0) (is_legal : Bool) (seed : ℕ) → IsTried is_legal → AreTried IsTried seed (seed + 1) (illegal_of is_legal seed)
 tried_one IsTried true seed tried = λ s from upto. tried
 tried_one IsTried false seed tried = (omega arith, omega arith, tried, λ s from upto. absurd (omega (arith, from, upto)))
 
--- a script was made, run, and checked
-pub is_tried : {O : Type 0} (object : Sequential O) (forms : List Form) (votes : List ℕ) (lines : ℕ) (made text : List ℕ) (script : Script Global)
-    (ran : RunView Global) (is_legal : Bool) → script_by forms made ≡ Ok (schedule_by script) → IsMadeBy forms votes lines made
-    → Runs object script.lines.items (run_opening script.nodes) ran text → (IsTrue is_legal ↔ IsLegal object ran.played)
+-- a script was generated, run, and checked
+pub is_tried : {O : Type 0} (object : Sequential O) (forms : List OperationForm) (votes : List ℕ) (lines : ℕ) (made text : List ℕ) (script : Script Global)
+    (ran : RunView Global) (is_legal : Bool) → script_by forms made ≡ Ok (schedule_by script) → IsGeneratedBy forms votes lines made
+    → AreLinesDone object script.lines.items (run_opening script.nodes) ran text → (IsTrue is_legal ↔ IsLegal object ran.world_view)
     → IsTried object forms votes lines is_legal
 is_tried object forms votes lines made text script ran is_legal is_script is_made runs legal = record {
   made = made;
@@ -34,27 +34,27 @@ is_tried object forms votes lines made text script ran is_legal is_script is_mad
   told = record { ran = ran; told = text; runs = runs; legal = legal; whole = refl };
 }
 
--- what was found of a script that ran to its end
-pub found_tried : {O E : Type 0} (object : Sequential O) (forms : List Form) (script : Script Global) (seed : ℕ) (ran : RunView Global) (text : List ℕ)
-    (r : Result Found E) → Runs object script.lines.items (run_opening script.nodes) ran text
-    → IfOk r (λ found. (is_legal : Bool) × (IsTrue is_legal ↔ IsLegal object ran.played) × (found.illegal ≡ illegal_of is_legal seed))
-    → IfOk r (λ found. (made votes : List ℕ) (lines : ℕ) → script_by forms made ≡ Ok (schedule_by script) → IsMadeBy forms votes lines made
-    → AreTried (IsTried object forms votes lines) seed (seed + 1) found.illegal)
-found_tried object forms script seed ran text (Ok found) runs h =
+-- the result of a script that ran to its end
+pub found_tried : {O E : Type 0} (object : Sequential O) (forms : List OperationForm) (script : Script Global) (seed : ℕ) (ran : RunView Global) (text : List ℕ)
+    (r : Result ExploreTotals E) → AreLinesDone object script.lines.items (run_opening script.nodes) ran text
+    → IfOk r (λ explore_totals. (is_legal : Bool) × (IsTrue is_legal ↔ IsLegal object ran.world_view) × (explore_totals.illegal ≡ illegal_of is_legal seed))
+    → IfOk r (λ explore_totals. (made votes : List ℕ) (lines : ℕ) → script_by forms made ≡ Ok (schedule_by script) → IsGeneratedBy forms votes lines made
+    → AreTried (IsTried object forms votes lines) seed (seed + 1) explore_totals.illegal)
+found_tried object forms script seed ran text (Ok explore_totals) runs h =
     λ made votes lines is_script is_made. subst (λ (f : Option ℕ). AreTried (IsTried object forms votes lines) seed (seed + 1) f) (sym h.2)
     (tried_one (IsTried object forms votes lines) h.0 seed (is_tried object forms votes lines made text script ran h.0 is_script is_made runs h.1))
 found_tried object forms script seed ran text (Err fault) runs h = tt
 
--- plans of the same votes and as many lines have the same scripts
-pub same_scripts : {O : Type 0} (object : Sequential O) (forms : List Form) (a b : ExplorePlan) (from upto : ℕ) (found : Option ℕ)
-    → a.votes.now ≡ b.votes.now → a.lines ≡ b.lines → AreTried (IsTriedIn object forms a) from upto found → AreTried (IsTriedIn object forms b) from upto found
-same_scripts object forms a b from upto found votes lines tried =
-    subst (λ (v : List ℕ). AreTried (IsTried object forms v b.lines) from upto found) votes
-    (subst (λ (n : ℕ). AreTried (IsTried object forms a.votes.now n) from upto found) lines tried)
+-- plans with the same votes and number of lines have the same scripts
+pub same_scripts : {O : Type 0} (object : Sequential O) (forms : List OperationForm) (a b : ExplorePlan) (from upto : ℕ) (explore_totals : Option ℕ)
+    → a.votes.now ≡ b.votes.now → a.lines ≡ b.lines → AreTried (IsTriedIn object forms a) from upto explore_totals → AreTried (IsTriedIn object forms b) from upto explore_totals
+same_scripts object forms a b from upto explore_totals votes lines tried =
+    subst (λ (v : List ℕ). AreTried (IsTried object forms v b.lines) from upto explore_totals) votes
+    (subst (λ (n : ℕ). AreTried (IsTried object forms a.votes.now n) from upto explore_totals) lines tried)
 
 -- where any seed was tried, the votes are those of a group
-pub tried_votes : {O : Type 0} (object : Sequential O) (forms : List Form) (plan : ExplorePlan) (found : Option ℕ) → plan.first ≤ plan.last
-    → AreTried (IsTriedIn object forms plan) plan.first (plan.first + seeds_in plan.first plan.last) found → AreVotes plan.votes.now
+pub tried_votes : {O : Type 0} (object : Sequential O) (forms : List OperationForm) (plan : ExplorePlan) (explore_totals : Option ℕ) → plan.first ≤ plan.last
+    → AreTried (IsTriedIn object forms plan) plan.first (plan.first + seeds_in plan.first plan.last) explore_totals → AreVotes plan.votes.now
 tried_votes object forms plan None some tried =
     let within : plan.first < plan.first + seeds_in plan.first plan.last = grind (arith, some) in
     let one : IsTriedIn object forms plan true = tried plan.first (omega arith) within in

@@ -1,49 +1,55 @@
-//! The trying of many seeds.
+//! Exploring many seeds, and printing the totals.
+//! Formats: The command line
 
 ghost use Rattle.std.specs.Prelude.{◌≡◌, ℕ, ◌≤◌, ◌<◌, ◌+◌, ◌⊎◌, ◌↔◌, false, IsTrue, Some, None, max, vec_len};
 ghost use Rattle.std.specs.Prelude.{OnOk, IfOk, IsErr, IfErr, slice_index_or};
 ghost use Rattle.std.specs.Io.KnownBytes.{Appends};
 ghost use Rattle.ring_base.specs.Group.{AreVotes};
-ghost use Rattle.ring_console.specs.Running.{Prints};
-ghost use Rattle.ring_report.specs.declared.failure.Failure.TheVariants.{Output};
-ghost use Rattle.ring_script_maker.specs.Made.{IsMadeBy, IsNotMade};
-ghost use Rattle.ring_shares.specs.Shares.{share_begin};
+ghost use Rattle.ring_console.specs.Running.{HasPrinted};
+ghost use Rattle.ring_failure.specs.declared.failure.Failure.TheVariants.{Output};
+ghost use Rattle.ring_script_generator.specs.Generated.{IsGeneratedBy, IsNotGenerated};
+ghost use Rattle.ring_failure.specs.Shares.{share_begin};
 ghost use Rattle.ring_explore.specs.Explored.{AreTried, seeds_in, totals_text, IsTotals, IsIllegal};
 ghost use Rattle.ring_explore.specs.Tried.{IsTriedIn, IsNotTried, IsNotExplored};
 
-use crate::found::Found;
+use crate::explore_totals::ExploreTotals;
 use crate::one::try_seed;
 use crate::plan::ExplorePlan;
 use ring_base::Fault;
-use ring_console::{Failure, ShelfWords, Things, Vocabulary, report};
+use ring_console::{Failure, ShelfVocabulary, StandardObjects, Vocabulary, report};
+use ring_failure::{NOT_LEGAL, ProgressMeter, round_end, share_begin};
 use ring_object::Object;
-use ring_report::NOT_LEGAL;
-use ring_script_maker::made_script_by;
-use ring_shares::{Meter, round_end, share_begin};
+use ring_script_generator::generate_script_by;
 use std::alloc::{AllocError, Global};
 use std::io::Write;
 use std::thread::{self, Threads};
 use std::time::Clock;
 
-/// So many seeds a thread make the first round.
+/// The number of seeds for each thread in the first round.
 const FIRST: u64 = 16;
 
-/// Makes the script of each seed, runs it, and checks that the order of its world explains its history, by so many threads: what is
-/// printed does not depend on how many. Prints how many seeds there were, how many events were run, how many calls were submitted
-/// and answered, how many rings were installed, and `legal yes`. The exit status is 0, or else 1:
+/// Generates the script of each seed over the program's object, runs it, and checks that the order of its world is legal
+/// for its history. Works with `threads` threads, or one if that is 0.
+/// Prints the number of seeds, of events, of submitted calls, of answers and of installed rings, and `legal yes`. The
+/// printed text doesn't depend on the number of threads. Returns the exit status: 0, else 1.
 ///
-/// - where a run is not legal, a comment that says so and the script of the least such seed are printed, and nothing else;
-/// - where memory is refused to a script, or to a run itself, `err` is told so, and nothing is printed; a node that is refused memory in
-///   its step has stopped, and its run goes on;
-/// - where the votes are none of 1 to 16 nodes, each at least 1, `err` is told so, and nothing is printed;
-/// - where what was made for a seed were no such script, `err` is told so, and nothing is printed;
-/// - where `out` fails, nothing is told.
+/// Errors:
+/// - A run isn't legal: a comment that says so and the script of the first such seed are printed, and nothing else.
+/// - `Memory` where it is refused to a script or to a run itself: reported on `err`, and nothing is printed. A node that is
+///   refused memory in its step has stopped, and its run goes on.
+/// - `NotMember` unless there are 1 to 16 votes, each at least 1: reported on `err`, and nothing is printed.
+/// - `BadScript` where a generated text isn't a script: reported on `err`, and nothing is printed.
+/// - `out` fails: nothing is reported.
 ///
-/// Where the last seed stands before the first, there is none: the votes are not looked at, and the status is 0, with `seeds 0`.
-/// Where the status is 0, a script of nodes with these votes and of so many lines was made and run for each seed, and each run is legal.
-/// Which of these scripts a seed makes no contract says.
-/// Where there is a `progress`, it is told from the first second on how far it has come, and in the end that is taken away again, as a
-/// terminal does it.
+/// Where the last seed is below the first there are no seeds: the votes aren't checked, and the status is 0, with
+/// `seeds 0`. At status 0, a script of nodes with these votes and of this number of lines was generated and run for each
+/// seed, and each run is legal. No contract says which script a seed gives.
+///
+/// Where there is a `progress`, it gets the progress from the first second on, and at the end the sequence that clears it
+/// from a terminal.
+///
+/// Rules: Sessions 10
+/// Formats: The command line
 pub fn explore<R: Threads + Clock + Sync, O: Write, E: Write, P: Write>(
     rt: &R,
     alloc: Global,
@@ -55,18 +61,21 @@ pub fn explore<R: Threads + Clock + Sync, O: Write, E: Write, P: Write>(
 ) -> u8
     ensures status { result ≤ 1 }
     ensures quiet { result ≡ 0 → err.new ≡ err.old }
-    ensures legal { let object = ⟦<Things<Global> as Object>⟧ in let words = ⟦<ShelfWords as Vocabulary>⟧ in
+    ensures legal { let object = ⟦<StandardObjects<Global> as Object>⟧ in let words = ⟦<ShelfVocabulary as Vocabulary>⟧ in
         result ≡ 0 → AreTried (IsTriedIn object.sequential words.forms plan.entry) plan.entry.first (plan.entry.first + seeds_in plan.entry.first plan.entry.last) None }
-    ensures printed { result ≡ 0 → Prints (O.contents out.old) (O.contents out.new) (IsTotals (seeds_in plan.entry.first plan.entry.last)) }
+    ensures printed { result ≡ 0 → HasPrinted (O.contents out.old) (O.contents out.new) (IsTotals (seeds_in plan.entry.first plan.entry.last)) }
     ensures kept { result ≡ 1 → (out.new ≡ out.old) ⊎ (err.new ≡ err.old) }
     ensures stranger { ¬ AreVotes plan.entry.votes.now → plan.entry.first ≤ plan.entry.last → (result ≡ 1) × (out.new ≡ out.old) }
 {
-    explore_of::<Things<Global>, ShelfWords, R, O, E, P>(
+    explore_of::<StandardObjects<Global>, ShelfVocabulary, R, O, E, P>(
         rt, alloc, plan, threads, out, err, progress,
     )
 }
 
-/// As [`explore`], of any object, by the words of its operations.
+/// Explores seeds as [`explore`] does, with scripts over this object and vocabulary. Returns the exit status: 0, else 1.
+/// Errors: as for [`explore`].
+/// Rules: Sessions 10
+/// Formats: The command line
 pub fn explore_of<
     T: Object<Alloc = Global> + Send,
     V: Vocabulary + Send,
@@ -86,7 +95,7 @@ pub fn explore_of<
     ensures status { result ≤ 1 }
     ensures quiet { result ≡ 0 → err.new ≡ err.old }
     ensures legal { result ≡ 0 → AreTried (IsTriedIn T.sequential V.forms plan.entry) plan.entry.first (plan.entry.first + seeds_in plan.entry.first plan.entry.last) None }
-    ensures printed { result ≡ 0 → Prints (O.contents out.old) (O.contents out.new) (IsTotals (seeds_in plan.entry.first plan.entry.last)) }
+    ensures printed { result ≡ 0 → HasPrinted (O.contents out.old) (O.contents out.new) (IsTotals (seeds_in plan.entry.first plan.entry.last)) }
     ensures kept { result ≡ 1 → (out.new ≡ out.old) ⊎ (err.new ≡ err.old) }
     ensures stranger { ¬ AreVotes plan.entry.votes.now → plan.entry.first ≤ plan.entry.last → (result ≡ 1) × (out.new ≡ out.old) }
 {
@@ -97,8 +106,8 @@ pub fn explore_of<
     }
 }
 
-/// Tries all seeds, and prints what was found. Answers whether all runs are legal. Otherwise `Output`, or, with nothing printed, a refusal
-/// as `try_seed` has them.
+/// Tries all seeds, and prints the result. Returns whether all runs are legal. Errors: `Output`; or, with nothing printed, a
+/// refusal of `try_seed`.
 fn explore_all<
     T: Object<Alloc = Global> + Send,
     V: Vocabulary + Send,
@@ -116,71 +125,75 @@ fn explore_all<
     ensures legal { IfOk result (λ is_legal. IsTrue is_legal
         → AreTried (IsTriedIn T.sequential V.forms plan.now) plan.now.first (plan.now.first + seeds_in plan.now.first plan.now.last) None) }
     ensures printed { IfOk result (λ is_legal. IsTrue is_legal
-        → Prints (O.contents out.old) (O.contents out.new) (IsTotals (seeds_in plan.now.first plan.now.last))) }
+        → HasPrinted (O.contents out.old) (O.contents out.new) (IsTotals (seeds_in plan.now.first plan.now.last))) }
     ensures illegal { IfOk result (λ is_legal. is_legal ≡ false → (first : ℕ)
         × AreTried (IsTriedIn T.sequential V.forms plan.now) plan.now.first (plan.now.first + seeds_in plan.now.first plan.now.last) (Some first)) }
     ensures named { IfOk result (λ is_legal. is_legal ≡ false
-        → Prints (O.contents out.old) (O.contents out.new) (IsIllegal (IsMadeBy V.forms plan.now.votes.now plan.now.lines))) }
+        → HasPrinted (O.contents out.old) (O.contents out.new) (IsIllegal (IsGeneratedBy V.forms plan.now.votes.now plan.now.lines))) }
     ensures failed { IfErr result (λ failure. (failure ≡ Output) ⊎ ((out.new ≡ out.old) × IsNotExplored plan.now.votes.now failure)) }
     ensures stranger { ¬ AreVotes plan.now.votes.now → plan.now.first ≤ plan.now.last → IsErr result × (out.new ≡ out.old) }
 {
-    let found = try_all::<T, V, R, P>(rt, alloc, plan, threads, progress)?;
-    print_found::<T, V, O>(alloc, plan, &found, out)
+    let explore_totals = try_all::<T, V, R, P>(rt, alloc, plan, threads, progress)?;
+    print_result::<T, V, O>(alloc, plan, &explore_totals, out)
 }
 
-/// Prints what was found. Answers whether all runs are legal. Otherwise as `explore_all`.
-fn print_found<T: Object, V: Vocabulary, O: Write>(
+/// Prints the result. Returns whether all runs are legal. Errors: as for `explore_all`.
+fn print_result<T: Object, V: Vocabulary, O: Write>(
     alloc: Global,
     plan: &ExplorePlan<'_>,
-    found: &Found,
+    explore_totals: &ExploreTotals,
     out: &mut O,
 ) -> Result<bool, Failure>
-    requires { AreTried (IsTriedIn T.sequential V.forms plan.now) plan.now.first (plan.now.first + seeds_in plan.now.first plan.now.last) found.now.illegal }
+    requires { AreTried (IsTriedIn T.sequential V.forms plan.now) plan.now.first (plan.now.first + seeds_in plan.now.first plan.now.last) explore_totals.now.illegal }
     ensures legal { IfOk result (λ is_legal. IsTrue is_legal
         → AreTried (IsTriedIn T.sequential V.forms plan.now) plan.now.first (plan.now.first + seeds_in plan.now.first plan.now.last) None) }
     ensures printed { IfOk result (λ is_legal. IsTrue is_legal
-        → Prints (O.contents out.old) (O.contents out.new) (IsTotals (seeds_in plan.now.first plan.now.last))) }
-    ensures verdict { IfOk result (λ is_legal. IsTrue is_legal ↔ (found.now.illegal ≡ None)) }
+        → HasPrinted (O.contents out.old) (O.contents out.new) (IsTotals (seeds_in plan.now.first plan.now.last))) }
+    ensures verdict { IfOk result (λ is_legal. IsTrue is_legal ↔ (explore_totals.now.illegal ≡ None)) }
     ensures illegal { IfOk result (λ is_legal. is_legal ≡ false → (first : ℕ)
         × AreTried (IsTriedIn T.sequential V.forms plan.now) plan.now.first (plan.now.first + seeds_in plan.now.first plan.now.last) (Some first)) }
     ensures named { IfOk result (λ is_legal. is_legal ≡ false
-        → Prints (O.contents out.old) (O.contents out.new) (IsIllegal (IsMadeBy V.forms plan.now.votes.now plan.now.lines))) }
+        → HasPrinted (O.contents out.old) (O.contents out.new) (IsIllegal (IsGeneratedBy V.forms plan.now.votes.now plan.now.lines))) }
     ensures failed { IfErr result (λ failure. (failure ≡ Output) ⊎ ((out.new ≡ out.old) × IsNotExplored plan.now.votes.now failure)) }
 {
-    match found.illegal {
+    match explore_totals.illegal {
         Some(seed) => {
             print_illegal::<V, O>(alloc, plan, seed, out)?;
             Ok(false)
         }
         None => {
-            print_totals(plan.many(), found, out)?;
+            print_totals(plan.many(), explore_totals, out)?;
             Ok(true)
         }
     }
 }
 
-/// Prints the script of a seed whose run is not legal. Otherwise as `explore_all`.
+/// Prints the script of a seed whose run is not legal. Errors: as for `explore_all`.
 fn print_illegal<V: Vocabulary, O: Write>(
     alloc: Global,
     plan: &ExplorePlan<'_>,
     seed: u64,
     out: &mut O,
 ) -> Result<(), Failure>
-    ensures printed { OnOk result (Prints (O.contents out.old) (O.contents out.new) (IsIllegal (IsMadeBy V.forms plan.now.votes.now plan.now.lines))) }
+    ensures printed { OnOk result (HasPrinted (O.contents out.old) (O.contents out.new) (IsIllegal (IsGeneratedBy V.forms plan.now.votes.now plan.now.lines))) }
     ensures failed { IfErr result (λ failure. (failure ≡ Output) ⊎ ((out.new ≡ out.old) × IsNotExplored plan.now.votes.now failure)) }
 {
-    let text = made_script_by::<V, Global>(alloc, plan.votes, seed, plan.lines)?;
+    let text = generate_script_by::<V, Global>(alloc, plan.votes, seed, plan.lines)?;
     write!(out, "# legal no\n{text}").map_err(|_| Failure::Output)
 }
 
-/// Prints how much was tried of so many seeds, and that all of it is legal.
-fn print_totals<O: Write>(seeds: u64, found: &Found, out: &mut O) -> Result<(), Failure>
+/// Prints the totals over this number of seeds, and that all runs are legal.
+fn print_totals<O: Write>(
+    seeds: u64,
+    explore_totals: &ExploreTotals,
+    out: &mut O,
+) -> Result<(), Failure>
     ensures printed { OnOk result (Appends (O.contents out.old) (O.contents out.new)
-        (totals_text seeds found.now.events found.now.calls found.now.answered found.now.rings)) }
+        (totals_text seeds explore_totals.now.events explore_totals.now.calls explore_totals.now.answered explore_totals.now.rings)) }
     ensures failed { IfErr result (λ failure. failure ≡ Output) }
 {
-    let (events, calls) = (found.events, found.calls);
-    let (answered, rings) = (found.answered, found.rings);
+    let (events, calls) = (explore_totals.events, explore_totals.calls);
+    let (answered, rings) = (explore_totals.answered, explore_totals.rings);
     writeln!(
         out,
         "seeds {seeds}\nevents {events}\ncalls {calls}\nanswered {answered}\nrings {rings}\nlegal yes"
@@ -188,7 +201,7 @@ fn print_totals<O: Write>(seeds: u64, found: &Found, out: &mut O) -> Result<(), 
     .map_err(|_| Failure::Output)
 }
 
-/// Tries all seeds, by so many threads, or by one where that is 0. Where somebody watches, tells on the way how far it has come.
+/// Tries all seeds with this number of threads, or one if that is 0. It reports its progress if `progress` is given.
 fn try_all<
     O: Object<Alloc = Global> + Send,
     V: Vocabulary + Send,
@@ -200,25 +213,26 @@ fn try_all<
     plan: &ExplorePlan<'_>,
     threads: u16,
     progress: Option<&mut P>,
-) -> Result<Found, Fault>
-    ensures ok { IfOk result (λ found.
-        AreTried (IsTriedIn O.sequential V.forms plan.now) plan.now.first (plan.now.first + seeds_in plan.now.first plan.now.last) found.illegal) }
+) -> Result<ExploreTotals, Fault>
+    ensures ok { IfOk result (λ explore_totals.
+        AreTried (IsTriedIn O.sequential V.forms plan.now) plan.now.first (plan.now.first + seeds_in plan.now.first plan.now.last) explore_totals.illegal) }
     ensures refused { IfErr result (IsNotTried plan.now.votes.now) }
 {
     match progress {
         Some(out) => {
             let size = u64::from(threads).saturating_mul(FIRST);
-            let mut meter = Meter::new(rt, plan.many(), size);
-            let found = try_rounds::<O, V, R, P>(rt, alloc, plan, 0, threads, &mut meter, out);
+            let mut meter = ProgressMeter::new(rt, plan.many(), size);
+            let explore_totals = try_rounds::<O, V, R, P>(
+                rt, alloc, plan, 0, threads, &mut meter, out,
+            );
             meter.clear(out);
-            found
+            explore_totals
         }
         None => try_part::<O, V, R>(rt, alloc, plan, threads),
     }
 }
 
-/// Tries the seeds from this place on in rounds, one behind the other, up to a round with a run that is not legal, and tells between them
-/// how far it has come.
+/// Tries the seeds from this index on in rounds, up to a round with a run that is not legal, and reports progress after each.
 fn try_rounds<
     O: Object<Alloc = Global> + Send,
     V: Vocabulary + Send,
@@ -230,58 +244,58 @@ fn try_rounds<
     plan: &ExplorePlan<'_>,
     from: u64,
     threads: u16,
-    meter: &mut Meter,
+    meter: &mut ProgressMeter,
     out: &mut P,
-) -> Result<Found, Fault>
-    ensures ok { let many = seeds_in plan.now.first plan.now.last in IfOk result (λ found. from ≤ many
-        → AreTried (IsTriedIn O.sequential V.forms plan.now) (plan.now.first + from) (plan.now.first + many) found.illegal) }
+) -> Result<ExploreTotals, Fault>
+    ensures ok { let many = seeds_in plan.now.first plan.now.last in IfOk result (λ explore_totals. from ≤ many
+        → AreTried (IsTriedIn O.sequential V.forms plan.now) (plan.now.first + from) (plan.now.first + many) explore_totals.illegal) }
     ensures refused { IfErr result (IsNotTried plan.now.votes.now) }
 {
     let many = plan.many();
     if from >= many {
-        return Ok(Found::new());
+        return Ok(ExploreTotals::new());
     }
     let upto = round_end(from, meter.size(), many);
     let round = plan.part(from, upto);
-    let mut found = try_part::<O, V, R>(rt, alloc, &round, threads)?;
-    if found.illegal.is_some() {
-        return Ok(found);
+    let mut explore_totals = try_part::<O, V, R>(rt, alloc, &round, threads)?;
+    if explore_totals.illegal.is_some() {
+        return Ok(explore_totals);
     }
-    meter.pass(rt, out, upto);
+    meter.end_round(rt, out, upto);
     let others = try_rounds::<O, V, R, P>(rt, alloc, plan, upto, threads, meter, out)?;
-    found.add(&others);
-    Ok(found)
+    explore_totals.add(&others);
+    Ok(explore_totals)
 }
 
-/// Tries the seeds of a plan at once.
+/// Tries the seeds of a plan in a single round.
 fn try_part<O: Object<Alloc = Global> + Send, V: Vocabulary + Send, R: Threads + Sync>(
     rt: &R,
     alloc: Global,
     plan: &ExplorePlan<'_>,
     threads: u16,
-) -> Result<Found, Fault>
-    ensures ok { IfOk result (λ found.
-        AreTried (IsTriedIn O.sequential V.forms plan.now) plan.now.first (plan.now.first + seeds_in plan.now.first plan.now.last) found.illegal) }
+) -> Result<ExploreTotals, Fault>
+    ensures ok { IfOk result (λ explore_totals.
+        AreTried (IsTriedIn O.sequential V.forms plan.now) plan.now.first (plan.now.first + seeds_in plan.now.first plan.now.last) explore_totals.illegal) }
     ensures refused { IfErr result (IsNotTried plan.now.votes.now) }
 {
     let parts = try_shares::<O, V, R>(rt, alloc, plan, threads)?;
-    joined::<O, V>(plan, threads, parts)
+    joined_totals::<O, V>(plan, threads, parts)
 }
 
-/// Tries each of so many shares of the seeds, in a thread of its own where one can be made.
+/// Tries the seeds in this number of shares, each in a thread of its own where one can be started.
 fn try_shares<O: Object<Alloc = Global> + Send, V: Vocabulary + Send, R: Threads + Sync>(
     rt: &R,
     alloc: Global,
     plan: &ExplorePlan<'_>,
     shares: u16,
-) -> Result<Vec<Result<Found, Fault>>, AllocError>
+) -> Result<Vec<Result<ExploreTotals, Fault>>, AllocError>
     ensures len { IfOk result (λ parts. vec_len parts ≡ max shares 1) }
     ensures each { let many = seeds_in plan.now.first plan.now.last in
-        IfOk result (λ parts. (share : ℕ) (part : _) → share < max shares 1 → IfOk (slice_index_or parts.items share part) (λ found.
+        IfOk result (λ parts. (share : ℕ) (part : _) → share < max shares 1 → IfOk (slice_index_or parts.items share part) (λ explore_totals.
         AreTried (IsTriedIn O.sequential V.forms plan.now) (plan.now.first + share_begin many shares share)
-        (plan.now.first + share_begin many shares (share + 1)) found.illegal)) }
+        (plan.now.first + share_begin many shares (share + 1)) explore_totals.illegal)) }
     ensures refused { IfOk result (λ parts. (share : ℕ) (part : _) → share < max shares 1
-        → IfErr (slice_index_or parts.items share part) (IsNotMade plan.now.votes.now)) }
+        → IfErr (slice_index_or parts.items share part) (IsNotGenerated plan.now.votes.now)) }
 {
     thread::map_indices(
         rt,
@@ -291,55 +305,55 @@ fn try_shares<O: Object<Alloc = Global> + Send, V: Vocabulary + Send, R: Threads
     )
 }
 
-/// What was found of all shares, where this was found of each.
-fn joined<O: Object<Alloc = Global>, V: Vocabulary>(
+/// Returns the totals over all shares, given those of each.
+fn joined_totals<O: Object<Alloc = Global>, V: Vocabulary>(
     plan: &ExplorePlan<'_>,
     shares: u16,
-    parts: Vec<Result<Found, Fault>>,
-) -> Result<Found, Fault>
+    parts: Vec<Result<ExploreTotals, Fault>>,
+) -> Result<ExploreTotals, Fault>
     requires len { vec_len parts ≡ max shares 1 }
     requires each { let many = seeds_in plan.now.first plan.now.last in
-        (share : ℕ) (part : _) → share < max shares 1 → IfOk (slice_index_or parts.items share part) (λ found.
+        (share : ℕ) (part : _) → share < max shares 1 → IfOk (slice_index_or parts.items share part) (λ explore_totals.
         AreTried (IsTriedIn O.sequential V.forms plan.now) (plan.now.first + share_begin many shares share)
-        (plan.now.first + share_begin many shares (share + 1)) found.illegal) }
+        (plan.now.first + share_begin many shares (share + 1)) explore_totals.illegal) }
     requires refused { (share : ℕ) (part : _) → share < max shares 1
-        → IfErr (slice_index_or parts.items share part) (IsNotMade plan.now.votes.now) }
-    ensures ok { IfOk result (λ found.
-        AreTried (IsTriedIn O.sequential V.forms plan.now) plan.now.first (plan.now.first + seeds_in plan.now.first plan.now.last) found.illegal) }
-    ensures refused { IfErr result (IsNotMade plan.now.votes.now) }
+        → IfErr (slice_index_or parts.items share part) (IsNotGenerated plan.now.votes.now) }
+    ensures ok { IfOk result (λ explore_totals.
+        AreTried (IsTriedIn O.sequential V.forms plan.now) plan.now.first (plan.now.first + seeds_in plan.now.first plan.now.last) explore_totals.illegal) }
+    ensures refused { IfErr result (IsNotGenerated plan.now.votes.now) }
 {
-    // The contract alone speaks of these two.
+    // Only the contract uses these two.
     let (_, _) = (plan, shares);
-    let mut all = Found::new();
+    let mut all = ExploreTotals::new();
     for part in parts {
-        let found = part?;
-        all.add(&found);
+        let explore_totals = part?;
+        all.add(&explore_totals);
     }
     Ok(all)
 }
 
-/// Tries the seeds of a share, of so many: in their order, up to the first whose run is not legal.
+/// Tries the seeds of one of `shares` shares, in order, up to the first whose run is not legal.
 fn try_share<O: Object<Alloc = Global>, V: Vocabulary>(
     alloc: Global,
     plan: &ExplorePlan<'_>,
     shares: u16,
     share: u64,
-) -> Result<Found, Fault>
+) -> Result<ExploreTotals, Fault>
     ensures ok { let many = seeds_in plan.now.first plan.now.last in
-        IfOk result (λ found. AreTried (IsTriedIn O.sequential V.forms plan.now) (plan.now.first + share_begin many shares share)
-        (plan.now.first + share_begin many shares (share + 1)) found.illegal) }
-    ensures refused { IfErr result (IsNotMade plan.now.votes.now) }
+        IfOk result (λ explore_totals. AreTried (IsTriedIn O.sequential V.forms plan.now) (plan.now.first + share_begin many shares share)
+        (plan.now.first + share_begin many shares (share + 1)) explore_totals.illegal) }
+    ensures refused { IfErr result (IsNotGenerated plan.now.votes.now) }
 {
     let many = plan.many();
-    let mut found = Found::new();
+    let mut explore_totals = ExploreTotals::new();
     let begin = share_begin(many, shares, share);
     let end = share_begin(many, shares, share.saturating_add(1));
     for place in begin..end {
         let one = try_seed::<O, V>(alloc, plan.votes, plan.first + place, plan.lines)?;
-        found.add(&one);
-        if found.illegal.is_some() {
-            return Ok(found);
+        explore_totals.add(&one);
+        if explore_totals.illegal.is_some() {
+            return Ok(explore_totals);
         }
     }
-    Ok(found)
+    Ok(explore_totals)
 }

@@ -1,8 +1,9 @@
-//! Scripts that are made by many seeds, and run and checked by many threads.
+//! The command `explore`: scripts are generated from many seeds, run and checked, by many threads.
+//! Formats: The command line
 #![tactic(auto)]
 
+mod explore_totals;
 mod exploring;
-mod found;
 mod one;
 mod plan;
 

@@ -1,35 +1,40 @@
-//! One seed: its script is made, run and checked.
+//! A single seed: its script is generated, run and checked.
+//! Formats: The command line
 
 ghost use Rattle.std.specs.Prelude.{◌≡◌, ℕ, ◌+◌, ◌↔◌, Bool, List, Ok, OnOk, IfOk, IfErr, IsTrue, length, count_by};
 ghost use Rattle.ring_base.specs.declared.fault.Fault.TheVariants.{Memory};
 ghost use Rattle.ring_script.specs.Fits.{IsFit, AreFit};
 ghost use Rattle.ring_script.specs.Scripts.{script_by, schedule_by};
-ghost use Rattle.ring_script_maker.specs.Made.{IsMadeBy, IsNotMade};
-ghost use Rattle.ring_console.specs.Running.{run_opening, hears, Comes, Does, Pumps, Runs, IsLegal};
+ghost use Rattle.ring_script_generator.specs.Generated.{IsGeneratedBy, IsNotGenerated};
+ghost use Rattle.ring_console.specs.Running.{run_opening, is_connected, IsCopyHandled, IsLineDone, IsPumpDone, AreLinesDone, IsLegal};
 ghost use Rattle.ring_explore.specs.Explored.{AreTried, illegal_of, is_answer};
 ghost use Rattle.ring_explore.specs.Tried.{IsTried};
 
-use crate::found::Found;
+use crate::explore_totals::ExploreTotals;
 use ring_base::{Fault, Fixed, PROCESSORS, Proc, RingId};
 use ring_console::{
-    Event, Line, Pair, Run, Script, ScriptFault, Told, Vocabulary, World, is_legal,
+    Event, OpenCopy, Script, ScriptFault, ScriptLine, ScriptRun, Told, Vocabulary, World, is_legal,
 };
 use ring_object::Object;
-use ring_script_maker::made_script_by;
+use ring_script_generator::generate_script_by;
 use std::alloc::{Allocator, Global};
 
-/// What is found of one seed: its script is made, and run, and its run is checked. Or `Memory`; `NotMember` where these are no votes of
-/// a group; `BadScript` where what was made is no such script.
+/// Generates the script of a seed with `lines` lines before its `show`, runs it, and checks whether its run is legal.
+/// Returns the totals over this one seed.
+/// Errors: `NotMember` unless there are 1 to 16 votes, each at least 1. `BadScript` where the generated text isn't such a
+/// script. `Memory` where it is refused to the script or to the run itself.
+/// Rules: Sessions 10
+/// Formats: The command line
 pub(crate) fn try_seed<O: Object<Alloc = Global>, V: Vocabulary>(
     alloc: Global,
     votes: &[u8],
     seed: u64,
     lines: u32,
-) -> Result<Found, Fault>
-    ensures ok { IfOk result (λ found. AreTried (IsTried O.sequential V.forms votes.now lines) seed (seed + 1) found.illegal) }
-    ensures refused { IfErr result (IsNotMade votes.now) }
+) -> Result<ExploreTotals, Fault>
+    ensures ok { IfOk result (λ explore_totals. AreTried (IsTried O.sequential V.forms votes.now lines) seed (seed + 1) explore_totals.illegal) }
+    ensures refused { IfErr result (IsNotGenerated votes.now) }
 {
-    let text = made_script_by::<V, Global>(alloc, votes, seed, lines)?;
+    let text = generate_script_by::<V, Global>(alloc, votes, seed, lines)?;
     match Script::parse_by::<V>(alloc, text.as_bytes()) {
         Ok(script) => try_script::<O, V>(alloc, script, seed),
         Err(ScriptFault::Memory) => Err(Fault::Memory),
@@ -37,74 +42,74 @@ pub(crate) fn try_seed<O: Object<Alloc = Global>, V: Vocabulary>(
     }
 }
 
-/// What is found of the script of a seed: it is run, and its run is checked. Or `Memory`.
+/// Runs the script of a seed, and checks its run. `Memory`.
 fn try_script<O: Object<Alloc = Global>, V: Vocabulary>(
     alloc: Global,
     script: Script,
     seed: u64,
-) -> Result<Found, Fault>
+) -> Result<ExploreTotals, Fault>
     requires { AreFit script.lines.items }
-    ensures ok { IfOk result (λ found. (made votes : List ℕ) (lines : ℕ) → script_by V.forms made ≡ Ok (schedule_by script)
-        → IsMadeBy V.forms votes lines made → AreTried (IsTried O.sequential V.forms votes lines) seed (seed + 1) found.illegal) }
+    ensures ok { IfOk result (λ explore_totals. (made votes : List ℕ) (lines : ℕ) → script_by V.forms made ≡ Ok (schedule_by script)
+        → IsGeneratedBy V.forms votes lines made → AreTried (IsTried O.sequential V.forms votes lines) seed (seed + 1) explore_totals.illegal) }
     ensures refused { IfErr result (λ fault. fault ≡ Memory) }
 {
-    let mut seen = Seen::<O>::new(alloc, script.nodes)?;
-    let found = found_by::<O, V>(alloc, &mut seen, script, seed);
-    // By name, so that the run is let go in a function of any type, and lives at no exit.
-    drop(seen);
-    found
+    let mut seed_run = SeedRun::<O>::new(alloc, script.nodes)?;
+    let explore_totals = totals_by::<O, V>(alloc, &mut seed_run, script, seed);
+    // Dropped explicitly, so it is dropped in a function generic over its type, and doesn't live until the exits.
+    drop(seed_run);
+    explore_totals
 }
 
-/// The same, where the run is lent at its opening.
-fn found_by<O: Object<Alloc = Global>, V: Vocabulary>(
+/// As `try_script`, with a run at its opening.
+fn totals_by<O: Object<Alloc = Global>, V: Vocabulary>(
     alloc: Global,
-    seen: &mut Seen<O>,
+    seed_run: &mut SeedRun<O>,
     script: Script,
     seed: u64,
-) -> Result<Found, Fault>
+) -> Result<ExploreTotals, Fault>
     requires fit { AreFit script.lines.items }
-    requires opening { seen.old.run ≡ run_opening script.nodes }
-    ensures ok { IfOk result (λ found. (made votes : List ℕ) (lines : ℕ) → script_by V.forms made ≡ Ok (schedule_by script)
-        → IsMadeBy V.forms votes lines made → AreTried (IsTried O.sequential V.forms votes lines) seed (seed + 1) found.illegal) }
+    requires opening { seed_run.old.run ≡ run_opening script.nodes }
+    ensures ok { IfOk result (λ explore_totals. (made votes : List ℕ) (lines : ℕ) → script_by V.forms made ≡ Ok (schedule_by script)
+        → IsGeneratedBy V.forms votes lines made → AreTried (IsTried O.sequential V.forms votes lines) seed (seed + 1) explore_totals.illegal) }
     ensures refused { IfErr result (λ fault. fault ≡ Memory) }
 {
-    seen.take(script)?;
-    seen.found(alloc, seed)
+    seed_run.take(script)?;
+    seed_run.explore_totals(alloc, seed)
 }
 
-/// The run of a script, and what is seen of it on the way.
+/// The run of a script, and the counts taken on the way.
 #[derive(Drop)]
-struct Seen<O: Object> {
-    run: Run<O>,
+struct SeedRun<O: Object> {
+    run: ScriptRun<O>,
     calls: u64,
-    /// The rings that were installed, each once.
+    /// The installed rings, each once.
     rings: Vec<RingId, O::Alloc>,
-    /// The ring that each node had when it was looked at last, before that one that is never installed.
+    /// The ring that each node had when it was last checked, at first one that is never installed.
     last: [RingId; PROCESSORS],
 }
 
-impl<O: Object> Seen<O> {
-    /// The nodes at their opening, or `Memory`.
-    fn new(alloc: O::Alloc, nodes: Fixed) -> Result<Seen<O>, Fault>
-        ensures ok { IfOk result (λ seen. seen.run ≡ run_opening nodes) }
+impl<O: Object> SeedRun<O> {
+    /// Creates a run with all nodes at their opening, or `Memory`.
+    fn new(alloc: O::Alloc, nodes: Fixed) -> Result<SeedRun<O>, Fault>
+        ensures ok { IfOk result (λ seed_run. seed_run.run ≡ run_opening nodes) }
         ensures refused { IfErr result (λ fault. fault ≡ Memory) }
     {
         let none = RingId {
             seq: 0,
             rep: Proc::new(1),
         };
-        Ok(Seen {
-            run: Run::new(alloc, nodes)?,
+        Ok(SeedRun {
+            run: ScriptRun::new(alloc, nodes)?,
             calls: 0,
             rings: Vec::new(alloc),
             last: [none; PROCESSORS],
         })
     }
 
-    /// Does what all lines ask for. Or `Memory`.
+    /// Carries out the requests of all lines, or `Memory`.
     fn take(&mut self, script: Script<O::Alloc>) -> Result<(), Fault>
         requires { AreFit script.lines.items }
-        ensures ok { OnOk result ((text : List ℕ) × Runs O.sequential script.lines.items self.old.run self.new.run text) }
+        ensures ok { OnOk result ((text : List ℕ) × AreLinesDone O.sequential script.lines.items self.old.run self.new.run text) }
         ensures refused { IfErr result (λ fault. fault ≡ Memory) }
     {
         for numbered in script.lines {
@@ -113,13 +118,13 @@ impl<O: Object> Seen<O> {
         Ok(())
     }
 
-    /// Does what a line asks for, a pump turn by turn. Or `Memory`.
-    fn take_line(&mut self, line: Line<O::Alloc>) -> Result<(), Fault>
+    /// Carries out the request of a line, a pump turn by turn; or `Memory`.
+    fn take_line(&mut self, line: ScriptLine<O::Alloc>) -> Result<(), Fault>
         requires { IsFit line }
-        ensures ok { OnOk result (Does O.sequential line self.old.run self.new.run) }
+        ensures ok { OnOk result (IsLineDone O.sequential line self.old.run self.new.run) }
         ensures refused { IfErr result (λ fault. fault ≡ Memory) }
     {
-        if let Line::Pump { turns } = &line {
+        if let ScriptLine::Pump { turns } = &line {
             return self.pump(*turns);
         }
         self.count(&line);
@@ -131,42 +136,43 @@ impl<O: Object> Seen<O> {
         }
     }
 
-    /// Counts the line where it is a call.
-    fn count(&mut self, line: &Line<O::Alloc>)
+    /// Counts the line if it is a call.
+    fn count(&mut self, line: &ScriptLine<O::Alloc>)
         ensures { self.new.run ≡ self.old.run }
     {
-        if let Line::Call { .. } = line {
+        if let ScriptLine::Call { .. } = line {
             self.calls = self.calls.saturating_add(1);
         }
     }
 
-    /// Takes turns, fewer where no copy is open. Or `Memory`.
+    /// Takes this number of turns, fewer if no copy is open; or `Memory`.
     fn pump(&mut self, turns: u32) -> Result<(), Fault>
-        ensures ok { OnOk result (Pumps O.sequential turns self.old.run self.new.run) }
+        ensures ok { OnOk result (IsPumpDone O.sequential turns self.old.run self.new.run) }
         ensures refused { IfErr result (λ fault. fault ≡ Memory) }
     {
         for _ in 0..turns {
-            let Some(pair) = self.run.close_first() else {
+            let Some(pair) = self.run.close_first_copy() else {
                 return Ok(());
             };
-            self.come(pair)?;
+            self.deliver_copy(pair)?;
         }
         Ok(())
     }
 
-    /// A copy that is closed comes to its receiver, or is lost at the cut. Or `Memory`.
-    fn come(&mut self, pair: Pair) -> Result<(), Fault>
-        ensures ok { OnOk result (Comes O.sequential (hears self.old.run.groups pair.sender pair.receiver) pair self.old.run self.new.run) }
+    /// Delivers a closed copy to its receiver, unless the cut loses it; or `Memory`.
+    fn deliver_copy(&mut self, pair: OpenCopy) -> Result<(), Fault>
+        ensures ok { OnOk result (IsCopyHandled O.sequential (is_connected self.old.run.groups pair.sender pair.receiver) pair self.old.run self.new.run) }
         ensures refused { IfErr result (λ fault. fault ≡ Memory) }
     {
-        if !self.run.hears(pair.sender, pair.receiver) {
+        if !self.run.is_connected(pair.sender, pair.receiver) {
             return Ok(());
         }
-        self.run.happen(Event::Deliver(pair.receiver, pair.frame))?;
+        self.run
+            .run_event(Event::Deliver(pair.receiver, pair.frame))?;
         self.look(pair.receiver)
     }
 
-    /// Keeps the ring that is installed at this node, if it was not seen before. Or `Memory`.
+    /// Adds the ring that is installed at this node, if it is new; or `Memory`.
     fn look(&mut self, node: Proc) -> Result<(), Fault>
         ensures run { self.new.run ≡ self.old.run }
         ensures refused { IfErr result (λ fault. fault ≡ Memory) }
@@ -185,18 +191,18 @@ impl<O: Object> Seen<O> {
         Ok(())
     }
 
-    /// What was found of this seed. It is named where its run is not legal, and there alone. Or `Memory`.
-    fn found(&self, alloc: O::Alloc, seed: u64) -> Result<Found, Fault>
-        ensures legal { IfOk result (λ found. (is_legal : Bool) × (IsTrue is_legal ↔ IsLegal O.sequential self.now.run.played)
-            × (found.illegal ≡ illegal_of is_legal seed)) }
-        ensures events { IfOk result (λ found. found.events ≡ length self.now.run.played.events) }
-        ensures calls { IfOk result (λ found. found.calls ≡ self.now.calls) }
-        ensures answered { IfOk result (λ found. found.answered ≡ count_by is_answer self.now.run.played.told) }
+    /// Returns the totals over this seed. They name it exactly where its run is not legal. Or `Memory`.
+    fn explore_totals(&self, alloc: O::Alloc, seed: u64) -> Result<ExploreTotals, Fault>
+        ensures legal { IfOk result (λ explore_totals. (is_legal : Bool) × (IsTrue is_legal ↔ IsLegal O.sequential self.now.run.world_view)
+            × (explore_totals.illegal ≡ illegal_of is_legal seed)) }
+        ensures events { IfOk result (λ explore_totals. explore_totals.events ≡ length self.now.run.world_view.events) }
+        ensures calls { IfOk result (λ explore_totals. explore_totals.calls ≡ self.now.calls) }
+        ensures answered { IfOk result (λ explore_totals. explore_totals.answered ≡ count_by is_answer self.now.run.world_view.told) }
         ensures refused { IfErr result (λ fault. fault ≡ Memory) }
     {
         let is_legal = is_legal(alloc, &self.run)?;
         let world = self.run.world();
-        Ok(Found {
+        Ok(ExploreTotals {
             events: world.events().len() as u64,
             calls: self.calls,
             answered: answers(world),
@@ -206,25 +212,25 @@ impl<O: Object> Seen<O> {
     }
 }
 
-/// The last installed ring of a node. `None` where there is no such node.
+/// Returns the last installed ring of a node: `None` where there is no such node.
 fn ring_of<O: Object>(world: &World<O>, node: Proc) -> Option<RingId> {
     let node = world.fixed().proc(node.number()).ok()?;
     Some(world.node(node).ring())
 }
 
-/// The node at which a line asks for something.
-fn node_of<A: Allocator + Copy>(line: &Line<A>) -> Option<Proc> {
+/// Returns the node that a line's request concerns.
+fn node_of<A: Allocator + Copy>(line: &ScriptLine<A>) -> Option<Proc> {
     match line {
-        Line::Call { node, .. }
-        | Line::Deliver { node, .. }
-        | Line::Timeout { node, .. }
-        | Line::Noise { node, .. }
-        | Line::Stop { node } => Some(*node),
-        Line::Cut(_) | Line::Heal | Line::Pump { .. } | Line::Show => None,
+        ScriptLine::Call { node, .. }
+        | ScriptLine::Deliver { node, .. }
+        | ScriptLine::Timeout { node, .. }
+        | ScriptLine::Noise { node, .. }
+        | ScriptLine::Stop { node } => Some(*node),
+        ScriptLine::Cut(_) | ScriptLine::Heal | ScriptLine::Pump { .. } | ScriptLine::Show => None,
     }
 }
 
-/// How many calls were answered.
+/// Returns the number of answers.
 fn answers<O: Object>(world: &World<O>) -> u64
     ensures { result ≡ count_by is_answer world.now.told }
 {

@@ -1,21 +1,28 @@
-//! Which scripts are tried.
+//! The scripts to explore.
+//! Formats: The command line
 
 ghost use Rattle.std.specs.Prelude.{◌≡◌, ◌≤◌, ◌+◌, ◌^◌, ◌<◌, IsTrue};
 ghost use Rattle.ring_explore.specs.Explored.{seeds_in};
 
-/// The scripts that are tried: those of all seeds from the first to the last, the last included.
+/// The scripts to explore: those of all seeds from `first` to `last`, both included, with these votes and this number of
+/// lines.
+/// Formats: The command line
 #[derive(Clone, Copy)]
 pub struct ExplorePlan<'a> {
-    /// The votes of each node: as many as there are nodes.
+    /// The votes of the nodes, one for each node: 1 to 16 votes, each at least 1.
     pub votes: &'a [u8],
+    /// The first seed.
     pub first: u64,
+    /// The last seed. There are no seeds where it is below the first.
     pub last: u64,
-    /// How many lines each script has, or 10,000 where this is more, and `show` behind them.
+    /// The number of lines of each script before its final `show`. A number above 10,000 means 10,000.
     pub lines: u32,
 }
 
 impl ExplorePlan<'_> {
-    /// How many seeds there are: none where the last stands before the first. Of all 2^64 the last is left out.
+    /// Returns the number of seeds: 0 where the last is below the first. Of all 2^64 seeds it counts 2^64 - 1: the last is
+    /// left out.
+    /// Formats: The command line
     pub fn many(&self) -> u64
         ensures { result ≡ seeds_in self.now.first self.now.last }
     {
@@ -25,7 +32,8 @@ impl ExplorePlan<'_> {
         (self.last - self.first).saturating_add(1)
     }
 
-    /// Of these seeds those from one place up to another, that left out.
+    /// Returns the plan for the seeds from index `from` up to, but not including, index `upto`, counted from 0. There must
+    /// be at least one such index, and `upto` is at most [`many`](ExplorePlan::many).
     pub(crate) fn part(&self, from: u64, upto: u64) -> ExplorePlan<'_>
         requires some { from < upto }
         requires within { upto ≤ seeds_in self.now.first self.now.last }

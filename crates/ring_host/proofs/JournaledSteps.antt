@@ -4,18 +4,18 @@ use Rattle.std.specs.Borrow.{Bor}
 use Rattle.ring_base.specs.declared.fault.Fault.{Fault}
 use Rattle.ring_payload.specs.declared.call.Call.{Call}
 use Rattle.ring_book_lines.specs.declared.input.LineInput.{LineInput}
-use Rattle.ring_book_lines.specs.declared.input.LineInput.TheVariants.{Called}
-use Rattle.ring_book_lines.specs.Lines.{steps_of, IsFound}
+use Rattle.ring_book_lines.specs.declared.input.LineInput.TheVariants.{Submitted}
+use Rattle.ring_book_lines.specs.Lines.{steps_of, IsDeliverable}
 use Rattle.ring_book_lines.specs.Machines.{Machine}
 use Rattle.ring_book_lines.specs.Runs.{IsStep}
 use Rattle.ring_book_lines.specs.Steps.{StepView, LineView}
-use Rattle.ring_book.specs.Books.{Enters, IsStrange}
-use Rattle.ring_book.specs.Cells.{Journals}
-use Rattle.ring_book.specs.Entered.{EnterGives}
+use Rattle.ring_book.specs.Books.{HasEntered, IsStrange}
+use Rattle.ring_book.specs.Cells.{HasJournaled}
+use Rattle.ring_book.specs.Entered.{IsEnterResult}
 use Rattle.ring_book.specs.Seen.{CellView, BookView}
-use Rattle.ring_host.specs.Lent.{IsPast, IsEntered, IsCallRefused}
+use Rattle.ring_host.specs.LockedSteps.{IsPast, IsEntered, IsCallRefused}
 
--- two lists that are the same end with the same
+-- Two equal lists end with the same element.
 pub last_same : {T : Type 0} (xs ys : List T) (x y : T) → xs ++ x ∷ [] ≡ ys ++ y ∷ [] → x ≡ y
 last_same [] [] x y e = let same : x ∷ [] ≡ y ∷ [] = e in cc
 last_same [] (b ∷ ys) x y e = let n = ap length e in absurd (omega (arith, n, length-append ys (y ∷ [])))
@@ -26,8 +26,8 @@ last_same (a ∷ xs) (b ∷ ys) x y e =
     last_same xs ys x y behind
 
 module _ {S A : Type 0} (m : Machine S A) where
-  -- a step that a cell journaled and the book entered is the same in both
-  step_entered : (old mid new : CellView S A) (book book' : BookView A) (input : LineInput A) → Journals m old mid input → Enters book book' mid new
+  -- A step that a cell journaled and the book entered is the same in both.
+  step_entered : (old mid new : CellView S A) (book book' : BookView A) (input : LineInput A) → HasJournaled m old mid input → HasEntered book book' mid new
       → IsEntered m old new book.lines book'.lines input
   step_entered old mid new book book' input j e =
       let one : e.step ≡ j.step = last_same (steps_of mid.me book.lines) old.journal e.step j.step (sym e.was ∙ j.journal) in
@@ -44,8 +44,8 @@ module _ {S A : Type 0} (m : Machine S A) where
         line = subst (λ (s : StepView A). book'.lines ≡ book.lines ++ record { number = length book.lines; step = s } ∷ []) one e.lines;
       }
 
-  -- a call that a cell journaled is not entered only where the lines are past the cell
-  call_strange : (old mid : CellView S A) (book : BookView A) (call : Call A) → Journals m old mid (Called call) → 0 < book.reserved
+  -- A call that a cell journaled is refused by the book only where the lines are past the cell.
+  call_strange : (old mid : CellView S A) (book : BookView A) (call : Call A) → HasJournaled m old mid (Submitted call) → 0 < book.reserved
       → IsStrange book mid → IsPast old book.lines
   call_strange old mid book call j some strange =
       elim strange [
@@ -54,24 +54,24 @@ module _ {S A : Type 0} (m : Machine S A) where
           | inl all ↦ (j.step, subst (λ (n : ℕ). steps_of n book.lines ≡ old.journal ++ j.step ∷ []) j.me (sym all ∙ j.journal))
           | inr lost ↦
               let one : lost.0 ≡ j.step = last_same (steps_of mid.me book.lines) old.journal lost.0 j.step (sym lost.1 ∙ j.journal) in
-              let input : lost.0.input ≡ Called call = ap (λ (s : StepView A). s.input) one ∙ j.step_input in
-              let found = subst (λ (i : LineInput A). IsFound book.lines lost.0.node i) (sym input) tt in
+              let input : lost.0.input ≡ Submitted call = ap (λ (s : StepView A). s.input) one ∙ j.step_input in
+              let found = subst (λ (i : LineInput A). IsDeliverable book.lines lost.0.node i) (sym input) tt in
               absurd (lost.2 found)
         ]
       ]
 
-  -- what `enter` answers of a step that a cell journaled: it is entered
+  -- `enter` of a journaled step succeeded: it is entered.
   pub line_entered : (old mid new : CellView S A) (book book' : BookView A) (input : LineInput A) (r : Result (Bor (LineView A)) Fault)
-      (l : Bor (LineView A)) → Journals m old mid input → EnterGives book book' mid new r → r ≡ Ok l
+      (l : Bor (LineView A)) → HasJournaled m old mid input → IsEnterResult book book' mid new r → r ≡ Ok l
       → IsEntered m old new book.lines book'.lines input
   line_entered old mid new book book' input r l j gives is =
-      let e = subst (λ (x : Result (Bor (LineView A)) Fault). EnterGives book book' mid new x) is gives in
+      let e = subst (λ (x : Result (Bor (LineView A)) Fault). IsEnterResult book book' mid new x) is gives in
       step_entered old mid new book book' input j e.0
 
-  -- and why it is not, of a call
+  -- `enter` of a journaled call was refused: the reason.
   pub line_refused : (old mid new : CellView S A) (book book' : BookView A) (call : Call A) (r : Result (Bor (LineView A)) Fault) (fault : Fault)
-      → Journals m old mid (Called call) → 0 < book.reserved → EnterGives book book' mid new r → r ≡ Err fault
+      → HasJournaled m old mid (Submitted call) → 0 < book.reserved → IsEnterResult book book' mid new r → r ≡ Err fault
       → IsCallRefused m old new book.lines fault
   line_refused old mid new book book' call r fault j some gives is =
-      let e = subst (λ (x : Result (Bor (LineView A)) Fault). EnterGives book book' mid new x) is gives in
+      let e = subst (λ (x : Result (Bor (LineView A)) Fault). IsEnterResult book book' mid new x) is gives in
       inr (e.0, call_strange old mid book call j some e.3)

@@ -1,17 +1,18 @@
--- What `poll` promises (docs/PROTOCOL.md, The book and the threads).
+-- The promise of `poll`.
+-- Rules: The book and the threads 15 and 26
 use Rattle.std.specs.Prelude.{ℕ, ◌≡◌, ◌<◌, ◌+◌, List, length, Some, slice_get}
 use Rattle.ring_base.specs.Group.{Group}
 use Rattle.ring_object.specs.Operations.{Sequential}
 use Rattle.ring_session.specs.declared.answer.Answer.{Answer}
 use Rattle.ring_book.specs.Lines.{answer_in, IsRun, steps_of, calls_of, LineView}
 
--- Some run of the group has the issue of the node's ticket, which is a place among the node's calls, and this answer to it.
+-- Some run of the group issues the node's ticket, which counts the node's calls, and has this answer to it.
 pub record IsAnswered (A : Type 0) {O : Type 0} (object : Sequential O) (group : Group) (node ticket : ℕ) (answer : Answer) : Type 0 where
   pub lines : List (LineView A)
   pub run : IsRun object group lines
   pub issued : ticket < length (calls_of (steps_of node lines))
   pub answered : answer_in lines node ticket ≡ Some answer
 
--- Each of the answers is answered, of the node's tickets from this one on.
+-- Each of these is the answer to one of the node's tickets, which count up from `first`.
 abbrev pub AreAnswered : (A : Type 0) {O : Type 0} → Sequential O → Group → ℕ → ℕ → List Answer → Type 0
 AreAnswered A object group node first answers = (i : ℕ) (a : Answer) → slice_get answers i ≡ Some a → IsAnswered A object group node (first + i) a

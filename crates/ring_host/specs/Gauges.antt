@@ -1,2 +1,2 @@
--- What contracts see of a host, its gauge, passed on to what speaks of hosts.
+-- The view of a host in contracts, its gauge, re-exported for crates that use hosts.
 pub use Rattle.atomic_table.specs.Seated.{TableId}

@@ -1,52 +1,52 @@
--- What the step of a turn did (docs/PROTOCOL.md, The book and the threads).
+-- The report of a turn's step.
+-- Rules: The book and the threads 21 and 29
 use Rattle.std.specs.Prelude.{ℕ, ◌≡◌, ◌≤◌, List, [], ◌∷◌, ◌++◌, Option, length}
 use Rattle.ring_base.specs.Group.{Group}
 use Rattle.ring_base.specs.declared.kind.Kind.{Kind}
 use Rattle.ring_base.specs.declared.state.State.TheVariants.{Operational}
 use Rattle.ring_object.specs.Operations.{Sequential}
 use Rattle.ring_wire.specs.declared.frame.Frame.{Frame as OneFrame}
-use Rattle.ring_rules.specs.Nodes.{Node, node_kept, node_length}
-use Rattle.ring_rules.specs.Worlds.{world_opening, run}
-use Rattle.ring_book.specs.Lines.{IsRun, events_of, LineView, StepView, Came}
-use Rattle.ring_host.specs.Tasks.{found_of, input_of, ref_of}
-use Rattle.ring_host.specs.declared.gate.Stir.{Stir}
-use Rattle.ring_host.specs.declared.gate.Stir.TheVariants as stirs
-use Rattle.ring_host.specs.declared.item.Found.{Found}
-use Rattle.ring_host.specs.declared.item.Found.TheVariants as found
+use Rattle.ring_node_spec.specs.Nodes.{Node, node_known_log, node_length}
+use Rattle.ring_node_spec.specs.Worlds.{world_opening, run}
+use Rattle.ring_book.specs.Lines.{IsRun, events_of, LineView, StepView, Received}
+use Rattle.ring_host.specs.Tasks.{task_kind_of, input_of, ref_of}
+use Rattle.ring_host.specs.declared.gate.TurnActivity.{TurnActivity}
+use Rattle.ring_host.specs.declared.gate.TurnActivity.TheVariants as stirs
+use Rattle.ring_host.specs.declared.item.TaskKind.{TaskKind}
+use Rattle.ring_host.specs.declared.item.TaskKind.TheVariants as task_kind
 use Rattle.ring_host.specs.declared.item.Task.{Task}
-use Rattle.ring_host.specs.declared.step.Done.{Done}
+use Rattle.ring_host.specs.declared.step.StepReport.{StepReport}
 
--- a step that sent so many frames leaves this node quiet: that is one at most, the node's ring is installed, and all of its log is committed
-abbrev pub LeavesQuiet : {A : Type 0} → Node A → ℕ → Type 0
-LeavesQuiet node sent = (sent ≤ 1) × (node.core.state ≡ Operational) × (node_length node ≡ (node_kept node).committed)
+-- A step that sent `sent` frames leaves this node quiet: at most one frame, the ring installed, and all of the log committed.
+abbrev pub IsLeftQuiet : {A : Type 0} → Node A → ℕ → Type 0
+IsLeftQuiet node sent = (sent ≤ 1) × (node.core.state ≡ Operational) × (node_length node ≡ (node_known_log node).committed)
 
--- What is kept for a gate of a step that found this and sent so many frames, of the node after it: that no more than a timeout came, or no more than a
--- token, and the node is quiet; or that there was something to do, as there always is where it is not quiet, or another frame came.
-abbrev pub IsStir : {A : Type 0} → Node A → Found → ℕ → Stir → Type 0
-IsStir node what sent stirs.Nothing = ⊥
-IsStir node what sent stirs.Timeout = (kind : Kind) × (what ≡ found.Timeout kind) × LeavesQuiet node sent
-IsStir node what sent stirs.Quiet = (what ≡ found.Token) × LeavesQuiet node sent
-IsStir node what sent stirs.Busy = LeavesQuiet node sent → what ≡ found.Other
+-- The activity that a step on a task of this kind reports to a gate, by the node after it and its number of frames sent. It is a
+-- timeout or a token that left the node quiet, or else busy.
+abbrev pub IsTurnActivity : {A : Type 0} → Node A → TaskKind → ℕ → TurnActivity → Type 0
+IsTurnActivity node what sent stirs.Nothing = ⊥
+IsTurnActivity node what sent stirs.Timeout = (kind : Kind) × (what ≡ task_kind.Timeout kind) × IsLeftQuiet node sent
+IsTurnActivity node what sent stirs.Quiet = (what ≡ task_kind.Token) × IsLeftQuiet node sent
+IsTurnActivity node what sent stirs.Busy = IsLeftQuiet node sent → what ≡ task_kind.Other
 
--- these lines, with one more behind them, of this step
+-- These lines followed by a line of this step.
 abbrev pub with_step : {A : Type 0} → List (LineView A) → StepView A → List (LineView A)
 with_step lines step = lines ++ record { number = length lines; step = step } ∷ []
 
 module _ {O A : Type 0} (object : Sequential O) (group : Group) where
-  -- a node of the group after the run that these lines are
+  -- The node's state after the run that these lines are.
   abbrev pub node_after_lines : List (LineView A) → ℕ → Node A
   node_after_lines lines node = (run object (world_opening group) (events_of lines)).nodes node
 
-  -- What was done of a task. Some run of the group ends with the task: its last line is a step of a node, on the timeout that the task is, or on the
-  -- frame that it is and that was read into the place. What is kept of that step is so: what the task is to a clock and to a gate, how many frames the step
-  -- sent, how many places the node has committed after it, and what is kept for a gate.
-  pub record IsDoneOf (place : Option (OneFrame A)) (task : Task A) (done : Done) : Type 0 where
+  -- The step report of a task. Some run of the group ends with a step on the task: on its timeout, or on the frame read into the
+  -- place. The report has the task's kind, that step's number of frames, the node's committed length after it, and its activity.
+  pub record IsStepReport (place : Option (OneFrame A)) (task : Task A) (done : StepReport) : Type 0 where
     pub lines : List (LineView A)
     pub step : StepView A
     pub is_run : IsRun object group (with_step lines step)
     pub member : (1 ≤ step.node) × (step.node ≤ group.count)
-    pub input : step.input ≡ Came (input_of place task) (ref_of task)
-    pub is_found : done.found ≡ found_of place task
+    pub input : step.input ≡ Received (input_of place task) (ref_of task)
+    pub task_kind_is : done.task_kind ≡ task_kind_of place task
     pub frames : done.sent ≡ length step.frames
-    pub committed : done.length ≡ (node_kept (node_after_lines (with_step lines step) step.node)).committed
-    pub stir : IsStir (node_after_lines (with_step lines step) step.node) done.found done.sent done.stir
+    pub committed : done.length ≡ (node_known_log (node_after_lines (with_step lines step) step.node)).committed
+    pub activity : IsTurnActivity (node_after_lines (with_step lines step) step.node) done.task_kind done.sent done.activity

@@ -1,43 +1,105 @@
-//! What a run tells of its turns.
+//! Gates: the threads of a run report their turns to one, and it may hold them up.
+//!
+//! Rules: The book and the threads 21 and 29
 
 use ring_base::Proc;
+use std::thread;
 
-/// A place in a turn.
+/// The point in a turn at which the thread calls the gate.
+///
+/// Rules: The book and the threads 21 and 29
 #[derive(Clone, Copy, Debug, PartialEq, Eq)]
 pub enum GatePlace {
-    /// The node's lock is held, before its step.
+    /// The thread holds the node's lock, and the turn's step comes next. A place in the book isn't reserved yet.
     Held,
-    /// The node's line is entered, and its length published.
+    /// The node's line is entered, the frames are sent and the node's length is published. A refused turn doesn't reach this
+    /// point.
     Entered,
 }
 
-/// What came in a turn, as far as it tells whether the ring has anything to do.
+/// The activity seen in one turn that was not refused, from which a gate decides whether the node may rest.
+///
+/// Rules: The book and the threads 29
 #[derive(Clone, Copy, Debug, PartialEq, Eq)]
-pub enum Stir {
-    /// Nothing came.
+pub enum TurnActivity {
+    /// The turn found no timeout that is due and no item in the inbox.
     Nothing,
-    /// No more than a timeout: the node sent at most one frame, its ring is installed, and all of its log is committed.
+    /// A timeout only: the node sent at most one frame, its ring is installed, and all of its log is committed.
     Timeout,
-    /// No more than a token or a commit token: the node sent at most one frame, its ring is installed, and all of its log is committed.
+    /// A token or a commit token only: the node sent at most one frame, its ring is installed, and all of its log is committed.
     Quiet,
-    /// Something else.
+    /// Anything else: a message or a join came, the node sent more frames, its ring isn't installed, or its log isn't all
+    /// committed.
     Busy,
 }
 
-/// What the threads of a run tell of their turns. It may hold them up. At `Held` the thread has its node's lock, so a gate must
-/// not call the host there, nor wait for what that node does.
+/// An observer of the turns of [`Host::run`](crate::HostOf::run), which may hold its threads up. At `Held` the thread has its
+/// node's lock, so a gate must not call the host there, nor wait for anything that this node does.
+///
+/// Rules: The book and the threads 29
 pub trait Gate {
-    /// A turn of the node has come to this place.
-    fn at(&self, node: Proc, place: GatePlace);
+    ghost use Rattle.std.specs.Prelude.{ℕ};
+    ghost use Rattle.ring_host.specs.declared.gate.GatePlace.{GatePlace as OnePlace};
 
-    /// A turn of the node that was not refused is over.
-    fn over(&self, _node: Proc, _stir: Stir) {}
+    // Whether the gate was called with this node at this point. Nothing but such a call states it.
+    ghost has_reached: { Self → ℕ → OnePlace → Type 0 } = { λ gate node place. Unit {0} };
+
+    /// Called when a turn of the node reaches this point, on the thread that takes the turn. The turn goes on when the call
+    /// returns.
+    ///
+    /// Rules: The book and the threads 21 and 29
+    fn at(&self, node: Proc, place: GatePlace)
+        ensures { has_reached self.now node place };
+
+    /// Called when a turn of the node that was not refused is over, with the activity seen in it. The node's next turn begins
+    /// when the call returns. A gate that doesn't define it does nothing here.
+    ///
+    /// Rules: The book and the threads 29
+    fn after_turn(&self, _node: Proc, _activity: TurnActivity) {}
+
+    /// Returns whether `after_turn` makes a thread wait that finds nothing to do. Where it doesn't, such turns wait as under
+    /// [`OpenGate`]. A gate that doesn't define it returns false.
+    ///
+    /// Rules: The book and the threads 29
+    fn has_own_waits(&self) -> bool {
+        false
+    }
 }
 
-/// A gate that lets all pass: the nodes go at full speed, also where there is nothing to do.
-#[derive(Clone, Copy, Debug, PartialEq, Eq)]
-pub struct Open;
+/// The gate of turns that a caller takes by hand: a turn that finds nothing yields.
+///
+/// Rules: The book and the threads 21
+pub(crate) struct YieldingGate;
 
-impl Gate for Open {
+impl Gate for YieldingGate {
+    fn at(&self, _node: Proc, _place: GatePlace) {}
+
+    fn after_turn(&self, _node: Proc, activity: TurnActivity) {
+        if activity == TurnActivity::Nothing {
+            thread::yield_now();
+        }
+    }
+
+    fn has_own_waits(&self) -> bool {
+        true
+    }
+}
+
+/// A gate that lets all threads pass: the nodes run at full speed, also where there is nothing to do.
+///
+/// After a turn that finds nothing node 1 yields once, and each next node up to two times more, until an item comes. After 50
+/// such turns in a row the node sleeps instead at each tenth, until an item comes: node 1 for at most 50 microseconds, and each
+/// next node for 100 more. After the others it looks again at once.
+///
+/// In Gather a node yields once after each of the first 500 turns that find nothing, and then *naps* after each further 200, and
+/// when it enters Gather. Node 1's nap has ten slices of a millisecond, and that of each next node four more. An item begins the
+/// present slice anew, so joins neither end a nap nor put it off. Node 1 gives up a silent node after some 40 naps, and each next
+/// node later: by then it has heard of this.
+///
+/// Rules: The book and the threads 29
+#[derive(Clone, Copy, Debug, PartialEq, Eq)]
+pub struct OpenGate;
+
+impl Gate for OpenGate {
     fn at(&self, _node: Proc, _place: GatePlace) {}
 }

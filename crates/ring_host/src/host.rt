@@ -1,29 +1,31 @@
-//! The host, and what its callers ask of it.
+//! The host: a book's nodes behind locks, and the calls of its threads and callers.
+//!
+//! Rules: The book and the threads 19, 20, 24 to 26 and 28
 
 ghost use Rattle.std.specs.Prelude.{◌≡◌, ◌<◌, ◌≤◌, ◌⊎◌, [], ◌++◌, All, IfOk, IfErr, IfSome, IfNone, OnErr};
 ghost use Rattle.std.specs.Prelude.{Ok, Some, None, option_to_list};
 ghost use Rattle.ring_base.specs.declared.fault.Fault.TheVariants.{NotMember, Memory, Stranger};
 ghost use Rattle.std.specs.Fn.{FnOnceReturnsAt};
 ghost use Rattle.ring_payload.specs.Calls.{CallFits};
-ghost use Rattle.ring_seat.specs.Clocks.{counted};
+ghost use Rattle.ring_seat.specs.Clocks.{clock_after_turn};
 ghost use Rattle.ring_seat.specs.Seats.{IsAt, IsOwn};
 ghost use Rattle.ring_host.specs.Answering.{IsAnswered};
-ghost use Rattle.ring_host.specs.Refusing.{IsTurnFault, IsSubmitFault};
+ghost use Rattle.ring_host.specs.RefusingHeap.{IsTurnFault, IsSubmitFault};
 ghost use Rattle.ring_host.specs.declared.item.Task.TheVariants.{Timeout};
 ghost use Rattle.ring_host.specs.Tasks.{TaskFits, IsFrame};
-ghost use Rattle.ring_host.specs.Turns.{published_by, IsCounted};
+ghost use Rattle.ring_host.specs.Turns.{published_by, IsCounted, IsReported};
 
-use crate::answers::Answers;
-use crate::bell::Bell;
-use crate::gate::Open;
+use crate::answers::AnswerCache;
+use crate::event_count::EventCount;
+use crate::gate::YieldingGate;
 use crate::inbox::Inbox;
 use crate::item::Task;
+use crate::locked_step::stop_cell;
+use crate::locked_submit::submit_call;
+use crate::locking::take;
 use crate::step::turn_of;
-use crate::submitting::submit_in;
-use crate::taking::take;
 use crate::turn::Turn;
-use crate::turning::stop_in;
-use ring_base::{Fault, Kind, MOST_PROCESSORS, Proc};
+use ring_base::{Fault, Kind, MAX_PROCESSORS, Proc};
 use ring_book::{Book, BookName, Cell};
 use ring_object::Object;
 use ring_payload::Call;
@@ -35,28 +37,38 @@ use std::marker::Model;
 use std::sync::atomic::{AtomicBool, Ordering};
 use std::sync::{Mutex, Wait};
 
-/// What is polled for the answer to a call that was submitted at a node.
+/// The ticket of a call that was submitted at a node of the host. [`HostOf::poll`] takes this and returns the answer.
+///
+/// Rules: The book and the threads 24 and 26
 #[derive(Clone, Copy, Debug, PartialEq, Eq)]
 pub struct HostTicket {
-    /// Where the call was submitted.
+    /// The node at which the call was submitted.
     pub node: Proc,
-    /// The ticket that the node gave for it.
+    /// The ticket that the node gave for the call: its place, from 0, among all tickets of the node.
     pub ticket: Ticket,
 }
 
-/// A book's nodes, behind locks. `C` is what a node's lock holds, and `B` what the book's lock holds. Contracts see its gauge, at
-/// which its seats are, and which has a word for each node.
+/// A book's nodes behind locks, with their inboxes, the book and the gauge. `C` is the content of a node's lock, and `B` that of
+/// the book's lock. Contracts see the host's gauge: its seats belong to it, and it has a word for each node.
 ///
-/// A node's lock is taken before the book's, and no call holds the locks of two nodes.
+/// Lock order: a node's lock, then the book's. No call holds the locks of two nodes.
+///
+/// Rules: The book and the threads 19 and 20
 #[derive(Drop)]
 pub struct HostOf<C, B, A: Allocator + Copy + Drop = Global> {
+    /// The allocator of copies of frames.
     pub(crate) alloc: A,
+    /// The cells behind locks, that of processor 1 first.
     pub(crate) cells: Vec<Mutex<C>, A>,
+    /// The inboxes of the nodes, that of processor 1 first.
     pub(crate) inboxes: Vec<Inbox<A>, A>,
+    /// The committed length of each node, as its turns published it.
     pub(crate) gauge: Gauge<A>,
-    /// It rings at each submit, and at the close.
-    pub(crate) bell: Bell,
+    /// Notified by each submit, by each stop and by the close.
+    pub(crate) event_count: EventCount,
+    /// Whether the host is closed.
     pub(crate) closed: AtomicBool,
+    /// The book behind its lock.
     pub(crate) book: Mutex<B>,
 }
 
@@ -71,11 +83,15 @@ impl<C, B, A: Allocator + Copy + Drop> Model for HostOf<C, B, A> {
     ghost invariant = { λ h. (vec_len h.cells ≡ h.gauge.words) × (vec_len h.inboxes ≡ h.gauge.words) };
 }
 
-/// The host of a book that K names.
+/// The host of the book that `K` names: its cells, of nodes with objects `O`, and that book behind locks.
+///
+/// Rules: The book and the threads 19
 pub type Host<O: Object, K> = HostOf<Cell<O, K>, Book<O, K>, O::Alloc>;
 
 impl<C, B, A: Allocator + Copy + Drop> HostOf<C, B, A> {
-    /// What the closure answers of the book, lent under its lock. It must not call the host: it would wait for itself.
+    /// Runs the closure with the book locked and returns its result. It waits for the lock. Calling the host inside deadlocks.
+    ///
+    /// Rules: The book and the threads 26
     pub fn read_book<W: Wait, R, F: FnOnce(&B) -> R>(&self, rt: &W, f: F) -> R
         requires { F.IsAlwaysCallable f }
         ensures { (b : _) × FnOnceReturnsAt F.FnOnce f b result }
@@ -84,20 +100,26 @@ impl<C, B, A: Allocator + Copy + Drop> HostOf<C, B, A> {
         f(&book)
     }
 
-    /// The processor of this number, for the host's calls. `NotMember` unless it is one of this host's.
+    /// Returns the host's processor of this number.
+    ///
+    /// Errors: `NotMember` unless `number` is 1 to the number of nodes.
+    ///
+    /// Rules: The book and the threads 19
     pub fn proc(&self, number: u8) -> Result<Proc, Fault>
         ensures ok { IfOk result (λ node. (node ≡ number) × (node ≤ self.now.words)) }
         ensures err { OnErr result (1 ≤ number → number ≤ 16 → self.now.words < number) }
         ensures refused { IfErr result (λ fault. fault ≡ NotMember) }
     {
-        if number == 0 || number > MOST_PROCESSORS || usize::from(number) > self.inboxes.len() {
+        if number == 0 || number > MAX_PROCESSORS || usize::from(number) > self.inboxes.len() {
             return Err(Fault::NotMember);
         }
         Ok(Proc::new(number))
     }
 
-    /// Takes the last of these seats of the host's, if there is one: of those that it was made with, the seats of none come first, and
-    /// then the nodes' own, the last node's before the others.
+    /// Removes and returns the last of these seats of the host; `None` for an empty list. From the list that the host was made
+    /// with, the seats of no node come first. The nodes' own seats follow, from the last node to node 1.
+    ///
+    /// Rules: The book and the threads 19
     pub fn take_seat(&self, seats: &mut Vec<Seat<A>, A>) -> Option<Seat<A>>
         requires { All (IsAt self.now) seats.old.items }
         ensures seats { All (IsAt self.now) seats.new.items }
@@ -108,22 +130,30 @@ impl<C, B, A: Allocator + Copy + Drop> HostOf<C, B, A> {
         seats.pop()
     }
 
-    /// The gauge.
+    /// Returns the host's gauge: for each node a word with the greatest committed length that was published for it, 0 at first.
+    ///
+    /// Rules: The book and the threads 33 and 34
     pub fn gauge(&self) -> &Gauge<A>
         ensures { result.now ≡ self.now }
     {
         &self.gauge
     }
 
-    /// Closes the host, for good: the threads of `run` end. They alone look at it, so that turns and submits of others go on. It takes
-    /// no lock and no memory.
+    /// Closes the host for good: the threads of `run` end after their present turn, and all rests end. Turns and submits of other
+    /// callers don't look at it and go on. It takes no lock and no memory.
+    ///
+    /// Rules: The book and the threads 28 and 29
     pub fn close(&self) {
         self.closed.store(true, Ordering::SeqCst);
-        self.bell.ring();
+        self.event_count.notify_all();
     }
 
-    /// The next task of a node: the timeout, or the first item of its inbox, whose frame is read into the place. `Memory` or `Stranger`
-    /// where that can't be read.
+    /// Takes the node's next task: the timeout that is due, else the first item of the inbox, whose frame is read into `place`.
+    /// Returns `None` where there is neither.
+    ///
+    /// Errors: `Memory` or `Stranger` where the item can't be read; the item is then spent.
+    ///
+    /// Rules: The book and the threads 21 and 22
     pub(crate) fn task<W: Wait>(
         &self,
         rt: &W,
@@ -148,30 +178,40 @@ impl<C, B, A: Allocator + Copy + Drop> HostOf<C, B, A> {
 }
 
 impl<O: Object, K: BookName<O::Alloc>> HostOf<Cell<O, K>, Book<O, K>, O::Alloc> {
-    /// One turn of the seat's node: a timeout that is due, or else the first item of its inbox. Tells how many places
-    /// the node has committed, dropped ones included, which is published on the seat; a turn that finds nothing yields, and publishes none.
-    /// The seat is one of this host's, and a node's own. Its clock counts the turn, and begins anew as [`Seat::tick`] says, and as
-    /// [`Seat::take`] does where the item is a token or a commit token that the step doesn't ignore.
+    /// Does one turn of the seat's node: a timeout that is due, or else the first item of its inbox. Returns the number of copies
+    /// dropped and the node's committed length, dropped places included, which it publishes on the seat. A turn that finds
+    /// nothing yields and publishes nothing.
     ///
-    /// Refused: `Memory` or `Stranger` where the item can't be read or doesn't stand in the book; `BookFull`, `Memory` of the place;
-    /// then as the node's step, `Stopped` or `Memory`, which leaves the node stopped. Nothing is published then, and the timeout or item
-    /// that the turn took is spent.
+    /// The seat is one of this host's and a node's own. [`Seat::tick`] counts the turn on its clock. [`Seat::take`] restarts the
+    /// timeouts where the item is a token or a commit token that the step doesn't ignore.
+    ///
+    /// Errors: `Memory` or `Stranger` where the item can't be read or isn't in the book; then `BookFull`, or `Memory` for the
+    /// place; then those of the node's step: `Stranger`, `Stopped`, or `Memory`, which leaves the node stopped. A refused turn
+    /// publishes nothing, and the timeout or item that it took is spent.
+    ///
+    /// Rules: The book and the threads 21 and 22, 30 to 32
     pub fn turn<W: Wait>(&self, rt: &W, seat: &mut Seat<O::Alloc>) -> Result<Turn, Fault>
         requires own { IsOwn self.now seat.old }
         ensures seat { IsOwn self.now seat.new × (seat.new.node ≡ seat.old.node) × (seat.new.seen ≡ seat.old.seen) }
         ensures ok { IfOk result (λ turn. seat.new.published ≡ published_by turn.length seat.old.published) }
-        ensures vain { IfOk result (λ turn. turn.length ≡ None → turn.dropped ≡ 0) }
+        ensures empty_turns { IfOk result (λ turn. turn.length ≡ None → turn.dropped ≡ 0) }
         ensures clock { IfOk result (λ turn. IsCounted turn.length seat.old.clock seat.new.clock) }
-        ensures err { OnErr result ((seat.new.published ≡ seat.old.published) × (seat.new.clock ≡ counted seat.old.clock)) }
+        ensures step { IfOk result (λ turn.
+            IsReported O.Alloc O.sequential K.name.group turn.length seat.old.clock seat.new.clock) }
+        ensures err { OnErr result ((seat.new.published ≡ seat.old.published) × (seat.new.clock ≡ clock_after_turn seat.old.clock)) }
         ensures refused { IfErr result IsTurnFault }
     {
-        let done = self.gated_turn(rt, seat, &Open)?;
+        let done = self.gated_turn(rt, seat, &YieldingGate)?;
         Ok(turn_of(done))
     }
 
-    /// Submits a call at the node, which enters its line. Seat and node are this host's, and the call keeps the limits of frames, as
-    /// each does that `Call::new` makes. Refused, in this order: `BookFull`, `Memory` of the place, `Stranger`, `Stopped`, `PendingFull`,
-    /// `Memory` of the call; node and book's list are as before then.
+    /// Submits a call at the node, enters its line, and returns the node with its ticket. Seat and node are this host's. The call
+    /// keeps the limits of frames, as each call from `Call::new` does. A submit that was taken ends all rests.
+    ///
+    /// Errors, in this order: `BookFull`; `Memory` for the place; `Stranger`; `Stopped`; `PendingFull`; `Memory` for the call.
+    /// Node and book are then as before.
+    ///
+    /// Rules: The book and the threads 24 and 29
     pub fn submit<W: Wait>(
         &self,
         rt: &W,
@@ -186,50 +226,63 @@ impl<O: Object, K: BookName<O::Alloc>> HostOf<Cell<O, K>, Book<O, K>, O::Alloc> 
         ensures node { IfOk result (λ t. t.node ≡ node) }
         ensures refused { IfErr result IsSubmitFault }
     {
-        // The contract alone speaks of it: who submits has a seat of this host.
+        // Only the contract uses the seat: who submits has a seat of this host.
         let _seat = seat;
         let submitted = self.submit_locked(rt, node, call);
         if submitted.is_ok() {
-            self.bell.ring();
+            self.event_count.notify_all();
         }
         submitted
     }
 
-    /// Stops a node of this host, for good. Refused, in this order: `BookFull`, `Memory`, `Stranger`, `Stopped`; node and book's list
-    /// are as before then.
+    /// Stops a node of this host for good, and enters the stop in the book. Like a submit it ends all rests: resting nodes count
+    /// so few turns that they would give up the stopped one only after hours.
+    ///
+    /// Errors, in this order: `BookFull`, `Memory`, `Stranger`, `Stopped`. Node and book are then as before.
+    ///
+    /// Rules: The book and the threads 25
     pub fn stop<W: Wait>(&self, rt: &W, node: Proc) -> Result<(), Fault>
         requires { node ≤ self.now.words }
         ensures refused { IfErr result IsTurnFault }
     {
         let mut cell = take(rt, &self.cells[node.number() as usize - 1]);
         let place = take(rt, &self.book).reserve()?;
-        let stopped = stop_in(&mut cell);
+        let stopped = stop_cell(&mut cell);
         let mut none = Outbox::new(self.alloc);
-        self.entered(rt, place, &mut cell, stopped, &mut none)?;
+        self.lock_and_finish_step(rt, place, &mut cell, stopped, &mut none)?;
+        self.event_count.notify_all();
         Ok(())
     }
 
-    /// The answer to the ticket's call, if this host's book has it. So some run of the group has the ticket's issue, and this
-    /// answer to it. It may be `None` for ever, as where the node stops, or the book is full: a caller bounds its polls.
+    /// Returns the answer to the ticket's call if this host's book has it. Then some run of the group has the ticket's issue and
+    /// this answer to it. It may stay `None` for ever, as where the node stops or the book is full; a caller bounds its polls. It
+    /// waits for the book's lock.
+    ///
+    /// Rules: The book and the threads 26
     pub fn poll<W: Wait>(&self, rt: &W, ticket: &HostTicket) -> Option<Answer>
         ensures { IfSome result (IsAnswered O.Alloc O.sequential K.name.group ticket.now.node ticket.now.ticket) }
     {
         let book = take(rt, &self.book);
-        // A law: no effect at run time. The proof takes from it that the book's lines are a run of the group.
+        // A law: no effect at run time. It gives the proof that the book's lines are a run of the group.
         book.run_law();
         book.answer(ticket.node, ticket.ticket)
     }
 
-    /// No answers, for [`poll_from`](HostOf::poll_from) to put some in. It takes no memory.
-    pub fn no_answers(&self, node: Proc) -> Answers<O, K>
+    /// Returns an empty cache for the node's answers, which [`poll_from`](HostOf::poll_from) fills. It takes no memory.
+    ///
+    /// Rules: The book and the threads 26
+    pub fn empty_answers(&self, node: Proc) -> AnswerCache<O, K>
         ensures { result ≡ record { node = node; first = 0; found = [] } }
     {
-        Answers::none(self.alloc, node)
+        AnswerCache::none(self.alloc, node)
     }
 
-    /// One look for many answers: those to the tickets of this ticket's node from it on that this host's book has take the place
-    /// of the answers. That there is none says as much as of [`poll`](HostOf::poll), or that memory refused it.
-    pub fn poll_from<W: Wait>(&self, rt: &W, ticket: &HostTicket, answers: &mut Answers<O, K>)
+    /// Looks up many answers under one lock. The book's answers to this ticket and to those of the same node behind it replace
+    /// the content of the cache. They end before the first ticket without an answer, and at 64. They may also end early where
+    /// memory refused room for them.
+    ///
+    /// Rules: The book and the threads 26
+    pub fn poll_from<W: Wait>(&self, rt: &W, ticket: &HostTicket, answers: &mut AnswerCache<O, K>)
         ensures node { answers.new.node ≡ ticket.now.node }
         ensures first { answers.new.first ≡ ticket.now.ticket }
     {
@@ -238,8 +291,8 @@ impl<O: Object, K: BookName<O::Alloc>> HostOf<Cell<O, K>, Book<O, K>, O::Alloc> 
         answers.look(&book, ticket);
     }
 
-    /// Submits a call at the node, under its locks. The book's is held from the place to the line: to take it twice would take longer
-    /// than the submit in between.
+    /// Submits a call under the node's lock and the book's. It holds the book's lock from the reservation to the line: taking the
+    /// lock twice would take longer than the submit in between.
     fn submit_locked<W: Wait>(
         &self,
         rt: &W,
@@ -253,7 +306,7 @@ impl<O: Object, K: BookName<O::Alloc>> HostOf<Cell<O, K>, Book<O, K>, O::Alloc> 
     {
         let mut cell = take(rt, &self.cells[node.number() as usize - 1]);
         let mut book = take(rt, &self.book);
-        let ticket = submit_in(&mut cell, &mut book, call)?;
+        let ticket = submit_call(&mut cell, &mut book, call)?;
         Ok(HostTicket { node, ticket })
     }
 }

@@ -1,58 +1,173 @@
-//! What lies before a node, and what wakes the node's thread when more comes.
+//! A node's inbox, and how the node's thread waits for an item.
+//!
+//! Rules: The book and the threads 23 and 29
 
-ghost use Rattle.std.specs.Prelude.{◌≡◌, ◌<◌, IfErr};
+ghost use Rattle.std.specs.Prelude.{◌≡◌, ◌<◌, IfOk, IfErr};
+ghost use Rattle.crossbeam_queue.specs.Passes.{queue_capacity};
 ghost use Rattle.ring_base.specs.declared.fault.Fault.TheVariants.{Memory};
+ghost use Rattle.ring_host.specs.Items.{IsCopyOfFrame};
 
-use crate::bell::Bell;
+use crate::event_count::EventCount;
 use crate::item::InboxFrame;
+use crate::pacing::{EmptyTurn, Pace, slices_of, yields_of};
 use crossbeam_queue::ArrayQueue;
-use ring_base::Fault;
+use ring_base::{Fault, Proc, State};
+use ring_seat::Outbox;
 use std::alloc::{Allocator, Global};
 use std::sync::Wait;
+use std::thread;
 use std::time::Duration;
 
-/// A node's inbox: its items, and a bell by which the node's thread naps until one comes.
+/// At full speed a node yields after each empty turn, up to this one in a row.
+const EMPTY_TURNS_TO_SHORT_SLEEP: u64 = 50;
+
+/// At full speed a node then sleeps after each further empty turns of this number, and looks at once after the others.
+const EMPTY_TURNS_PER_SHORT_SLEEP: u64 = 10;
+
+/// The longest sleep of node 1 at full speed, in microseconds. That of another node is longer by as much as it yields more often.
+const SHORT_SLEEP_MICROS: u64 = 50;
+
+/// Under `PacedGate` a node sleeps after this one of the empty turns in a row.
+const EMPTY_TURNS_TO_SLEEP: u64 = 50;
+
+/// Under `PacedGate` a node sleeps again after each further empty turns of this number.
+const EMPTY_TURNS_PER_SLEEP: u64 = 200;
+
+/// The length of a slice of a sleep under `PacedGate`, in microseconds.
+const SLEEP_SLICE_MICROS: u64 = 200;
+
+/// The length of a slice of a nap, in milliseconds.
+const NAP_SLICE_MILLIS: u64 = 1;
+
+/// A node's inbox: a bounded queue, an event count on which the node's thread sleeps until an item comes, and the pace of the
+/// node where it finds none.
+///
+/// Rules: The book and the threads 23 and 29
 #[derive(Drop)]
 pub(crate) struct Inbox<A: Allocator + Copy + Drop = Global> {
     items: ArrayQueue<InboxFrame<A>, A>,
-    bell: Bell,
+    event_count: EventCount,
+    pace: Pace,
 }
 
 impl<A: Allocator + Copy + Drop> Inbox<A> {
-    /// An inbox with room for so many items. Or `Memory`.
+    /// Makes an empty inbox with room for `size` items, at least 1.
+    ///
+    /// Errors: `Memory` where an allocation fails.
     pub(crate) fn new(alloc: A, size: usize) -> Result<Inbox<A>, Fault>
         requires { 0 < size }
-        ensures { IfErr result (λ fault. fault ≡ Memory) }
+        ensures size { IfOk result (λ inbox. queue_capacity inbox.items ≡ size) }
+        ensures refused { IfErr result (λ fault. fault ≡ Memory) }
     {
         let items = ArrayQueue::new(alloc, size)?;
         Ok(Inbox {
             items,
-            bell: Bell::new(),
+            event_count: EventCount::new(),
+            pace: Pace::new(),
         })
     }
 
-    /// Puts an item behind the others, and wakes who naps. Tells whether it did: a full inbox drops it.
-    pub(crate) fn push<W: Wait>(&self, rt: &W, item: InboxFrame<A>) -> bool {
+    /// Adds an item at the end and wakes a sleeping thread. Returns whether there was room; a full inbox drops the item. The item
+    /// is a copy of the outbox's frame at this index.
+    ///
+    /// Rules: The book and the threads 23
+    pub(crate) fn push<W: Wait>(
+        &self,
+        rt: &W,
+        item: InboxFrame<A>,
+        outbox: &Outbox<A>,
+        index: usize,
+    ) -> bool
+        requires { IsCopyOfFrame outbox.now index item }
+    {
+        // Only the contract uses these.
+        let (_, _) = (outbox, index);
         let is_pushed = self.items.push(rt, item).is_ok();
-        // Asked after the push, as who naps looks for items once it is counted as resting: so none is overlooked.
-        if self.bell.has_resting() {
-            self.bell.ring();
+        // Read after the push: a thread that wants to sleep counts itself as a waiter before it looks for items. So no item is
+        // overlooked.
+        if self.event_count.has_waiters() {
+            self.event_count.notify_all();
         }
         is_pushed
     }
 
-    /// Takes the first item.
+    /// Removes and returns the first item, or returns `None` where the inbox is empty.
+    ///
+    /// Rules: The book and the threads 23
     pub(crate) fn pop<W: Wait>(&self, rt: &W) -> Option<InboxFrame<A>> {
         self.items.pop(rt)
     }
 
-    /// Waits so long at most, until an item comes; not at all where one is there.
-    pub(crate) fn nap<W: Wait>(&self, rt: &W, most: Duration) {
-        let rung = self.bell.rung();
-        self.bell.begin();
-        if self.items.is_empty() {
-            self.bell.park(rt, rung, most);
+    /// Records the state of the node after a step, and how many of its calls have no answer.
+    pub(crate) fn note_step(&self, node: Proc, state: State, waiting: usize) {
+        self.pace.note_step(node, state, waiting);
+    }
+
+    /// Returns whether calls submitted at the node had no answer after its last step.
+    pub(crate) fn has_waiting_calls(&self) -> bool {
+        self.pace.has_waiting_calls()
+    }
+
+    /// Waits after an empty turn of the node, at full speed.
+    ///
+    /// Rules: The book and the threads 29
+    pub(crate) fn wait_at_full_speed<W: Wait>(&self, rt: &W, node: Proc) {
+        match self.pace.count_empty_turn(node) {
+            EmptyTurn::Early => thread::yield_now(),
+            EmptyTurn::InRow(number) if number <= EMPTY_TURNS_TO_SHORT_SLEEP => {
+                self.yield_until_item(yields_of(node));
+            }
+            EmptyTurn::InRow(number) if number % EMPTY_TURNS_PER_SHORT_SLEEP == 0 => {
+                let most = SHORT_SLEEP_MICROS * yields_of(node);
+                self.wait_for_item(rt, Duration::from_micros(most));
+            }
+            EmptyTurn::InRow(_) | EmptyTurn::BetweenNaps => {}
+            EmptyTurn::OfNap => self.wait_for_slice(rt),
         }
-        self.bell.end();
+    }
+
+    /// Waits after an empty turn of the node, under `PacedGate`.
+    ///
+    /// Rules: The book and the threads 29
+    pub(crate) fn wait_paced<W: Wait>(&self, rt: &W, node: Proc) {
+        match self.pace.count_empty_turn(node) {
+            EmptyTurn::InRow(number) if number % EMPTY_TURNS_PER_SLEEP == EMPTY_TURNS_TO_SLEEP => {
+                let most = SLEEP_SLICE_MICROS * slices_of(node);
+                self.wait_for_item(rt, Duration::from_micros(most));
+            }
+            EmptyTurn::Early | EmptyTurn::InRow(_) | EmptyTurn::BetweenNaps => {}
+            EmptyTurn::OfNap => self.wait_for_slice(rt),
+        }
+    }
+
+    /// Yields until an item comes, at most `most` times.
+    fn yield_until_item(&self, most: u64) {
+        for _ in 0..most {
+            thread::yield_now();
+            if !self.items.is_empty() {
+                return;
+            }
+        }
+    }
+
+    /// Waits for a slice of a nap. An item ends the wait, and the slice begins anew after it.
+    fn wait_for_slice<W: Wait>(&self, rt: &W) {
+        self.wait_for_item(rt, Duration::from_millis(NAP_SLICE_MILLIS));
+        if self.items.is_empty() {
+            self.pace.end_slice();
+        }
+    }
+
+    /// Sleeps until an item comes, at most for this duration; returns at once where an item is there. It may also return for no
+    /// reason.
+    ///
+    /// Rules: The book and the threads 29
+    fn wait_for_item<W: Wait>(&self, rt: &W, most: Duration) {
+        let count = self.event_count.count();
+        self.event_count.prepare_wait();
+        if self.items.is_empty() {
+            self.event_count.park(rt, count, most);
+        }
+        self.event_count.finish_wait();
     }
 }

@@ -1,85 +1,101 @@
-//! What lies in an inbox, and what a turn makes of it.
+//! The items of an inbox, and the tasks that turns make of them.
+//!
+//! Rules: The book and the threads 21 to 23
 
 ghost use Rattle.std.specs.Prelude.{◌≡◌, ◌⊎◌, IfOk, IfErr, OnOk};
 ghost use Rattle.ring_base.specs.declared.fault.Fault.TheVariants.{Memory, Stranger, BadFrame};
 ghost use Rattle.ring_wire.specs.declared.frame.Frame.{Frame as OneFrame};
-ghost use Rattle.ring_wire.specs.Fronts.{IsReadFault};
-ghost use Rattle.ring_wire.specs.Spells.{Spells};
-ghost use Rattle.ring_host.specs.declared.item.Task.TheVariants.{Came};
-ghost use Rattle.ring_host.specs.Tasks.{IsRead, TaskFits, found_in, found_of};
+ghost use Rattle.ring_wire.specs.Prefixes.{IsReadFault};
+ghost use Rattle.ring_wire.specs.IsFrameEncoding.{IsFrameEncoding};
+ghost use Rattle.ring_host.specs.declared.item.Task.TheVariants.{Received};
+ghost use Rattle.ring_host.specs.Tasks.{IsRead, TaskFits, frame_task_kind, task_kind_of};
 
 use ring_base::{Fault, Kind};
 use ring_book::FrameRef;
 use ring_wire::Frame;
 use std::alloc::{Allocator, Global};
 
-/// A frame on its way: its bytes, and where they stand in the book.
+/// A frame in an inbox: its bytes, and the reference to its place in the book. The book checks that the two belong together.
+///
+/// Rules: The book and the threads 23
 #[derive(Drop)]
 pub struct InboxFrame<A: Allocator + Copy + Drop = Global> {
+    /// The place in the book that the frame is claimed to have.
     pub at: FrameRef,
+    /// The frame's encoding.
     pub bytes: Vec<u8, A>,
 }
 
-/// What a turn found, as far as the seat's clock and a gate want to know it.
+/// The kind of a task, as the seat's clock and a gate use it.
+///
+/// Rules: The book and the threads 29 and 31
 #[derive(Clone, Copy, Debug, PartialEq, Eq)]
-pub(crate) enum Found {
-    /// A timeout that was due.
+pub(crate) enum TaskKind {
+    /// A timeout of this kind.
     Timeout(Kind),
     /// A token or a commit token.
     Token,
-    /// Another frame.
+    /// A message or a join.
     Other,
 }
 
-/// What a turn hands to its node. The frame that came is read into a place of the turn, and moved no more.
+/// The task of a turn. The frame that came is read into a place of the turn and never moved.
+///
+/// Rules: The book and the threads 21
 #[derive(Drop)]
 pub(crate) enum Task<A: Allocator + Copy + Drop = Global> {
-    /// A timeout that is due.
+    /// A timeout of this kind, which is due.
     Timeout(Kind),
-    /// A frame that came: the bytes that spell it, and where they stand in the book.
-    Came(Vec<u8, A>, FrameRef),
+    /// A frame that came: its encoding, and the reference to its place in the book.
+    Received(Vec<u8, A>, FrameRef),
 }
 
 impl<A: Allocator + Copy + Drop> Task<A> {
-    /// A frame that came, which is read into the place. Bytes that are none stand nowhere in the book, so they are refused as the book
-    /// would: with `Stranger`. `Memory` may come in place of either answer.
+    /// Reads the item's frame into `place` and returns the task.
+    ///
+    /// Errors: `Stranger` for bytes that don't encode a frame: they are in no book, so this is the book's refusal. `Memory` may
+    /// come instead. The content of `place` is then unspecified.
+    ///
+    /// Rules: The book and the threads 21; Refusals 2 and 4
     pub(crate) fn read(
         alloc: A,
         item: InboxFrame<A>,
         place: &mut Option<Frame<A>>,
     ) -> Result<Task<A>, Fault>
-        ensures came { IfOk result (λ task. task ≡ Came item.bytes item.at) }
+        ensures received { IfOk result (λ task. task ≡ Received item.bytes item.at) }
         ensures fits { IfOk result (TaskFits place.new) }
         ensures refused { IfErr result (λ fault. (fault ≡ Memory) ⊎ (fault ≡ Stranger)) }
-        ensures stranger { IfErr result (λ fault. fault ≡ Stranger → (frame : OneFrame A) → ¬ Spells frame item.bytes.items) }
+        ensures stranger { IfErr result (λ fault. fault ≡ Stranger → (frame : OneFrame A) → ¬ IsFrameEncoding frame item.bytes.items) }
     {
         let InboxFrame { at, bytes } = item;
         match read_frame(alloc, bytes.as_slice(), place) {
-            Ok(()) => Ok(Task::Came(bytes, at)),
+            Ok(()) => Ok(Task::Received(bytes, at)),
             Err(Fault::Memory) => Err(Fault::Memory),
             Err(_) => Err(Fault::Stranger),
         }
     }
 
-    /// What it is, of the frame in the turn's place.
-    pub(crate) fn found(&self, place: &Option<Frame<A>>) -> Found
-        ensures { result ≡ found_of place.now self.now }
+    /// Returns the task's kind; `place` has the frame of a task that has one.
+    ///
+    /// Rules: The book and the threads 29 and 31
+    pub(crate) fn task_kind(&self, place: &Option<Frame<A>>) -> TaskKind
+        ensures { result ≡ task_kind_of place.now self.now }
     {
         match self {
-            Task::Timeout(kind) => Found::Timeout(*kind),
-            Task::Came(_, _) => found_in(place),
+            Task::Timeout(kind) => TaskKind::Timeout(*kind),
+            Task::Received(_, _) => frame_task_kind(place),
         }
     }
 }
 
-/// Reads the frame that the bytes are, all of them, into the place.
+/// Reads the frame that all the bytes encode into the place.
 fn read_frame<A: Allocator + Copy>(
     alloc: A,
     bytes: &[u8],
     place: &mut Option<Frame<A>>,
 ) -> Result<(), Fault>
     ensures read { OnOk result (IsRead place.new bytes.now) }
-    ensures bad { IfErr result (λ fault. fault ≡ BadFrame → (frame : OneFrame A) → ¬ Spells frame bytes.now) }
+    ensures bad { IfErr result (λ fault. fault ≡ BadFrame → (frame : OneFrame A) → ¬ IsFrameEncoding frame bytes.now) }
     ensures refused { IfErr result IsReadFault }
 {
     let len = Frame::<A>::get_into(alloc, bytes, place)?;
@@ -89,12 +105,11 @@ fn read_frame<A: Allocator + Copy>(
     Ok(())
 }
 
-/// What the frame is.
-fn found_in<A: Allocator + Copy>(frame: &Option<Frame<A>>) -> Found
-    ensures { result ≡ found_in frame.now }
+fn frame_task_kind<A: Allocator + Copy>(frame: &Option<Frame<A>>) -> TaskKind
+    ensures { result ≡ frame_task_kind frame.now }
 {
     match frame {
-        Some(Frame::Token(_) | Frame::Commit(_)) => Found::Token,
-        Some(Frame::Message(_) | Frame::Join(_)) | None => Found::Other,
+        Some(Frame::Token(_) | Frame::Commit(_)) => TaskKind::Token,
+        Some(Frame::Message(_) | Frame::Join(_)) | None => TaskKind::Other,
     }
 }

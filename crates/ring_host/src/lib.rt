@@ -1,29 +1,35 @@
-//! Threads for the nodes of a book: a lock round each node's cell, one round the book, an inbox for each node, and the gauge.
+//! Runs the nodes of a book on threads. Each node's cell has a lock and an inbox; the book has a lock; a gauge holds the
+//! committed lengths.
+//!
+//! Rules: The book and the threads 19 to 36; Limits 3
 #![tactic(auto)]
 
 mod answers;
-mod bell;
+mod construction;
+mod event_count;
 mod gate;
 mod host;
 mod inbox;
 mod item;
-mod making;
-mod paced;
+mod locked_step;
+mod locked_submit;
+mod locking;
+mod paced_gate;
+mod pacing;
 mod run;
 mod step;
-mod submitting;
-mod taking;
 mod turn;
-mod turning;
 
-pub use answers::Answers;
-pub use gate::{Gate, GatePlace, Open, Stir};
+pub use answers::AnswerCache;
+pub use gate::{Gate, GatePlace, OpenGate, TurnActivity};
 pub use host::{Host, HostOf, HostTicket};
 pub use item::InboxFrame;
-pub use paced::Paced;
+pub use paced_gate::PacedGate;
 pub use ring_book::{Book, BookName, Cause, Opening, linear_law};
 pub use ring_seat::{Gauge, Seat};
 pub use turn::Turn;
 
-/// How many items an inbox has at most, unless another size is asked for.
+/// The largest size of an inbox, in items, and the size that [`HostOf::new`] gives. A full inbox drops what is pushed to it.
+///
+/// Rules: The book and the threads 23; Limits 1 and 2
 pub const INBOX: usize = 1024;

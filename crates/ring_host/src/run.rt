@@ -1,4 +1,6 @@
-//! Node threads.
+//! The node threads of a host.
+//!
+//! Rules: The book and the threads 27 and 28
 
 ghost use Rattle.std.specs.Prelude.{◌≡◌, All, IfErr};
 ghost use Rattle.ring_base.specs.declared.fault.Fault.TheVariants.{Memory};
@@ -16,7 +18,7 @@ use std::thread;
 use std::thread::Threads;
 
 impl<O: Object, K: BookName<O::Alloc>> HostOf<Cell<O, K>, Book<O, K>, O::Alloc> {
-    /// The turns of the seat's node, if it is a node's own.
+    /// Runs the turns of the seat's node, if the seat is a node's own.
     fn run_seat<W: Wait, G: Gate>(&self, rt: &W, seat: &mut Seat<O::Alloc>, gate: &G)
         requires { IsAt self.now seat.old }
     {
@@ -26,7 +28,8 @@ impl<O: Object, K: BookName<O::Alloc>> HostOf<Cell<O, K>, Book<O, K>, O::Alloc> 
         self.run_node(rt, seat, gate);
     }
 
-    /// A node's turns, until the host is closed, the node has stopped or the book is full.
+    /// Runs a node's turns until the host is closed, the node has stopped or the book is full. In the last two cases all rests
+    /// end.
     fn run_node<W: Wait, G: Gate>(&self, rt: &W, seat: &mut Seat<O::Alloc>, gate: &G)
         requires { IsOwn self.now seat.old }
     {
@@ -35,7 +38,11 @@ impl<O: Object, K: BookName<O::Alloc>> HostOf<Cell<O, K>, Book<O, K>, O::Alloc> 
                 return;
             }
             match self.gated_turn(rt, seat, gate) {
-                Err(Fault::Stopped | Fault::BookFull) => return,
+                Err(Fault::Stopped | Fault::BookFull) => {
+                    // The others do not rest on: they count turns until they give this node up.
+                    self.event_count.notify_all();
+                    return;
+                }
                 _ => {}
             }
         }
@@ -46,14 +53,21 @@ impl<O: Object + Send, K: BookName<O::Alloc> + Send + Sync> HostOf<Cell<O, K>, B
 where
     O::Alloc: Send + Sync,
 {
-    /// Runs the nodes whose own seats these are, each in a thread of its own, which takes one turn after the other. The seats are this
-    /// host's; one that is no node's own takes no turn. The threads
-    /// tell the gate of their turns. A thread ends once the host is closed, its node has stopped or the book is full, and
-    /// nobody is told of that; `run` answers when all have ended. `Memory` where a thread can't be started: the host is then
-    /// closed, and the threads that were started end.
+    /// Runs the nodes whose own seats these are, each on its own thread, one turn after the other. Returns when all threads have
+    /// ended.
     ///
-    /// A book has 262,144 places. A ring that idles at full speed uses them up within seconds; under [`Paced`](crate::Paced) it rests.
-    /// `places`, of the book that [`read_book`](HostOf::read_book) lends, tells how many are used.
+    /// The seats are this host's; a seat of no node takes no turn. The threads report their turns to the gate. A thread ends
+    /// without a report once the host is closed, its node has stopped or the book is full. After `Stranger` and `Memory` it goes
+    /// on with its next turn.
+    ///
+    /// A book has 262,144 places. A ring that idles at full speed uses them up within seconds; under
+    /// [`PacedGate`](crate::PacedGate) it rests. [`read_book`](HostOf::read_book) borrows the book, whose `places` returns the
+    /// number used or reserved.
+    ///
+    /// Errors: `Memory` where a thread can't be started. The host is then closed, started threads end, and what they have entered
+    /// stays.
+    ///
+    /// Rules: The book and the threads 27
     pub fn run<W: Threads + Wait + Sync, G: Gate + Sync>(
         &self,
         rt: &W,

@@ -1,107 +1,111 @@
-//! A turn, step by step: what is done under which lock.
+//! A turn, step by step, with the lock that each step holds.
+//!
+//! Rules: The book and the threads 21 and 22
 
-ghost use Rattle.std.specs.Prelude.{◌≡◌, ◌≤◌, ◌↔◌, ◌++◌, ◌∷◌, [], None, IfErr, IfOk, IsOk, IsTrue, OnErr, OnOk};
-ghost use Rattle.ring_rules.specs.Nodes.{node_kept};
-ghost use Rattle.ring_seat.specs.Clocks.{counted};
+ghost use Rattle.std.specs.Prelude.{◌≡◌, ◌≤◌, ◌↔◌, ◌++◌, ◌∷◌, [], None, IfErr, IfOk, IfSome, IsOk, IsTrue, OnErr, OnOk};
+ghost use Rattle.ring_node_spec.specs.Nodes.{node_known_log};
+ghost use Rattle.ring_seat.specs.Clocks.{clock_after_turn};
 ghost use Rattle.ring_seat.specs.Seats.{IsOwn};
-ghost use Rattle.ring_host.specs.Lent.{IsEndOfRun};
-ghost use Rattle.ring_host.specs.Refusing.{IsTurnFault};
-ghost use Rattle.ring_host.specs.Steps.{LeavesQuiet, IsStir, IsDoneOf};
+ghost use Rattle.ring_host.specs.Gates.{HasPassed};
+ghost use Rattle.ring_host.specs.declared.gate.GatePlace.TheVariants.{Held};
+ghost use Rattle.ring_host.specs.Items.{IsCopyOfFrame};
+ghost use Rattle.ring_host.specs.LockedSteps.{IsEndOfRun, IsFinished, IsSettled};
+ghost use Rattle.ring_host.specs.RefusingHeap.{IsTurnFault};
+ghost use Rattle.ring_host.specs.Steps.{IsLeftQuiet, IsTurnActivity, IsStepReport};
 ghost use Rattle.ring_host.specs.Tasks.{TaskFits};
 ghost use Rattle.ring_host.specs.Turns.{published_by, length_of, IsTurnedAt, IsTurned, IsNoted};
 
-use crate::gate::{Gate, GatePlace, Stir};
+use crate::gate::{Gate, GatePlace, TurnActivity};
 use crate::host::HostOf;
-use crate::item::{Found, InboxFrame, Task};
-use crate::taking::take;
+use crate::item::{InboxFrame, Task, TaskKind};
+use crate::locked_step::{check_and_reserve, finish_step, step_cell};
+use crate::locking::take;
 use crate::turn::Turn;
-use crate::turning::{entered_in, place_in, step_in};
 use ring_base::{Fault, Kind, Proc, State};
-use ring_book::{Book, BookName, Cell, FrameRef, Node, ReservedPlace};
+use ring_book::{Book, BookName, Cell, FrameRef, Node, Place};
 use ring_object::Object;
 use ring_seat::{Outbox, Seat};
 use ring_wire::Frame;
 use std::alloc::Allocator;
 use std::sync::Wait;
-use std::thread;
 
-/// What a step made.
+/// The report of a turn's step, which was not refused.
+///
+/// Rules: The book and the threads 21
 #[derive(Clone, Copy)]
-pub(crate) struct Done {
-    /// How many places the node has committed.
+pub(crate) struct StepReport {
+    /// The node's committed length after the step, dropped places included.
     length: u64,
-    found: Found,
-    /// How many frames its line sent. A token that the node ignores sends none.
+    task_kind: TaskKind,
+    /// The number of frames that its line sent. A token that the node ignores sends none.
     sent: usize,
-    /// How many copies of these were dropped.
+    /// The number of copies of these that were dropped.
     dropped: u32,
-    stir: Stir,
+    activity: TurnActivity,
 }
 
-/// What a step made that found this and sent so many frames, of the node after it, before any of these goes out.
-fn done_of<O: Object>(node: &Node<O>, found: Found, sent: usize) -> Done
-    ensures found { result.found ≡ found }
+/// Makes the report of a step on a task of this kind that sent `sent` frames; `node` is the node after it. No copy is dropped
+/// yet.
+fn step_report<O: Object>(node: &Node<O>, task_kind: TaskKind, sent: usize) -> StepReport
+    ensures task_kind { result.task_kind ≡ task_kind }
     ensures sent { result.sent ≡ sent }
-    ensures length { result.length ≡ (node_kept node.now).committed }
-    ensures stir { IsStir node.now found sent result.stir }
+    ensures length { result.length ≡ (node_known_log node.now).committed }
+    ensures activity { IsTurnActivity node.now task_kind sent result.activity }
 {
     let length = node.committed_len();
-    let stir = stir_of(node, found, sent);
-    Done {
+    let activity = turn_activity(node, task_kind, sent);
+    StepReport {
         length,
-        found,
+        task_kind,
         sent,
         dropped: 0,
-        stir,
+        activity,
     }
 }
 
-/// What a gate is told of a step that found this and sent so many frames, of the node after it.
-fn stir_of<O: Object>(node: &Node<O>, found: Found, sent: usize) -> Stir
-    ensures { IsStir node.now found sent result }
+/// Returns the gate's view of a step on a task of this kind that sent `sent` frames; `node` is the node after it.
+fn turn_activity<O: Object>(node: &Node<O>, task_kind: TaskKind, sent: usize) -> TurnActivity
+    ensures { IsTurnActivity node.now task_kind sent result }
 {
     if !is_quiet(node, sent) {
-        return Stir::Busy;
+        return TurnActivity::Busy;
     }
-    match found {
-        Found::Token => Stir::Quiet,
-        Found::Timeout(_) => Stir::Timeout,
-        Found::Other => Stir::Busy,
+    match task_kind {
+        TaskKind::Token => TurnActivity::Quiet,
+        TaskKind::Timeout(_) => TurnActivity::Timeout,
+        TaskKind::Other => TurnActivity::Busy,
     }
 }
 
-/// Whether a step that sent so many frames leaves its node quiet.
+/// Returns whether a step that sent `sent` frames leaves its node quiet.
 fn is_quiet<O: Object>(node: &Node<O>, sent: usize) -> bool
-    ensures { IsTrue result ↔ LeavesQuiet node.now sent }
+    ensures { IsTrue result ↔ IsLeftQuiet node.now sent }
 {
     sent <= 1 && node.state() == State::Operational && node.log_len() == node.committed_len()
 }
 
-/// The seat's clock after a step: the turn has taken the item where that was a token which the node did not ignore.
-fn note_step<A: Allocator + Copy + Drop>(seat: &mut Seat<A>, done: &Done)
-    ensures clock { IsNoted done.now.found done.now.sent seat.old.clock seat.new.clock }
+/// Updates the seat's clock after a step: the turn took the item if that was a token that the node didn't ignore.
+fn note_step<A: Allocator + Copy + Drop>(seat: &mut Seat<A>, done: &StepReport)
+    ensures clock { IsNoted done.now.task_kind done.now.sent seat.old.clock seat.new.clock }
     ensures seat { seat.new ≡ record (seat.old) { clock = seat.new.clock } }
 {
-    match done.found {
-        Found::Token => {
+    match done.task_kind {
+        TaskKind::Token => {
             if done.sent > 0 {
                 seat.take();
             }
         }
-        Found::Timeout(_) | Found::Other => {}
+        TaskKind::Timeout(_) | TaskKind::Other => {}
     }
 }
 
-/// A turn finds nothing: its thread lets others run.
-fn find_nothing<G: Gate>(node: Proc, gate: &G) {
-    thread::yield_now();
-    gate.over(node, Stir::Nothing);
-}
-
-/// What a turn tells of what it did, if it did anything.
-pub(crate) fn turn_of(done: Option<Done>) -> Turn
+/// Returns the report of a turn from that of its step. For `None`, a turn that found nothing to do, no copy is dropped and there
+/// is no length.
+///
+/// Rules: The book and the threads 21
+pub(crate) fn turn_of(done: Option<StepReport>) -> Turn
     ensures length { result.length ≡ length_of done }
-    ensures vain { done ≡ None → result.dropped ≡ 0 }
+    ensures empty_turns { done ≡ None → result.dropped ≡ 0 }
 {
     match done {
         Some(done) => Turn {
@@ -116,20 +120,29 @@ pub(crate) fn turn_of(done: Option<Done>) -> Turn
 }
 
 impl<C, B, A: Allocator + Copy + Drop> HostOf<C, B, A> {
-    /// Pushes a copy of each frame to the inbox of each of its receivers. Tells how many copies were dropped.
+    /// Ends a turn of the node that finds nothing: the thread waits, unless the gate has waits of its own.
+    fn find_nothing<W: Wait, G: Gate>(&self, rt: &W, node: Proc, gate: &G) {
+        if let Some(inbox) = self.inboxes.get(node.number() as usize - 1)
+            && !gate.has_own_waits()
+        {
+            inbox.wait_at_full_speed(rt, node);
+        }
+        gate.after_turn(node, TurnActivity::Nothing);
+    }
+
+    /// Records the node's state after a step, and how many of its calls have no answer: its waits depend on these.
+    fn note_step(&self, node: Proc, state: State, waiting: usize) {
+        if let Some(inbox) = self.inboxes.get(node.number() as usize - 1) {
+            inbox.note_step(node, state, waiting);
+        }
+    }
+
+    /// Pushes a copy of each frame to the inbox of each of its receivers. Returns the number of copies dropped.
     fn send<W: Wait>(&self, rt: &W, outbox: &Outbox<A>) -> u32 {
         let mut dropped = outbox.dropped;
-        let text = outbox.text.as_slice();
-        let mut from = 0usize;
-        for packed in outbox.frames.as_slice() {
-            let bytes = text.get(from..packed.end).unwrap_or(&[]);
-            from = packed.end;
-            let at = FrameRef {
-                line: outbox.line,
-                place: packed.place,
-            };
-            for receiver in packed.to.iter() {
-                if !self.push(rt, receiver, at, bytes) {
+        for (index, outbox_frame) in outbox.frames.as_slice().iter().enumerate() {
+            for receiver in outbox_frame.to.iter() {
+                if !self.push(rt, receiver, outbox, index) {
                     dropped = dropped.saturating_add(1);
                 }
             }
@@ -137,91 +150,122 @@ impl<C, B, A: Allocator + Copy + Drop> HostOf<C, B, A> {
         dropped
     }
 
-    /// Pushes a copy to the receiver's inbox. Tells whether it did: it did not where the receiver is none of this host's, the inbox
-    /// is full, or memory refuses the copy.
-    fn push<W: Wait>(&self, rt: &W, receiver: Proc, at: FrameRef, bytes: &[u8]) -> bool {
+    /// Pushes a copy of the outbox's frame at this index to the receiver's inbox. Returns false where the receiver is not of this
+    /// host, the inbox is full, or memory refuses the copy.
+    fn push<W: Wait>(&self, rt: &W, receiver: Proc, outbox: &Outbox<A>, index: usize) -> bool {
         let Some(inbox) = self.inboxes.get(receiver.number() as usize - 1) else {
             return false;
         };
-        let Ok(bytes) = bytes.to_vec(self.alloc) else {
+        let Some(item) = inbox_frame(self.alloc, outbox, index) else {
             return false;
         };
-        inbox.push(rt, InboxFrame { at, bytes })
+        inbox.push(rt, item, outbox, index)
     }
 }
 
+/// Makes the item for the outbox's frame at this index: a copy of its bytes, with its place in the book. Returns `None` where memory
+/// refuses the copy, or the outbox has no such frame.
+///
+/// Rules: The book and the threads 21 and 23
+fn inbox_frame<A: Allocator + Copy + Drop>(
+    alloc: A,
+    outbox: &Outbox<A>,
+    index: usize,
+) -> Option<InboxFrame<A>>
+    ensures { IfSome result (IsCopyOfFrame outbox.now index) }
+{
+    let outbox_frame = outbox.frames.get(index)?;
+    let text = outbox.bytes_at(index)?;
+    let Ok(bytes) = text.to_vec(alloc) else {
+        return None;
+    };
+    let at = FrameRef {
+        line: outbox.line,
+        place: outbox_frame.place,
+    };
+    Some(InboxFrame { at, bytes })
+}
+
 impl<O: Object, K: BookName<O::Alloc>> HostOf<Cell<O, K>, Book<O, K>, O::Alloc> {
-    /// A turn that tells the gate. Tells what it did, if it found anything to do.
+    /// Does one turn of the node whose own seat this is, and reports it to the gate. Returns the report of its step; `None` where
+    /// the turn found nothing to do.
+    ///
+    /// Errors: as [`turn`](HostOf::turn). The gate doesn't hear then that the turn is over.
+    ///
+    /// Rules: The book and the threads 21 and 22, 29 to 32
     pub(crate) fn gated_turn<W: Wait, G: Gate>(
         &self,
         rt: &W,
         seat: &mut Seat<O::Alloc>,
         gate: &G,
-    ) -> Result<Option<Done>, Fault>
+    ) -> Result<Option<StepReport>, Fault>
         requires own { IsOwn self.now seat.old }
         ensures seat { IsOwn self.now seat.new × (seat.new.node ≡ seat.old.node) × (seat.new.seen ≡ seat.old.seen) }
         ensures ok { IfOk result (λ done. seat.new.published ≡ published_by (length_of done) seat.old.published) }
         ensures clock { IfOk result (λ done. IsTurned O.Alloc O.sequential K.name.group done seat.old.clock seat.new.clock) }
-        ensures err { OnErr result ((seat.new.published ≡ seat.old.published) × (seat.new.clock ≡ counted seat.old.clock)) }
+        ensures gate { IfOk result (λ done. IfSome done (λ _. HasPassed (G.has_reached gate.now) seat.old.node)) }
+        ensures err { OnErr result ((seat.new.published ≡ seat.old.published) × (seat.new.clock ≡ clock_after_turn seat.old.clock)) }
         ensures refused { IfErr result IsTurnFault }
     {
         let Some(node) = seat.node() else {
             unreachable!()
         };
         let due = seat.tick();
-        let mut came = None;
-        let turned = self.turn_at(rt, seat, node, due, &mut came, gate);
-        // By name, so that the frame is let go in a function of any type, and lives at no exit.
-        drop(came);
+        let mut received = None;
+        let turned = self.turn_at(rt, seat, node, due, &mut received, gate);
+        // An explicit drop: the frame is dropped in a function of any type, and is live at no exit.
+        drop(received);
         turned
     }
 
-    /// A turn that is counted, at which this timeout is due, or none. A frame that comes is read into the place. Tells what it did, if it
-    /// found anything to do.
+    /// Does a turn that the clock has counted, with the timeout that is due, if one is. A frame that comes is read into
+    /// `received`. Returns the report of the step; `None` where the turn found nothing to do.
     fn turn_at<W: Wait, G: Gate>(
         &self,
         rt: &W,
         seat: &mut Seat<O::Alloc>,
         node: Proc,
         due: Option<Kind>,
-        came: &mut Option<Frame<O::Alloc>>,
+        received: &mut Option<Frame<O::Alloc>>,
         gate: &G,
-    ) -> Result<Option<Done>, Fault>
+    ) -> Result<Option<StepReport>, Fault>
         requires own { IsOwn self.now seat.old }
         requires member { node ≤ self.now.words }
         ensures seat { IsOwn self.now seat.new × (seat.new.node ≡ seat.old.node) × (seat.new.seen ≡ seat.old.seen) }
         ensures ok { IfOk result (λ done. seat.new.published ≡ published_by (length_of done) seat.old.published) }
         ensures clock { IfOk result (λ done. IsTurnedAt O.Alloc O.sequential K.name.group due done seat.old.clock seat.new.clock) }
+        ensures gate { IfOk result (λ done. IfSome done (λ _. HasPassed (G.has_reached gate.now) seat.old.node)) }
         ensures err { OnErr result ((seat.new.published ≡ seat.old.published) × (seat.new.clock ≡ seat.old.clock)) }
         ensures refused { IfErr result IsTurnFault }
     {
-        match self.task(rt, node, due, came)? {
+        match self.task(rt, node, due, received)? {
             Some(task) => {
-                let done = self.do_task(rt, seat, task, came, gate)?;
+                let done = self.run_task(rt, seat, task, received, gate)?;
                 Ok(Some(done))
             }
             None => {
-                find_nothing(node, gate);
+                self.find_nothing(rt, node, gate);
                 Ok(None)
             }
         }
     }
 
-    /// The task of a turn: the step's frames go out, and the length is published.
-    fn do_task<W: Wait, G: Gate>(
+    /// Does the task of a turn: steps the node, sends the frames, publishes the length.
+    fn run_task<W: Wait, G: Gate>(
         &self,
         rt: &W,
         seat: &mut Seat<O::Alloc>,
         task: Task<O::Alloc>,
-        came: &Option<Frame<O::Alloc>>,
+        received: &Option<Frame<O::Alloc>>,
         gate: &G,
-    ) -> Result<Done, Fault>
+    ) -> Result<StepReport, Fault>
         requires own { IsOwn self.now seat.old }
-        requires fits { TaskFits came.now task }
+        requires fits { TaskFits received.now task }
         ensures seat { IsOwn self.now seat.new × (seat.new.node ≡ seat.old.node) × (seat.new.seen ≡ seat.old.seen) }
         ensures ok { IfOk result (λ done. seat.new.published ≡ seat.old.published ++ done.length ∷ []) }
-        ensures done { IfOk result (IsDoneOf O.sequential K.name.group came.now task) }
-        ensures clock { IfOk result (λ done. IsNoted done.found done.sent seat.old.clock seat.new.clock) }
+        ensures done { IfOk result (IsStepReport O.sequential K.name.group received.now task) }
+        ensures clock { IfOk result (λ done. IsNoted done.task_kind done.sent seat.old.clock seat.new.clock) }
+        ensures gate { OnOk result (HasPassed (G.has_reached gate.now) seat.old.node) }
         ensures err { OnErr result ((seat.new.published ≡ seat.old.published) × (seat.new.clock ≡ seat.old.clock)) }
         ensures refused { IfErr result IsTurnFault }
     {
@@ -229,97 +273,106 @@ impl<O: Object, K: BookName<O::Alloc>> HostOf<Cell<O, K>, Book<O, K>, O::Alloc> 
             unreachable!()
         };
         let mut outbox = seat.take_outbox();
-        let stepped = self.step_and_send(rt, node, task, came, gate, &mut outbox);
+        let stepped = self.step_and_send(rt, node, task, received, gate, &mut outbox);
         seat.put_outbox(outbox);
         let done = stepped?;
         note_step(seat, &done);
         self.gauge.publish(seat, done.length);
         gate.at(node, GatePlace::Entered);
-        gate.over(node, done.stir);
+        gate.after_turn(node, done.activity);
         Ok(done)
     }
 
-    /// The task under the node's lock, and then, with no lock, the frames go out. The outbox is for them.
+    /// Steps the node under its lock, then sends the frames with no lock held. The outbox holds the frames in between.
     fn step_and_send<W: Wait, G: Gate>(
         &self,
         rt: &W,
         node: Proc,
         task: Task<O::Alloc>,
-        came: &Option<Frame<O::Alloc>>,
+        received: &Option<Frame<O::Alloc>>,
         gate: &G,
         outbox: &mut Outbox<O::Alloc>,
-    ) -> Result<Done, Fault>
+    ) -> Result<StepReport, Fault>
         requires member { node ≤ self.now.words }
-        requires fits { TaskFits came.now task }
-        ensures done { IfOk result (IsDoneOf O.sequential K.name.group came.now task) }
+        requires fits { TaskFits received.now task }
+        ensures done { IfOk result (IsStepReport O.sequential K.name.group received.now task) }
+        ensures gate { G.has_reached gate.now node Held }
         ensures refused { IfErr result IsTurnFault }
     {
-        let mut done = self.step(rt, node, task, came, gate, outbox)?;
+        let mut done = self.step(rt, node, task, received, gate, outbox)?;
         done.dropped = self.send(rt, outbox);
         Ok(done)
     }
 
-    /// The task under the node's lock: its place, the step, and the line, whose frames come into the outbox. The book's lock is
-    /// held for the first and the last alone.
+    /// Reserves a place, steps the node and enters the line, under the node's lock. The line's frames go to the outbox. The
+    /// book's lock is held for the place and for the line, not for the step.
     fn step<W: Wait, G: Gate>(
         &self,
         rt: &W,
         node: Proc,
         task: Task<O::Alloc>,
-        came: &Option<Frame<O::Alloc>>,
+        received: &Option<Frame<O::Alloc>>,
         gate: &G,
         outbox: &mut Outbox<O::Alloc>,
-    ) -> Result<Done, Fault>
+    ) -> Result<StepReport, Fault>
         requires member { node ≤ self.now.words }
-        requires fits { TaskFits came.now task }
-        ensures done { IfOk result (IsDoneOf O.sequential K.name.group came.now task) }
+        requires fits { TaskFits received.now task }
+        ensures done { IfOk result (IsStepReport O.sequential K.name.group received.now task) }
+        ensures gate { G.has_reached gate.now node Held }
         ensures refused { IfErr result IsTurnFault }
     {
         let mut cell = take(rt, &self.cells[node.number() as usize - 1]);
         gate.at(node, GatePlace::Held);
-        let place = self.place_for(rt, node, &task)?;
-        self.step_lent(rt, place, &mut cell, task, came, outbox)
+        let place = self.reserve_place(rt, node, &task)?;
+        let done = self.step_locked(rt, place, &mut cell, task, received, outbox)?;
+        let after = cell.node();
+        self.note_step(node, after.state(), after.waiting());
+        Ok(done)
     }
 
-    /// The same with the node's cell lent, and a place for the line.
-    fn step_lent<W: Wait>(
+    /// Steps the cell, which is locked, and enters its line in the reserved place.
+    fn step_locked<W: Wait>(
         &self,
         rt: &W,
-        place: ReservedPlace,
+        place: Place,
         cell: &mut Cell<O, K>,
         task: Task<O::Alloc>,
-        came: &Option<Frame<O::Alloc>>,
+        received: &Option<Frame<O::Alloc>>,
         outbox: &mut Outbox<O::Alloc>,
-    ) -> Result<Done, Fault>
-        requires fits { TaskFits came.now task }
-        ensures done { IfOk result (IsDoneOf O.sequential K.name.group came.now task) }
+    ) -> Result<StepReport, Fault>
+        requires fits { TaskFits received.now task }
+        ensures done { IfOk result (IsStepReport O.sequential K.name.group received.now task) }
+        ensures settled { IsSettled cell.old cell.new }
         ensures refused { IfErr result IsTurnFault }
     {
-        let found = task.found(came);
-        let stepped = step_in(cell, task, came);
-        let sent = self.entered(rt, place, cell, stepped, outbox)?;
-        Ok(done_of(cell.node(), found, sent))
+        let task_kind = task.task_kind(received);
+        let stepped = step_cell(cell, task, received);
+        let sent = self.lock_and_finish_step(rt, place, cell, stepped, outbox)?;
+        Ok(step_report(cell.node(), task_kind, sent))
     }
 
-    /// A place for the task's line, if what it delivers stands in the book.
-    fn place_for<W: Wait>(
+    /// Reserves a place for the task's line, if its frame is in the book.
+    fn reserve_place<W: Wait>(
         &self,
         rt: &W,
         node: Proc,
         task: &Task<O::Alloc>,
-    ) -> Result<ReservedPlace, Fault>
+    ) -> Result<Place, Fault>
         ensures refused { IfErr result IsTurnFault }
     {
         let mut book = take(rt, &self.book);
-        place_in(&mut book, node, task)
+        check_and_reserve(&mut book, node, task)
     }
 
-    /// Enters the cell's line, and copies its frames into the outbox; or gives the place back. Tells how many frames the line sent.
-    /// A step that memory refused is entered as a stop.
-    pub(crate) fn entered<W: Wait>(
+    /// Locks the book and finishes the step as [`finish_step`] does. Returns the number of frames that the line sent.
+    ///
+    /// Errors: as [`finish_step`].
+    ///
+    /// Rules: The book and the threads 21 and 22
+    pub(crate) fn lock_and_finish_step<W: Wait>(
         &self,
         rt: &W,
-        place: ReservedPlace,
+        place: Place,
         cell: &mut Cell<O, K>,
         stepped: Result<(), Fault>,
         outbox: &mut Outbox<O::Alloc>,
@@ -327,9 +380,10 @@ impl<O: Object, K: BookName<O::Alloc>> HostOf<Cell<O, K>, Book<O, K>, O::Alloc> 
         requires refused { IfErr stepped IsTurnFault }
         ensures done { OnOk result (IsOk stepped) }
         ensures ends { IfOk result (IsEndOfRun O.sequential K.name.group cell.old cell.new) }
+        ensures finished { IsFinished stepped cell.old cell.new }
         ensures refused { IfErr result IsTurnFault }
     {
         let mut book = take(rt, &self.book);
-        entered_in(&mut book, place, cell, stepped, outbox)
+        finish_step(&mut book, place, cell, stepped, outbox)
     }
 }

@@ -1,9 +1,14 @@
-//! What a turn did.
+//! The report of one turn.
+//!
+//! Rules: The book and the threads 21
 
-/// What a turn did: how many copies of frames were dropped, since an inbox was full or memory refused them; and how many
-/// places the node has committed, dropped ones included, which it published, if it found anything to do.
+/// The report of one turn that was not refused.
+///
+/// Rules: The book and the threads 21
 #[derive(Clone, Copy, Debug, PartialEq, Eq)]
 pub struct Turn {
+    /// The number of copies of sent frames that were dropped: a full inbox or memory refused them.
     pub dropped: u32,
+    /// The node's committed length that the turn published, dropped places included; `None` where the turn found nothing to do.
     pub length: Option<u64>,
 }

@@ -1,15 +1,15 @@
--- A client's ports, each to the node that comes after so many others, and each before any submit.
+-- A client's ports: the node of each by its place in the list, and no submit before.
 use Rattle.std.proofs.Common.{◌≡◌, ℕ, ◌+◌, ◌-◌, ◌<◌, ◌≤◌, List, [], ◌∷◌, ◌++◌, length, slice_get, Some, ap, sym, subst, ◌∙◌, arith, ⊎_elim}
 use Rattle.std.proofs.Math.Nat.{mod-lt}
 use Rattle.ring_base.proofs.ListPlaces.{get-push}
 use Rattle.ring_host_port.specs.Clients.{node_after}
 
--- the node that comes after others is one of so many
+-- The node after `passed` others is one of the nodes.
 pub node_after-le : (nodes first passed : ℕ) → 0 < nodes → node_after nodes first passed ≤ nodes
 node_after-le nodes first passed some = let below = mod-lt (first - 1 + passed) some in omega (arith, below)
 
 module _ {P V : Type 0} (value_of : P → V) (wanted : ℕ → V) where
-  -- each port has the value that is wanted at its place
+  -- Each port has the wanted value at its place.
   abbrev pub AreAsWanted : List P → Type 0
   AreAsWanted ports = (k : ℕ) (port : P) → slice_get ports k ≡ Some port → value_of port ≡ wanted k
 

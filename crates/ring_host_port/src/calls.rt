@@ -1,55 +1,66 @@
-//! What a book tells of the calls of a group's clients.
+//! The order and the history of the calls of a group's clients, read from the host's book.
+//!
+//! Rules: Sessions 9 to 11; The book and the threads 15
 
 ghost use Rattle.std.specs.Prelude.{◌≡◌, IfOk, IfErr};
 ghost use Rattle.ring_base.specs.declared.fault.Fault.TheVariants.{Memory};
-ghost use Rattle.ring_host_port.specs.CallsTold.{AreOfLines, AreOfRun};
+ghost use Rattle.ring_host_port.specs.ClientCalls.{AreOfLines, AreOfRun};
 
 use ring_base::Fault;
 use ring_host::{Book, BookName, Host, linear_law};
+use ring_node_spec::Item;
 use ring_object::Object;
 use ring_payload::Call;
-use ring_rules::Item;
 use std::alloc::{Allocator, Global};
 use std::sync::Wait;
 
-/// The calls of a group's clients, as the host's book tells them: of a run of the group.
+/// The calls of a group's clients in the host's book. They are those of a run of the group.
+///
+/// Rules: Sessions 9 to 11
 #[derive(Drop)]
-pub struct CallsTold<A: Allocator + Copy + Drop = Global> {
-    /// The calls in their one order, as far as it came.
+pub struct ClientCalls<A: Allocator + Copy + Drop = Global> {
+    /// The calls that take effect, in the one order, as far as some node had committed them when the book was read.
     pub order: Vec<Call<A>, A>,
-    /// Which calls were issued and which replied, one after the other. The order explains it.
+    /// The history: each issue of a call and each reply, in the order in which they happened. `order` is a linearization of it.
     pub history: Vec<Item<A>, A>,
 }
 
-/// The calls of the host's book. Or `Memory`.
+/// Returns the order and the history of the host's book, both read under one lock, so they belong to one run. It waits for the
+/// lock.
+///
+/// Errors: `Memory` where an allocation fails.
+///
+/// Rules: The book and the threads 15 and 26; Sessions 9 to 11
 pub fn calls_of<O: Object, K: BookName<O::Alloc>, W: Wait>(
     rt: &W,
     host: &Host<O, K>,
-) -> Result<CallsTold<O::Alloc>, Fault>
+) -> Result<ClientCalls<O::Alloc>, Fault>
     ensures calls { IfOk result (AreOfRun O.sequential K.name.group) }
     ensures refused { IfErr result (λ fault. fault ≡ Memory) }
 {
     host.read_book(
         rt,
-        |book| -> Result<CallsTold<O::Alloc>, Fault>
+        |book| -> Result<ClientCalls<O::Alloc>, Fault>
             ensures calls { IfOk result (AreOfRun O.sequential K.name.group) }
             ensures refused { IfErr result (λ fault. fault ≡ Memory) }
-        { told_by(book) },
+        { calls_in_book(book) },
     )
 }
 
-/// The calls of a book. Or `Memory`.
-fn told_by<O: Object, K: BookName<O::Alloc>>(
+/// Returns the order and the history of a book.
+///
+/// Errors: `Memory`.
+fn calls_in_book<O: Object, K: BookName<O::Alloc>>(
     book: &Book<O, K>,
-) -> Result<CallsTold<O::Alloc>, Fault>
+) -> Result<ClientCalls<O::Alloc>, Fault>
     ensures calls { IfOk result (AreOfRun O.sequential K.name.group) }
     ensures lines { IfOk result (AreOfLines O.sequential K.name.group book.now.lines) }
     ensures refused { IfErr result (λ fault. fault ≡ Memory) }
 {
-    // Laws: no effect at run time. The proof takes from them that the book's lines are a run, whose order explains its history.
+    // Laws: no effect at run time. They give the proof that the lines are a run, whose order is a linearization of its history.
     book.run_law();
     linear_law::<O>();
     let order = book.order()?;
     let history = book.history()?;
-    Ok(CallsTold { order, history })
+    Ok(ClientCalls { order, history })
 }

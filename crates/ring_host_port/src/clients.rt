@@ -1,8 +1,10 @@
-//! Clients that have a port to each node of a host.
+//! Makes clients that have a port to each node of a host.
+//!
+//! Rules: Clients 1; The book and the threads 28
 
 ghost use Rattle.std.specs.Prelude.{◌≡◌, ◌≤◌, ◌++◌, [], length, slice_get, Some, IfOk, IfErr, OnOk, OnErr};
 ghost use Rattle.ring_base.specs.declared.fault.Fault.TheVariants.{Memory};
-ghost use Rattle.ring_client.specs.Asking.{unasked};
+ghost use Rattle.ring_client.specs.Asking.{new_asked};
 ghost use Rattle.ring_host_port.specs.Clients.{AreSeats, AreForAll, AreNotTaken, IsNew, node_after};
 
 use crate::port::{HostPort, POLLS};
@@ -12,10 +14,13 @@ use ring_host::{BookName, Host, Seat};
 use ring_object::Object;
 use std::sync::Wait;
 
-/// As many of the host's seats as it has nodes, off the end of the list. Refused, in this order: `NotMember` where there are fewer;
-/// `Memory`. The seats are as before then.
+/// Removes as many of the host's seats from the end of the list as the host has nodes, and returns them in the same order.
 ///
-/// `nodes` is how many nodes the host has, and no other number: a client has a port to each of them.
+/// `nodes` is exactly the host's number of nodes: a client has a port to each node, and each port takes a seat.
+///
+/// Errors, in this order: `NotMember` where the list has fewer seats; `Memory`. The seats are then as before.
+///
+/// Rules: The book and the threads 28
 pub fn take_seats<O: Object, K: BookName<O::Alloc>>(
     host: &Host<O, K>,
     seats: &mut Vec<Seat<O::Alloc>, O::Alloc>,
@@ -28,7 +33,7 @@ pub fn take_seats<O: Object, K: BookName<O::Alloc>>(
     ensures kept { OnErr result (seats.new.items ≡ seats.old.items) }
     ensures refused { IfErr result (AreNotTaken nodes seats.old.items) }
 {
-    // The contract alone speaks of it: these are seats of this host.
+    // Only the contract uses the host: these are its seats.
     let _host = host;
     let count = usize::from(nodes);
     if seats.len() < count {
@@ -37,12 +42,16 @@ pub fn take_seats<O: Object, K: BookName<O::Alloc>>(
     Ok(seats.split_off(seats.len() - count)?)
 }
 
-/// The client of this number before its first call, which tries the node `first`, and then the others in order, node 1 after the last.
-/// Each port takes one of the seats, of which there is one for each node, and nothing was submitted there. It polls a node 1,000,000
-/// times a call at most. Or `Memory`.
+/// Makes the client of this number, before its first call, with a port to each node. It tries the node `first`, then the others
+/// in order, with node 1 after the last. Each port takes one of the seats, and nothing was submitted at it. The client polls a
+/// node at most 1,000,000 times a call.
 ///
-/// A `first` that is no node is not refused: 0 counts as 1, and past the last node it goes on with node 1, so that 5 of three nodes is
-/// node 2.
+/// A `first` that isn't the number of a node is not refused. 0 counts as 1; past the last node the count goes on with node 1, so
+/// 5 of three nodes is node 2.
+///
+/// Errors: `Memory` where an allocation fails.
+///
+/// Rules: Clients 1; The book and the threads 28
 pub fn client_of<'a, O: Object, K: BookName<O::Alloc>, W: Wait>(
     rt: &'a W,
     alloc: O::Alloc,
@@ -61,7 +70,9 @@ pub fn client_of<'a, O: Object, K: BookName<O::Alloc>, W: Wait>(
     Ok(Client::new(alloc, number, ports, POLLS))
 }
 
-/// Puts a port to each node into the list, which has none, from the node `first` on, each with one of the seats. Or `Memory`.
+/// Fills the empty list with a port to each node, in order from the node `first` on, each with one of the seats.
+///
+/// Errors: `Memory`.
 fn add_ports<'a, O: Object, K: BookName<O::Alloc>, W: Wait>(
     rt: &'a W,
     host: &'a Host<O, K>,
@@ -73,7 +84,7 @@ fn add_ports<'a, O: Object, K: BookName<O::Alloc>, W: Wait>(
     requires none { ports.old.items ≡ [] }
     ensures count { OnOk result (length ports.new.items ≡ host.now.words) }
     ensures order { OnOk result ((k : _) (port : _) → slice_get ports.new.items k ≡ Some port → port.node ≡ node_after host.now.words first k) }
-    ensures fresh { OnOk result ((k : _) (port : _) → slice_get ports.new.items k ≡ Some port → port.asked ≡ unasked) }
+    ensures fresh { OnOk result ((k : _) (port : _) → slice_get ports.new.items k ≡ Some port → port.asked ≡ new_asked) }
     ensures refused { IfErr result (λ fault. fault ≡ Memory) }
 {
     let nodes = seats.len() as u8;
@@ -84,7 +95,7 @@ fn add_ports<'a, O: Object, K: BookName<O::Alloc>, W: Wait>(
     Ok(())
 }
 
-/// The node that a client tries after so many others, where this one is its first.
+/// Returns the node that a client tries after `passed` others; `first` is the client's first node.
 fn node_after(nodes: u8, first: u8, passed: u8) -> u8
     requires { 1 ≤ nodes }
     ensures { result ≡ node_after nodes first passed }

@@ -1,44 +1,51 @@
-//! Ports to the nodes of a host.
+//! A client's port to one node of a host.
+//!
+//! Rules: Clients 2 to 5; The book and the threads 26
 
 ghost use Rattle.std.specs.Prelude.{◌≡◌, ◌≤◌, ◌+◌, [], ◌∷◌, ◌++◌, length, All, IfOk, IfErr, IfSome, OnOk, OnErr};
 ghost use Rattle.ring_base.specs.declared.fault.Fault.TheVariants.{NotMember};
-ghost use Rattle.ring_client.specs.Asking.{unasked, submitted, refused_with, polled, IsTold, IsSubmittable};
+ghost use Rattle.ring_client.specs.Asking.{new_asked, asked_after_submit, asked_after_refusal, asked_after_poll, IsClientVisible, IsSubmittable};
 ghost use Rattle.ring_seat.specs.Seats.{IsAt};
 ghost use Rattle.ring_host.specs.Answering.{IsAnswered};
-ghost use Rattle.ring_host_port.specs.Noted.{told_of};
+ghost use Rattle.ring_host_port.specs.VisibleAnswer.{visible_answer};
 ghost use Rattle.ring_host_port.specs.Submitting.{IsNotSubmitted};
 
 use ring_base::{Fault, Proc};
-use ring_client::{Asked, Port, tellable};
-use ring_host::{Answers, BookName, Host, HostTicket, Seat};
+use ring_client::{Asked, Port, client_visible};
+use ring_host::{AnswerCache, BookName, Host, HostTicket, Seat};
 use ring_object::Object;
-use ring_payload::{Call, MOST_OPERATION};
+use ring_payload::{Call, MAX_OPERATION};
 use ring_session::{Answer, copy_of};
 use std::sync::Wait;
 use std::thread::{self, Parker};
 use std::time::Duration;
 
-/// After how many polls of a call that find no answer a port naps.
-const PATIENCE: u64 = 1_000;
+/// The number of polls of one call without an answer after which a port starts to sleep.
+const POLLS_TO_SLEEP: u64 = 1_000;
 
-/// At each of how many polls it does from then on.
-const NAPS: u64 = 10;
+/// Once it has started, a port sleeps at every poll of a call whose number this divides.
+const POLLS_PER_SLEEP: u64 = 10;
 
-/// At each of how many polls of a call a port looks at the book though its node has committed nothing since its last look.
-const STALE: u64 = 64;
+/// A port looks at the book at every poll of a call whose number this divides, also where its node has committed nothing new.
+const POLLS_PER_LOOK: u64 = 64;
 
-/// How many microseconds a nap is.
-const NAP: u64 = 50;
+/// The length of a sleep, in microseconds.
+const SLEEP_MICROS: u64 = 50;
 
-/// How often a client that has a thread of its own polls a node at most, for one call, before it passes on to the next.
+/// The greatest number of polls that a client on a thread makes at one node for one call, before it tries the next node.
+///
+/// Rules: Clients 4; The book and the threads 28
 pub const POLLS: u64 = 1_000_000;
 
-/// A port to a node of a host, from a seat of its own. Its calls wait for the host's locks, so it holds the handle for that.
+/// A port to a node of a host, with a seat of that host. Its calls wait for the host's locks, so it borrows the runtime.
 ///
-/// A submit is refused as the host's `submit` at the port's node is, and before that with `OpTooLong` over 1,024 bytes, `NumberGap`
-/// for number 0, and `Memory` for the call's copy. A poll that finds no answer yields, so that the nodes' threads get on; and from the
-/// thousandth of a call on each tenth of them naps for 50 microseconds too, so that a call outlasts the naps of its nodes. One look at
-/// the book serves for 64 tickets of its node.
+/// A poll that finds no answer yields to the nodes' threads. From the thousandth poll of a call on, each tenth also sleeps for 50
+/// microseconds, so that a call outlasts the sleeps of its nodes. One look at the book serves 64 tickets of the port's node.
+///
+/// Errors of a submit, in this order: `OpTooLong` over 1,024 bytes; `NumberGap` for number 0; `Memory` for the call's copy; then
+/// those of the host's `submit` at the port's node.
+///
+/// Rules: Clients 2; The book and the threads 26
 #[derive(Drop)]
 pub struct HostPort<'a, O: Object, K: BookName<O::Alloc>, W: Wait> {
     rt: &'a W,
@@ -46,23 +53,26 @@ pub struct HostPort<'a, O: Object, K: BookName<O::Alloc>, W: Wait> {
     seat: Seat<O::Alloc>,
     node: Proc,
     asked: Asked,
-    /// The answers that its last look at the book found.
-    known: Answers<O, K>,
-    /// What its last look at the book was for.
-    looked: LookedFor,
+    /// The answers that the port's last look at the book found.
+    cache: AnswerCache<O, K>,
+    /// The ticket and the length for which the port last looked at the book.
+    last_look: PendingLook,
     ghost fits: { (seat.gauge ≡ host.now) × (node ≤ host.now.words) },
 }
 
-/// What a look at the book was for: a ticket, whether it is of the port's node, and how long that node's log was committed before.
+/// A look at the book: its ticket, whether that is the port's node's, and the node's committed length just before the look.
 #[derive(Drop)]
-struct LookedFor {
+struct PendingLook {
     ticket: u64,
     length: u64,
     is_own: bool,
 }
 
 impl<'a, O: Object, K: BookName<O::Alloc>, W: Wait> HostPort<'a, O, K, W> {
-    /// The port to this node of the host, with one of the host's seats. Before any submit.
+    /// Makes the port to this node of the host, before any submit. It uses one of the host's seats, which may be a node's own or
+    /// of no node.
+    ///
+    /// Rules: Clients 2
     pub fn new(
         rt: &'a W,
         host: &'a Host<O, K>,
@@ -71,7 +81,7 @@ impl<'a, O: Object, K: BookName<O::Alloc>, W: Wait> HostPort<'a, O, K, W> {
     ) -> HostPort<'a, O, K, W>
         requires { (seat.gauge ≡ host.now) × (node ≤ host.now.words) }
         ensures node { result.node ≡ node }
-        ensures asked { result.asked ≡ unasked }
+        ensures asked { result.asked ≡ new_asked }
         ensures seat { result.seat ≡ seat }
     {
         HostPort {
@@ -80,8 +90,8 @@ impl<'a, O: Object, K: BookName<O::Alloc>, W: Wait> HostPort<'a, O, K, W> {
             seat,
             node,
             asked: Asked::new(),
-            known: host.no_answers(node),
-            looked: LookedFor {
+            cache: host.empty_answers(node),
+            last_look: PendingLook {
                 ticket: 0,
                 length: 0,
                 is_own: false,
@@ -89,8 +99,12 @@ impl<'a, O: Object, K: BookName<O::Alloc>, W: Wait> HostPort<'a, O, K, W> {
         }
     }
 
-    /// The port to the host's node of this number, with the last of these seats of the host's. `NotMember` where it has no such node,
-    /// or no seat is left: then the seats are as before.
+    /// Makes the port to the host's node of this number, counted from 1, with the last of these seats of the host, which it
+    /// removes.
+    ///
+    /// Errors: `NotMember` where the host has no such node, or no seat is left. The seats are then as before.
+    ///
+    /// Rules: Clients 2; Refusals 1
     pub fn to(
         rt: &'a W,
         host: &'a Host<O, K>,
@@ -99,7 +113,7 @@ impl<'a, O: Object, K: BookName<O::Alloc>, W: Wait> HostPort<'a, O, K, W> {
     ) -> Result<HostPort<'a, O, K, W>, Fault>
         requires { All (IsAt host.now) seats.old.items }
         ensures seats { All (IsAt host.now) seats.new.items }
-        ensures port { IfOk result (λ port. (port.node ≡ number) × (port.asked ≡ unasked)) }
+        ensures port { IfOk result (λ port. (port.node ≡ number) × (port.asked ≡ new_asked)) }
         ensures last { IfOk result (λ port. seats.old.items ≡ seats.new.items ++ port.seat ∷ []) }
         ensures taken { OnOk result (length seats.old.items ≡ length seats.new.items + 1) }
         ensures kept { OnErr result (seats.new.items ≡ seats.old.items) }
@@ -113,7 +127,7 @@ impl<'a, O: Object, K: BookName<O::Alloc>, W: Wait> HostPort<'a, O, K, W> {
         }
     }
 
-    /// Submits the call, of which the node takes a copy.
+    /// Submits a copy of the call.
     fn try_submit(&mut self, call: &Call<O::Alloc>) -> Result<HostTicket, Fault>
         ensures ticket { IfOk result (λ ticket. ticket.node ≡ self.new.node) }
         ensures fits { OnOk result (IsSubmittable call.now) }
@@ -121,7 +135,7 @@ impl<'a, O: Object, K: BookName<O::Alloc>, W: Wait> HostPort<'a, O, K, W> {
         ensures node { self.new.node ≡ self.old.node }
         ensures asked { self.new.asked ≡ self.old.asked }
     {
-        if call.op.as_slice().len() > MOST_OPERATION {
+        if call.op.as_slice().len() > MAX_OPERATION {
             return Err(Fault::OpTooLong);
         }
         if call.number == 0 {
@@ -131,54 +145,55 @@ impl<'a, O: Object, K: BookName<O::Alloc>, W: Wait> HostPort<'a, O, K, W> {
         self.host.submit(self.rt, &mut self.seat, self.node, call)
     }
 
-    /// Whether the last look at the book was for this ticket, and the port's node, whose it is, has committed no more since.
-    fn is_vain(&self, ticket: &HostTicket, length: u64) -> bool {
-        self.looked.is_own
+    /// Returns whether the last look at the book was for this ticket, of the port's node, and the node has committed nothing
+    /// since.
+    fn is_look_redundant(&self, ticket: &HostTicket, length: u64) -> bool {
+        self.last_look.is_own
             && ticket.node == self.node
-            && self.looked.ticket == ticket.ticket.number()
-            && self.looked.length == length
+            && self.last_look.ticket == ticket.ticket.number()
+            && self.last_look.length == length
     }
 
-    /// The answer to the ticket, as far as the host's book has it: of those that the last look found, or else of a look now. After one that
-    /// was in vain there is none until the port's node has committed more, but for each 64th poll.
+    /// Returns the answer to the ticket, from the port's cache or by a look at the book. After a look in vain it looks again only
+    /// once the port's node has committed more, and at each 64th poll of the call.
     fn find(&mut self, ticket: &HostTicket) -> Option<Answer>
         ensures answered { IfSome result (IsAnswered O.Alloc O.sequential K.name.group ticket.now.node ticket.now.ticket) }
         ensures node { self.new.node ≡ self.old.node }
         ensures asked { self.new.asked ≡ self.old.asked }
     {
-        if let Some(answer) = self.known.answer(ticket) {
+        if let Some(answer) = self.cache.answer(ticket) {
             return Some(answer);
         }
         let length = self.host.gauge().look(&mut self.seat, self.node);
-        if self.is_vain(ticket, length) && self.asked.polls % STALE != 0 {
+        if self.is_look_redundant(ticket, length) && self.asked.polls % POLLS_PER_LOOK != 0 {
             return None;
         }
-        self.looked = LookedFor {
+        self.last_look = PendingLook {
             ticket: ticket.ticket.number(),
             length,
             is_own: ticket.node == self.node,
         };
-        self.host.poll_from(self.rt, ticket, &mut self.known);
-        self.known.answer(ticket)
+        self.host.poll_from(self.rt, ticket, &mut self.cache);
+        self.cache.answer(ticket)
     }
 
-    /// Lets the nodes' threads get on.
+    /// Yields to the nodes' threads, and sleeps at each tenth poll once a call waits for long.
     fn wait(&self) {
         thread::yield_now();
         let polls = self.asked.polls;
-        if polls >= PATIENCE && polls % NAPS == 0 {
-            Parker::new().park_timeout(self.rt, Duration::from_micros(NAP));
+        if polls >= POLLS_TO_SLEEP && polls % POLLS_PER_SLEEP == 0 {
+            Parker::new().park_timeout(self.rt, Duration::from_micros(SLEEP_MICROS));
         }
     }
 
-    /// Notes a poll that the host gave this answer to, and answers it, as far as a call can have it.
+    /// Records a poll for which the host returned `found`. Returns that answer if a client may see it.
     fn note(&mut self, found: Option<Answer>) -> Option<Answer>
-        ensures answer { result ≡ told_of found }
-        ensures told { IfSome result IsTold }
+        ensures answer { result ≡ visible_answer found }
+        ensures told { IfSome result IsClientVisible }
         ensures node { self.new.node ≡ self.old.node }
-        ensures asked { self.new.asked ≡ polled result self.old.asked }
+        ensures asked { self.new.asked ≡ asked_after_poll result self.old.asked }
     {
-        let answer = told_of(found);
+        let answer = visible_answer(found);
         self.asked.note_poll(answer);
         self.asked.answer
     }
@@ -191,10 +206,15 @@ impl<'a, O: Object, K: BookName<O::Alloc>, W: Wait> Port for HostPort<'a, O, K, 
 
     ghost asked_of = { λ port. port.asked };
 
-    /// Submits the call at the port's node.
+    /// Submits a copy of the call at the port's node and records it in `asked`.
+    ///
+    /// Errors, in this order: `OpTooLong`, `NumberGap`, `Memory` for the copy, then those of
+    /// [`Host::submit`](ring_host::HostOf::submit).
+    ///
+    /// Rules: Clients 2
     fn submit(&mut self, call: &Call<O::Alloc>) -> Result<HostTicket, Fault>
-        ensures ok { OnOk result (self.new.asked ≡ submitted call.now) }
-        ensures refused { IfErr result (λ fault. self.new.asked ≡ refused_with fault (submitted call.now)) }
+        ensures ok { OnOk result (self.new.asked ≡ asked_after_submit call.now) }
+        ensures refused { IfErr result (λ fault. self.new.asked ≡ asked_after_refusal fault (asked_after_submit call.now)) }
         ensures fits { OnOk result (IsSubmittable call.now) }
         ensures why { IfErr result (IsNotSubmitted call.now) }
         ensures ticket { IfOk result (λ ticket. ticket.node ≡ self.new.node) }
@@ -208,11 +228,13 @@ impl<'a, O: Object, K: BookName<O::Alloc>, W: Wait> Port for HostPort<'a, O, K, 
         submit
     }
 
-    /// The answer that the host gives to the ticket, as far as a call can have it: so some run of the group has the ticket's
-    /// issue, and this answer to it.
+    /// Returns the answer to the ticket if the host's book has it and a client may see it. Then some run of the group has the
+    /// ticket's issue and this answer to it. Otherwise it returns `None`, after it has yielded and perhaps slept.
+    ///
+    /// Rules: Clients 2; The book and the threads 26
     fn poll(&mut self, ticket: &HostTicket) -> Option<Answer>
-        ensures asked { self.new.asked ≡ polled result self.old.asked }
-        ensures told { IfSome result IsTold }
+        ensures asked { self.new.asked ≡ asked_after_poll result self.old.asked }
+        ensures told { IfSome result IsClientVisible }
         ensures answered { IfSome result (IsAnswered O.Alloc O.sequential K.name.group ticket.now.node ticket.now.ticket) }
         ensures node { self.new.node ≡ self.old.node }
     {
@@ -224,18 +246,21 @@ impl<'a, O: Object, K: BookName<O::Alloc>, W: Wait> Port for HostPort<'a, O, K, 
         answer
     }
 
+    /// Returns the record of the last submit at the port, with the polls since.
+    ///
+    /// Rules: Clients 2
     fn asked(&self) -> &Asked {
         &self.asked
     }
 }
 
-/// The answer that was found, as far as a call can have it.
-fn told_of(found: Option<Answer>) -> Option<Answer>
-    ensures value { result ≡ told_of found }
-    ensures told { IfSome result IsTold }
+/// Returns the answer that was found, if a client may see it.
+fn visible_answer(found: Option<Answer>) -> Option<Answer>
+    ensures value { result ≡ visible_answer found }
+    ensures told { IfSome result IsClientVisible }
 {
     match found {
-        Some(answer) => tellable(answer),
+        Some(answer) => client_visible(answer),
         None => None,
     }
 }

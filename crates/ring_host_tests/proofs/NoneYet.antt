@@ -1,4 +1,4 @@
--- Whatever it is, it holds of all that a list has that has nothing yet.
+-- Any property holds of all elements of an empty list.
 use Rattle.std.proofs.Common.{◌≡◌, List, [], All}
 use Rattle.std.proofs.lemmas.List.Elements.{All-nil}
 

@@ -1,5 +1,7 @@
-//! A lone node, turned by hand: its own frames form its ring, and its call is answered at turn 506. The length that it tells counts
-//! the places that it has dropped.
+//! A lone node, turned by hand. Its own frames form its ring, and its call is answered at turn 506. The length of a turn counts
+//! dropped places.
+//!
+//! Rules: The book and the threads 21, 30 to 34
 
 ghost use Rattle.std.specs.Prelude.{◌≡◌};
 
@@ -14,11 +16,11 @@ use std::alloc::Global;
 use std::marker::Brand;
 use std::sync::Wait;
 
-/// What is seen after a turn: what the turn told, what the gauge has for the node, the answer to the call, and whether that is
-/// the book's own.
+/// The state after a turn: the turn's report, the gauge's length of the node, the answer to the call, and whether it is the
+/// book's own.
 type Row = (Turn, u64, (Option<Answer>, bool));
 
-/// What is seen after so many turns more.
+/// Does `turns` turns of node 1 and returns the state after them.
 fn row<O: Object, K: BookName<O::Alloc>, W: Wait>(
     rt: &W,
     driven: &mut DrivenHost<O, K>,
@@ -30,7 +32,7 @@ fn row<O: Object, K: BookName<O::Alloc>, W: Wait>(
     Ok((turn, length, driven.polled(rt, ticket)))
 }
 
-/// What is seen after turn 505 and after turn 506, where a call was submitted before the first one; and the node's clock then.
+/// Submits a call before the first turn. Returns the states after turns 505 and 506, and then the node's clock.
 fn both_rows<O: Object, K: BookName<O::Alloc>, W: Wait>(
     rt: &W,
     driven: &mut DrivenHost<O, K>,
@@ -41,7 +43,7 @@ fn both_rows<O: Object, K: BookName<O::Alloc>, W: Wait>(
     Ok((before, after, driven.clock()))
 }
 
-/// The same at an opening.
+/// Runs `both_rows` on a host of one node at an opening.
 fn opened<O: Object, K: BookName<O::Alloc>, W: Wait>(
     rt: &W,
     alloc: O::Alloc,
@@ -55,13 +57,14 @@ fn opened<O: Object, K: BookName<O::Alloc>, W: Wait>(
     rows
 }
 
-/// The same of counters.
+/// Runs `opened` with counters.
 fn counted<W: Wait>(rt: &W, alloc: Global) -> Result<(Row, Row, Clock), Fault> {
     let opening = Opening::<Counters>::new(alloc, Fixed::new(1)?)?;
     opened::<Counters, Brand, W>(rt, alloc, opening)
 }
 
-/// The calls of client 7 from this number on, so many, are submitted, and turns pass until they are done. What the last one told.
+/// Submits `many` calls of client 7, numbered from `first` on, and takes turns until they are done. Returns the last turn's
+/// report.
 fn calls<O: Object, K: BookName<O::Alloc>, W: Wait>(
     rt: &W,
     driven: &mut DrivenHost<O, K>,
@@ -74,7 +77,7 @@ fn calls<O: Object, K: BookName<O::Alloc>, W: Wait>(
     driven.turns(rt, 1, 4)
 }
 
-/// What is told once the node has done 256 calls, and after one more.
+/// Returns the reports of the turn in which the node has done 256 calls, and of that in which it has done one more.
 fn all_told<O: Object, K: BookName<O::Alloc>, W: Wait>(
     rt: &W,
     driven: &mut DrivenHost<O, K>,
@@ -87,7 +90,7 @@ fn all_told<O: Object, K: BookName<O::Alloc>, W: Wait>(
     Ok((all, calls(rt, driven, 257, 1)?))
 }
 
-/// The same at an opening.
+/// Runs `all_told` on a host of one node at an opening.
 fn many<O: Object, K: BookName<O::Alloc>, W: Wait>(
     rt: &W,
     alloc: O::Alloc,
@@ -101,13 +104,13 @@ fn many<O: Object, K: BookName<O::Alloc>, W: Wait>(
     told
 }
 
-/// The same of counters.
+/// Runs `many` with counters.
 fn counted_many<W: Wait>(rt: &W, alloc: Global) -> Result<(Turn, Turn), Fault> {
     let opening = Opening::<Counters>::new(alloc, Fixed::new(1)?)?;
     many::<Counters, Brand, W>(rt, alloc, opening)
 }
 
-/// A turn that told this length, and dropped no copy.
+/// The report of a turn that published this length and dropped no copy.
 fn told(length: u64) -> Turn {
     Turn {
         dropped: 0,
@@ -115,7 +118,7 @@ fn told(length: u64) -> Turn {
     }
 }
 
-/// The turn that answers it has taken a token: so all but the join timeout, which was due at turn 500, begin to count anew.
+/// The turn that answers the call has taken a token. So all but the join timeout, which was due at turn 500, begin to count anew.
 #[test]
 fn a_call_is_answered_at_turn_506(rt: HostRuntime) {
     let before = (told(0), 0, (None, true));

@@ -5,7 +5,7 @@ ghost use Rattle.ring_payload.specs.Calls.{CallFits};
 ghost use Rattle.ring_seat.specs.Seats.{IsAt};
 
 use ring_base::{Fault, Kind};
-use ring_host::{BookName, Host, HostTicket, Open, Opening, Seat, Turn};
+use ring_host::{BookName, Host, HostTicket, OpenGate, Opening, Seat, Turn};
 use ring_object::{Object, Reply};
 use ring_payload::Call;
 use ring_seat::Clock;
@@ -15,13 +15,13 @@ use std::alloc::Allocator;
 use std::sync::Wait;
 use std::thread::Threads;
 
-/// In how many rounds at most a ring forms, and the calls that wait for it are answered.
+/// The most rounds in which a ring forms and the calls that wait for it are answered.
 pub const FORM: u32 = 60;
 
-/// The most turns that pass until a timeout is due.
+/// The most turns until a timeout is due.
 const LONGEST: u32 = 32_000;
 
-/// The answer to the add that brings the counter to this.
+/// Returns the answer to the add that raises the counter to `count`.
 pub fn done(count: u8) -> Answer {
     Answer::Done(Reply::from_slice(&[0, 0, 0, 0, 0, 0, 0, 0, count]))
 }
@@ -34,7 +34,7 @@ fn add_of<A: Allocator + Copy>(alloc: A, client: u32, number: u64) -> Result<Cal
     Ok(call)
 }
 
-/// A host of up to three nodes, with the seats of all.
+/// A host of up to three nodes, with four seats: the nodes' own, and others of no node.
 #[derive(Drop)]
 pub struct DrivenHost<O: Object, K: BookName<O::Alloc>> {
     alloc: O::Alloc,
@@ -42,12 +42,12 @@ pub struct DrivenHost<O: Object, K: BookName<O::Alloc>> {
     first: Seat<O::Alloc>,
     second: Seat<O::Alloc>,
     third: Seat<O::Alloc>,
-    guest: Seat<O::Alloc>,
-    ghost at: { (first.gauge ≡ host) × (second.gauge ≡ host) × (third.gauge ≡ host) × (guest.gauge ≡ host) },
+    foreign_seat: Seat<O::Alloc>,
+    ghost at: { (first.gauge ≡ host) × (second.gauge ≡ host) × (third.gauge ≡ host) × (foreign_seat.gauge ≡ host) },
 }
 
 impl<O: Object, K: BookName<O::Alloc>> DrivenHost<O, K> {
-    /// The host of the opening that K names, of so many nodes, with inboxes of this size.
+    /// Makes the host of the opening that `K` names, with `nodes` nodes and inboxes of this size.
     pub fn new(
         alloc: O::Alloc,
         opening: Opening<O>,
@@ -59,23 +59,23 @@ impl<O: Object, K: BookName<O::Alloc>> DrivenHost<O, K> {
     {
         let guests = u16::from(4u8.saturating_sub(nodes));
         let (host, mut seats) = Host::<O, K>::with_inbox(alloc, opening, guests, inbox)?;
-        let (first, second, third, guest) = four_of(&host, &mut seats)?;
+        let (first, second, third, foreign_seat) = four_of(&host, &mut seats)?;
         Ok(DrivenHost {
             alloc,
             host,
             first,
             second,
             third,
-            guest,
+            foreign_seat,
         })
     }
 
-    /// The first node's clock.
+    /// Returns the first node's clock.
     pub fn clock(&self) -> Clock {
         self.first.clock()
     }
 
-    /// One turn of the node.
+    /// Does one turn of the node.
     pub fn turn<W: Wait>(&mut self, rt: &W, node: u8) -> Result<Turn, Fault> {
         match node {
             1 => turn(rt, &self.host, &mut self.first),
@@ -84,7 +84,7 @@ impl<O: Object, K: BookName<O::Alloc>> DrivenHost<O, K> {
         }
     }
 
-    /// So many turns of the node. What the last one told.
+    /// Does `count` turns of the node and returns the last one's report.
     pub fn turns<W: Wait>(&mut self, rt: &W, node: u8, count: u32) -> Result<Turn, Fault> {
         let mut last = Turn {
             dropped: 0,
@@ -96,8 +96,8 @@ impl<O: Object, K: BookName<O::Alloc>> DrivenHost<O, K> {
         Ok(last)
     }
 
-    /// All three nodes take a turn each, so often at most, or until none of them finds anything. A turn that is refused, as each
-    /// of a stopped node's, finds nothing.
+    /// Does a turn of each of the three nodes, `most` times or until none of them finds anything. A refused turn, as each of a
+    /// stopped node, finds nothing.
     pub fn rounds<W: Wait>(&mut self, rt: &W, most: u32) {
         for _ in 0..most {
             let first = has_found(self.turn(rt, 1));
@@ -109,8 +109,8 @@ impl<O: Object, K: BookName<O::Alloc>> DrivenHost<O, K> {
         }
     }
 
-    /// Turns of the node pass that do nothing but count, until the timeout of this kind is due at its next turn. Each that finds
-    /// nothing would yield, and thousands of those last long on a busy machine.
+    /// Counts turns of the node, doing nothing else, until the timeout of this kind is due at its next turn. Real turns that find
+    /// nothing would yield, and thousands of those take long on a busy machine.
     pub fn pass(&mut self, node: u8, kind: Kind) {
         match node {
             1 => pass(&self.host, &mut self.first, kind),
@@ -119,13 +119,14 @@ impl<O: Object, K: BookName<O::Alloc>> DrivenHost<O, K> {
         }
     }
 
-    /// The timeout of this kind comes at the node, behind those that are due at the same turn and go first. What the last turn told.
+    /// Makes the timeout of this kind due, and does enough turns for it and for those that go first. Returns the last turn's
+    /// report.
     pub fn time_out<W: Wait>(&mut self, rt: &W, node: u8, kind: Kind) -> Result<Turn, Fault> {
         self.pass(node, kind);
         self.turns(rt, node, 4)
     }
 
-    /// A ring of all three forms, in so many rounds at most: each node's join comes first.
+    /// Forms a ring of all three nodes within `most` rounds; each node's join comes first.
     pub fn form<W: Wait>(&mut self, rt: &W, most: u32) {
         for node in 1..4u8 {
             self.pass(node, Kind::Join);
@@ -143,7 +144,7 @@ impl<O: Object, K: BookName<O::Alloc>> DrivenHost<O, K> {
     ) -> Result<HostTicket, Fault> {
         let node = self.host.proc(node)?;
         let call = add_of(self.alloc, client, number)?;
-        self.host.submit(rt, &mut self.guest, node, call)
+        self.host.submit(rt, &mut self.foreign_seat, node, call)
     }
 
     /// Stops the node.
@@ -152,21 +153,21 @@ impl<O: Object, K: BookName<O::Alloc>> DrivenHost<O, K> {
         self.host.stop(rt, node)
     }
 
-    /// What the gauge has for the node, as a seat of none sees it.
+    /// Returns the gauge's length of the node, as the seat of no node sees it.
     pub fn look(&mut self, node: u8) -> Result<u64, Fault> {
         let node = self.host.proc(node)?;
-        Ok(self.host.gauge().look(&mut self.guest, node))
+        Ok(self.host.gauge().look(&mut self.foreign_seat, node))
     }
 
-    /// How many places of the book are used.
+    /// Returns the number of places used in the book.
     pub fn places<W: Wait>(&self, rt: &W) -> u32 {
         self.host.read_book(rt, |book| book.places())
     }
 
-    /// What a poll of the ticket answers, and whether it is what the host's book answers, and what one look for many finds.
+    /// Polls the ticket. Returns the answer, and whether the book itself and one look for many answers give the same.
     pub fn polled<W: Wait>(&self, rt: &W, ticket: &HostTicket) -> (Option<Answer>, bool) {
         let answer = self.host.poll(rt, ticket);
-        let mut answers = self.host.no_answers(ticket.node);
+        let mut answers = self.host.empty_answers(ticket.node);
         self.host.poll_from(rt, ticket, &mut answers);
         let looked = answers.answer(ticket);
         let HostTicket { node, ticket } = *ticket;
@@ -179,7 +180,7 @@ impl<O: Object + Send, K: BookName<O::Alloc> + Send + Sync> DrivenHost<O, K>
 where
     O::Alloc: Send + Sync,
 {
-    /// Runs node 1 in a thread, until that ends.
+    /// Runs node 1 on a thread until that ends.
     pub fn run_first<W: Threads + Wait + Sync>(self, rt: &W) -> Result<(), Fault> {
         let DrivenHost {
             alloc,
@@ -187,7 +188,7 @@ where
             first,
             second: _,
             third: _,
-            guest: _,
+            foreign_seat: _,
         } = self;
         let seats = alone_in(alloc, &host, first)?;
         run_seats(rt, &host, seats)
@@ -205,7 +206,7 @@ fn has_found(turned: Result<Turn, Fault>) -> bool {
     )
 }
 
-/// A list of this seat of the host's.
+/// Makes a list of this seat.
 fn alone_in<O: Object, K: BookName<O::Alloc>>(
     alloc: O::Alloc,
     host: &Host<O, K>,
@@ -220,7 +221,7 @@ fn alone_in<O: Object, K: BookName<O::Alloc>>(
     Ok(seats)
 }
 
-/// Runs the nodes whose seats of the host's these are, until their threads end.
+/// Runs the nodes with these seats of the host until their threads end.
 fn run_seats<O: Object + Send, K: BookName<O::Alloc> + Send + Sync, W: Threads + Wait + Sync>(
     rt: &W,
     host: &Host<O, K>,
@@ -231,10 +232,10 @@ where
     requires { All (IsAt host.now) seats.items }
 {
     let mut seats = seats;
-    host.run(rt, seats.as_mut_slice(), &Open)
+    host.run(rt, seats.as_mut_slice(), &OpenGate)
 }
 
-/// Four of the host's seats, the last of them last.
+/// Removes the last four of the host's seats and returns them, the last one last.
 fn four_of<O: Object, K: BookName<O::Alloc>>(
     host: &Host<O, K>,
     seats: &mut Vec<Seat<O::Alloc>, O::Alloc>,
@@ -257,7 +258,7 @@ fn four_of<O: Object, K: BookName<O::Alloc>>(
     Ok((first, second, third, fourth))
 }
 
-/// The last of the host's seats.
+/// Removes and returns the last of the host's seats.
 pub fn last_seat<O: Object, K: BookName<O::Alloc>>(
     host: &Host<O, K>,
     seats: &mut Vec<Seat<O::Alloc>, O::Alloc>,
@@ -272,7 +273,7 @@ pub fn last_seat<O: Object, K: BookName<O::Alloc>>(
     }
 }
 
-/// One turn of a node's own seat. A seat of none has no turn.
+/// Does one turn of a node's own seat; a seat of no node has no turn.
 fn turn<O: Object, K: BookName<O::Alloc>, W: Wait>(
     rt: &W,
     host: &Host<O, K>,
@@ -287,7 +288,7 @@ fn turn<O: Object, K: BookName<O::Alloc>, W: Wait>(
     host.turn(rt, seat)
 }
 
-/// Turns of the seat pass until the timeout of this kind is due at the next one.
+/// Counts turns of the seat until the timeout of this kind is due at the next one.
 pub fn pass<O: Object, K: BookName<O::Alloc>>(
     host: &Host<O, K>,
     seat: &mut Seat<O::Alloc>,
@@ -304,7 +305,7 @@ pub fn pass<O: Object, K: BookName<O::Alloc>>(
     }
 }
 
-/// How many turns are left until the timeout of this kind is due.
+/// Returns the number of turns until the timeout of this kind is due.
 fn left_of(clock: Clock, kind: Kind) -> u16 {
     match kind {
         Kind::Join => clock.join,

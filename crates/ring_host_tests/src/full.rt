@@ -1,9 +1,11 @@
-//! A host whose book is full: it refuses all with `BookFull`, before anything else, and a run of it ends by itself.
+//! A host whose book is full: it refuses everything with `BookFull` before anything else, and a run of it ends.
+//!
+//! Rules: The book and the threads 24, 25 and 27; Refusals 4
 
 ghost use Rattle.std.specs.Prelude.{◌≡◌};
 
 use crate::driven::DrivenHost;
-use ring_base::{Fault, Fixed, Kind, paired};
+use ring_base::{Fault, Fixed, Kind, pair_result};
 use ring_host::{BookName, HostTicket, INBOX, Opening};
 use ring_object::Object;
 use ring_things::Counters;
@@ -12,23 +14,23 @@ use std::marker::Brand;
 use std::sync::Wait;
 use std::thread::Threads;
 
-/// How many turns fill a book at most: a ring of one hands its token to itself at each.
-const MOST: u32 = 300_000;
+/// The most turns that fill a book: at each a ring of one hands its token to itself.
+const MAX_STEPS: u32 = 300_000;
 
-/// What was seen.
+/// The observations of a full host.
 #[derive(Clone, Copy, PartialEq, Eq)]
 struct Shown {
-    /// How many places of the book are used.
+    /// The number of places used in the book.
     places: u32,
-    /// Whether a submit is refused as the book is full, at a node that goes and at one that was stopped before.
+    /// Whether a submit is refused with `BookFull`, at a working node and at one that was stopped before.
     are_submits_refused: bool,
-    /// And a stop of these.
+    /// Whether a stop of these nodes is refused with `BookFull`.
     are_stops_refused: bool,
-    /// Whether a ticket that has no answer stays without.
+    /// Whether a ticket without an answer stays without one.
     is_silent: bool,
 }
 
-/// A turn of node 1, and whether it is refused as the book is full. Any other refusal is answered.
+/// Does a turn of node 1 and returns whether it is refused with `BookFull`. Any other refusal is an error.
 fn is_full<O: Object, K: BookName<O::Alloc>, W: Wait>(
     rt: &W,
     driven: &mut DrivenHost<O, K>,
@@ -40,12 +42,12 @@ fn is_full<O: Object, K: BookName<O::Alloc>, W: Wait>(
     }
 }
 
-/// Turns of node 1 until the book is full. Any other refusal is answered.
+/// Does turns of node 1 until the book is full. Any other refusal is an error.
 fn fill<O: Object, K: BookName<O::Alloc>, W: Wait>(
     rt: &W,
     driven: &mut DrivenHost<O, K>,
 ) -> Result<(), Fault> {
-    for _ in 0..MOST {
+    for _ in 0..MAX_STEPS {
         if is_full(rt, driven)? {
             return Ok(());
         }
@@ -53,8 +55,8 @@ fn fill<O: Object, K: BookName<O::Alloc>, W: Wait>(
     Err(Fault::NoAnswer)
 }
 
-/// Node 2 of two is given a call and stopped, and node 1, which loses it, goes on alone until the book is full. The ticket of
-/// the call.
+/// Submits a call at node 2 of two and stops that node. Node 1, which loses it, goes on alone until the book is full. Returns the
+/// ticket of the call.
 fn filled<O: Object, K: BookName<O::Alloc>, W: Wait>(
     rt: &W,
     driven: &mut DrivenHost<O, K>,
@@ -67,7 +69,7 @@ fn filled<O: Object, K: BookName<O::Alloc>, W: Wait>(
     Ok(ticket)
 }
 
-/// Whether a submit is refused at the node as the book is full.
+/// Whether a submit at the node is refused with `BookFull`.
 fn is_submit_refused<O: Object, K: BookName<O::Alloc>, W: Wait>(
     rt: &W,
     driven: &mut DrivenHost<O, K>,
@@ -77,7 +79,7 @@ fn is_submit_refused<O: Object, K: BookName<O::Alloc>, W: Wait>(
     driven.submit(rt, node, client, 1).err() == Some(Fault::BookFull)
 }
 
-/// Whether a stop of the node is.
+/// Whether a stop of the node is refused with `BookFull`.
 fn is_stop_refused<O: Object, K: BookName<O::Alloc>, W: Wait>(
     rt: &W,
     driven: &DrivenHost<O, K>,
@@ -86,7 +88,7 @@ fn is_stop_refused<O: Object, K: BookName<O::Alloc>, W: Wait>(
     driven.stop(rt, node).err() == Some(Fault::BookFull)
 }
 
-/// What is seen of a host whose book is full, with the ticket of that call.
+/// Returns the observations of a host whose book is full, with the ticket of that call.
 fn seen<O: Object, K: BookName<O::Alloc>, W: Wait>(
     rt: &W,
     driven: &mut DrivenHost<O, K>,
@@ -102,7 +104,7 @@ fn seen<O: Object, K: BookName<O::Alloc>, W: Wait>(
     }
 }
 
-/// What is seen of a host once its book is full.
+/// Fills the host's book and returns the observations.
 fn seen_full<O: Object, K: BookName<O::Alloc>, W: Wait>(
     rt: &W,
     driven: &mut DrivenHost<O, K>,
@@ -111,7 +113,7 @@ fn seen_full<O: Object, K: BookName<O::Alloc>, W: Wait>(
     Ok(seen(rt, driven, &ticket))
 }
 
-/// The same at an opening, and whether a run of node 1 ends by itself then.
+/// Runs `seen_full` at an opening. Returns also whether a run of node 1 then ends.
 fn opened<O: Object + Send, K: BookName<O::Alloc> + Send + Sync, W: Threads + Wait + Sync>(
     rt: &W,
     alloc: O::Alloc,
@@ -123,11 +125,11 @@ where
 {
     let mut driven = DrivenHost::<O, K>::new(alloc, opening, 2, INBOX)?;
     let shown = seen_full(rt, &mut driven);
-    let (driven, shown) = paired(driven, shown)?;
+    let (driven, shown) = pair_result(driven, shown)?;
     Ok((shown, driven.run_first(rt).is_ok()))
 }
 
-/// The same of counters.
+/// Runs `opened` with counters.
 fn counted<W: Threads + Wait + Sync>(rt: &W, alloc: Global) -> Result<(Shown, bool), Fault> {
     let opening = Opening::<Counters>::new(alloc, Fixed::new(2)?)?;
     opened::<Counters, Brand, W>(rt, alloc, opening)

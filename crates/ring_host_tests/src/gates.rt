@@ -1,4 +1,6 @@
-//! Nodes work at the same time: one whose thread is held up with its lock in hand doesn't hold up another.
+//! Nodes work at the same time: a thread that is held up with its node's lock doesn't hold up another node.
+//!
+//! Rules: The book and the threads 20 and 29
 
 ghost use Rattle.std.specs.Prelude.{◌≡◌, All, IfOk};
 ghost use Rattle.ring_seat.specs.Seats.{IsAt};
@@ -15,37 +17,37 @@ use std::sync::atomic::{AtomicBool, Ordering};
 use std::thread;
 use std::thread::Threads;
 
-/// How often the gate looks at most. Each look yields, so node 2's thread has a processor meanwhile.
+/// The most looks of the gate. Each yields, so node 2's thread gets a processor meanwhile.
 const LOOKS: u32 = 1_000_000;
 
-/// How often the host's caller looks at the gate at most: longer than that.
+/// The most looks of the host's caller at the gate: longer than the gate looks.
 const WATCHES: u64 = 1_000_000_000;
 
-/// Holds up node 1 with its lock in hand, the first time that it has it, until node 2 enters a line, for so many looks at most.
+/// Holds up node 1 with its lock in hand, the first time that it has it, until node 2 enters a line, for at most `LOOKS` looks.
 #[derive(Drop)]
-struct Holds {
-    /// Whether node 2 has entered a line, since node 1 is held up if it is.
+struct HoldingGate {
+    /// Whether node 2 has entered a line since node 1 was held up.
     has_entered: AtomicBool,
-    /// Whether node 1 was let go, and whether that was because node 2 had entered a line.
+    /// Whether node 1 is held up no more, and whether that was because node 2 had entered a line.
     is_over: AtomicBool,
     has_opened: AtomicBool,
 }
 
-impl Holds {
-    fn new() -> Holds {
-        Holds {
+impl HoldingGate {
+    fn new() -> HoldingGate {
+        HoldingGate {
             has_entered: AtomicBool::new(false),
             is_over: AtomicBool::new(false),
             has_opened: AtomicBool::new(false),
         }
     }
 
-    /// Looks until node 2 enters a line. Once that is over, node 1 is held up no more.
+    /// Looks until node 2 enters a line. Afterwards node 1 is held up no more.
     fn hold(&self) {
         if self.is_over.load(Ordering::SeqCst) {
             return;
         }
-        // What node 2 entered before shows nothing.
+        // Lines that node 2 entered before show nothing.
         self.has_entered.store(false, Ordering::SeqCst);
         for _ in 0..LOOKS {
             if self.has_entered.load(Ordering::SeqCst) {
@@ -58,7 +60,7 @@ impl Holds {
     }
 }
 
-impl Gate for Holds {
+impl Gate for HoldingGate {
     fn at(&self, node: Proc, place: GatePlace) {
         match (node.number(), place) {
             (1, GatePlace::Held) => self.hold(),
@@ -68,8 +70,8 @@ impl Gate for Holds {
     }
 }
 
-/// Closes the host once the gate has let node 1 go.
-fn watch<O: Object, K: BookName<O::Alloc>>(host: &Host<O, K>, gate: &Holds) {
+/// Closes the host once the gate holds node 1 no more.
+fn watch<O: Object, K: BookName<O::Alloc>>(host: &Host<O, K>, gate: &HoldingGate) {
     for _ in 0..WATCHES {
         if gate.is_over.load(Ordering::SeqCst) {
             break;
@@ -79,12 +81,12 @@ fn watch<O: Object, K: BookName<O::Alloc>>(host: &Host<O, K>, gate: &Holds) {
     host.close();
 }
 
-/// Runs the nodes until the gate has let node 1 go. Whether node 2 entered a line while node 1 was held up.
+/// Runs the nodes until the gate holds node 1 no more. Returns whether node 2 entered a line while node 1 was held up.
 fn run<O: Object + Send, K: BookName<O::Alloc> + Send + Sync, W: Threads + Wait + Sync>(
     rt: &W,
     host: &Host<O, K>,
     seats: Vec<Seat<O::Alloc>, O::Alloc>,
-    gate: &Holds,
+    gate: &HoldingGate,
 ) -> bool
 where
     O::Alloc: Send + Sync,
@@ -108,7 +110,7 @@ where
     ran.is_ok() && gate.has_opened.load(Ordering::SeqCst)
 }
 
-/// The last of the host's seats, at whose first turn the join timeout is due.
+/// Removes and returns the last of the host's seats, with the join timeout due at its next turn.
 fn due_seat<O: Object, K: BookName<O::Alloc>>(
     host: &Host<O, K>,
     seats: &mut Vec<Seat<O::Alloc>, O::Alloc>,
@@ -122,7 +124,7 @@ fn due_seat<O: Object, K: BookName<O::Alloc>>(
     Ok(seat)
 }
 
-/// The own seats of both nodes, each of which enters a line at its first turn.
+/// Returns the own seats of both nodes, each of which enters a line at its first turn.
 fn due_seats<O: Object, K: BookName<O::Alloc>>(
     alloc: O::Alloc,
     host: &Host<O, K>,
@@ -139,7 +141,7 @@ fn due_seats<O: Object, K: BookName<O::Alloc>>(
     Ok(both)
 }
 
-/// Two nodes of a host, whose seats these are.
+/// Runs two nodes of a host, with these seats, under the holding gate.
 fn held_up<O: Object + Send, K: BookName<O::Alloc> + Send + Sync, W: Threads + Wait + Sync>(
     rt: &W,
     alloc: O::Alloc,
@@ -151,11 +153,11 @@ where
     requires { All (IsAt host.now) seats.old.items }
 {
     let both = due_seats(alloc, host, seats)?;
-    let gate = Holds::new();
+    let gate = HoldingGate::new();
     Ok(run(rt, host, both, &gate))
 }
 
-/// The same at an opening.
+/// Runs `held_up` at an opening.
 fn opened<O: Object + Send, K: BookName<O::Alloc> + Send + Sync, W: Threads + Wait + Sync>(
     rt: &W,
     alloc: O::Alloc,
@@ -172,7 +174,7 @@ where
     is_working
 }
 
-/// The same of counters.
+/// Runs `opened` with counters.
 fn counted<W: Threads + Wait + Sync>(rt: &W, alloc: Global) -> Result<bool, Fault> {
     let opening = Opening::<Counters>::new(alloc, Fixed::new(2)?)?;
     opened::<Counters, Brand, W>(rt, alloc, opening)

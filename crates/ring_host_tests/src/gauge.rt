@@ -1,4 +1,6 @@
-//! The gauge, by two callers at once.
+//! The gauge under two threads at once.
+//!
+//! Rules: The book and the threads 33 and 34
 
 ghost use Rattle.std.specs.Prelude.{◌≡◌, ◌≤◌, All, IfSome};
 ghost use Rattle.ring_seat.specs.Seats.{IsAt};
@@ -8,8 +10,8 @@ use ring_seat::{Gauge, Seat};
 use std::alloc::Global;
 use std::thread::{Threads, join};
 
-/// Publishes lengths up to this one on a node's own seat, and looks at its word after each. Whether each look found just that
-/// length. The seat comes back.
+/// Publishes the lengths below `most` on a node's own seat and looks at the node's word after each. Returns the seat, and whether
+/// each look found just that length.
 fn publish_up_to(gauge: &Gauge, mut seat: Seat, most: u64) -> (Seat, bool)
     requires { IsAt gauge.now seat }
     ensures { IsAt gauge.now result.0 }
@@ -25,7 +27,7 @@ fn publish_up_to(gauge: &Gauge, mut seat: Seat, most: u64) -> (Seat, bool)
     (seat, is_exact)
 }
 
-/// What the gauge has for the other's node, as this seat sees it.
+/// Returns the length of the other seat's node, as this seat sees it.
 fn look_at_other(gauge: &Gauge, seat: &mut Seat, other: &Seat) -> Option<u64>
     requires seat { IsAt gauge.now seat.old }
     requires other { IsAt gauge.now other.now }
@@ -35,8 +37,8 @@ fn look_at_other(gauge: &Gauge, seat: &mut Seat, other: &Seat) -> Option<u64>
     Some(gauge.look(seat, node))
 }
 
-/// Each of two callers publishes from a thread of its own. Whether each read its own lengths back, and what each then sees of
-/// the other.
+/// Two threads publish, each on its own seat. Returns whether each read its own lengths back, and the length that each then sees
+/// of the other.
 fn two_callers<R: Threads + Sync>(
     rt: &R,
     gauge: &Gauge,
@@ -62,7 +64,7 @@ fn two_callers<R: Threads + Sync>(
     (is_first, is_second, of_second, of_first)
 }
 
-/// The last of the gauge's seats.
+/// Removes and returns the last of the gauge's seats.
 fn last_seat(gauge: &Gauge, seats: &mut Vec<Seat>) -> Option<Seat>
     requires { All (IsAt gauge.now) seats.old.items }
     ensures seats { All (IsAt gauge.now) seats.new.items }
@@ -71,7 +73,7 @@ fn last_seat(gauge: &Gauge, seats: &mut Vec<Seat>) -> Option<Seat>
     seats.pop()
 }
 
-/// The same of two nodes, whose seats these are.
+/// Runs `two_callers` with the last two of these seats.
 fn of_seats<R: Threads + Sync>(
     rt: &R,
     gauge: &Gauge,
@@ -84,7 +86,7 @@ fn of_seats<R: Threads + Sync>(
     Some(two_callers(rt, gauge, first, second))
 }
 
-/// The same at a gauge of two nodes.
+/// Runs `of_seats` at a gauge of two nodes.
 fn at_gauge<R: Threads + Sync>(
     rt: &R,
     alloc: Global,

@@ -1,4 +1,6 @@
-//! Copies that a full inbox refuses.
+//! Copies that a full inbox drops.
+//!
+//! Rules: The book and the threads 23
 
 ghost use Rattle.std.specs.Prelude.{◌≡◌, ◌≤◌};
 
@@ -12,8 +14,8 @@ use std::alloc::Global;
 use std::marker::Brand;
 use std::sync::Wait;
 
-/// How many copies turn 500 and turn 1,000 of node 1 drop, each of which sends a join to node 2, which takes none out of its
-/// inbox.
+/// Returns the number of copies dropped by turns 500 and 1,000 of node 1. Each sends a join to node 2, which takes nothing from
+/// its inbox.
 fn dropped<O: Object, K: BookName<O::Alloc>, W: Wait>(
     rt: &W,
     driven: &mut DrivenHost<O, K>,
@@ -25,7 +27,7 @@ fn dropped<O: Object, K: BookName<O::Alloc>, W: Wait>(
     Ok((at_500.dropped, at_1000.dropped))
 }
 
-/// The same at an opening, with inboxes of one place.
+/// Runs `dropped` at an opening, with inboxes of one item.
 fn opened<O: Object, K: BookName<O::Alloc>, W: Wait>(
     rt: &W,
     alloc: O::Alloc,
@@ -39,7 +41,7 @@ fn opened<O: Object, K: BookName<O::Alloc>, W: Wait>(
     dropped
 }
 
-/// The same of counters.
+/// Runs `opened` with counters.
 fn counted<W: Wait>(rt: &W, alloc: Global) -> Result<(u32, u32), Fault> {
     let opening = Opening::<Counters>::new(alloc, Fixed::new(2)?)?;
     opened::<Counters, Brand, W>(rt, alloc, opening)
@@ -50,31 +52,31 @@ fn an_inbox_of_one_place_drops_the_second_join(rt: HostRuntime) {
     assert!(rt; counted(&rt, rt.alloc()) == Ok((0, 1)));
 }
 
-/// What three clients see, each of which calls at a node of its own, and how many copies two turns of node 1 drop.
+/// The outcome of calls by three clients, each at its own node, and the number of copies dropped by two turns of node 1.
 #[derive(Clone, Copy, Debug, PartialEq, Eq)]
-struct Cramped {
-    /// Where node 1 hears node 2, which sends nothing.
+struct SmallInboxes {
+    /// Dropped copies of the turn in which node 1 hears node 2; it sends nothing.
     at_second: u32,
-    /// Where it hears node 3 too and proposes the ring: the inbox of node 2 still has two joins.
+    /// Dropped copies of the turn in which it also hears node 3 and proposes the ring: node 2's inbox still has two joins.
     at_third: u32,
-    /// Whether the calls are answered, one with each of the sums that three adds of 5 come to, in whatever order.
+    /// Whether the calls are answered with the three sums of three adds of 5, in any order.
     are_answered: bool,
-    /// Whether the book answers each of them just so.
+    /// Whether the book has the same answer to each.
     are_same: bool,
 }
 
-/// Whether one of these is the answer to the add that brings the counter to this.
+/// Whether one of these is the answer to the add that raises the counter to `count`.
 fn has(first: Option<Answer>, second: Option<Answer>, third: Option<Answer>, count: u8) -> bool {
     let wanted = Some(done(count));
     first == wanted || second == wanted || third == wanted
 }
 
-/// Each node sends its join at its first turn: then each inbox has two. Node 1 takes both of its own before another node takes any,
-/// so that its commit token is dropped; once it is due it goes out again.
+/// Each node sends its join at its first turn, so that each inbox has two. Node 1 takes both of its own before another node takes
+/// any. So its commit token is dropped, and is sent again when the retransmit timeout is due.
 fn crowd<O: Object, K: BookName<O::Alloc>, W: Wait>(
     rt: &W,
     driven: &mut DrivenHost<O, K>,
-) -> Result<Cramped, Fault> {
+) -> Result<SmallInboxes, Fault> {
     let first = driven.submit(rt, 1, 7, 1)?;
     let second = driven.submit(rt, 2, 8, 1)?;
     let third = driven.submit(rt, 3, 9, 1)?;
@@ -87,7 +89,7 @@ fn crowd<O: Object, K: BookName<O::Alloc>, W: Wait>(
     let (first, is_first) = driven.polled(rt, &first);
     let (second, is_second) = driven.polled(rt, &second);
     let (third, is_third) = driven.polled(rt, &third);
-    Ok(Cramped {
+    Ok(SmallInboxes {
         at_second,
         at_third,
         are_answered: has(first, second, third, 5)
@@ -97,12 +99,12 @@ fn crowd<O: Object, K: BookName<O::Alloc>, W: Wait>(
     })
 }
 
-/// The same at an opening.
+/// Runs `crowd` at an opening, with inboxes of two items.
 fn opened_cramped<O: Object, K: BookName<O::Alloc>, W: Wait>(
     rt: &W,
     alloc: O::Alloc,
     opening: Opening<O>,
-) -> Result<Cramped, Fault>
+) -> Result<SmallInboxes, Fault>
     requires { opening ≡ K.name }
 {
     let mut driven = DrivenHost::<O, K>::new(alloc, opening, 3, 2)?;
@@ -111,16 +113,16 @@ fn opened_cramped<O: Object, K: BookName<O::Alloc>, W: Wait>(
     crowded
 }
 
-/// The same of counters.
-fn counted_cramped<W: Wait>(rt: &W, alloc: Global) -> Result<Cramped, Fault> {
+/// Runs `opened_cramped` with counters.
+fn counted_cramped<W: Wait>(rt: &W, alloc: Global) -> Result<SmallInboxes, Fault> {
     let opening = Opening::<Counters>::new(alloc, Fixed::new(3)?)?;
     opened_cramped::<Counters, Brand, W>(rt, alloc, opening)
 }
 
-/// Each adds 5, and takes effect once.
+/// Each client adds 5, and each add takes effect once.
 #[test]
 fn three_clients_are_answered_over_inboxes_of_two_places(rt: HostRuntime) {
-    let wanted = Cramped {
+    let wanted = SmallInboxes {
         at_second: 0,
         at_third: 1,
         are_answered: true,

@@ -1,7 +1,11 @@
-//! What no contract of a host says: that calls are answered; that the length which a turn tells is the committed one, dropped
-//! places included; how many copies are dropped; that nodes work at the same time; what comes of memory that is refused; and in
-//! which order calls are refused, also once the book is full. Each polled answer is compared with the book's own. Nodes are turned
-//! by hand wherever that shows it, so that what comes of a test is the same at each run.
+//! Tests of a host for what no contract says: calls are answered; a turn's length counts dropped places; copies are dropped and
+//! counted; nodes work at the same time; refusals of memory do no harm; and calls are refused in their order, also once the book
+//! is full.
+//!
+//! Each polled answer is compared with the book's own. Wherever that is enough, the tests turn the nodes by hand, so that each
+//! run of a test has the same outcome.
+//!
+//! Rules: The book and the threads 19 to 34; Refusals 3 to 6
 #![tactic(auto)]
 
 #[cfg(test)]

@@ -1,9 +1,11 @@
-//! What a host refuses, and that a refused submit gives its place back.
+//! Refusals of a host, and the places that refused submits give back.
+//!
+//! Rules: The book and the threads 24 and 25; Refusals 4 and 5
 
 ghost use Rattle.std.specs.Prelude.{◌≡◌};
 
 use crate::driven::DrivenHost;
-use refusing_alloc::Refusing;
+use refusing_alloc::RefusingHeap;
 use ring_base::{Fault, Fixed};
 use ring_host::{BookName, HostTicket, INBOX, Opening};
 use ring_object::Object;
@@ -12,10 +14,10 @@ use std::alloc::{Allocator, Global};
 use std::marker::Brand;
 use std::sync::Wait;
 
-/// What is seen of a submit: what it answered, and how many places it added to those of the book.
+/// The outcome of a submit, and the number of places that it added to those of the book.
 type Seen = (Result<HostTicket, Fault>, u32);
 
-/// A submit at node 1, and how many places it adds.
+/// Submits at node 1 and returns the outcome.
 fn submitted<O: Object, K: BookName<O::Alloc>, W: Wait>(
     rt: &W,
     driven: &mut DrivenHost<O, K>,
@@ -26,18 +28,18 @@ fn submitted<O: Object, K: BookName<O::Alloc>, W: Wait>(
     (ticket, driven.places(rt).wrapping_sub(before))
 }
 
-/// Whether a submit was taken, and has a place.
+/// Whether a submit was taken and has a place.
 fn is_taken(seen: Seen) -> bool {
     seen.0.is_ok() && seen.1 == 1
 }
 
-/// Whether a submit was refused so, with as many places as before.
+/// Whether a submit was refused with this fault and left the number of places as before.
 fn is_refused(seen: Seen, fault: Fault) -> bool {
     seen.0.err() == Some(fault) && seen.1 == 0
 }
 
-/// Whether 64 submits are taken at a node that takes no turn, one more is refused as too many, and each call at it is refused
-/// once it has stopped.
+/// Whether a node that takes no turn takes 64 submits and refuses one more with `PendingFull`, and once stopped refuses each
+/// call.
 fn refuses<O: Object, K: BookName<O::Alloc>, W: Wait>(
     rt: &W,
     driven: &mut DrivenHost<O, K>,
@@ -53,7 +55,7 @@ fn refuses<O: Object, K: BookName<O::Alloc>, W: Wait>(
     are_taken && is_full && stops && is_stopped
 }
 
-/// The same at an opening.
+/// Runs `refuses` on a host of one node at an opening.
 fn opened<O: Object, K: BookName<O::Alloc>, W: Wait>(
     rt: &W,
     alloc: O::Alloc,
@@ -67,7 +69,7 @@ fn opened<O: Object, K: BookName<O::Alloc>, W: Wait>(
     Ok(refuses)
 }
 
-/// The same of counters.
+/// Runs `opened` with counters.
 fn counted<W: Wait>(rt: &W, alloc: Global) -> Result<bool, Fault> {
     let opening = Opening::<Counters>::new(alloc, Fixed::new(1)?)?;
     opened::<Counters, Brand, W>(rt, alloc, opening)
@@ -78,14 +80,14 @@ fn too_many_calls_and_a_stopped_node(rt: HostRuntime) {
     assert!(rt; counted(&rt, rt.alloc()) == Ok(true));
 }
 
-/// How many requests for memory were made before a submit and after it, and whether it was refused memory with no place lost, and
-/// the next one taken.
+/// The numbers of requests for memory before a submit and after it, and whether it was refused memory, lost no place, and the
+/// next submit was taken.
 type Short = (u64, u64, bool);
 
-/// A submit of which one request for memory may be refused.
+/// Does a submit of which one request for memory may be refused.
 fn short_submit<O: Object, K: BookName<O::Alloc>, W: Wait>(
     rt: &W,
-    heap: &Refusing,
+    heap: &RefusingHeap,
     driven: &mut DrivenHost<O, K>,
 ) -> Short {
     let before = heap.requests();
@@ -99,11 +101,11 @@ fn short_submit<O: Object, K: BookName<O::Alloc>, W: Wait>(
     )
 }
 
-/// The same at an opening.
+/// Runs `short_submit` on a host of one node at an opening.
 fn short<O: Object, K: BookName<O::Alloc>, W: Wait>(
     rt: &W,
     alloc: O::Alloc,
-    heap: &Refusing,
+    heap: &RefusingHeap,
     opening: Opening<O>,
 ) -> Result<Short, Fault>
     requires { opening ≡ K.name }
@@ -114,23 +116,23 @@ fn short<O: Object, K: BookName<O::Alloc>, W: Wait>(
     Ok(short)
 }
 
-/// The same of counters that take their memory from this heap.
+/// Runs `short` with counters that take their memory from this heap.
 fn short_of<A: Allocator + Copy + Drop, W: Wait>(
     rt: &W,
     alloc: A,
-    heap: &Refusing,
+    heap: &RefusingHeap,
 ) -> Result<Short, Fault> {
     let opening = Opening::<Counters<A>>::new(alloc, Fixed::new(1)?)?;
     short::<Counters<A>, Brand, W>(rt, alloc, heap, opening)
 }
 
-/// The same where the request after so many others is refused.
+/// Runs `short_of` with the request after `passed` others refused.
 fn refused<W: Wait>(rt: &W, alloc: Global, passed: u64) -> Result<Short, Fault> {
-    let heap = Refusing::new(alloc, passed);
+    let heap = RefusingHeap::new(alloc, passed);
     short_of(rt, &heap, &heap)
 }
 
-/// How many requests a submit makes, and whether each of them, refused, leaves the host as it was.
+/// Returns the number of requests that a submit makes, and whether each of them, when refused, leaves the host as it was.
 fn refused_in_turn<W: Wait>(rt: &W, alloc: Global) -> Result<(u64, bool), Fault> {
     let (before, after, _) = refused(rt, alloc, u64::MAX)?;
     let mut are_kept = true;

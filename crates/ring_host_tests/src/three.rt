@@ -1,10 +1,12 @@
-//! A ring of three, turned by hand, of which node 2 is refused memory: it stops, drops a copy or passes over what came, and the
-//! others go on.
+//! A ring of three, turned by hand, in which node 2 is refused memory. It stops, drops a copy or skips its item, and the others
+//! go on.
+//!
+//! Rules: The book and the threads 22 and 23; Refusals 5 and 6
 
 ghost use Rattle.std.specs.Prelude.{◌≡◌};
 
 use crate::driven::{DrivenHost, FORM};
-use refusing_alloc::Refusing;
+use refusing_alloc::RefusingHeap;
 use ring_base::{Fault, Fixed, Kind};
 use ring_host::{Book, BookName, Cause, HostTicket, INBOX, Opening, Turn};
 use ring_object::Object;
@@ -14,24 +16,24 @@ use std::alloc::{Allocator, Global};
 use std::marker::Brand;
 use std::sync::Wait;
 
-/// In how many rounds at most all that is under way is taken, a join that was just sent and those that answer it.
+/// The most rounds until all frames under way are taken: a join just sent and the joins that reply to it.
 const HEAR: u32 = 10;
 
-/// How many rounds are looked at after a call is submitted: it is answered in them.
+/// The number of rounds observed after a call is submitted; it is answered within them.
 const WATCHED: u32 = 8;
 
-/// What comes of a turn in which a request for memory is refused.
+/// The outcome of a turn in which a request for memory is refused.
 #[derive(Clone, Copy, PartialEq, Eq)]
-enum Came {
-    /// A copy of a frame was dropped, and counted; the step was done.
+enum TurnResult {
+    /// A copy of a frame was dropped and counted; the step was done.
     Dropped,
     /// The turn was refused before its step: nothing was entered, and the node goes on.
     Refused,
-    /// The node has stopped, which is entered in the place that was reserved, and from then on all is refused at it.
+    /// The node has stopped. Its stop is entered in the reserved place, and from then on the node refuses everything.
     Stopped,
-    /// All went as if nothing had been refused: what was asked for was room to spare.
+    /// Nothing was lost: the refused request was for spare room.
     Kept,
-    /// Anything else.
+    /// Any other outcome.
     Other,
 }
 
@@ -43,7 +45,7 @@ fn ends_with_stop<O: Object, K: BookName<O::Alloc>>(book: &Book<O, K>) -> bool {
     }
 }
 
-/// Whether turns, submits and stops are refused at node 2, since it has stopped.
+/// Whether node 2 has stopped: it refuses turns, submits and stops.
 fn is_stopped<O: Object, K: BookName<O::Alloc>, W: Wait>(
     rt: &W,
     driven: &mut DrivenHost<O, K>,
@@ -55,54 +57,54 @@ fn is_stopped<O: Object, K: BookName<O::Alloc>, W: Wait>(
         && driven.time_out(rt, 2, Kind::Join).err() == stopped
 }
 
-/// What came of the turn, which added so many places.
+/// Returns the outcome of the turn; `added` is the number of places that it added.
 fn came_of<O: Object, K: BookName<O::Alloc>, W: Wait>(
     rt: &W,
     driven: &mut DrivenHost<O, K>,
     turned: Result<Turn, Fault>,
     added: u32,
-) -> Came {
+) -> TurnResult {
     match (turned, added) {
-        (Ok(turn), 1) if turn.dropped > 0 => Came::Dropped,
-        (Ok(_), 1) => Came::Kept,
-        (Err(Fault::Memory), 0) => Came::Refused,
-        (Err(Fault::Memory), 1) if is_stopped(rt, driven) => Came::Stopped,
-        _ => Came::Other,
+        (Ok(turn), 1) if turn.dropped > 0 => TurnResult::Dropped,
+        (Ok(_), 1) => TurnResult::Kept,
+        (Err(Fault::Memory), 0) => TurnResult::Refused,
+        (Err(Fault::Memory), 1) if is_stopped(rt, driven) => TurnResult::Stopped,
+        _ => TurnResult::Other,
     }
 }
 
-/// A turn of node 2, and what came of it.
+/// Does a turn of node 2 and returns its outcome.
 fn turned<O: Object, K: BookName<O::Alloc>, W: Wait>(
     rt: &W,
     driven: &mut DrivenHost<O, K>,
-) -> Came {
+) -> TurnResult {
     let before = driven.places(rt);
     let turned = driven.turn(rt, 2);
     let added = driven.places(rt).wrapping_sub(before);
     came_of(rt, driven, turned, added)
 }
 
-/// What came of the turn of node 2 in which the request was refused. None where it wasn't in one.
+/// Returns the outcome of the turn of node 2 in which the request was refused; none where it wasn't in such a turn.
 fn watched<O: Object, K: BookName<O::Alloc>, W: Wait>(
     rt: &W,
-    heap: &Refusing,
+    heap: &RefusingHeap,
     driven: &mut DrivenHost<O, K>,
-) -> Option<Came> {
+) -> Option<TurnResult> {
     for _ in 0..WATCHED {
         let _ = driven.turn(rt, 1);
         let _ = driven.turn(rt, 3);
         if heap.has_refused() {
             return None;
         }
-        let came = turned(rt, driven);
+        let outcome = turned(rt, driven);
         if heap.has_refused() {
-            return Some(came);
+            return Some(outcome);
         }
     }
     None
 }
 
-/// Whether the call is done, as the book says too.
+/// Whether the call is done, in the book too.
 fn is_done<O: Object, K: BookName<O::Alloc>, W: Wait>(
     rt: &W,
     driven: &DrivenHost<O, K>,
@@ -111,8 +113,7 @@ fn is_done<O: Object, K: BookName<O::Alloc>, W: Wait>(
     matches!(driven.polled(rt, ticket), (Some(Answer::Done(_)), true))
 }
 
-/// Whether calls at nodes 1 and 3 are answered once node 1 has lost the token and given up who is silent, so that a ring is
-/// formed anew.
+/// Whether calls at nodes 1 and 3 are answered once node 1 has lost the token, given up the silent node and formed a new ring.
 fn goes_on<O: Object, K: BookName<O::Alloc>, W: Wait>(
     rt: &W,
     driven: &mut DrivenHost<O, K>,
@@ -126,44 +127,45 @@ fn goes_on<O: Object, K: BookName<O::Alloc>, W: Wait>(
     Ok(is_done(rt, driven, &at_one) && is_done(rt, driven, &at_three))
 }
 
-/// What was seen of a story.
+/// The observations of one scenario.
 #[derive(Clone, Copy)]
 struct Shown {
-    /// How many requests for memory were made before the turns that are looked at.
+    /// The number of requests for memory before the observed turns.
     before: u64,
-    /// And after them.
+    /// The number of requests for memory after them.
     after: u64,
-    /// What came of the turn of node 2 in which one was refused, if it was in one.
-    came: Option<Came>,
+    /// The outcome of the turn of node 2 in which a request was refused, if it was in one.
+    outcome: Option<TurnResult>,
     /// Whether the others went on then, if it was.
     go_on: bool,
 }
 
-/// The story: a ring of three forms, a call is submitted at node 1, and in the next rounds a request for memory may be refused.
+/// The scenario: a ring of three forms, a call is submitted at node 1, and in the next rounds a request for memory may be
+/// refused.
 fn story<O: Object, K: BookName<O::Alloc>, W: Wait>(
     rt: &W,
-    heap: &Refusing,
+    heap: &RefusingHeap,
     driven: &mut DrivenHost<O, K>,
 ) -> Result<Shown, Fault> {
     driven.form(rt, FORM);
     driven.submit(rt, 1, 7, 1)?;
     let before = heap.requests();
-    let came = watched(rt, heap, driven);
+    let outcome = watched(rt, heap, driven);
     let after = heap.requests();
-    let go_on = came.is_none() || goes_on(rt, driven)?;
+    let go_on = outcome.is_none() || goes_on(rt, driven)?;
     Ok(Shown {
         before,
         after,
-        came,
+        outcome,
         go_on,
     })
 }
 
-/// The same at an opening.
+/// Runs the scenario on a host of three nodes at an opening.
 fn opened<O: Object, K: BookName<O::Alloc>, W: Wait>(
     rt: &W,
     alloc: O::Alloc,
-    heap: &Refusing,
+    heap: &RefusingHeap,
     opening: Opening<O>,
 ) -> Result<Shown, Fault>
     requires { opening ≡ K.name }
@@ -174,57 +176,57 @@ fn opened<O: Object, K: BookName<O::Alloc>, W: Wait>(
     story
 }
 
-/// The same of counters that take their memory from this heap.
+/// Runs `opened` with counters that take their memory from this heap.
 fn counted<A: Allocator + Copy + Drop, W: Wait>(
     rt: &W,
     alloc: A,
-    heap: &Refusing,
+    heap: &RefusingHeap,
 ) -> Result<Shown, Fault> {
     let opening = Opening::<Counters<A>>::new(alloc, Fixed::new(3)?)?;
     opened::<Counters<A>, Brand, W>(rt, alloc, heap, opening)
 }
 
-/// The story where the request after so many others is refused.
+/// Runs the scenario with the request after `passed` others refused.
 fn refused<W: Wait>(rt: &W, alloc: Global, passed: u64) -> Result<Shown, Fault> {
-    let heap = Refusing::new(alloc, passed);
+    let heap = RefusingHeap::new(alloc, passed);
     counted(rt, &heap, &heap)
 }
 
-/// What comes of each request for memory that node 2 makes in these rounds, refused in turn.
+/// The outcomes of all scenarios, in each of which another request for memory of node 2 in these rounds is refused.
 #[derive(Clone, Copy, Debug)]
 struct Told {
-    /// How often node 2 was stopped.
+    /// The number of times node 2 stopped.
     stops: u32,
-    /// How often a copy of a frame was dropped.
+    /// The number of times a copy of a frame was dropped.
     drops: u32,
-    /// How often the turn was refused before its step.
+    /// The number of times the turn was refused before its step.
     refusals: u32,
-    /// How often all went as if nothing had been refused.
+    /// The number of times nothing was lost.
     keeps: u32,
-    /// How often anything else came of it.
+    /// The number of other outcomes.
     others: u32,
-    /// How often the others didn't go on.
+    /// The number of times the other nodes didn't go on.
     ends: u32,
 }
 
-/// One more, if it is.
+/// Returns `count`, plus one if `is`.
 fn more(count: u32, is: bool) -> u32 {
     count.saturating_add(u32::from(is))
 }
 
-/// The same, with what came of one more story.
-fn told_with(told: Told, came: Came, go_on: bool) -> Told {
+/// Counts the outcome of one more scenario.
+fn told_with(told: Told, outcome: TurnResult, go_on: bool) -> Told {
     Told {
-        stops: more(told.stops, came == Came::Stopped),
-        drops: more(told.drops, came == Came::Dropped),
-        refusals: more(told.refusals, came == Came::Refused),
-        keeps: more(told.keeps, came == Came::Kept),
-        others: more(told.others, came == Came::Other),
+        stops: more(told.stops, outcome == TurnResult::Stopped),
+        drops: more(told.drops, outcome == TurnResult::Dropped),
+        refusals: more(told.refusals, outcome == TurnResult::Refused),
+        keeps: more(told.keeps, outcome == TurnResult::Kept),
+        others: more(told.others, outcome == TurnResult::Other),
         ends: more(told.ends, !go_on),
     }
 }
 
-/// What comes of all these requests.
+/// Runs the scenario for each of these requests and counts the outcomes.
 fn refused_in_turn<W: Wait>(rt: &W, alloc: Global) -> Result<Told, Fault> {
     let mut told = Told {
         stops: 0,
@@ -237,8 +239,8 @@ fn refused_in_turn<W: Wait>(rt: &W, alloc: Global) -> Result<Told, Fault> {
     let ample = refused(rt, alloc, u64::MAX)?;
     for passed in ample.before..ample.after {
         let shown = refused(rt, alloc, passed)?;
-        if let Some(came) = shown.came {
-            told = told_with(told, came, shown.go_on);
+        if let Some(outcome) = shown.outcome {
+            told = told_with(told, outcome, shown.go_on);
         }
     }
     Ok(told)

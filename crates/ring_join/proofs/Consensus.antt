@@ -1,14 +1,14 @@
--- Consensus is of those that said exactly the sets of the node.
+-- Consensus is of processors that sent exactly the node's sets.
 use Rattle.std.proofs.Common.{◌≡◌, ℕ, zero, suc, ◌<◌, ◌≤◌, true, inl, inr, List, [], ◌∷◌, length, refl, sym, ap, ◌∙◌, arith, Bool, false, if◌then◌else◌}
 use Rattle.std.specs.Prelude.{slice_index_or, ◌↔◌}
 use Rattle.std.specs.List.{AllByRecursion, Any}
 use Rattle.ring_wire.specs.Base.{IsMember, only, nobody_member, only_members, union_members, within_members}
 use Rattle.ring_wire.specs.declared.join.Join.{Join}
 use Rattle.ring_join.specs.Gathering.{Gathering, SaysSame, senders, agreeing, candidates, has_consensus, HasConsensus, AllSaySame, AllAreProcs}
-use Rattle.ring_join.specs.Gathering.{is_unheard, has_same_sets, has_smaller_sets, hearing}
-use Rattle.ring_join.specs.declared.hearing.Hearing.TheVariants.{Ignored, Agrees, Widens}
+use Rattle.ring_join.specs.Gathering.{is_own_or_failed, has_same_sets, has_smaller_sets, join_effect}
+use Rattle.ring_join.specs.declared.join_effect.JoinEffect.TheVariants.{Ignored, Agrees, Merges}
 
--- an element has it, or a later one
+-- An element has the property, or a later one has.
 any-here : {X : Type 0} (P : X → Type 0) (x : X) (xs : List X) → P x → Any P (x ∷ xs)
 any-here P x xs p = (0, x, omega arith, refl, p)
 
@@ -27,7 +27,7 @@ sender_said g i (j ∷ js) p h m =
       | inr e ↦ any-later (Said g i) j js (sender_said g i js p.1 h.1 e)
     ]
 
--- whose join stands at a place is among the senders
+-- The sender of the join at a position is among the senders.
 sender_at : (g : Gathering) (i : ℕ) (js : List Join) (k : ℕ) (x : Join) → AllByRecursion (λ (j : Join). 1 ≤ j.sender)
     js → k < length js → slice_index_or js k x ≡ x → Said g i x → IsMember (senders js) i
 sender_at g i [] k x p l e q = absurd (omega arith)
@@ -39,24 +39,24 @@ pub consensus : (me : ℕ) (g : Gathering) → 1 ≤ me → AllAreProcs g → Al
 consensus me g low p h = (
   λ e i m.
       let a = (within_members (candidates g) (agreeing me g)).0 e i m in
-      elim ((union_members (only me) (senders g.heard) i).0 a) [
+      elim ((union_members (only me) (senders g.counted_joins) i).0 a) [
         | inl q ↦ inl ((only_members me i low).0 q)
-        | inr q ↦ inr (sender_said g i g.heard p h q)
+        | inr q ↦ inr (sender_said g i g.counted_joins p h q)
       ],
   λ c. (within_members (candidates g) (agreeing me g)).1 (λ i m.
       elim (c i m) [
-        | inl q ↦ (union_members (only me) (senders g.heard) i).1 (inl ((only_members me i low).1 q))
-        | inr q ↦ (union_members (only me) (senders g.heard) i).1 (inr (sender_at g i g.heard q.0 q.1 p q.2 q.3 q.4))
+        | inl q ↦ (union_members (only me) (senders g.counted_joins) i).1 (inl ((only_members me i low).1 q))
+        | inr q ↦ (union_members (only me) (senders g.counted_joins) i).1 (inr (sender_at g i g.counted_joins q.0 q.1 p q.2 q.3 q.4))
       ]),
 )
 
--- of these tests the second passed
-agrees_by : (u s w : Bool) → (if u then Ignored else if s then Agrees else if w then Ignored else Widens) ≡ Agrees → s ≡ true
+-- The second of these tests succeeded.
+agrees_by : (u s w : Bool) → (if u then Ignored else if s then Agrees else if w then Ignored else Merges) ≡ Agrees → s ≡ true
 agrees_by true s w e = (let q : Ignored ≡ Agrees = e in cc)
 agrees_by false true w e = refl
 agrees_by false false true e = (let q : Ignored ≡ Agrees = e in cc)
-agrees_by false false false e = (let q : Widens ≡ Agrees = e in cc)
+agrees_by false false false e = (let q : Merges ≡ Agrees = e in cc)
 
--- a join that agrees has the same sets
-pub agrees_same : (me : ℕ) (g : Gathering) (j : Join) → hearing me g j ≡ Agrees → has_same_sets g j ≡ true
-agrees_same me g j e = agrees_by (is_unheard me g j) (has_same_sets g j) (has_smaller_sets g j) e
+-- A join that agrees has the same sets.
+pub agrees_same : (me : ℕ) (g : Gathering) (j : Join) → join_effect me g j ≡ Agrees → has_same_sets g j ≡ true
+agrees_same me g j e = agrees_by (is_own_or_failed me g j) (has_same_sets g j) (has_smaller_sets g j) e

@@ -1,6 +1,6 @@
--- Consensus: Consensus is of those that said exactly the sets of the node.
--- JoinCounted: One more join that counts.
--- Widening: Widening always changes a set.
+-- Consensus: Consensus is of processors that sent exactly the node's sets.
+-- JoinCounted: One more counted join.
+-- SetMerging: Widening always changes a set.
 pub mod Consensus
 pub mod JoinCounted
-pub mod Widening
+pub mod SetMerging

@@ -1,123 +1,124 @@
--- Gather, rules 1 to 10 of docs/PROTOCOL.md: the two sets of a node, the joins that it hears, who agrees, giving up, consensus, and who proposes.
+-- Gather: the two sets of a node, the joins that it hears, agreement, giving up, consensus, and the proposer.
+-- Rules: Gather 1 to 10
 use Rattle.std.specs.Prelude.{◌≡◌, ℕ, suc, max, Bool, ◌&&◌, ◌||◌, ◌==◌, nat_le, ◌≤◌, if◌then◌else◌, ◌⊎◌, List, [], ◌∷◌, map}
 use Rattle.std.specs.List.{AllByRecursion, Any}
 use Rattle.ring_wire.specs.Base.{max_number, greatest, IsMember, nobody, only, has, within, union, less, smallest}
 use Rattle.ring_wire.specs.declared.join.Join.{Join}
-pub use Rattle.ring_join.specs.declared.hearing.Hearing.{Hearing}
-pub use Rattle.ring_join.specs.declared.hearing.Hearing.TheVariants.{Ignored, Agrees, Widens}
+pub use Rattle.ring_join.specs.declared.join_effect.JoinEffect.{JoinEffect}
+pub use Rattle.ring_join.specs.declared.join_effect.JoinEffect.TheVariants.{Ignored, Agrees, Merges}
 
--- the sets of a node in Gather, and the joins with exactly these sets that it heard since agreement last fell back
+-- The sets of a node in Gather, and the joins with exactly these sets that it heard since agreement last fell back.
 pub record Gathering : Type 0 where
   pub proc_set : ℕ
   pub fail_set : ℕ
-  pub heard : List Join
+  pub counted_joins : List Join
 
--- rule 1: Gather begins: nobody is given up, and only the node itself agrees
-abbrev pub entered : ℕ → Gathering
-entered proc_set = record { proc_set = proc_set; fail_set = nobody; heard = [] }
+-- Gather 1: on entering, nobody is given up, and only the node itself agrees.
+abbrev pub gathering_opening : ℕ → Gathering
+gathering_opening proc_set = record { proc_set = proc_set; fail_set = nobody; counted_joins = [] }
 
--- the own join has the floor and the own sets
+-- Gather 2: the own join has the floor and the own sets.
 abbrev pub own_join : ℕ → ℕ → Gathering → Join
 own_join me floor g = record { sender = me; number = floor; proc_set = g.proc_set; fail_set = g.fail_set }
 
 -- Hearing
 
--- both sets are the own
+-- Whether both sets are the own.
 abbrev pub has_same_sets : Gathering → Join → Bool
 has_same_sets g j = (j.proc_set == g.proc_set) && (j.fail_set == g.fail_set)
 
--- both sets are within the own
+-- Whether both sets are subsets of the own.
 abbrev pub has_smaller_sets : Gathering → Join → Bool
 has_smaller_sets g j = within j.proc_set g.proc_set && within j.fail_set g.fail_set
 
--- the own join, or one of a processor that was given up
-abbrev pub is_unheard : ℕ → Gathering → Join → Bool
-is_unheard me g j = (j.sender == me) || has g.fail_set j.sender
+-- Whether the join is the own one, or from a processor that was given up.
+abbrev pub is_own_or_failed : ℕ → Gathering → Join → Bool
+is_own_or_failed me g j = (j.sender == me) || has g.fail_set j.sender
 
--- rule 4: the same sets agree, smaller ones say nothing, all others widen the own
-abbrev pub hearing : ℕ → Gathering → Join → Hearing
-hearing me g j = if is_unheard me g j then Ignored else if has_same_sets g j then Agrees else if has_smaller_sets g j then Ignored else Widens
+-- Gather 4: a join with the own sets agrees, one with subsets of them is ignored, and any other widens them.
+abbrev pub join_effect : ℕ → Gathering → Join → JoinEffect
+join_effect me g j = if is_own_or_failed me g j then Ignored else if has_same_sets g j then Agrees else if has_smaller_sets g j then Ignored else Merges
 
--- the sender agrees, and the number of its join counts
+-- Gather 3: the sender agrees, and the number of its join is counted.
 abbrev pub agreed : Gathering → Join → Gathering
-agreed g j = record g { heard = j ∷ g.heard }
+agreed g j = record g { counted_joins = j ∷ g.counted_joins }
 
--- who gave up this node is given up; otherwise those are whom it gave up
-abbrev pub fails_with : ℕ → Gathering → Join → ℕ
-fails_with me g j = if has j.fail_set me then union g.fail_set (only j.sender) else union g.fail_set j.fail_set
+-- Gather 5: a sender that gave up this node is given up; otherwise those that it gave up are.
+abbrev pub merged_fail_set : ℕ → Gathering → Join → ℕ
+merged_fail_set me g j = if has j.fail_set me then union g.fail_set (only j.sender) else union g.fail_set j.fail_set
 
--- rule 5: the sets grow, and agreement falls back to the node itself
-abbrev pub widened_sets : ℕ → Gathering → Join → Gathering
-widened_sets me g j = record { proc_set = union g.proc_set j.proc_set; fail_set = fails_with me g j; heard = [] }
+-- Gather 5: the sets are widened, and agreement falls back to the node itself.
+abbrev pub sets_merged : ℕ → Gathering → Join → Gathering
+sets_merged me g j = record { proc_set = union g.proc_set j.proc_set; fail_set = merged_fail_set me g j; counted_joins = [] }
 
--- a join that has the sets that it made agrees at once
+-- Gather 5: if the join has the new own sets, its sender agrees.
 abbrev pub agreed_if_same : Gathering → Join → Gathering
 agreed_if_same g j = if has_same_sets g j then agreed g j else g
 
--- rule 5 whole: what a join makes of the sets that it widens, and of agreement
-abbrev pub widened : ℕ → Gathering → Join → Gathering
-widened me g j = agreed_if_same (widened_sets me g j) j
+-- Gather 5 as a whole: the gathering after a join that widens the sets.
+abbrev pub join_merged : ℕ → Gathering → Join → Gathering
+join_merged me g j = agreed_if_same (sets_merged me g j) j
 
--- what hearing leaves
-abbrev pub heard_as : Hearing → ℕ → Gathering → Join → Gathering
-heard_as Ignored me g j = g
-heard_as Agrees me g j = agreed g j
-heard_as Widens me g j = widened me g j
+-- Gather 4 and 5: the gathering after a join is heard.
+abbrev pub gathering_after_join : JoinEffect → ℕ → Gathering → Join → Gathering
+gathering_after_join Ignored me g j = g
+gathering_after_join Agrees me g j = agreed g j
+gathering_after_join Merges me g j = join_merged me g j
 
 -- Agreeing
 
--- who sent these joins
+-- The senders of these joins.
 abbrev pub senders : List Join → ℕ
 senders [] = nobody
 senders (j ∷ js) = union (only j.sender) (senders js)
 
--- rule 3: the node itself, and those whose joins have its sets
+-- Gather 3: the processors that agree: the node itself, and those whose joins have its sets.
 abbrev pub agreeing : ℕ → Gathering → ℕ
-agreeing me g = union (only me) (senders g.heard)
+agreeing me g = union (only me) (senders g.counted_joins)
 
--- who is not given up
+-- The processors that are not given up.
 abbrev pub candidates : Gathering → ℕ
 candidates g = less g.proc_set g.fail_set
 
--- rule 9: all of these agree
+-- Gather 9: whether all of these agree.
 abbrev pub has_consensus : ℕ → Gathering → Bool
 has_consensus me g = within (candidates g) (agreeing me g)
 
--- rule 6: who does not agree is given up, and agreement falls back to the node itself
-abbrev pub given_up : ℕ → Gathering → Gathering
-given_up me g = record g { fail_set = union g.fail_set (less (candidates g) (agreeing me g)); heard = [] }
+-- Gather 6: those that don't agree are given up, and agreement falls back to the node itself.
+abbrev pub silent_given_up : ℕ → Gathering → Gathering
+silent_given_up me g = record g { fail_set = union g.fail_set (less (candidates g) (agreeing me g)); counted_joins = [] }
 
--- a join says exactly the sets of the node
+-- The join has exactly the node's sets.
 pub record SaysSame (g : Gathering) (j : Join) : Type 0 where
   pub proc_set : j.proc_set ≡ g.proc_set
   pub fail_set : j.fail_set ≡ g.fail_set
 
--- a processor agrees: it is the node, or it sent one of the joins heard, and that says exactly the sets of the node
+-- The processor agrees: it is the node, or it sent a counted join with exactly the node's sets.
 abbrev pub IsAgreeing : ℕ → Gathering → ℕ → Type 0
-IsAgreeing me g i = (i ≡ me) ⊎ Any (λ j. (j.sender ≡ i) × SaysSame g j) g.heard
+IsAgreeing me g i = (i ≡ me) ⊎ Any (λ j. (j.sender ≡ i) × SaysSame g j) g.counted_joins
 
--- consensus: each processor that is not given up agrees
+-- Gather 9: consensus: each processor that is not given up agrees.
 abbrev pub HasConsensus : ℕ → Gathering → Type 0
 HasConsensus me g = (i : ℕ) → IsMember (candidates g) i → IsAgreeing me g i
 
--- each join that is kept as heard says exactly the sets of the node
+-- Each counted join has exactly the node's sets.
 abbrev pub AllSaySame : Gathering → Type 0
-AllSaySame g = AllByRecursion (SaysSame g) g.heard
+AllSaySame g = AllByRecursion (SaysSame g) g.counted_joins
 
--- and is of a processor
+-- Each counted join is from a processor.
 abbrev pub AllAreProcs : Gathering → Type 0
-AllAreProcs g = AllByRecursion (λ (j : Join). 1 ≤ j.sender) g.heard
+AllAreProcs g = AllByRecursion (λ (j : Join). 1 ≤ j.sender) g.counted_joins
 
 -- Proposing
 
--- the floor, or the greatest number that counts
+-- The greatest known ring number: the floor, or the greatest counted number.
 abbrev pub greatest_known : ℕ → Gathering → ℕ
-greatest_known floor g = max floor (greatest (map (λ (j : Join). j.number) g.heard))
+greatest_known floor g = max floor (greatest (map (λ (j : Join). j.number) g.counted_joins))
 
--- rule 10: the new ring's number is one more
+-- Gather 10: the new ring's number is one more.
 abbrev pub new_number : ℕ → Gathering → ℕ
 new_number floor g = suc (greatest_known floor g)
 
--- with consensus the smallest proposes, up to the greatest number
+-- Gather 10: with consensus the smallest candidate proposes, up to the greatest number.
 abbrev pub may_propose : ℕ → ℕ → Gathering → Bool
 may_propose me floor g = has_consensus me g && (smallest (candidates g) == me) && nat_le (new_number floor g) max_number

@@ -1,153 +1,170 @@
-//! A node in Gather.
+//! The membership state of a node in Gather.
+//! Rules: Gather 1 to 6, 9, 10 and 14
 
 ghost use Rattle.std.specs.Prelude.{◌≡◌, ◌↔◌, true, [], IsTrue, IsSome, IfSome};
 ghost use Rattle.ring_wire.specs.Base.{IsMember};
-ghost use Rattle.ring_join.specs.declared.hearing.Hearing.TheVariants.{Widens};
-ghost use Rattle.ring_join.specs.Gathering.{entered, hearing, has_same_sets, agreed, widened_sets, widened, heard_as, given_up, candidates};
+ghost use Rattle.ring_join.specs.declared.join_effect.JoinEffect.TheVariants.{Merges};
+ghost use Rattle.ring_join.specs.Gathering.{gathering_opening, join_effect, has_same_sets, agreed, sets_merged, join_merged, gathering_after_join, silent_given_up, candidates};
 ghost use Rattle.ring_join.specs.Gathering.{agreeing, has_consensus, HasConsensus, greatest_known, own_join};
 ghost use Rattle.ring_join.specs.Gatherers.{HasSetsOf};
 
-use crate::hearing::Hearing;
-use ring_wire::{Join, Past, Proc, ProcSet, past_of};
+use crate::join_effect::JoinEffect;
+use ring_wire::{Ghost, Join, Proc, ProcSet, ghost_of};
 use std::alloc::AllocError;
 use std::marker::Model;
 
-/// A node that gathers: the processors that it reckons with, those of them that it gave up, and who agrees
-/// with it on both sets. Contracts see a `Gatherer`, with each join that counts.
+/// The membership state of a node in Gather: the processors that it considers, the processors among them that it has
+/// given up, and the processors that agree with it on both sets. Contracts see a `Gatherer`, with each counted join.
+/// Rules: Gather 3
 #[derive(Drop)]
 pub struct Gather {
     me: Proc,
     floor: u64,
     proc_set: ProcSet,
     fail_set: ProcSet,
-    /// Who sent the joins that count, and the greatest number of these joins.
-    said: ProcSet,
-    counted: u64,
-    /// The joins that count: with just the node's sets, heard since agreement last fell back to the node.
-    heard: Past<[Join; 0]>,
+    /// The senders of the counted joins, and the greatest number of these joins.
+    join_senders: ProcSet,
+    greatest_counted: u64,
+    /// The counted joins: each has exactly the node's sets, and was heard since agreement last fell back to the node.
+    counted_joins: Ghost<[Join; 0]>,
 }
 
 impl Model for Gather {
-    ghost use Rattle.ring_join.specs.Gatherers.{Gatherer, gathering_of, IsCounted};
+    ghost use Rattle.ring_join.specs.Gatherers.{Gatherer, gathering_of, HasJoinCounts};
 
     ghost Value = { Gatherer };
 
-    ghost view = { λ g. record { me = g.me; floor = g.floor; gathering = gathering_of g.proc_set g.fail_set g.heard.value } };
+    ghost view = { λ g. record { me = g.me; floor = g.floor; gathering = gathering_of g.proc_set g.fail_set g.counted_joins.value } };
 
-    ghost invariant = { λ g. IsCounted (gathering_of g.proc_set g.fail_set g.heard.value) g.said g.counted };
+    ghost invariant = { λ g. HasJoinCounts (gathering_of g.proc_set g.fail_set g.counted_joins.value) g.join_senders g.greatest_counted };
 }
 
 impl Gather {
-    /// Gather as it is entered with these processors: nobody is given up, and only the node itself agrees.
-    /// The floor is the greatest ring number that the node has taken part in.
+    /// Returns the state of node `me` as it enters Gather with these processors: none is given up, and only the node
+    /// itself agrees. `floor` is the greatest number of a ring that the node has taken part in.
+    /// Rules: Gather 1
     pub fn new(me: Proc, floor: u64, proc_set: ProcSet) -> Gather
-        ensures { result ≡ record { me = me; floor = floor; gathering = entered proc_set } }
+        ensures { result ≡ record { me = me; floor = floor; gathering = gathering_opening proc_set } }
     {
         Gather {
             me,
             floor,
             proc_set,
             fail_set: ProcSet::new(),
-            said: ProcSet::new(),
-            counted: 0,
-            heard: past_of(&()),
+            join_senders: ProcSet::new(),
+            greatest_counted: 0,
+            counted_joins: ghost_of(&()),
         }
     }
 
-    /// What a join is to the node.
-    pub fn hearing(&self, join: &Join) -> Hearing
-        ensures { result ≡ hearing self.now.me self.now.gathering join.now }
+    /// Returns the effect that the join has on this state, and changes nothing.
+    /// Rules: Gather 4
+    pub fn join_effect(&self, join: &Join) -> JoinEffect
+        ensures { result ≡ join_effect self.now.me self.now.gathering join.now }
     {
         if join.sender == self.me || self.fail_set.contains(join.sender) {
-            return Hearing::Ignored;
+            return JoinEffect::Ignored;
         }
         if self.has_sets_of(join) {
-            return Hearing::Agrees;
+            return JoinEffect::Agrees;
         }
         if join.proc_set.is_subset(self.proc_set) && join.fail_set.is_subset(self.fail_set) {
-            return Hearing::Ignored;
+            return JoinEffect::Ignored;
         }
-        Hearing::Widens
+        JoinEffect::Merges
     }
 
-    /// The sender of a join with the node's own sets agrees, and the join's number counts.
+    /// Records that the sender of the join agrees, and counts the join's number.
+    /// That the join has exactly the node's `proc_set` and `fail_set` is the caller's condition.
+    /// Rules: Gather 3 and 4
     pub fn agree(&mut self, join: &Join)
         requires { has_same_sets self.old.gathering join.now ≡ true }
         ensures { self.new ≡ record self.old { gathering = agreed self.old.gathering join.now } }
     {
-        let heard = past_of(&(&self.heard, join));
-        self.heard = heard;
-        self.said = ProcSet::only(join.sender).union(self.said);
-        self.counted = self.counted.max(join.number);
+        let counted_joins = ghost_of(&(&self.counted_joins, join));
+        self.counted_joins = counted_joins;
+        self.join_senders = ProcSet::only(join.sender).union(self.join_senders);
+        self.greatest_counted = self.greatest_counted.max(join.number);
     }
 
-    /// The node's sets become wider by those of a join, and agreement falls back. Where they are now the
-    /// join's, its sender agrees.
-    pub fn widen(&mut self, join: &Join)
-        ensures { self.new ≡ record self.old { gathering = widened self.old.me self.old.gathering join.now } }
+    /// Widens the node's sets by the sets of the join; agreement falls back to the node itself.
+    /// If the sets now equal the sets of the join, its sender agrees.
+    /// Rules: Gather 5
+    pub fn merge_join(&mut self, join: &Join)
+        ensures { self.new ≡ record self.old { gathering = join_merged self.old.me self.old.gathering join.now } }
     {
-        self.widen_sets(join);
+        self.merge_sets(join);
         if self.has_sets_of(join) {
             self.agree(join);
         }
     }
 
-    /// Hears a join, and answers whether a set changed. The ring core asks for [`hearing`](Gather::hearing) as it decides, and
-    /// does [`agree`](Gather::agree) or [`widen`](Gather::widen) as it acts.
+    /// Applies a join, as [`join_effect`](Gather::join_effect) says.
+    /// Returns whether `proc_set` or `fail_set` changed. The ring core uses `join_effect` as it decides, and
+    /// [`agree`](Gather::agree) or [`merge_join`](Gather::merge_join) as it acts.
+    /// Rules: Gather 4 and 5
     pub fn hear(&mut self, join: Join) -> bool
-        ensures heard { self.new ≡ record self.old { gathering = heard_as (hearing self.old.me self.old.gathering join) self.old.me self.old.gathering join } }
-        ensures widened { IsTrue result ↔ (hearing self.old.me self.old.gathering join ≡ Widens) }
+        ensures counted_joins { self.new ≡ record self.old { gathering = gathering_after_join (join_effect self.old.me self.old.gathering join) self.old.me self.old.gathering join } }
+        ensures join_merged { IsTrue result ↔ (join_effect self.old.me self.old.gathering join ≡ Merges) }
         ensures changed { IsTrue result ↔ ¬ HasSetsOf self.old.gathering self.new.gathering }
     {
-        match self.hearing(&join) {
-            Hearing::Ignored => false,
-            Hearing::Agrees => {
+        match self.join_effect(&join) {
+            JoinEffect::Ignored => false,
+            JoinEffect::Agrees => {
                 self.agree(&join);
                 false
             }
-            Hearing::Widens => {
-                self.widen(&join);
+            JoinEffect::Merges => {
+                self.merge_join(&join);
                 true
             }
         }
     }
 
-    /// Gives up each processor that does not agree. Then agreement falls back.
+    /// Adds each processor of `proc_set` that doesn't agree to `fail_set`.
+    /// Then agreement falls back to the node itself, even if nobody was added.
+    /// Rules: Gather 6
     pub fn give_up(&mut self)
-        ensures { self.new ≡ record self.old { gathering = given_up self.old.me self.old.gathering } }
+        ensures { self.new ≡ record self.old { gathering = silent_given_up self.old.me self.old.gathering } }
     {
         let silent = self.candidates().less(self.agreeing());
         self.fall_back();
         self.fail_set = self.fail_set.union(silent);
     }
 
-    /// The processors that are not given up.
+    /// Returns the processors that the node would form a ring with: `proc_set` less `fail_set`.
+    /// The node itself is one of them in every run.
+    /// Rules: Gather 14
     pub fn candidates(&self) -> ProcSet
         ensures { result ≡ candidates self.now.gathering }
     {
         self.proc_set.less(self.fail_set)
     }
 
-    /// The processors that are not given up, where all of them agree.
+    /// Returns the [`candidates`](Gather::candidates) if all of them agree, which is consensus, else `None`.
+    /// Rules: Gather 9
     pub fn agreed(&self) -> Option<ProcSet>
         ensures members { IfSome result (λ members. members ≡ candidates self.now.gathering) }
         ensures test { IsSome result ↔ (has_consensus self.now.me self.now.gathering ≡ true) }
         ensures consensus { IsSome result ↔ HasConsensus self.now.me self.now.gathering }
     {
-        // No effect at run time. The proof sees what `Gather` promises of itself only where the body reads a field.
-        let _counted = &self.heard;
+        // No effect at run time. The proof sees the invariant of `Gather` only if the body reads a field.
+        let _counted = &self.counted_joins;
         let members = self.candidates();
         members.is_subset(self.agreeing()).then_some(members)
     }
 
-    /// The greatest ring number that is known: the floor, or the greatest number that counts.
+    /// Returns the greatest ring number that the node knows: the greatest of its floor and the numbers of the counted
+    /// joins. A ring that it proposes has the next number.
+    /// Rules: Gather 10
     pub fn greatest_number(&self) -> u64
         ensures { result ≡ greatest_known self.now.floor self.now.gathering }
     {
-        self.floor.max(self.counted)
+        self.floor.max(self.greatest_counted)
     }
 
-    /// The node's own join.
+    /// Returns the join that the node would send now, with its floor and its present sets.
+    /// Rules: Gather 2
     pub fn my_join(&self) -> Join
         ensures { result ≡ own_join self.now.me self.now.floor self.now.gathering }
     {
@@ -169,42 +186,42 @@ impl Clone for Gather {
             floor: self.floor,
             proc_set: self.proc_set,
             fail_set: self.fail_set,
-            said: self.said,
-            counted: self.counted,
-            heard: self.heard.clone()?,
+            join_senders: self.join_senders,
+            greatest_counted: self.greatest_counted,
+            counted_joins: self.counted_joins.clone()?,
         })
     }
 }
 
 impl Gather {
-    /// Whether a join has the node's own sets.
+    /// Returns whether a join has the node's own sets.
     fn has_sets_of(&self, join: &Join) -> bool
         ensures { result ≡ has_same_sets self.now.gathering join.now }
     {
         join.proc_set == self.proc_set && join.fail_set == self.fail_set
     }
 
-    /// Who agrees: the node itself, and who sent the joins that count.
+    /// Returns the processors that agree: the node itself, and the senders of counted joins.
     fn agreeing(&self) -> ProcSet
         ensures value { result ≡ agreeing self.now.me self.now.gathering }
         ensures itself { IsMember result self.now.me }
     {
-        ProcSet::only(self.me).union(self.said)
+        ProcSet::only(self.me).union(self.join_senders)
     }
 
-    /// Agreement falls back to the node itself: no join counts any more.
+    /// Agreement falls back to the node itself: no join is counted any more.
     fn fall_back(&mut self)
-        ensures { self.new ≡ record self.old { gathering = record self.old.gathering { heard = [] } } }
+        ensures { self.new ≡ record self.old { gathering = record self.old.gathering { counted_joins = [] } } }
     {
-        self.said = ProcSet::new();
-        self.counted = 0;
-        self.heard = past_of(&());
+        self.join_senders = ProcSet::new();
+        self.greatest_counted = 0;
+        self.counted_joins = ghost_of(&());
     }
 
-    /// The sets become wider by those of a join. Who gave up the node is given up; otherwise those are whom
-    /// the join's sender gave up. Agreement falls back.
-    fn widen_sets(&mut self, join: &Join)
-        ensures { self.new ≡ record self.old { gathering = widened_sets self.old.me self.old.gathering join.now } }
+    /// Widens the sets by the sets of a join. If the sender gave up the node, the sender is given up. Otherwise the
+    /// processors that the sender gave up are given up. Agreement falls back.
+    fn merge_sets(&mut self, join: &Join)
+        ensures { self.new ≡ record self.old { gathering = sets_merged self.old.me self.old.gathering join.now } }
     {
         let failed = if join.fail_set.contains(self.me) {
             ProcSet::only(join.sender)

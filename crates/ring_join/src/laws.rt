@@ -1,10 +1,13 @@
-//! Laws of gather.
+//! The law of consensus.
+//! Rules: Gather 9
 
 ghost use Rattle.std.specs.Prelude.{◌≡◌, ◌↔◌, ◌≤◌, ℕ, true};
 ghost use Rattle.ring_join.specs.Gathering.{Gathering, has_consensus, HasConsensus, AllSaySame, AllAreProcs};
 
-/// The test of consensus is passed exactly where each processor that is not given up is the node itself or
-/// said exactly its sets.
+/// States that, for every node in Gather whose counted joins have exactly its sets, the test for consensus succeeds
+/// exactly if each processor that isn't given up agrees. A processor agrees if it is the node itself or sent a counted
+/// join.
+/// Rules: Gather 9
 pub fn consensus_law()
     ensures { (me : ℕ) (g : Gathering) → 1 ≤ me → AllAreProcs g → AllSaySame g → (has_consensus me g ≡ true) ↔ HasConsensus me g }
 {}

@@ -1,10 +1,12 @@
-//! Gather: how processors that hear each other's joins come to agree on the members of a new ring.
+//! Gather: how processors that hear each other's joins agree on the members of a new ring.
+//!
+//! Rules: Gather 1 to 6, 9, 10 and 14
 #![tactic(auto)]
 
 mod gather;
-mod hearing;
+mod join_effect;
 mod laws;
 
 pub use gather::Gather;
-pub use hearing::Hearing;
+pub use join_effect::JoinEffect;
 pub use laws::consensus_law;

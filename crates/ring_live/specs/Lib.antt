@@ -1,2 +1,2 @@
-pub mod Lived
-pub mod Callers
+pub mod LiveResult
+pub mod LiveClients

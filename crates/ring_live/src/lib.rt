@@ -1,12 +1,14 @@
-//! A live run, and what the program prints of it: nodes and clients in threads of their own, and whether what came of their calls
-//! is legal.
+//! A live run: nodes and clients on threads, the calls that were answered, and whether the history is legal. Prints the result.
+//!
+//! Rules: The book and the threads 27 and 35; Sessions 10
+//! Formats: The command line
 #![tactic(auto)]
 
-mod caller;
 mod legal;
+mod live_client;
 mod printing;
 mod running;
 
 pub use legal::is_legal;
 pub use printing::live;
-pub use running::{Lived, run_live};
+pub use running::{LiveResult, run_live_nodes};

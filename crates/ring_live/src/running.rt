@@ -1,14 +1,17 @@
-//! A live run.
+//! Runs nodes and clients on threads, and collects the result.
+//!
+//! Rules: The book and the threads 27; Refusals 1
+//! Formats: The command line
 
 ghost use Rattle.std.specs.Prelude.{◌≡◌, ◌≤◌, ◌*◌, ◌-◌, ◌^◌, min, true, length, All, IfOk, IfErr};
 ghost use Rattle.ring_base.specs.declared.fault.Fault.TheVariants.{Memory};
 ghost use Rattle.ring_host_port.specs.Clients.{AreSeats};
-ghost use Rattle.ring_live.specs.Callers.{HasSeats, answered_of, counter_of, counter_after, lived_of};
+ghost use Rattle.ring_live.specs.LiveClients.{HasSeats, answered_of, counter_of, counter_after, live_result_of};
 ghost use Rattle.ring_seat.specs.Seats.{IsAt};
 
-use crate::caller::{Caller, call};
 use crate::legal::is_legal;
-use ring_base::{Fault, Fixed, MOST_PROCESSORS};
+use crate::live_client::{LiveClient, call};
+use ring_base::{Fault, Fixed, MAX_PROCESSORS};
 use ring_host_port::{BookName, Gate, Host, Opening, Seat, take_seats};
 use ring_object::Object;
 use std::alloc::Allocator;
@@ -18,46 +21,52 @@ use std::sync::atomic::{AtomicBool, AtomicU64, Ordering};
 use std::thread;
 use std::thread::Threads;
 
-/// Each client has at most so many seats: one for each node.
-const MOST_SEATS: u16 = MOST_PROCESSORS as u16;
+/// The most seats of a client: one for each node.
+const MAX_SEATS: u16 = MAX_PROCESSORS as u16;
 
-/// What came of a live run.
+/// The result of a live run, once all its threads have ended.
+///
+/// Formats: The command line
 #[derive(Clone, Copy, Debug, PartialEq, Eq)]
-pub struct Lived {
-    /// How many nodes there were, and as many clients.
+pub struct LiveResult {
+    /// The number of nodes, 1 to 16, which is also the number of clients.
     pub nodes: u8,
-    /// How many adds were answered.
+    /// The number of adds that were answered, of all clients together.
     pub calls: u64,
-    /// What the counter was once all clients had ended; or why that wasn't read, as where a thread couldn't be started: `Memory`.
+    /// The counter that client 1 read once all other clients had ended; or why it wasn't read: `Memory` where a thread couldn't
+    /// be started.
     pub counter: Result<u64, Fault>,
-    /// Whether the order of the book explains its history.
+    /// Whether the order of the book is a linearization of its history, as it always is.
     pub is_legal: bool,
 }
 
-/// The clients of a host, one for each of its nodes, each with a seat for each node. Or `Memory`.
-fn callers_of<O: Object, K: BookName<O::Alloc>>(
+/// Makes a client for each of the host's nodes, each with a seat for each node.
+///
+/// Errors: `Memory`.
+fn live_clients_of<O: Object, K: BookName<O::Alloc>>(
     alloc: O::Alloc,
     host: &Host<O, K>,
     seats: &mut Vec<Seat<O::Alloc>, O::Alloc>,
     nodes: u8,
-) -> Result<Vec<Caller<O::Alloc>, O::Alloc>, Fault>
+) -> Result<Vec<LiveClient<O::Alloc>, O::Alloc>, Fault>
     requires seats { AreSeats host.now nodes seats.old.items }
     requires enough { 16 * nodes ≤ length seats.old.items }
     ensures seats { AreSeats host.now nodes seats.new.items }
-    ensures callers { IfOk result (λ callers. All (HasSeats host.now) callers.items) }
+    ensures live_clients { IfOk result (λ live_clients. All (HasSeats host.now) live_clients.items) }
     ensures refused { IfErr result (λ fault. fault ≡ Memory) }
 {
-    let mut callers = Vec::new(alloc);
+    let mut live_clients = Vec::new(alloc);
     for before in 0..nodes {
         let own = take_seats(host, seats, nodes)?;
-        let caller = Caller::new(before + 1, own);
-        callers.push(caller)?;
+        let live_client = LiveClient::new(before + 1, own);
+        live_clients.push(live_client)?;
     }
-    Ok(callers)
+    Ok(live_clients)
 }
 
-/// The nodes run in threads of their own, which tell the gate, and each client makes its calls in one of its own. No thread is left
-/// afterwards. `Memory` where a thread can't be started: then the host is closed, and who runs ends.
+/// Runs the nodes and the clients, each on a thread of its own, with the nodes under the gate. No thread is left when it returns.
+///
+/// Errors: `Memory` where a thread can't be started. Nodes are then stopped as far as memory allows, and started threads end.
 fn run_all<
     O: Object + Send,
     K: BookName<O::Alloc> + Send + Sync,
@@ -69,40 +78,39 @@ fn run_all<
     host: &Host<O, K>,
     gate: &G,
     seats: Vec<Seat<O::Alloc>, O::Alloc>,
-    callers: &mut [Caller<O::Alloc>],
+    live_clients: &mut [LiveClient<O::Alloc>],
     calls: u8,
 ) -> Result<(), Fault>
 where
     O::Alloc: Send + Sync,
     requires seats { All (IsAt host.now) seats.items }
-    requires callers { All (HasSeats host.now) callers.old }
+    requires live_clients { All (HasSeats host.now) live_clients.old }
     ensures refused { IfErr result (λ fault. fault ≡ Memory) }
 {
     let refused = AtomicBool::new(false);
-    let running = AtomicU64::new(callers.len() as u64);
+    let running = AtomicU64::new(live_clients.len() as u64);
     let (told, left) = (&refused, &running);
-    // The closure takes what it names: it is handed a loan for the scope alone, and `callers` itself stays here.
-    let each = &mut *callers;
+    // The closure takes what it names. It gets a borrow for the scope alone, and `live_clients` itself stays here.
+    let each = &mut *live_clients;
     thread::scope(
         thread::scope_env(),
         rt,
         move |scope|
             requires seats { All (IsAt host.now) seats.items }
-            requires callers { All (HasSeats host.now) each.now }
+            requires live_clients { All (HasSeats host.now) each.now }
         {
-            for caller in each {
+            for live_client in each {
                 let called = move ||
-                    requires { HasSeats host.now caller.now }
-                { call(rt, alloc, host, calls, left, caller) };
+                    requires { HasSeats host.now live_client.now }
+                { call(rt, alloc, host, calls, left, live_client) };
                 if scope.spawn(called).is_err() {
-                    told.store(true, Ordering::SeqCst);
+                    refuse(rt, host, told);
                     left.fetch_sub(1, Ordering::SeqCst);
-                    host.close();
                 }
             }
             let mut seats = seats;
             if host.run(rt, seats.as_mut_slice(), gate).is_err() {
-                told.store(true, Ordering::SeqCst);
+                refuse(rt, host, told);
             }
         },
     );
@@ -112,118 +120,148 @@ where
     Ok(())
 }
 
-/// How many adds were answered, of all clients, or the greatest number of 64 bits where that is more.
-fn answered_in<A: Allocator + Copy + Drop>(callers: &[Caller<A>]) -> u64
-    ensures { result ≡ min (2 ^ 64 - 1) (answered_of callers.now) }
+/// Records that a thread can't be started. Stops all nodes for whose stops there is memory, so that clients don't try their calls
+/// for long, and closes the host.
+fn refuse<O: Object, K: BookName<O::Alloc>, W: Wait>(
+    rt: &W,
+    host: &Host<O, K>,
+    has_refused: &AtomicBool,
+) {
+    has_refused.store(true, Ordering::SeqCst);
+    for number in 1..=MAX_PROCESSORS {
+        if let Ok(node) = host.proc(number) {
+            // A refused stop changes nothing, and the host is closed anyway.
+            let _ = host.stop(rt, node);
+        }
+    }
+    host.close();
+}
+
+/// Returns the number of adds answered to all clients, at most 2^64 - 1.
+fn answered_in<A: Allocator + Copy + Drop>(live_clients: &[LiveClient<A>]) -> u64
+    ensures { result ≡ min (2 ^ 64 - 1) (answered_of live_clients.now) }
 {
     let mut answered = 0u64;
-    for caller in callers {
-        answered = answered.saturating_add(caller.answered);
+    for live_client in live_clients {
+        answered = answered.saturating_add(live_client.answered);
     }
     answered
 }
 
-/// What the first client read, or its fault. `NotMember` where there is none.
-fn counter_in<A: Allocator + Copy + Drop>(callers: &[Caller<A>]) -> Result<u64, Fault>
-    ensures { result ≡ counter_of callers.now }
+/// Returns the counter that the first client read, or its fault; `NotMember` where there is no client.
+fn counter_in<A: Allocator + Copy + Drop>(live_clients: &[LiveClient<A>]) -> Result<u64, Fault>
+    ensures { result ≡ counter_of live_clients.now }
 {
-    match callers.first() {
+    match live_clients.first() {
         Some(first) => first.counter,
         None => Err(Fault::NotMember),
     }
 }
 
-/// What the first client read in a run that ended so. Of one that was refused, its fault.
+/// Returns the counter that the first client read, or the fault of a run that was refused.
 fn counter_after<A: Allocator + Copy + Drop>(
-    ran: Result<(), Fault>,
-    callers: &[Caller<A>],
+    run_result: Result<(), Fault>,
+    live_clients: &[LiveClient<A>],
 ) -> Result<u64, Fault>
-    ensures { result ≡ counter_after ran callers.now }
+    ensures { result ≡ counter_after run_result live_clients.now }
 {
-    match ran {
-        Ok(()) => counter_in(callers),
+    match run_result {
+        Ok(()) => counter_in(live_clients),
         Err(fault) => Err(fault),
     }
 }
 
-/// What came of a run of so many nodes that ended so, as these clients tell it: how many of their adds were answered, and what the first
-/// read.
-fn lived_of<A: Allocator + Copy + Drop>(
+/// Returns the result of a run: the number of adds answered, and the counter that the first client read.
+fn live_result_of<A: Allocator + Copy + Drop>(
     nodes: u8,
-    ran: Result<(), Fault>,
-    callers: &[Caller<A>],
+    run_result: Result<(), Fault>,
+    live_clients: &[LiveClient<A>],
     is_legal: bool,
-) -> Lived
-    ensures { result ≡ lived_of nodes ran callers.now is_legal }
+) -> LiveResult
+    ensures { result ≡ live_result_of nodes run_result live_clients.now is_legal }
 {
-    Lived {
+    LiveResult {
         nodes,
-        calls: answered_in(callers),
-        counter: counter_after(ran, callers),
+        calls: answered_in(live_clients),
+        counter: counter_after(run_result, live_clients),
         is_legal,
     }
 }
 
-/// What comes of a run of a group's nodes, of a shelf, where each of as many clients makes so many adds, whatever was answered. The nodes
-/// rest where there is nothing to do. Or `Memory`.
-pub fn run_live<O: Object + Send, W: Threads + Wait + Sync>(
+/// Runs a group's nodes on threads, and as many clients, each of which makes `calls` adds, 0 to 255, to a counter. `O` is a shelf
+/// whose second object is `Counters`. Returns the result, whatever was answered. Nodes that have nothing to do rest.
+///
+/// Errors: `Memory` where the host, the clients or the check can't be made. A thread that can't be started is reported in
+/// `counter`.
+///
+/// Rules: The book and the threads 27
+/// Formats: The command line
+pub fn run_live_nodes<O: Object + Send, W: Threads + Wait + Sync>(
     rt: &W,
     alloc: O::Alloc,
     group: Fixed,
     calls: u8,
-) -> Result<Lived, Fault>
+) -> Result<LiveResult, Fault>
 where
     O::Alloc: Send + Sync,
-    ensures lived { IfOk result (λ lived. (lived.nodes ≡ group.count) × (lived.is_legal ≡ true)) }
+    ensures live_result { IfOk result (λ live_result. (live_result.nodes ≡ group.count) × (live_result.is_legal ≡ true)) }
     ensures refused { IfErr result (λ fault. fault ≡ Memory) }
 {
     let opening = Opening::<O>::new(alloc, group)?;
     run_named::<O, Brand, W>(rt, alloc, opening, group.count(), calls)
 }
 
-/// The same at the opening that K names, of so many nodes.
+/// Runs the nodes and clients at the opening that `K` names.
 fn run_named<O: Object + Send, K: BookName<O::Alloc> + Send + Sync, W: Threads + Wait + Sync>(
     rt: &W,
     alloc: O::Alloc,
     opening: Opening<O>,
     nodes: u8,
     calls: u8,
-) -> Result<Lived, Fault>
+) -> Result<LiveResult, Fault>
 where
     O::Alloc: Send + Sync,
     requires name { opening ≡ K.name }
     requires nodes { (nodes ≡ K.name.group.count) × (nodes ≤ 16) }
-    ensures lived { IfOk result (λ lived. (lived.nodes ≡ nodes) × (lived.is_legal ≡ true)) }
+    ensures live_result { IfOk result (λ live_result. (live_result.nodes ≡ nodes) × (live_result.is_legal ≡ true)) }
     ensures refused { IfErr result (λ fault. fault ≡ Memory) }
 {
-    let guests = MOST_SEATS * u16::from(nodes);
+    let guests = MAX_SEATS * u16::from(nodes);
     let (host, seats) = Host::<O, K>::new(alloc, opening, guests)?;
-    let lived = live_on(rt, alloc, &host, seats, nodes, calls);
-    // By name, so that the host is let go in a function of any type, and lives at no exit.
+    let live_result = run_on_host(rt, alloc, &host, seats, nodes, calls);
+    // An explicit drop: the host is dropped in a function of any type, and is live at no exit.
     drop(host);
-    lived
+    live_result
 }
 
-/// The same on a host that is lent, with its seats.
-fn live_on<O: Object + Send, K: BookName<O::Alloc> + Send + Sync, W: Threads + Wait + Sync>(
+/// Runs the nodes and clients on a borrowed host, with its seats.
+fn run_on_host<O: Object + Send, K: BookName<O::Alloc> + Send + Sync, W: Threads + Wait + Sync>(
     rt: &W,
     alloc: O::Alloc,
     host: &Host<O, K>,
     seats: Vec<Seat<O::Alloc>, O::Alloc>,
     nodes: u8,
     calls: u8,
-) -> Result<Lived, Fault>
+) -> Result<LiveResult, Fault>
 where
     O::Alloc: Send + Sync,
     requires seats { AreSeats host.now nodes seats.items }
     requires enough { 16 * nodes ≤ length seats.items }
-    ensures lived { IfOk result (λ lived. (lived.nodes ≡ nodes) × (lived.is_legal ≡ true)) }
+    ensures live_result { IfOk result (λ live_result. (live_result.nodes ≡ nodes) × (live_result.is_legal ≡ true)) }
     ensures refused { IfErr result (λ fault. fault ≡ Memory) }
 {
     let mut seats = seats;
-    let mut callers = callers_of(alloc, host, &mut seats, nodes)?;
-    let gate = host.paced(rt)?;
-    let ran = run_all(rt, alloc, host, &gate, seats, callers.as_mut_slice(), calls);
+    let mut live_clients = live_clients_of(alloc, host, &mut seats, nodes)?;
+    let gate = host.paced_gate(rt)?;
+    let run_result = run_all(
+        rt,
+        alloc,
+        host,
+        &gate,
+        seats,
+        live_clients.as_mut_slice(),
+        calls,
+    );
     let is_legal = is_legal(rt, alloc, host)?;
-    Ok(lived_of(nodes, ran, callers.as_slice(), is_legal))
+    Ok(live_result_of(nodes, run_result, live_clients.as_slice(), is_legal))
 }

@@ -1,4 +1,4 @@
--- Calls that begin others, compared one by one; and the committed places of a log, as it changes.
+-- Lists of calls that begin others, compared one by one; and the committed places of a log as it changes.
 use Rattle.std.proofs.Common.{◌≡◌, ℕ, zero, suc, ◌+◌, ◌-◌, ◌<◌, ◌≤◌, ◌&&◌, min, max, Bool, true, false, List, []}
 use Rattle.std.proofs.Common.{◌∷◌, ◌++◌, length, take, drop, ◌↔◌, IsTrue, Some, refl, ap, sym, ◌∙◌, subst, arith, length-append, inl}
 use Rattle.std.proofs.Common.{inr}
@@ -7,10 +7,10 @@ use Rattle.std.specs.Bool.{Decides, one_answer}
 use Rattle.std.specs.Cmp.Lexicographic.{pointwise_decides}
 use Rattle.std.proofs.lemmas.Bool.{cases_lt, and_parts, cond_both, ltb-true, leb-true}
 use Rattle.std.proofs.lemmas.List.{append-nil, take-append-drop, take-append-le, length-take, length-take-le, length-drop, drop_all, take_rest}
-use Rattle.ring_base.specs.Fronts.{IsFront}
+use Rattle.ring_base.specs.Prefixes.{IsListPrefix}
 use Rattle.ring_base.specs.Numbers.{max_number}
 use Rattle.ring_base.specs.declared.ring_id.RingId.{RingId}
-use Rattle.ring_base.proofs.ListFronts.{take-longer}
+use Rattle.ring_base.proofs.ListFronts.{take-longer_list}
 use Rattle.ring_wire.specs.Payloads.{Call as OneCall, is_same, is_same-true, is_same-self}
 use Rattle.ring_log.specs.declared.base.Base.{Base}
 use Rattle.ring_log.specs.Logs.{Log, log_length, appended, followed, based, restores, restored_log, joined_log, adopted, adopted_if, trimmed_log}
@@ -23,7 +23,7 @@ is_same-equal c d e = ap (λ x. is_same x c) (sym e) ∙ is_same-self c
 
 -- ---- lists of calls
 
--- the test finds exactly the lists of which the first begins the second
+-- the test holds exactly if the first list begins the second
 pub begins-Decides : {A : Type 0} (front calls : List (OneCall A)) → Decides (begins front calls) (front ≡ take (length front) calls)
 begins-Decides front calls = pointwise_decides (λ c d. (is_same-true d c, is_same-equal c d)) front (take (length front) calls)
 
@@ -39,7 +39,7 @@ begins-kept (suc committed) (suc from) [] calls = refl
 begins-kept (suc committed) (suc from) (c ∷ own) calls =
     ap (λ b. b && begins (take committed own) (take from own ++ calls)) (is_same-self c) ∙ begins-kept committed from own calls
 
--- what is left behind the places of a list, however many more are left out
+-- dropping more places than a list has drops all of it
 pub drop-min : {X : Type 0} (n : ℕ) (xs : List X) → drop (min (length xs) n) xs ≡ drop n xs
 drop-min n xs =
     elim (cases_lt n (length xs)) [
@@ -52,25 +52,25 @@ pub drop_least : {X : Type 0} (n long start : ℕ) (xs rest : List X) → long �
 drop_least n long start xs rest is_long is_start is =
     is ∙ ap (λ k. drop k xs) (is_start ∙ ap (λ k. min k n) is_long) ∙ drop-min n xs
 
--- ---- what the code asks
+-- ---- the code's comparisons
 
--- only what the log doesn't keep is compared, and only with what it takes
-pub begins_based : {A : Type 0} (n m gone same dropped : ℕ) (own front calls brought : List (OneCall A)) (r : Bool)
-    → front ≡ take n own → same ≡ min (length front) m → brought ≡ calls → dropped ≡ min (length brought) gone
-    → r ≡ begins (take (length front - same) (drop same front)) (take (length brought - dropped) (drop dropped brought))
+-- only the places that the log doesn't keep are compared, and only with those that it takes
+pub begins_based : {A : Type 0} (n m gone same dropped : ℕ) (own front calls received_calls : List (OneCall A)) (r : Bool)
+    → front ≡ take n own → same ≡ min (length front) m → received_calls ≡ calls → dropped ≡ min (length received_calls) gone
+    → r ≡ begins (take (length front - same) (drop same front)) (take (length received_calls - dropped) (drop dropped received_calls))
     → r ≡ begins (take n own) (take m own ++ drop gone calls)
-begins_based n m gone same dropped own front calls brought r is_front is_rest is_brought is_dropped is =
+begins_based n m gone same dropped own front calls received_calls r is_front is_rest has_all_wanted is_dropped is =
     let rest : take (length front - same) (drop same front) ≡ drop m (take n own) =
     take_rest front same ∙ ap (λ k. drop k front) is_rest ∙ drop-min m front ∙ ap (drop m) is_front in
-    let taken : take (length brought - dropped) (drop dropped brought) ≡ drop gone calls =
-    take_rest brought dropped ∙ ap (λ k. drop k brought) is_dropped ∙ drop-min gone brought ∙ ap (drop gone) is_brought in
-    is ∙ ap (λ w. begins w (take (length brought - dropped) (drop dropped brought))) rest ∙ ap (begins (drop m (take n own))) taken
+    let taken : take (length received_calls - dropped) (drop dropped received_calls) ≡ drop gone calls =
+    take_rest received_calls dropped ∙ ap (λ k. drop k received_calls) is_dropped ∙ drop-min gone received_calls ∙ ap (drop gone) has_all_wanted in
+    is ∙ ap (λ w. begins w (take (length received_calls - dropped) (drop dropped received_calls))) rest ∙ ap (begins (drop m (take n own))) taken
     ∙ sym (begins-kept n m own (drop gone calls))
 
 decided : (r : Bool) (P : Type 0) → (IsTrue r ↔ P) → Decides r P
 decided r P tells = (tells.0, tells.1)
 
--- the test of a front that is no longer than the list
+-- the test of a prefix that is no longer than the list
 pub begins-same : {A : Type 0} (front calls : List (OneCall A)) (r : Bool) → (IsTrue r ↔ (front ≡ take (length front) calls)) → r ≡ begins front calls
 begins-same front calls r tells = one_answer r (begins front calls) (decided r (front ≡ take (length front) calls) tells) (begins-Decides front calls)
 
@@ -78,7 +78,7 @@ pub never : (b : Bool) → (b ≡ true → ⊥) → b ≡ false
 never true not = absurd (not refl)
 never false not = refl
 
--- a longer list begins no shorter one
+-- a longer list is no prefix of a shorter one
 pub begins-short : {A : Type 0} (front calls : List (OneCall A)) → length calls < length front → begins front calls ≡ false
 begins-short front calls short =
     never (begins front calls) (λ is.
@@ -88,25 +88,25 @@ begins-short front calls short =
 -- ---- the committed places
 
 pub committed-first : {A : Type 0} (log : Log A) → IsLog log
-    → IsFront (committed_calls log) log.calls × (log.trimmed + length (committed_calls log) ≡ log.committed)
+    → IsListPrefix (committed_calls log) log.calls × (log.trimmed + length (committed_calls log) ≡ log.committed)
 committed-first log is =
     let n = log.committed - log.trimmed in
     let long = length-take-le n log.calls (omega (arith, is.0, is.1)) in
     ((drop n log.calls, take-append-drop n log.calls), omega (arith, long, is.0))
 
-front-same : {X : Type 0} (xs ys : List X) → xs ≡ ys → IsFront xs ys
+front-same : {X : Type 0} (xs ys : List X) → xs ≡ ys → IsListPrefix xs ys
 front-same xs ys same = ([], append-nil xs ∙ same)
 
--- where nothing more is dropped
+-- the case in which no further places are dropped
 stays : {A : Type 0} (old new : Log A) → old.trimmed ≡ new.trimmed → IsLog new → old.committed ≤ new.committed
-    → IsFront (committed_calls old) (committed_calls new) → KeepsCommitted old new
+    → IsListPrefix (committed_calls old) (committed_calls new) → KeepsCommitted old new
 stays old new same is le front =
     let none : new.trimmed - old.trimmed ≡ 0 = omega (arith, same) in
     record {
       log = is;
       trimmed = omega (arith, same);
       committed = le;
-      front = subst (λ n. IsFront (drop n (committed_calls old)) (committed_calls new)) (sym none) front;
+      front = subst (λ n. IsListPrefix (drop n (committed_calls old)) (committed_calls new)) (sym none) front;
     }
 
 committed-appended : {A : Type 0} (log : Log A) (calls : List (OneCall A)) → IsLog log → KeepsCommitted log (appended log calls)
@@ -128,9 +128,9 @@ pub committed-raised : {A : Type 0} (log : Log A) (n : ℕ) → IsLog log → Ke
 committed-raised log n is =
     let new = committed_upto log n in
     stays log new refl (omega (arith, is.0), omega (arith, is.1)) (omega arith)
-    (take-longer (log.committed - log.trimmed) (new.committed - log.trimmed) log.calls (omega arith))
+    (take-longer_list (log.committed - log.trimmed) (new.committed - log.trimmed) log.calls (omega arith))
 
--- committed places alone are dropped
+-- only committed places are dropped
 pub committed-dropped : {A : Type 0} (log : Log A) → IsLog log → KeepsCommitted log (trimmed_log log)
 committed-dropped log is =
     let n = log.committed - log.trimmed in
@@ -141,10 +141,10 @@ committed-dropped log is =
       log = (omega arith, omega (arith, is.0, is.1, left));
       trimmed = is.0;
       committed = omega arith;
-      front = subst (λ l. IsFront l (committed_calls (trimmed_log log))) (sym none) (committed_calls (trimmed_log log), refl);
+      front = subst (λ l. IsListPrefix l (committed_calls (trimmed_log log))) (sym none) (committed_calls (trimmed_log log), refl);
     }
 
--- a snapshot is restored only where fewer places were committed than it stands for
+-- a snapshot is restored only if fewer places were committed than it stands for
 restored-keeps : {A : Type 0} (log : Log A) (ring : RingId) (base : Base A) → IsLog log → restores log base ≡ true
     → KeepsCommitted log (restored_log log ring base)
 restored-keeps log ring base is may =
@@ -156,10 +156,10 @@ restored-keeps log ring base is may =
       log = (omega arith, omega arith);
       trimmed = omega (arith, is.0, less);
       committed = omega (arith, less);
-      front = subst (λ l. IsFront l (committed_calls (restored_log log ring base))) (sym none) (committed_calls (restored_log log ring base), refl);
+      front = subst (λ l. IsListPrefix l (committed_calls (restored_log log ring base))) (sym none) (committed_calls (restored_log log ring base), refl);
     }
 
--- else the base begins with the committed places that are kept, so these stay as they are
+-- otherwise the base begins with the kept committed places, so these don't change
 joined-keeps : {A : Type 0} (log : Log A) (ring : RingId) (base : Base A) → IsLog log → begins (committed_calls log) (based log base) ≡ true
     → KeepsCommitted log (joined_log log ring base)
 joined-keeps log ring base is may =
@@ -171,7 +171,7 @@ joined-keeps log ring base is may =
     stays log (joined_log log ring base) refl (is.0, omega (arith, ap length same, long, short)) (omega arith)
     (front-same (committed_calls log) (take n (based log base)) same)
 
--- so the log keeps its bounds
+-- so the log stays within its bounds
 pub joined_bounds : {A : Type 0} (log : Log A) (base : Base A) → IsKeptLog log.trimmed log.committed (length log.calls) → base.from ≤ log.committed
     → begins (committed_calls log) (based log base) ≡ true → is_log_length (base.from + length base.calls) ≡ true
     → IsKeptLog log.trimmed log.committed (length (based log base))

@@ -1,5 +1,6 @@
--- Worked heads: which log an exchange goes by, what is wanted of it, and in which pieces and Parts it comes; and a worked
--- life, with the logs that it makes. The replicated log, rules 2 to 6, 11 and 12 of docs/PROTOCOL.md.
+-- Worked heads and a worked life: which log an exchange chooses, what it wants, in which pieces and Parts that arrives; and the
+-- logs of a life.
+-- Rules: The replicated log 2 to 6, 11 and 12
 use Rattle.std.specs.Prelude.{ℕ, zero, suc, ◌+◌, List, [], ◌∷◌, map, Option, Some, None}
 use Rattle.std.specs.declared.alloc.Global.{Global}
 use Rattle.ring_base.specs.Group.{Group}
@@ -10,24 +11,24 @@ use Rattle.ring_wire.specs.PayloadVariants.{Call as CallPayload, Head, Part, Pac
 use Rattle.ring_wire.specs.declared.message.Message.{Message}
 use Rattle.ring_log.specs.declared.base.Base.{Base}
 use Rattle.ring_log.specs.declared.wanted.Wanted.{Wanted}
-use Rattle.ring_log.specs.Exchanges.{Exchange, opened, heard}
-use Rattle.ring_log.specs.Kept.{Kept}
-use Rattle.ring_log.specs.Lives.{Whole}
-use Rattle.ring_log.specs.Stays.{Stay, stay_in, born, hears, marks}
+use Rattle.ring_log.specs.Exchanges.{Exchange, exchange_opening, heard}
+use Rattle.ring_log.specs.KnownLog.{KnownLog}
+use Rattle.ring_log.specs.EpochHistories.{CompleteExchange}
+use Rattle.ring_log.specs.Epochs.{Epoch, epoch_opening, epochs_opening, epochs_with_message, epochs_with_mark}
 
--- a Head of a log whose last primary is the ring of this number that processor 1 represents
+-- a Head of a log whose last primary has this number and the representative 1
 abbrev pub head_at : ℕ → ℕ → ℕ → OneHead
 head_at last length committed = record { last = Some (record { seq = last; rep = 1 }); length = length; committed = committed; trimmed = 0 }
 
--- an exchange of the processors 1, 2 and 3 of which nothing was heard
+-- an exchange of the processors 1, 2 and 3 in which nothing was received
 abbrev pub three : Exchange Global
-three = opened 7
+three = exchange_opening 7
 
--- the three Heads of processors 1, 2 and 3
+-- the exchange of three after the Heads of processors 1, 2 and 3
 abbrev pub heads_of_three : OneHead → OneHead → OneHead → Exchange Global
 heads_of_three a b c = heard (heard (heard three 1 (Head a)) 2 (Head b)) 3 (Head c)
 
--- the longer log of an older primary, and two shorter ones of a later primary
+-- the longer log of an older primary, and two shorter logs of a later primary
 abbrev pub longer_but_older : Exchange Global
 longer_but_older = heads_of_three (head_at 4 3 0) (head_at 8 2 0) (head_at 8 2 0)
 
@@ -39,33 +40,34 @@ unequal = heads_of_three (head_at 8 20 16) (head_at 8 18 16) (head_at 4 9 9)
 abbrev pub wanted_places : ℕ → ℕ → ℕ → Option Wanted
 wanted_places owner from to = Some (record { owner = owner; snapshot = None; from = from; to = to })
 
--- client 7's call of this number
+-- client 7's call with this number
 abbrev pub call_of_seven : ℕ → OneCall Global
 call_of_seven number = record { client = 7; number = number; op = 1 ∷ 1 ∷ [] }
 
--- client 7's calls of count numbers, in a row
+-- client 7's calls with `count` consecutive numbers
 abbrev pub calls_from : ℕ → ℕ → List (OneCall Global)
 calls_from number count = map call_of_seven (numbers_from number count)
 
--- a Part of so many places from `first` on: at each place client 7's call of that number
+-- a Part of `count` places from `first` on; the call at each place is client 7's with that place as its number
 abbrev pub part_at : ℕ → ℕ → OnePart Global
 part_at first count = record { first = first; calls = calls_from first count }
 
--- `unequal` after the first of the two Parts with which it becomes whole
+-- `unequal` after the first of the two Parts that complete it
 abbrev pub after_one_part : Exchange Global
 after_one_part = heard unequal 1 (Part (part_at 9 7))
 
--- the base that it hands out with the second: the places 9 to 19
+-- the base that it hands out with the second Part: the places 9 to 19
 abbrev pub unequal_base : Option (Base Global)
 unequal_base = Some (record { from = 9; snapshot = None; calls = calls_from 9 11 })
 
--- Logs of which the first 256 places are dropped, and processor 3 has none of these: processor 1 owns a snapshot of them, here of 5 bytes
+-- Logs of which the first 256 places are dropped; processor 3 has none of these. Processor 1 owns a snapshot of them, here of 5
+-- bytes
 
 -- a Head of such a log, whose last primary is ring 4.1
 abbrev pub trimmed_head : ℕ → ℕ → OneHead
 trimmed_head length committed = record { last = Some (record { seq = 4; rep = 1 }); length = length; committed = committed; trimmed = 256 }
 
--- a Head of a log that no ring was adopted for
+-- a Head of a log for which no ring was adopted
 abbrev pub no_head : OneHead
 no_head = record { last = None; length = 0; committed = 0; trimmed = 0 }
 
@@ -85,7 +87,7 @@ five_bytes = 0 ∷ 0 ∷ 7 ∷ 7 ∷ 7 ∷ []
 abbrev pub after_snapshot : Exchange Global
 after_snapshot = heard trimmed 1 (Snap (piece_at 256 5 0 five_bytes))
 
--- the exchange after client 7's calls in Parts of 7, so many of them, from this place on
+-- the exchange after `count` Parts of 7 of client 7's calls, from place `first` on
 abbrev pub after_parts : Exchange Global → ℕ → ℕ → Exchange Global
 after_parts e first zero = e
 after_parts e first (suc count) = after_parts (heard e 1 (Part (part_at first 7))) (first + 7) count
@@ -94,12 +96,12 @@ after_parts e first (suc count) = after_parts (heard e 1 (Part (part_at first 7)
 abbrev pub trimmed_base : Option (Base Global)
 trimmed_base = Some (record { from = 256; snapshot = Some five_bytes; calls = calls_from 256 44 })
 
--- this exchange, whole
-abbrev pub trimmed_whole : Whole Global
+-- the complete exchange of `trimmed`
+abbrev pub trimmed_whole : CompleteExchange Global
 trimmed_whole = record { exchange = heard (after_parts after_snapshot 256 6) 1 (Part (part_at 298 2)); end = 14; rest = [] }
 
--- what is known of a log of so many places that adopted ring SEQ.1: 290 of them are committed, and the first 256 are dropped
-abbrev pub known : ℕ → ℕ → Kept Global
+-- the known log of this length that adopted ring SEQ.1: 290 places are committed, and the first 256 are dropped
+abbrev pub known : ℕ → ℕ → KnownLog Global
 known seq length =
     record {
       from = 0;
@@ -110,8 +112,8 @@ known seq length =
       snapshot = [];
     }
 
--- and of one that was restored from the snapshot, with ring SEQ.1
-abbrev pub known_restored : ℕ → Kept Global
+-- the known log that was restored from the snapshot, with ring SEQ.1
+abbrev pub known_restored : ℕ → KnownLog Global
 known_restored seq =
     record {
       from = 256;
@@ -122,8 +124,8 @@ known_restored seq =
       snapshot = five_bytes;
     }
 
--- A life of processor 2 in a group of three: in its first ring a call is heard after the three Heads; then it is alone;
--- then its next primary ring brings the log of processor 1, which has a call more
+-- A life of processor 2 in a group of three. In its first ring it receives a call after the three Heads. Then it is alone. Then
+-- its next primary ring brings the log of processor 1, which has one call more
 
 -- three processors with one vote each
 abbrev pub group_of_three : Group
@@ -137,7 +139,7 @@ ring_of seq rep = record { seq = seq; rep = rep }
 abbrev pub message_of : RingId → ℕ → ℕ → Payload Global → Message Global
 message_of ring number sender payload = record { ring = ring; number = number; sender = sender; payload = payload }
 
--- what is heard in ring 1.1: numbers 1 to 3 were the members' Ends
+-- the messages received in ring 1.1; numbers 1 to 3 were the members' Ends
 abbrev pub first_heard : List (Message Global)
 first_heard =
     message_of (ring_of 1 1) 4 1 (Head no_head)
@@ -146,20 +148,20 @@ first_heard =
     ∷ message_of (ring_of 1 1) 7 2 (CallPayload (call_of_seven 1))
     ∷ []
 
--- these messages are heard in the newest stay
-abbrev pub heard_all : List (Message Global) → List (Stay Global) → List (Stay Global)
-heard_all [] life = life
-heard_all (x ∷ xs) life = heard_all xs (hears x life)
+-- the life with these messages received in the newest epoch
+abbrev pub heard_all : List (Message Global) → List (Epoch Global) → List (Epoch Global)
+heard_all [] epochs = epochs
+heard_all (x ∷ xs) epochs = heard_all xs (epochs_with_message x epochs)
 
--- all was heard, and what is safe ends with this number
-abbrev pub first_life : ℕ → List (Stay Global)
-first_life mark = marks mark (heard_all first_heard (stay_in (ring_of 1 1) 7 ∷ born 2))
+-- the life in ring 1.1: all messages received, with this safe mark
+abbrev pub first_life : ℕ → List (Epoch Global)
+first_life mark = epochs_with_mark mark (heard_all first_heard (epoch_opening (ring_of 1 1) 7 ∷ epochs_opening 2))
 
--- then processor 2 is alone, in ring 2.2, and hears nothing
-abbrev pub alone : List (Stay Global)
-alone = stay_in (ring_of 2 2) 2 ∷ first_life 7
+-- the life that continues alone, in ring 2.2, and receives nothing
+abbrev pub alone : List (Epoch Global)
+alone = epoch_opening (ring_of 2 2) 2 ∷ first_life 7
 
--- what is heard in ring 3.1: a Pack comes after the exchange, which the Part of processor 1 ended
+-- the messages received in ring 3.1: the Part of processor 1 completes the exchange, and a Pack comes after it
 abbrev pub second_heard : List (Message Global)
 second_heard =
     message_of (ring_of 3 1) 4 1 (Head (head_at 1 2 1))
@@ -169,6 +171,6 @@ second_heard =
     ∷ message_of (ring_of 3 1) 8 3 (Pack (record { calls = calls_from 3 2 }))
     ∷ []
 
--- all of this was heard, too, and what is safe ends with this number
-abbrev pub second_life : ℕ → List (Stay Global)
-second_life mark = marks mark (heard_all second_heard (stay_in (ring_of 3 1) 7 ∷ alone))
+-- the life that continues in ring 3.1: all messages received, with this safe mark
+abbrev pub second_life : ℕ → List (Epoch Global)
+second_life mark = epochs_with_mark mark (heard_all second_heard (epoch_opening (ring_of 3 1) 7 ∷ alone))

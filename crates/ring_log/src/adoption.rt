@@ -1,16 +1,22 @@
-//! What adopting a base made of a log.
+//! The outcome of adopting a base.
+//! Rules: The replicated log 6 and 8
 
 use crate::log::Log;
 use crate::snapshot::Snapshot;
 use std::alloc::{Allocator, Global};
 
-/// What adopting a base made of a log.
+/// The outcome of `Log::adopt`: whether a log adopted a base, and how.
+/// Rules: The replicated log 6 and 8
 #[derive(Drop)]
 pub enum Adoption<A: Allocator + Copy = Global> {
-    /// The base may not be adopted: the log is as it was.
+    /// The base may not be adopted. The log is unchanged.
+    /// Rules: The replicated log 8 and 9
     Refused,
-    /// The log kept its own places below the base.
+    /// The log kept its own places below the base's `from`, and the base's calls follow them.
+    /// Rules: The replicated log 6
     Joined,
-    /// The log is restored: it begins behind the places that this snapshot stands for, and was this log before.
+    /// The log was restored: the places that the snapshot stands for count as dropped, and the base's calls follow them.
+    /// The fields are the snapshot, and the log as it was before.
+    /// Rules: The replicated log 6
     Restored(Snapshot<A>, Log<A>),
 }

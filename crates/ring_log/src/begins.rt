@@ -1,4 +1,4 @@
-//! Whether calls are the first of others.
+//! Whether one list of calls is a prefix of another.
 
 ghost use Rattle.std.specs.Prelude.{◌≡◌, ◌↔◌, length, take, IsTrue};
 ghost use Rattle.ring_log.specs.Logs.{begins};
@@ -6,14 +6,14 @@ ghost use Rattle.ring_log.specs.Logs.{begins};
 use ring_wire::Call;
 use std::alloc::Allocator;
 
-/// Whether the others begin with these calls.
+/// Returns whether `calls` begins with `front`: equal calls at the same places. Every list begins with the empty one.
 pub(crate) fn begins<A: Allocator + Copy>(front: &[Call<A>], calls: &[Call<A>]) -> bool
     ensures { result ≡ begins front.now calls.now }
 {
     front.len() <= calls.len() && are_same(front, &calls[..front.len()])
 }
 
-/// Whether the two lists are one.
+/// Returns whether two lists of equal length hold the same calls.
 fn are_same<A: Allocator + Copy>(some: &[Call<A>], others: &[Call<A>]) -> bool
     requires { length some.now ≡ length others.now }
     ensures { IsTrue result ↔ (some.now ≡ others.now) }
@@ -26,7 +26,7 @@ fn are_same<A: Allocator + Copy>(some: &[Call<A>], others: &[Call<A>]) -> bool
     true
 }
 
-/// Whether the two are one call: client, number and operation.
+/// Returns whether two calls have the same client, number and operation.
 fn is_same<A: Allocator + Copy>(one: &Call<A>, other: &Call<A>) -> bool
     ensures { IsTrue result ↔ (one.now ≡ other.now) }
 {

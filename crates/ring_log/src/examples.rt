@@ -1,4 +1,6 @@
 //! Worked examples, computed from the definitions.
+//! Rules: The replicated log 3 to 6, 12 and 16
+//! Formats: chosen head; short exchange; exchange with a snapshot
 
 ghost use Rattle.std.specs.Prelude.{◌≡◌, true, false, [], ◌∷◌, Some, None};
 ghost use Rattle.std.specs.declared.alloc.Global.{Global};
@@ -10,17 +12,23 @@ ghost use Rattle.ring_log.specs.Examples.{after_one_part, unequal_base, group_of
 ghost use Rattle.ring_log.specs.Examples.{first_life, alone, second_heard, second_life};
 ghost use Rattle.ring_log.specs.Examples.{trimmed, piece_at, five_bytes, after_snapshot, after_parts, trimmed_base};
 ghost use Rattle.ring_log.specs.Examples.{trimmed_whole, known, known_restored};
-ghost use Rattle.ring_log.specs.Kept.{nothing_kept, kept_undropped, adopts};
-ghost use Rattle.ring_log.specs.Lives.{exchange_end, log_of, last_of, has_adopted, committed_of, head_of_life, is_sound};
+ghost use Rattle.ring_log.specs.KnownLog.{known_log_opening, known_retained, adopts};
+ghost use Rattle.ring_log.specs.EpochHistories.{exchange_end, log_of, last_of, has_adopted, committed_of, head_of_epochs, is_sound};
 
-/// Processor 1 has three places of ring 4.1, processors 2 and 3 have two of ring 8.1: the longer log of the older
-/// primary loses, and of the two equal ones the smaller processor's is chosen.
+/// States a worked example: the chosen head of three. Processor 1 has three places of ring 4.1; processors 2 and 3 have two of
+/// ring 8.1.
+/// The longer log loses, since its last primary is older. Of the two equal logs, that of the smaller processor is chosen.
+/// Rules: The replicated log 4 and 5
+/// Formats: chosen head
 pub fn chosen_logs()
     ensures chosen { wanted longer_but_older ≡ wanted_places 2 0 2 }
 {}
 
-/// Logs of 20, 18 and 9 places, of which 16, 16 and 9 are committed: processor 1 owns the places 9 to 19, and sends
-/// them in two Parts. A Part heard before every Head is ignored, and one that doesn't continue is.
+/// States a worked example: an exchange of logs of 20, 18 and 9 places, of which 16, 16 and 9 are committed.
+/// Processor 1 is the owner. Its places 9 to 19 are wanted, and it sends them in two Parts. Three Parts are ignored: one that
+/// arrives before all Heads have arrived, one of another member, and one that doesn't continue the places received so far.
+/// Rules: The replicated log 2 to 4
+/// Formats: short exchange
 pub fn wanted_parts()
     ensures wanted { wanted unequal ≡ wanted_places 1 9 20 }
     ensures parts { parts_of 9 (calls_from 9 11) ≡ part_at 9 7 ∷ part_at 16 4 ∷ [] }
@@ -31,10 +39,13 @@ pub fn wanted_parts()
     ensures early { heard three 1 (Part (part_at 9 7)) ≡ three }
 {}
 
-/// Logs of 300, 298 and no places, of which 290, 290 and none are committed, and 256, 256 and none dropped: processor 1 sends
-/// a snapshot of its first 256 places, and then the places 256 to 299 in seven Parts, the last of 2 calls. A Part heard before
-/// the whole snapshot is ignored, and so is a piece that isn't the owner's, is of other places, or doesn't begin where the
-/// bytes so far end.
+/// States a worked example: an exchange of logs of 300, 298 and no places, of which 290, 290 and none are committed, and 256, 256
+/// and none dropped.
+/// Processor 1 sends a snapshot of its first 256 places, then the places 256 to 299 in seven Parts, the last of 2 calls. A Part
+/// that arrives before the whole snapshot is ignored. So is a piece that another member sends, that is of other places, or that
+/// doesn't begin where the bytes received so far end.
+/// Rules: The replicated log 2 to 4
+/// Formats: exchange with a snapshot
 pub fn wanted_snapshot()
     ensures wanted { wanted trimmed ≡ Some (record { owner = 1; snapshot = Some 256; from = 256; to = 300 }) }
     ensures parts { parts_of 256 (calls_from 256 44) ≡ part_at 256 7 ∷ part_at 263 7 ∷ part_at 270 7 ∷ part_at 277 7 ∷ part_at 284 7
@@ -49,26 +60,29 @@ pub fn wanted_snapshot()
     ensures base { base_at (after_parts after_snapshot 256 6) 1 (Part (part_at 298 2)) ≡ trimmed_base }
 {}
 
-/// That exchange, whole, as each of the three nodes would adopt it with ring 9.1, by what it knows of its own log: those that
-/// have committed 290 places keep them, and take the places behind the first 256; the one without places restores the snapshot,
-/// and 256 places are then committed and dropped.
+/// States a worked example: the complete exchange of `wanted_snapshot`, as each of the three nodes adopts it with ring 9.1.
+/// The nodes that have committed 290 places keep them and take the places after the first 256. The node without places restores
+/// the snapshot, and 256 places are then committed and dropped.
+/// Rules: The replicated log 6
+/// Formats: exchange with a snapshot
 pub fn adopted_snapshot()
     ensures owner { adopts (known 4 300) (ring_of 9 1) trimmed_whole ≡ known 9 300 }
     ensures second { adopts (known 4 298) (ring_of 9 1) trimmed_whole ≡ known 9 300 }
-    ensures third { adopts nothing_kept (ring_of 9 1) trimmed_whole ≡ known_restored 9 }
-    ensures undropped { kept_undropped (known 9 300) ≡ calls_from 256 34 }
+    ensures third { adopts known_log_opening (ring_of 9 1) trimmed_whole ≡ known_restored 9 }
+    ensures undropped { known_retained (known 9 300) ≡ calls_from 256 34 }
 {}
 
-/// A life in two primary rings, with a ring of one between them: a ring's log is the base and what comes after the
-/// exchange; what is committed is what the safe mark covers, the exchange included; a ring that isn't primary leaves all
-/// as it was.
+/// States a worked example: the logs of a life in two primary rings, with a ring of one between them.
+/// A ring's log is its base and the calls after the exchange. Once the safe mark covers the exchange, the calls up to the mark
+/// are committed. The ring of one isn't primary and changes nothing.
+/// Rules: The replicated log 12 and 16
 pub fn lived_logs()
     ensures first_end { exchange_end group_of_three 7 first_heard ≡ Some 6 }
     ensures first_log { log_of group_of_three (first_life 6) ≡ calls_from 1 1 }
     ensures agreed { committed_of group_of_three (first_life 6) ≡ [] }
     ensures safe { committed_of group_of_three (first_life 7) ≡ calls_from 1 1 }
     ensures alone_log { log_of group_of_three alone ≡ calls_from 1 1 }
-    ensures alone_head { head_of_life group_of_three alone ≡ head_at 1 1 1 }
+    ensures alone_head { head_of_epochs group_of_three alone ≡ head_at 1 1 1 }
     ensures second_end { exchange_end group_of_three 7 second_heard ≡ Some 7 }
     ensures second_log { log_of group_of_three (second_life 0) ≡ calls_from 1 4 }
     ensures second_last { last_of group_of_three (second_life 0) ≡ Some (ring_of 3 1) }

@@ -1,49 +1,52 @@
-//! The exchange of a primary ring.
+//! The exchange of a primary ring: which Heads, snapshot pieces and Parts count, and when it is complete.
+//! Rules: The replicated log 3, 4 and 6
 
 ghost use Rattle.std.specs.Prelude.{◌≡◌, ◌+◌, ◌^◌, ◌<◌, ◌==◌, nat_le, length, true, IfOk, IfErr, OnOk, OnErr};
 ghost use Rattle.ring_base.specs.declared.fault.Fault.TheVariants.{Memory};
-ghost use Rattle.ring_log.specs.Exchanges.{opened, wanted, heard, hear_head, hear_snap, is_snapped, is_piece_of, is_next_piece, hear_part, is_next};
-ghost use Rattle.ring_log.specs.Exchanges.{is_wanted, is_whole, base_at, handed_out, relieved};
+ghost use Rattle.ring_log.specs.Exchanges.{exchange_opening, wanted, heard, hear_head, hear_snap, has_wanted_snapshot, is_piece_of, is_next_piece, hear_part, is_next};
+ghost use Rattle.ring_log.specs.Exchanges.{is_wanted, is_exchange_complete, base_at, handed_out, exchange_drained};
 
 use crate::base::Base;
 use crate::heads::wanted_by;
+use crate::received_head::ReceivedHead;
 use crate::snapshot::Snapshot;
-use crate::stated::Stated;
 use crate::wanted::Wanted;
 use ring_base::{Fault, Proc, ProcSet};
-use ring_wire::{Call, Calls, Head, MOST_SNAPSHOT, Part, Payload, Snap};
+use ring_wire::{Call, Calls, Head, MAX_SNAPSHOT, Part, Payload, Snap};
 use std::alloc::{AllocError, Allocator, Global};
 use std::marker::Model;
 use std::mem;
 
-/// What a member heard of the exchange of a primary ring: every member's Head, and then what is wanted of the owner: a
-/// snapshot in pieces, where it has dropped places that some member lacks, and places of its log. Contracts see what was
-/// heard.
+/// `Exchange`: the state transfer with which a primary ring begins, as far as one member has received it.
+/// It collects every member's Head, then the owner's snapshot in pieces, if one is wanted, and then the wanted places of the
+/// owner's log. A snapshot is wanted if the owner has dropped places that some member hasn't committed. Contracts see all of
+/// this.
+/// Rules: The replicated log 3 and 4
 #[derive(Drop)]
 pub struct Exchange<A: Allocator + Copy = Global> {
     alloc: A,
-    unheard: ProcSet,
-    heads: Vec<Stated, A>,
-    got: u64,
+    missing_heads: ProcSet,
+    heads: Vec<ReceivedHead, A>,
+    received_bytes: u64,
     total: u32,
     places: u64,
     bytes: Vec<u8, A>,
-    brought: Vec<Call<A>, A>,
+    received_calls: Vec<Call<A>, A>,
 }
 
 impl<A: Allocator + Copy> Model for Exchange<A> {
-    ghost use Rattle.ring_log.specs.Exchanges.{Exchange as ToldExchange};
+    ghost use Rattle.ring_log.specs.Exchanges.{Exchange as ExchangeValue};
 
-    ghost Value = { ToldExchange A };
+    ghost Value = { ExchangeValue A };
 
     ghost view = { λ e. record {
-      unheard = e.unheard;
+      missing_heads = e.missing_heads;
       heads = e.heads.items;
-      got = e.got;
+      received_bytes = e.received_bytes;
       total = e.total;
       places = e.places;
       bytes = e.bytes.items;
-      brought = e.brought.items;
+      received_calls = e.received_calls.items;
     } };
 }
 
@@ -53,84 +56,89 @@ impl<A: Allocator + Copy> Clone for Exchange<A> {
     fn clone(&self) -> Result<Exchange<A>, AllocError> {
         Ok(Exchange {
             alloc: self.alloc,
-            unheard: self.unheard,
+            missing_heads: self.missing_heads,
             heads: self.heads.clone()?,
-            got: self.got,
+            received_bytes: self.received_bytes,
             total: self.total,
             places: self.places,
             bytes: self.bytes.clone()?,
-            brought: self.brought.clone()?,
+            received_calls: self.received_calls.clone()?,
         })
     }
 }
 
 impl<A: Allocator + Copy> Exchange<A> {
-    /// The exchange of a ring of these members, of which nothing was heard.
+    /// Creates the exchange of a ring of these members, with nothing received. It takes no memory.
+    /// Rules: The replicated log 3
     pub fn new(alloc: A, members: ProcSet) -> Exchange<A>
-        ensures { result ≡ opened members }
+        ensures { result ≡ exchange_opening members }
     {
         Exchange {
             alloc,
-            unheard: members,
+            missing_heads: members,
             heads: Vec::new(alloc),
-            got: 0,
+            received_bytes: 0,
             total: 0,
             places: 0,
             bytes: Vec::new(alloc),
-            brought: Vec::new(alloc),
+            received_calls: Vec::new(alloc),
         }
     }
 
-    /// What is wanted, and of whom; none until every member's Head was heard.
+    /// Returns the owner and the wanted part of its log; `None` until every member's Head has arrived. It takes no memory.
+    /// Rules: The replicated log 4 and 5
     pub fn wanted(&self) -> Option<Wanted>
         ensures { result ≡ wanted self.now }
     {
-        if self.unheard.bits() == 0 {
+        if self.missing_heads.bits() == 0 {
             wanted_by(self.heads.as_slice())
         } else {
             None
         }
     }
 
-    /// Hears a member's payload, in the order of the ring. A member's first Head counts, then each next piece of the
-    /// snapshot if one is wanted, and then each next Part of the places that are wanted; all else is ignored for good.
-    /// Gives the base exactly where the exchange becomes whole by this payload, and has then handed out its bytes and
-    /// its calls. `Memory` leaves it as it was.
+    /// Applies a member's payload, and returns the base if this payload completes the exchange; else `None`.
+    /// Payloads must come in the ring's order. A member's first Head counts, then each next piece of a wanted snapshot, then each
+    /// next Part of the wanted places. Every other payload is ignored for good. The base is returned once: its bytes and calls
+    /// leave the exchange.
+    /// Errors: `Memory` where an allocation fails; the exchange is unchanged.
+    /// Rules: The replicated log 3, 4 and 6
     pub fn hear(&mut self, sender: Proc, payload: &Payload<A>) -> Result<Option<Base<A>>, Fault>
         ensures base { IfOk result (λ base. base ≡ base_at self.old sender payload.now) }
-        ensures ok { OnOk result (self.new ≡ relieved (heard self.old sender payload.now)) }
+        ensures ok { OnOk result (self.new ≡ exchange_drained (heard self.old sender payload.now)) }
         ensures err { OnErr result (self.new ≡ self.old) }
         ensures refused { IfErr result (λ fault. fault ≡ Memory) }
     {
-        let was_whole = self.is_whole();
+        let was_whole = self.is_exchange_complete();
         match payload {
             Payload::Head(head) => self.hear_head(sender, head)?,
             Payload::Snap(snap) => self.hear_snap(sender, snap)?,
             Payload::Part(part) => self.hear_part(sender, part)?,
             _ => {}
         }
-        let base = self.hand_out();
+        let base = self.take_base();
         if was_whole { Ok(None) } else { Ok(base) }
     }
 
-    /// Whether every Head was heard, and all that is wanted.
-    fn is_whole(&self) -> bool
-        ensures { result ≡ is_whole self.now }
+    /// Returns whether every Head and all wanted bytes and places have arrived.
+    fn is_exchange_complete(&self) -> bool
+        ensures { result ≡ is_exchange_complete self.now }
     {
         match self.wanted() {
             Some(wanted) => {
-                self.is_snapped(&wanted) && wanted.to.saturating_sub(wanted.from) <= self.places
+                self.has_wanted_snapshot(&wanted)
+                    && wanted.to.saturating_sub(wanted.from) <= self.places
             }
             None => false,
         }
     }
 
-    /// Whether nothing of a snapshot is missing: none is wanted, or all its pieces came.
-    fn is_snapped(&self, wanted: &Wanted) -> bool
-        ensures { result ≡ is_snapped wanted.now.snapshot self.now.got self.now.total }
+    /// Returns whether no snapshot is wanted, or all of its bytes have arrived.
+    fn has_wanted_snapshot(&self, wanted: &Wanted) -> bool
+        ensures { result ≡ has_wanted_snapshot wanted.now.snapshot self.now.received_bytes self.now.total }
     {
         match wanted.snapshot {
-            Some(_) => self.total >= 1 && self.got == u64::from(self.total),
+            Some(_) => self.total >= 1 && self.received_bytes == u64::from(self.total),
             None => true,
         }
     }
@@ -140,17 +148,17 @@ impl<A: Allocator + Copy> Exchange<A> {
         ensures err { OnErr result (self.new ≡ self.old) }
         ensures refused { IfErr result (λ fault. fault ≡ Memory) }
     {
-        if self.unheard.contains(sender) {
-            self.heads.push(Stated {
+        if self.missing_heads.contains(sender) {
+            self.heads.push(ReceivedHead {
                 sender,
                 head: *head,
             })?;
-            self.unheard = self.unheard.less(ProcSet::only(sender));
+            self.missing_heads = self.missing_heads.less(ProcSet::only(sender));
         }
         Ok(())
     }
 
-    /// Hears a piece. Room for the whole snapshot is asked for as its first piece comes.
+    /// Takes a piece. The first piece reserves room for the whole snapshot.
     fn hear_snap(&mut self, sender: Proc, snap: &Snap<A>) -> Result<(), Fault>
         ensures ok { OnOk result (self.new ≡ hear_snap self.old sender snap.now) }
         ensures err { OnErr result (self.new ≡ self.old) }
@@ -158,21 +166,21 @@ impl<A: Allocator + Copy> Exchange<A> {
     {
         if self.is_next_piece(sender, snap) {
             if self.total == 0 {
-                let room = snap.total.min(MOST_SNAPSHOT);
+                let room = snap.total.min(MAX_SNAPSHOT);
                 self.bytes.reserve_exact(room as usize)?;
             }
             let bytes = snap.bytes.as_slice();
             self.bytes.extend_from_slice(bytes)?;
-            self.got += bytes.len() as u64;
+            self.received_bytes += bytes.len() as u64;
             self.total = snap.total;
         }
         Ok(())
     }
 
-    /// Whether a piece is the next of the snapshot that is wanted.
+    /// Returns whether a piece is the next one of the wanted snapshot.
     fn is_next_piece(&self, sender: Proc, snap: &Snap<A>) -> bool
-        ensures value { result ≡ is_next_piece (wanted self.now) self.now.got self.now.total sender snap.now }
-        ensures room { result ≡ true → self.now.got < 2 ^ 32 }
+        ensures value { result ≡ is_next_piece (wanted self.now) self.now.received_bytes self.now.total sender snap.now }
+        ensures room { result ≡ true → self.now.received_bytes < 2 ^ 32 }
     {
         match self.wanted() {
             Some(wanted) => sender == wanted.owner && self.is_piece_of(wanted.snapshot, snap),
@@ -180,18 +188,18 @@ impl<A: Allocator + Copy> Exchange<A> {
         }
     }
 
-    /// Whether a piece is of the snapshot of so many places, begins where the bytes so far end, and tells as many bytes in
-    /// all as those before it.
+    /// Returns whether a piece is of the snapshot of `places` places and continues the bytes received so far.
+    /// It must begin where these end, and state the same total as the pieces before it.
     fn is_piece_of(&self, places: Option<u64>, snap: &Snap<A>) -> bool
-        ensures value { result ≡ is_piece_of places self.now.got self.now.total snap.now }
-        ensures room { result ≡ true → self.now.got < 2 ^ 32 }
+        ensures value { result ≡ is_piece_of places self.now.received_bytes self.now.total snap.now }
+        ensures room { result ≡ true → self.now.received_bytes < 2 ^ 32 }
     {
         match places {
             Some(at) => {
                 snap.at == at
-                    && u64::from(snap.offset) == self.got
+                    && u64::from(snap.offset) == self.received_bytes
                     && (self.total == 0 || snap.total == self.total)
-                    && self.got < u64::from(snap.total)
+                    && self.received_bytes < u64::from(snap.total)
             }
             None => false,
         }
@@ -204,36 +212,36 @@ impl<A: Allocator + Copy> Exchange<A> {
     {
         if self.is_wanted(sender, part) {
             let calls = part.calls.as_slice();
-            self.brought.extend_from_slice(calls)?;
+            self.received_calls.extend_from_slice(calls)?;
             self.places += calls.len() as u64;
         }
         Ok(())
     }
 
-    /// Whether a Part is the next of those wanted, and no piece of a snapshot is missing.
+    /// Returns whether a Part is the next wanted one, and no bytes of a snapshot are missing.
     fn is_wanted(&self, sender: Proc, part: &Part<A>) -> bool
-        ensures value { result ≡ is_wanted (wanted self.now) self.now.got self.now.total self.now.places sender part.now }
+        ensures value { result ≡ is_wanted (wanted self.now) self.now.received_bytes self.now.total self.now.places sender part.now }
         ensures room { result ≡ true → self.now.places + length part.now.calls < 2 ^ 64 }
     {
         match self.wanted() {
             Some(wanted) => {
-                self.is_snapped(&wanted) && is_next(&wanted, self.places, sender, part)
+                self.has_wanted_snapshot(&wanted) && is_next(&wanted, self.places, sender, part)
             }
             None => false,
         }
     }
 
-    /// Hands out the base of an exchange that is whole, its bytes and calls without a copy.
-    fn hand_out(&mut self) -> Option<Base<A>>
+    /// Takes the base out of a complete exchange, without copying bytes or calls.
+    fn take_base(&mut self) -> Option<Base<A>>
         ensures base { result ≡ handed_out self.old }
-        ensures state { self.new ≡ relieved self.old }
+        ensures state { self.new ≡ exchange_drained self.old }
     {
-        if !self.is_whole() {
+        if !self.is_exchange_complete() {
             return None;
         }
         let wanted = self.wanted()?;
         let bytes = mem::replace(&mut self.bytes, Vec::new(self.alloc));
-        let calls = mem::replace(&mut self.brought, Vec::new(self.alloc));
+        let calls = mem::replace(&mut self.received_calls, Vec::new(self.alloc));
         let snapshot = match wanted.snapshot {
             Some(_) => Some(Snapshot::from_vec(bytes)),
             None => None,
@@ -246,7 +254,7 @@ impl<A: Allocator + Copy> Exchange<A> {
     }
 }
 
-/// Whether a Part is the owner's, begins where the places brought so far end, and doesn't pass the end.
+/// Returns whether a Part is the owner's, begins where the received places end, and doesn't pass the end of the wanted places.
 fn is_next<A: Allocator + Copy>(wanted: &Wanted, places: u64, sender: Proc, part: &Part<A>) -> bool
     ensures value { result ≡ is_next wanted.now places sender part.now }
     ensures room { result ≡ true → places + length part.now.calls < 2 ^ 64 }
@@ -258,14 +266,14 @@ fn is_next<A: Allocator + Copy>(wanted: &Wanted, places: u64, sender: Proc, part
     begins_at(wanted, places, part.first) && ends_within(wanted, part.first, count)
 }
 
-/// Whether the place is the one behind so many of those wanted.
+/// Returns whether `first` is the wanted place after the first `places` of them.
 fn begins_at(wanted: &Wanted, places: u64, first: u64) -> bool
     ensures { result ≡ (first == wanted.now.from + places) }
 {
     wanted.from <= first && first - wanted.from == places
 }
 
-/// Whether so many places from this one on don't pass the end of those wanted.
+/// Returns whether the `count` places from `first` on end within the wanted places.
 fn ends_within(wanted: &Wanted, first: u64, count: u64) -> bool
     ensures value { result ≡ nat_le (first + count) wanted.now.to }
     ensures room { result ≡ true → first + count < 2 ^ 64 }

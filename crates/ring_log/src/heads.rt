@@ -1,16 +1,18 @@
-//! What the Heads of all members say together.
+//! How all members' Heads determine the owner and the wanted places.
+//! Rules: The replicated log 4 and 5
 
 ghost use Rattle.std.specs.Prelude.{◌≡◌};
 ghost use Rattle.ring_log.specs.Heads.{chosen_head, least_committed};
 ghost use Rattle.ring_log.specs.Exchanges.{wanted_by, wanted_of};
 
-use crate::stated::Stated;
+use crate::received_head::ReceivedHead;
 use crate::wanted::Wanted;
 use ring_base::Proc;
 use ring_wire::Head;
 
-/// Whose places are wanted by these Heads; none where there is no Head.
-pub(crate) fn wanted_by(heads: &[Stated]) -> Option<Wanted>
+/// Returns the owner and the wanted part of its log, given the Heads of all members; `None` if there is no Head.
+/// Rules: The replicated log 4 and 5
+pub(crate) fn wanted_by(heads: &[ReceivedHead]) -> Option<Wanted>
     ensures { result ≡ wanted_by heads.now }
 {
     let (first, rest) = heads.split_first()?;
@@ -19,8 +21,9 @@ pub(crate) fn wanted_by(heads: &[Stated]) -> Option<Wanted>
     Some(wanted_of(chosen.sender, &chosen.head, least))
 }
 
-/// What is wanted of an owner with this Head, where the least committed length is so much: its places from there on, or, if
-/// it has dropped some of these, a snapshot of what it has dropped and the places behind that.
+/// Returns the wanted part of an owner's log, given its Head; `least` is the least committed length of all Heads.
+/// It is the places from `least` on. If the owner has dropped some of these, it is a snapshot of the dropped places and the
+/// places after them.
 fn wanted_of(owner: Proc, head: &Head, least: u64) -> Wanted
     ensures { result ≡ wanted_of owner head.now least }
 {
@@ -37,26 +40,26 @@ fn wanted_of(owner: Proc, head: &Head, least: u64) -> Wanted
     }
 }
 
-/// The greatest Head.
-fn chosen_head(first: Stated, rest: &[Stated]) -> Stated
+/// Returns the greatest Head.
+fn chosen_head(first: ReceivedHead, rest: &[ReceivedHead]) -> ReceivedHead
     ensures { result ≡ chosen_head first rest.now }
 {
     let mut best = first;
-    for stated in rest {
-        if best.is_behind(stated) {
-            best = *stated;
+    for received_head in rest {
+        if best.is_behind(received_head) {
+            best = *received_head;
         }
     }
     best
 }
 
-/// The least committed length of Heads, one of which is given.
-fn least_committed(first: u64, rest: &[Stated]) -> u64
+/// Returns the least of `first` and the committed lengths of `rest`.
+fn least_committed(first: u64, rest: &[ReceivedHead]) -> u64
     ensures { result ≡ least_committed first rest.now }
 {
     let mut least = first;
-    for stated in rest {
-        least = least.min(stated.head.committed);
+    for received_head in rest {
+        least = least.min(received_head.head.committed);
     }
     least
 }

@@ -1,4 +1,5 @@
-//! The replicated log: how the members of a primary ring come to one log, and what a node keeps of it.
+//! The replicated log: how the members of a primary ring agree on one log, and how a node stores it.
+//! Rules: The replicated log 1 to 9, 11, 12, 16, 19 and 20
 #![tactic(auto)]
 
 mod adoption;
@@ -11,8 +12,8 @@ mod laws;
 mod log;
 mod parts;
 mod pieces;
+mod received_head;
 mod snapshot;
-mod stated;
 mod wanted;
 
 pub use adoption::Adoption;
@@ -22,6 +23,6 @@ pub use exchange::Exchange;
 pub use laws::{committed_law, exchange_law};
 pub use log::Log;
 pub use pieces::pieces_of;
+pub use received_head::ReceivedHead;
 pub use snapshot::Snapshot;
-pub use stated::Stated;
 pub use wanted::Wanted;

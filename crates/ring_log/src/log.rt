@@ -1,11 +1,12 @@
-//! A node's log.
+//! A node's log: its calls, its committed and trimmed lengths, and its last primary.
+//! Rules: The replicated log 1, 2, 6, 8, 9, 11, 12 and 20
 
 ghost use Rattle.std.specs.Prelude.{◌≡◌, ◌≤◌, ◌+◌, ◌&&◌, ◌∷◌, [], ◌++◌, true, nat_le, length, take, drop, IfOk, IfErr, OnOk, OnErr};
 ghost use Rattle.ring_base.specs.declared.fault.Fault.TheVariants.{Memory};
 ghost use Rattle.ring_log.specs.Parts.{parts_between};
 ghost use Rattle.ring_log.specs.Adoptions.{restored_with, adoption};
 ghost use Rattle.ring_log.specs.Logs.{empty, log_length, followed, based, restores, restored_log, joined_log, adopted_if, committed_upto, committed_calls};
-ghost use Rattle.ring_log.specs.Logs.{committed_log, trimmed_log, head_of, begins, is_log_length, is_adoptable, is_ripe};
+ghost use Rattle.ring_log.specs.Logs.{committed_log, trimmed_log, head_of, begins, is_log_length, is_adoptable, is_due_to_trim};
 
 use crate::adoption::Adoption;
 use crate::base::Base;
@@ -18,12 +19,14 @@ use std::alloc::{AllocError, Allocator, Global};
 use std::marker::Model;
 use std::mem;
 
-/// So many committed places wait to be dropped.
+/// The number of committed places that a log keeps at which they are dropped.
 const TRIM_AFTER: u64 = 256;
 
-/// A node's log: how many of its first places it has dropped; the calls of the others, by places counted from the log's
-/// beginning; how many places are committed, dropped ones included; and its last primary, the newest ring that it adopted.
-/// Contracts see these four. No place is dropped that isn't committed, and there are at most 2^62 places.
+/// `Log`: a node's replicated log: a list of calls, whose first places may have been dropped. Places count from 0, dropped ones
+/// included.
+/// It has the number of dropped places, the calls of the other places, the committed length, and the last primary, which is the
+/// newest adopted ring. Contracts see these four. Only committed places are dropped, and a log has at most 2^62 places.
+/// Rules: The replicated log 1
 #[derive(Drop)]
 pub struct Log<A: Allocator + Copy = Global> {
     trimmed: u64,
@@ -34,9 +37,9 @@ pub struct Log<A: Allocator + Copy = Global> {
 
 impl<A: Allocator + Copy> Model for Log<A> {
     ghost use Rattle.std.specs.Prelude.{length};
-    ghost use Rattle.ring_log.specs.Logs.{Log as ToldLog, IsKeptLog};
+    ghost use Rattle.ring_log.specs.Logs.{Log as LogValue, IsKeptLog};
 
-    ghost Value = { ToldLog A };
+    ghost Value = { LogValue A };
 
     ghost view = { λ log. record { trimmed = log.trimmed; calls = log.calls.items; committed = log.committed; last = log.last } };
 
@@ -57,7 +60,8 @@ impl<A: Allocator + Copy> Clone for Log<A> {
 }
 
 impl<A: Allocator + Copy> Log<A> {
-    /// The log at the opening.
+    /// Creates the log of the opening: empty, nothing committed, no last primary. It takes no memory.
+    /// Rules: The replicated log 1
     pub fn new(alloc: A) -> Log<A>
         ensures { result ≡ empty }
     {
@@ -69,8 +73,10 @@ impl<A: Allocator + Copy> Log<A> {
         }
     }
 
-    /// Adds a call at the end, if the log then has no more places than a log may have, 2^62, and tells whether. `Memory` leaves the
-    /// log as it was.
+    /// Appends a call at the log's end and returns true. If the log would then have more than 2^62 places, returns false and
+    /// changes nothing.
+    /// Errors: `Memory` where an allocation fails; the log is unchanged.
+    /// Rules: The replicated log 9 and 11
     pub fn append(&mut self, call: Call<A>) -> Result<bool, Fault>
         ensures fits { IfOk result (λ fits. fits ≡ is_log_length (log_length self.old + 1)) }
         ensures log { OnOk result (self.new ≡ followed self.old (call ∷ [])) }
@@ -84,8 +90,11 @@ impl<A: Allocator + Copy> Log<A> {
         Ok(true)
     }
 
-    /// Adds calls at the end, in their order, if the log then has no more places than a log may have, 2^62, and tells whether. They
-    /// share their bytes with those given. `Memory` leaves the log as it was.
+    /// Appends calls at the log's end, in their order, and returns true. If the log would then have more than 2^62 places,
+    /// returns false and appends none.
+    /// The log shares the calls' bytes with `calls`.
+    /// Errors: `Memory` where an allocation fails; the log is unchanged.
+    /// Rules: The replicated log 9 and 11
     pub fn append_all(&mut self, calls: &[Call<A>]) -> Result<bool, Fault>
         ensures fits { IfOk result (λ fits. fits ≡ is_log_length (log_length self.old + length calls.now)) }
         ensures log { OnOk result (self.new ≡ followed self.old calls.now) }
@@ -99,10 +108,12 @@ impl<A: Allocator + Copy> Log<A> {
         Ok(true)
     }
 
-    /// Adopts a ring's base, if it may be adopted, and tells how; the ring becomes the last primary. A base with a snapshot of more
-    /// places than are committed restores the log: those places count as dropped and committed, the base's calls follow
-    /// them, and the log as it was is handed out. Else the log keeps its own places below the base, and takes of the base's calls
-    /// those that it hasn't dropped. The calls are moved, and none is copied. `Memory` leaves the log as it was.
+    /// Adopts a ring's base if `may_adopt` allows it, and returns how. The ring then is the last primary.
+    /// A base with a snapshot of more places than are committed restores the log: those places then count as dropped and
+    /// committed, and the base's calls follow them. Otherwise the log keeps its own places below the base and takes those of the
+    /// base's calls that it hasn't dropped. Calls are moved, never copied.
+    /// Errors: `Memory` where an allocation fails; the log is unchanged.
+    /// Rules: The replicated log 6 and 8
     pub fn adopt(&mut self, ring: RingId, base: Base<A>) -> Result<Adoption<A>, Fault>
         ensures how { IfOk result (λ how. how ≡ adoption self.old base) }
         ensures log { OnOk result (self.new ≡ adopted_if self.old ring base) }
@@ -119,7 +130,7 @@ impl<A: Allocator + Copy> Log<A> {
         Ok(Adoption::Joined)
     }
 
-    /// Begins behind the places that a base's snapshot stands for.
+    /// Replaces the log by one that begins after the places of the base's snapshot.
     fn restore(&mut self, ring: RingId, base: Base<A>) -> Adoption<A>
         requires short { is_log_length (base.from + length base.calls) ≡ true }
         ensures how { result ≡ restored_with self.old base.snapshot }
@@ -143,7 +154,7 @@ impl<A: Allocator + Copy> Log<A> {
         }
     }
 
-    /// Keeps its own places below a base, and lets the base's calls follow, but for those of places that it has dropped.
+    /// Keeps the log's places below the base, and appends the base's calls, except those of dropped places.
     #[tactic(auto, using(crate::proofs::Calls::joined_bounds))]
     fn join(&mut self, ring: RingId, base: Base<A>) -> Result<(), Fault>
         requires below { base.from ≤ self.old.committed }
@@ -155,35 +166,38 @@ impl<A: Allocator + Copy> Log<A> {
     {
         let kept = base.from.saturating_sub(self.trimmed);
         let left_out = self.trimmed.saturating_sub(base.from);
-        follow_on(&mut self.calls, kept, base.calls, left_out)?;
+        splice_calls(&mut self.calls, kept, base.calls, left_out)?;
         self.last = Some(ring);
         Ok(())
     }
 
-    /// Whether a base may be adopted: it restores the log, or begins with the committed places that the log keeps; and it makes no log
-    /// of more than 2^62 places.
+    /// Returns whether a base may be adopted: it restores the log, or it leaves no hole and begins with the committed places that
+    /// the log keeps.
+    /// The log after the adoption must have at most 2^62 places, too. In a run only that limit can refuse a base.
+    /// Rules: The replicated log 8 and 9
     pub fn may_adopt(&self, base: &Base<A>) -> bool
         ensures { result ≡ is_adoptable self.now base.now }
     {
-        (self.restores(base) || self.goes_on_with(base))
+        (self.restores(base) || self.continues_committed(base))
             && is_length(base.from, base.calls.as_slice().len() as u64)
     }
 
-    /// Whether a base brings a snapshot of more places than are committed.
+    /// Returns whether a base brings a snapshot of more places than are committed.
     fn restores(&self, base: &Base<A>) -> bool
         ensures { result ≡ restores self.now base.now }
     {
         base.snapshot.is_some() && self.committed < base.from
     }
 
-    /// Whether a base leaves no hole, and begins with the committed places. Only those are compared that the log keeps, and that it wouldn't keep by itself.
-    fn goes_on_with(&self, base: &Base<A>) -> bool
+    /// Returns whether a base leaves no hole and begins with the committed places.
+    fn continues_committed(&self, base: &Base<A>) -> bool
         ensures { result ≡ nat_le base.now.from self.now.committed && begins (committed_calls self.now) (based self.now base.now) }
     {
         base.from <= self.committed && self.begins_with(base)
     }
 
-    /// Whether a base begins with the committed places.
+    /// Returns whether a base begins with the committed places.
+    /// Only the kept places from `base.from` on are compared: the log keeps its own places below that anyway.
     fn begins_with(&self, base: &Base<A>) -> bool
         ensures { result ≡ begins (committed_calls self.now) (based self.now base.now) }
     {
@@ -192,28 +206,33 @@ impl<A: Allocator + Copy> Log<A> {
         let same = committed
             .len()
             .min(base.from.saturating_sub(trimmed) as usize);
-        let brought = base.calls.as_slice();
-        let dropped = brought
+        let received_calls = base.calls.as_slice();
+        let dropped = received_calls
             .len()
             .min(trimmed.saturating_sub(base.from) as usize);
-        begins(&committed[same..], &brought[dropped..])
+        begins(&committed[same..], &received_calls[dropped..])
     }
 
-    /// Raises the committed length to n, or to the length where that is less. It never falls.
+    /// Raises the committed length to `n`, or to the log's length if that is less. It never falls: a smaller `n` changes nothing.
+    /// Rules: The replicated log 12 and 19
     pub fn commit_upto(&mut self, n: u64)
         ensures { self.new ≡ committed_upto self.old n }
     {
         self.committed = self.committed.max(n.min(self.length()));
     }
 
-    /// Whether so many committed places are kept, 256 or more, that they are to be dropped.
-    pub fn is_ripe(&self) -> bool
-        ensures { result ≡ is_ripe self.now }
+    /// Returns whether the committed places are due to be dropped: the log keeps 256 or more of them.
+    /// Rules: The replicated log 20
+    pub fn is_due_to_trim(&self) -> bool
+        ensures { result ≡ is_due_to_trim self.now }
     {
         self.committed - self.trimmed >= TRIM_AFTER
     }
 
-    /// Drops the committed places, and hands out the log of these alone. No call is copied. `Memory` leaves the log as it was.
+    /// Drops the committed places, and returns the log of these places alone. The committed length becomes the trimmed length.
+    /// Calls are moved, never copied.
+    /// Errors: `Memory` where an allocation fails; the log is unchanged.
+    /// Rules: The replicated log 20
     pub fn trim(&mut self) -> Result<Log<A>, Fault>
         ensures dropped { IfOk result (λ log. log ≡ committed_log self.old) }
         ensures ok { OnOk result (self.new ≡ trimmed_log self.old) }
@@ -231,14 +250,16 @@ impl<A: Allocator + Copy> Log<A> {
         Ok(mem::replace(self, rest))
     }
 
-    /// The calls of all places that are kept.
+    /// Returns the calls of all places that haven't been dropped, in order, committed or not.
+    /// Rules: The replicated log 1
     pub fn into_calls(self) -> Vec<Call<A>, A>
         ensures { result.items ≡ self.calls }
     {
         self.calls
     }
 
-    /// What a node states of the log.
+    /// Returns the Head that states this log: its last primary, and its length, committed length and trimmed length.
+    /// Rules: The replicated log 2
     pub fn head(&self) -> Head
         ensures { result ≡ head_of self.now }
     {
@@ -250,50 +271,58 @@ impl<A: Allocator + Copy> Log<A> {
         }
     }
 
-    /// How many places it has, dropped ones included.
+    /// Returns the number of places, committed or not, dropped ones included; 0 to 2^62.
+    /// Rules: The replicated log 1
     pub fn length(&self) -> u64
         ensures { result ≡ log_length self.now }
     {
         self.trimmed + self.calls.len() as u64
     }
 
-    /// How many of them are dropped.
+    /// Returns how many places have been dropped from the front of the log, at most the committed length.
+    /// Rules: The replicated log 1 and 20
     pub fn trimmed(&self) -> u64
         ensures { result ≡ self.now.trimmed }
     {
         self.trimmed
     }
 
-    /// How many of them are committed.
+    /// Returns the number of committed places, dropped ones included. They are the log's first places.
+    /// Rules: The replicated log 1 and 12
     pub fn committed_length(&self) -> u64
         ensures { result ≡ self.now.committed }
     {
         self.committed
     }
 
-    /// The newest ring that was adopted.
+    /// Returns the last primary, which is the newest ring that was adopted; `None` before the first adoption.
+    /// Rules: The replicated log 1 and 6
     pub fn last_primary(&self) -> Option<RingId>
         ensures { result ≡ self.now.last }
     {
         self.last
     }
 
-    /// The calls of all places that are kept.
+    /// Returns the calls of all places that haven't been dropped, in order, committed or not. The first is at place `trimmed`.
+    /// Rules: The replicated log 1
     pub fn calls(&self) -> &[Call<A>]
         ensures { result.now ≡ self.now.calls }
     {
         self.calls.as_slice()
     }
 
-    /// The calls of the committed places that are kept.
+    /// Returns the calls of the committed places that haven't been dropped, in order. The first is at place `trimmed`.
+    /// Rules: The replicated log 1 and 12
     pub fn committed_calls(&self) -> &[Call<A>]
         ensures { result.now ≡ committed_calls self.now }
     {
         &self.calls[..(self.committed - self.trimmed) as usize]
     }
 
-    /// The Parts of the places that an exchange wants of this log, its owner's: 7 places in each, the last perhaps
-    /// shorter. Refused with `Memory` alone.
+    /// Returns the Parts of the wanted places; this log must be the owner's. Each Part has 7 places, the last perhaps fewer.
+    /// There is none where nothing is wanted.
+    /// Errors: `Memory` where an allocation fails.
+    /// Rules: The replicated log 2
     pub fn parts(&self, alloc: A, wanted: &Wanted) -> Result<Vec<Part<A>, A>, Fault>
         ensures ok { IfOk result (λ parts. parts.items ≡ parts_between self.now.trimmed self.now.calls wanted.now.from wanted.now.to) }
         ensures refused { IfErr result (λ fault. fault ≡ Memory) }
@@ -312,9 +341,9 @@ impl<A: Allocator + Copy> Log<A> {
     }
 }
 
-/// Keeps so many of the first calls, and lets others follow, but for so many of their first. They are moved, and none is copied.
-/// `Memory` leaves the calls as they were.
-fn follow_on<A: Allocator + Copy>(
+/// Keeps the first `kept` of `own`, and appends `calls` without its first `left_out`. Calls are moved, never copied.
+/// Errors: `Memory` where an allocation fails; the calls are unchanged.
+fn splice_calls<A: Allocator + Copy>(
     own: &mut Vec<Call<A>, A>,
     kept: u64,
     calls: Calls<A>,
@@ -324,16 +353,17 @@ fn follow_on<A: Allocator + Copy>(
     ensures err { OnErr result (own.new.items ≡ own.old.items) }
     ensures refused { IfErr result (λ fault. fault ≡ Memory) }
 {
-    let mut calls = without_first(calls.into_vec(), left_out)?;
+    let mut calls = split_off_calls(calls.into_vec(), left_out)?;
     own.reserve(calls.len())?;
     own.truncate(kept as usize);
     own.append(&mut calls)?;
     Ok(())
 }
 
-/// Calls but for so many of their first. They are moved, and none is copied. Refused with `Memory` alone.
+/// Returns the calls without their first `left_out`. Calls are moved, never copied.
+/// Errors: `Memory` where an allocation fails.
 #[tactic(auto, using(crate::proofs::Calls::drop_least))]
-fn without_first<A: Allocator + Copy>(
+fn split_off_calls<A: Allocator + Copy>(
     mut calls: Vec<Call<A>, A>,
     left_out: u64,
 ) -> Result<Vec<Call<A>, A>, Fault>
@@ -348,7 +378,7 @@ fn without_first<A: Allocator + Copy>(
     Ok(rest)
 }
 
-/// Whether a log may have these places, and so many more.
+/// Returns whether a log may have `places + more` places.
 fn is_length(places: u64, more: u64) -> bool
     ensures { result ≡ is_log_length (places + more) }
 {

@@ -1,17 +1,20 @@
-//! Places of a log as Parts.
+//! A log's places encoded as Parts.
+//! Rules: The replicated log 2
 
 ghost use Rattle.std.specs.Prelude.{◌≡◌, ◌+◌, ◌^◌, ◌<◌, length, IfOk, IfErr};
 ghost use Rattle.ring_base.specs.declared.fault.Fault.TheVariants.{Memory};
 ghost use Rattle.ring_log.specs.Parts.{parts_of};
 
 use ring_base::Fault;
-use ring_wire::{Call, Calls, MOST_PART_CALLS, Part};
+use ring_wire::{Call, Calls, MAX_PART_CALLS, Part};
 use std::alloc::Allocator;
 
-/// So many places are in a Part, or fewer in the last.
-const PLACES: usize = MOST_PART_CALLS as usize;
+/// The number of places in a Part, 7; the last Part may have fewer.
+const CALLS_PER_PART: usize = MAX_PART_CALLS as usize;
 
-/// The Parts of places, of which the first is the place `at`. Refused with `Memory` alone.
+/// Returns the Parts of these calls, of which the first is at place `at` of the log, counted from 0. No call gives no Part.
+/// Errors: `Memory` where an allocation fails.
+/// Rules: The replicated log 2
 #[tactic(auto, using(ring_base::proofs::ListPlaces::map_numbers, ring_base::proofs::ListFronts::take_shorter))]
 pub(crate) fn parts_of<A: Allocator + Copy>(
     alloc: A,
@@ -23,10 +26,10 @@ pub(crate) fn parts_of<A: Allocator + Copy>(
     ensures refused { IfErr result (λ fault. fault ≡ Memory) }
 {
     let mut parts = Vec::new(alloc);
-    for k in 0..(places.len() + (PLACES - 1)) / PLACES {
-        let start = PLACES * k;
+    for k in 0..(places.len() + (CALLS_PER_PART - 1)) / CALLS_PER_PART {
+        let start = CALLS_PER_PART * k;
         let rest = &places[start..];
-        let calls = copied(alloc, &rest[..rest.len().min(PLACES)])?;
+        let calls = copy_calls(alloc, &rest[..rest.len().min(CALLS_PER_PART)])?;
         parts.push(Part {
             first: at + start as u64,
             calls,
@@ -35,8 +38,7 @@ pub(crate) fn parts_of<A: Allocator + Copy>(
     Ok(parts)
 }
 
-/// A copy of the calls, or `Memory`.
-fn copied<A: Allocator + Copy>(alloc: A, calls: &[Call<A>]) -> Result<Calls<A>, Fault>
+fn copy_calls<A: Allocator + Copy>(alloc: A, calls: &[Call<A>]) -> Result<Calls<A>, Fault>
     ensures ok { IfOk result (λ copy. copy ≡ calls.now) }
     ensures refused { IfErr result (λ fault. fault ≡ Memory) }
 {

@@ -5,7 +5,9 @@ ghost use Rattle.std.specs.Prelude.{◌≡◌, ℕ, List};
 use std::alloc::{AllocError, Allocator, Global};
 use std::marker::Model;
 
-/// The bytes of a snapshot of the sessions, on the heap. Contracts see them.
+/// The bytes of a snapshot of the session table, on the heap: the table stands for the places of a log that were dropped.
+/// Contracts see the bytes.
+/// Rules: The replicated log 20; Sessions 12
 #[derive(Drop)]
 pub struct Snapshot<A: Allocator + Copy = Global> {
     bytes: Vec<u8, A>,
@@ -28,14 +30,14 @@ impl<A: Allocator + Copy> Clone for Snapshot<A> {
 }
 
 impl<A: Allocator + Copy> Snapshot<A> {
-    /// The snapshot of these bytes.
+    /// Creates the snapshot of these bytes, unread: they needn't be a snapshot. It takes no memory.
     pub fn from_vec(bytes: Vec<u8, A>) -> Snapshot<A>
         ensures { result ≡ bytes.items }
     {
         Snapshot { bytes }
     }
 
-    /// Its bytes.
+    /// Returns the bytes of the snapshot, in order.
     pub fn as_slice(&self) -> &[u8]
         ensures { result.now ≡ self.now }
     {

@@ -14,10 +14,10 @@ use Rattle.ring_base.specs.Rings.{primary_cmp, IsPrimaryBelow}
 use Rattle.ring_base.specs.RingOrder.{primary_cmp_total, primary_below_total}
 use Rattle.ring_base.proofs.Cases.{Less-from}
 use Rattle.ring_payload.specs.declared.head.Head.{Head}
-use Rattle.ring_log.specs.declared.stated.Stated.{Stated}
-use Rattle.ring_log.specs.Heads.{stated_cmp, is_behind, chosen_head, least_committed}
+use Rattle.ring_log.specs.declared.received_head.ReceivedHead.{ReceivedHead}
+use Rattle.ring_log.specs.Heads.{received_head_cmp, is_behind, chosen_head, least_committed}
 
--- An order's other way round
+-- The reverse of an order
 
 not_less-trans : {K : Type 0} {R : K → K → Ordering} → IsTotalOrder R → (a b c : K) → (R a b ≡ Less → ⊥) → (R b c ≡ Less → ⊥) → R a c ≡ Less → ⊥
 not_less-trans {K} {R} t a b c p q h = go (R a b) refl
@@ -36,12 +36,12 @@ not_less-back {K} {R} t a b h k =
 not_less-self : {K : Type 0} {R : K → K → Ordering} → IsTotalOrder R → (a : K) → R a a ≡ Less → ⊥
 not_less-self t a h = not_less-back t a a h h
 
--- Heads are in order: by last primary, by length, and of equal ones by the senders from above
-pub stated_cmp_total : IsTotalOrder stated_cmp
+-- The order of Heads: by last primary, by length, and of equal ones by descending sender
+pub stated_cmp_total : IsTotalOrder received_head_cmp
 stated_cmp_total =
     then_total
-    (on_total (λ (s : Stated). s.head) (then_total (on_total (λ (h : Head). h.last) primary_cmp_total) (on_total (λ (h : Head). h.length) nat_cmp_total)))
-    (reversed (on_total (λ (s : Stated). s.sender) nat_cmp_total))
+    (on_total (λ (s : ReceivedHead). s.head) (then_total (on_total (λ (h : Head). h.last) primary_cmp_total) (on_total (λ (h : Head). h.length) nat_cmp_total)))
+    (reversed (on_total (λ (s : ReceivedHead). s.sender) nat_cmp_total))
   where
     equal-back : (o p : Ordering) → p ≡ Equal → o ≡ ordering_reverse p → o ≡ Equal
     equal-back o p e f = f ∙ ap ordering_reverse e
@@ -54,27 +54,27 @@ stated_cmp_total =
     }
 
 -- the first is as great as the second, or greater
-abbrev pub IsNoLess : Stated → Stated → Type 0
-IsNoLess a b = stated_cmp a b ≡ Less → ⊥
+abbrev pub IsNoLess : ReceivedHead → ReceivedHead → Type 0
+IsNoLess a b = received_head_cmp a b ≡ Less → ⊥
 
 not_lt-less : (o : Ordering) → is_lt o ≡ false → o ≡ Less → ⊥
 not_lt-less Less e h = cc e
 not_lt-less Equal e h = cc h
 not_lt-less Greater e h = cc h
 
--- what holds of each of them holds of the chosen one
-pub chosen-is : (P : Stated → Type 0) (best : Stated) (rest : List Stated) → P best → Each P rest → P (chosen_head best rest)
+-- what holds of each Head holds of the chosen one
+pub chosen-is : (P : ReceivedHead → Type 0) (best : ReceivedHead) (rest : List ReceivedHead) → P best → Each P rest → P (chosen_head best rest)
 chosen-is P best [] p h = p
 chosen-is P best (s ∷ rest) p h =
     chosen-is P (if is_behind best s then s else best) rest (cond_both (is_behind best s) s best P (λ e. h.0) (λ e. p)) h.1
 
-greater-of : (best s : Stated) → IsNoLess (if is_behind best s then s else best) best × IsNoLess (if is_behind best s then s else best) s
+greater-of : (best s : ReceivedHead) → IsNoLess (if is_behind best s then s else best) best × IsNoLess (if is_behind best s then s else best) s
 greater-of best s = cond_both (is_behind best s) s best (λ m. IsNoLess m best × IsNoLess m s)
-    (λ e. (not_less-back stated_cmp_total best s (Less-from (stated_cmp best s) e), not_less-self stated_cmp_total s))
-    (λ e. (not_less-self stated_cmp_total best, not_lt-less (stated_cmp best s) e))
+    (λ e. (not_less-back stated_cmp_total best s (Less-from (received_head_cmp best s) e), not_less-self stated_cmp_total s))
+    (λ e. (not_less-self stated_cmp_total best, not_lt-less (received_head_cmp best s) e))
 
 -- it is as great as each of them
-pub chosen-greatest : (best : Stated) (rest : List Stated) → IsNoLess (chosen_head best rest) best × Each (IsNoLess (chosen_head best rest)) rest
+pub chosen-greatest : (best : ReceivedHead) (rest : List ReceivedHead) → IsNoLess (chosen_head best rest) best × Each (IsNoLess (chosen_head best rest)) rest
 chosen-greatest best [] = (not_less-self stated_cmp_total best, tt)
 chosen-greatest best (s ∷ rest) =
     let n = if is_behind best s then s else best in
@@ -84,23 +84,23 @@ chosen-greatest best (s ∷ rest) =
     (not_less-trans stated_cmp_total c n best r.0 g.0, (not_less-trans stated_cmp_total c n s r.0 g.1, r.1))
 
 -- the least committed length
-pub least-first : (least : ℕ) (rest : List Stated) → least_committed least rest ≤ least
+pub least-first : (least : ℕ) (rest : List ReceivedHead) → least_committed least rest ≤ least
 least-first least [] = omega arith
 least-first least (s ∷ rest) =
     let r = least-first (min least s.head.committed) rest in
     let m = min-le_left least s.head.committed in
     omega arith
 
-pub least-each : (least : ℕ) (rest : List Stated) → Each (λ (s : Stated). least_committed least rest ≤ s.head.committed) rest
+pub least-each : (least : ℕ) (rest : List ReceivedHead) → Each (λ (s : ReceivedHead). least_committed least rest ≤ s.head.committed) rest
 least-each least [] = tt
 least-each least (s ∷ rest) =
     let r = least-first (min least s.head.committed) rest in
     let m = min-le_right least s.head.committed in
     (omega arith, least-each (min least s.head.committed) rest)
 
--- What a greatest Head tells of another
+-- What a greatest Head says of another
 
-abbrev pub LastsOf : Stated → Stated → Type 0
+abbrev pub LastsOf : ReceivedHead → ReceivedHead → Type 0
 LastsOf a b = (IsPrimaryBelow b.head.last a.head.last) ⊎ ((b.head.last ≡ a.head.last) × (b.head.length ≤ a.head.length))
 
 head-parts : (o p q : Ordering) → (ordering_then (ordering_then o p) q ≡ Less → ⊥) → (o ≡ Less → ⊥) × (o ≡ Equal → p ≡ Less → ⊥)
@@ -110,8 +110,8 @@ head-parts Equal Equal q h = (λ e. cc e, λ e k. cc k)
 head-parts Equal Greater q h = (λ e. cc e, λ e k. cc k)
 head-parts Greater p q h = (λ e. cc e, λ e k. cc e)
 
--- a Head that is no less has a later last primary, or the same and as long a log
-pub no_less-tells : (a b : Stated) → IsNoLess a b → LastsOf a b
+-- a Head that is no less has a later last primary, or the same one and a log at least as long
+pub no_less-tells : (a b : ReceivedHead) → IsNoLess a b → LastsOf a b
 no_less-tells a b h =
     let parts = head-parts (primary_cmp a.head.last b.head.last) (nat_cmp a.head.length b.head.length) (nat_cmp b.sender a.sender) h in
     elim (primary_below_total a.head.last b.head.last) as (λ _. LastsOf a b) [

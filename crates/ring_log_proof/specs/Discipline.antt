@@ -1,8 +1,9 @@
--- What a node hands to its core while it stays in a ring, and what it drops there, by what it knows of its log by its own life; and what the snapshots stand for that were sent: The replicated log, rules
--- 2, 10 and 20, of docs/PROTOCOL.md.
+-- The payloads that a node hands to its core during an epoch, and the places that it drops there, by its known log; and the
+-- places that the snapshots sent stand for.
+-- Rules: The replicated log 2, 10 and 20
 use Rattle.std.specs.Prelude.{◌≡◌, ℕ, ◌-◌, ◌≤◌, List, [], ◌∷◌, take, drop, Some, ◌⊎◌}
 use Rattle.std.specs.List.{AllByRecursion as Each}
-use Rattle.ring_base.specs.Fronts.{IsFront}
+use Rattle.ring_base.specs.Prefixes.{IsListPrefix}
 use Rattle.ring_base.specs.Group.{Group, IsPrimary}
 use Rattle.ring_base.specs.declared.ring_id.RingId.{RingId}
 use Rattle.ring_payload.specs.declared.content.Payload.{Payload}
@@ -10,14 +11,15 @@ use Rattle.ring_payload.specs.declared.content.Payload.TheVariants.{Call, Wrappe
 use Rattle.ring_log.specs.Messages.{Message}
 use Rattle.ring_log.specs.declared.wanted.Wanted.{Wanted}
 use Rattle.ring_log.specs.Exchanges.{wanted}
-use Rattle.ring_log.specs.Stays.{Stay}
-use Rattle.ring_log.specs.Kept.{Kept, kept_of, head_kept}
-use Rattle.ring_log.specs.Lives.{Whole, exchanged, log_of, older_at}
-use Rattle.ring_log_proof.specs.RingFacts.{IsStay, RingFacts}
+use Rattle.ring_log.specs.Epochs.{Epoch}
+use Rattle.ring_log.specs.KnownLog.{KnownLog, known_log_of, known_log_head}
+use Rattle.ring_log.specs.EpochHistories.{CompleteExchange, complete_exchange, log_of, older_at}
+use Rattle.ring_log_proof.specs.RingFacts.{HasEpoch, RingFacts}
 
--- What a node that knows this of its log hands over after its Head: pieces of a snapshot, Parts, each with places as they stand in the log, and calls.
-abbrev pub FollowsHead : {A : Type 0} → Kept A → Payload A → Type 0
-FollowsHead k (Part part) = (k.from ≤ part.first) × IsFront part.calls (drop (part.first - k.from) k.calls)
+-- A payload that a node with this known log may hand over after its Head: a piece of a snapshot, a Part with places as they are
+-- in the log, or a call.
+abbrev pub FollowsHead : {A : Type 0} → KnownLog A → Payload A → Type 0
+FollowsHead k (Part part) = (k.from ≤ part.first) × IsListPrefix part.calls (drop (part.first - k.from) k.calls)
 FollowsHead k (Call call) = Unit {0}
 FollowsHead k (Head head) = ⊥
 FollowsHead k (Pack pack) = ⊥
@@ -25,41 +27,43 @@ FollowsHead k (Snap snap) = Unit {0}
 FollowsHead k (Wrapped old) = ⊥
 FollowsHead k End = ⊥
 
--- The ring is primary, and the first thing that was handed over there is the Head of the life before it.
-pub record OpensWithHead {A : Type 0} (group : Group) (s : Stay A) (older : List (Stay A)) : Type 0 where
+-- The ring is primary, and the first payload handed over there is the Head of the life before it.
+pub record OpensWithHead {A : Type 0} (group : Group) (s : Epoch A) (older : List (Epoch A)) : Type 0 where
   pub primary : IsPrimary group s.members
   pub rest : List (Payload A)
-  pub opens : s.sent ≡ Head (head_kept (kept_of group older)) ∷ rest
-  pub follows : Each (FollowsHead (kept_of group older)) rest
+  pub opens : s.sent ≡ Head (known_log_head (known_log_of group older)) ∷ rest
+  pub follows : Each (FollowsHead (known_log_of group older)) rest
 
--- In each ring each node was silent, or opened with its Head.
-abbrev pub KeepsDiscipline : {A : Type 0} → Group → (ℕ → List (Stay A)) → Type 0
-KeepsDiscipline {A} group lives = (p : ℕ) (s : Stay A) (older : List (Stay A)) → IsStay (lives p) s older → (s.sent ≡ []) ⊎ OpensWithHead group s older
+-- In each epoch, each node handed over nothing, or its Head first.
+abbrev pub KeepsDiscipline : {A : Type 0} → Group → (ℕ → List (Epoch A)) → Type 0
+KeepsDiscipline {A} group node_epochs = (p : ℕ) (s : Epoch A) (older : List (Epoch A)) → HasEpoch (node_epochs p) s older → (s.sent ≡ []) ⊎ OpensWithHead group s older
 
--- A life in which committed places alone were dropped.
-abbrev pub IsDropping : {A : Type 0} → Group → List (Stay A) → Type 0
-IsDropping {A} group life = (s : Stay A) (older : List (Stay A)) → IsStay life s older → s.trimmed ≤ (kept_of group (s ∷ older)).committed
+-- A life in which only committed places were dropped.
+abbrev pub DropsOnlyCommitted : {A : Type 0} → Group → List (Epoch A) → Type 0
+DropsOnlyCommitted {A} group epochs = (s : Epoch A) (older : List (Epoch A)) → HasEpoch epochs s older → s.trimmed ≤ (known_log_of group (s ∷ older)).committed
 
--- So each of these lives.
-abbrev pub DropsCommitted : {A : Type 0} → Group → (ℕ → List (Stay A)) → Type 0
-DropsCommitted group lives = (p : ℕ) → IsDropping group (lives p)
+-- All of these lives are such.
+abbrev pub DropsCommitted : {A : Type 0} → Group → (ℕ → List (Epoch A)) → Type 0
+DropsCommitted group node_epochs = (p : ℕ) → DropsOnlyCommitted group (node_epochs p)
 
--- Where a ring's exchange wants a snapshot, it stands for the first places of the log that the chosen sender had before that ring, as many as are wanted.
-abbrev pub FrontsStand : {A : Type 0} → Group → (ℕ → List (Stay A)) → Type 0
-FrontsStand {A} group lives = (p : ℕ) (s : Stay A) (older : List (Stay A)) (whole : Whole A) (w : Wanted) (at : ℕ) → IsStay (lives p) s older
-    → exchanged group s.members s.heard ≡ Some whole → wanted whole.exchange ≡ Some w → w.snapshot ≡ Some at
-    → s.front ≡ take at (log_of group (older_at s.ring.seq (lives w.owner)))
+-- A snapshot wanted by a ring's exchange stands for the first places of the log that the owner had before that ring, as many as
+-- are wanted.
+abbrev pub HasOwnerSnapshots : {A : Type 0} → Group → (ℕ → List (Epoch A)) → Type 0
+HasOwnerSnapshots {A} group node_epochs = (p : ℕ) (s : Epoch A) (older : List (Epoch A)) (whole : CompleteExchange A) (w : Wanted) (at : ℕ) → HasEpoch (node_epochs p) s older
+    → complete_exchange group s.members s.heard ≡ Some whole → wanted whole.exchange ≡ Some w → w.snapshot ≡ Some at
+    → s.front ≡ take at (log_of group (older_at s.ring.seq (node_epochs w.owner)))
 
--- All three of these lives.
-pub record KeepsRules {A : Type 0} (group : Group) (lives : ℕ → List (Stay A)) : Type 0 where
-  pub hands : KeepsDiscipline group lives
-  pub drops : DropsCommitted group lives
-  pub fronts : FrontsStand group lives
+-- All three rules, of these lives.
+pub record KeepsRules {A : Type 0} (group : Group) (node_epochs : ℕ → List (Epoch A)) : Type 0 where
+  pub epochs_with_sends : KeepsDiscipline group node_epochs
+  pub drops : DropsCommitted group node_epochs
+  pub fronts : HasOwnerSnapshots group node_epochs
 
--- The lives of all processors at one moment, with the members and the text of each ring: what ring cores give, and what nodes keep to.
-pub record OrderlyLives (A : Type 0) (group : Group) : Type 0 where
-  pub lives : ℕ → List (Stay A)
+-- The lives of all processors at one moment, with the members and the text of each ring: they have the ring core's facts, and
+-- nodes keep the rules.
+pub record ConsistentEpochs (A : Type 0) (group : Group) : Type 0 where
+  pub node_epochs : ℕ → List (Epoch A)
   pub members : RingId → ℕ
   pub text : RingId → List (Message A)
-  pub facts : RingFacts lives members text
-  pub discipline : KeepsRules group lives
+  pub facts : RingFacts node_epochs members text
+  pub discipline : KeepsRules group node_epochs

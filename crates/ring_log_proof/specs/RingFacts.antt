@@ -1,66 +1,68 @@
--- What the logs need of the ring core, said of the lives of all processors at one moment: Outputs, rules 3, 8, 9 and 11, and Rings and states, rules 2
--- and 7, of docs/PROTOCOL.md. Of frames, tokens, windows and votes nothing is said.
+-- The guarantees of the ring core that the logs need, of the lives of all processors at one moment. Nothing is said of frames,
+-- tokens, windows and votes.
+-- Rules: Outputs 3, 8, 9 and 11; Rings and states 2 and 7
 use Rattle.std.specs.Prelude.{◌≡◌, ℕ, ◌<◌, ◌==◌, if◌then◌else◌, List, [], ◌∷◌, ◌++◌, ◌⊎◌}
 use Rattle.std.specs.List.{AllByRecursion as Each}
-use Rattle.ring_base.specs.Fronts.{IsFront}
+use Rattle.ring_base.specs.Prefixes.{IsListPrefix}
 use Rattle.ring_base.specs.Processors.{IsMember}
 use Rattle.ring_base.specs.declared.ring_id.RingId.{RingId}
 use Rattle.ring_payload.specs.declared.content.Payload.{Payload}
-use Rattle.ring_payload.specs.Kinds.{units}
+use Rattle.ring_payload.specs.Kinds.{unpacked_payloads}
 use Rattle.ring_log.specs.Messages.{Message}
-use Rattle.ring_log.specs.Stays.{Stay}
-use Rattle.ring_log.specs.Lives.{upto}
+use Rattle.ring_log.specs.Epochs.{Epoch}
+use Rattle.ring_log.specs.EpochHistories.{upto}
 
 -- One life
 
--- the life has this stay, and before it was this
-abbrev pub IsStay : {A : Type 0} → List (Stay A) → Stay A → List (Stay A) → Type 0
-IsStay [] s older = ⊥
-IsStay (t ∷ before) s older = ((t ≡ s) × (before ≡ older)) ⊎ IsStay before s older
+-- the life has the epoch `s`, and the life before it is `older`
+abbrev pub HasEpoch : {A : Type 0} → List (Epoch A) → Epoch A → List (Epoch A) → Type 0
+HasEpoch [] s older = ⊥
+HasEpoch (t ∷ before) s older = ((t ≡ s) × (before ≡ older)) ⊎ HasEpoch before s older
 
--- a stay in this ring, and the life before it
-pub record StayIn {A : Type 0} (life : List (Stay A)) (r : RingId) : Type 0 where
-  pub stay : Stay A
-  pub older : List (Stay A)
-  pub there : IsStay life stay older
-  pub ring : stay.ring ≡ r
+-- an epoch in this ring, with the life before it
+pub record EpochIn {A : Type 0} (epochs : List (Epoch A)) (r : RingId) : Type 0 where
+  pub epoch : Epoch A
+  pub older : List (Epoch A)
+  pub there : HasEpoch epochs epoch older
+  pub ring : epoch.ring ≡ r
 
 -- each ring has a greater number than those before it
-abbrev pub Rises : {A : Type 0} → List (Stay A) → Type 0
+abbrev pub Rises : {A : Type 0} → List (Epoch A) → Type 0
 Rises [] = Unit {0}
-Rises (s ∷ older) = Each (λ (t : Stay _). t.ring.seq < s.ring.seq) older × Rises older
+Rises (s ∷ older) = Each (λ (t : Epoch _). t.ring.seq < s.ring.seq) older × Rises older
 
--- numbers above those of the rings of lives
-abbrev pub AreAbove : {A : Type 0} → (ℕ → List (Stay A)) → (ℕ → ℕ) → Type 0
-AreAbove {A} lives bounds = (p : ℕ) (s : Stay A) (older : List (Stay A)) → IsStay (lives p) s older → s.ring.seq < bounds p
+-- each bound is above the numbers of the rings of its life
+abbrev pub AreAbove : {A : Type 0} → (ℕ → List (Epoch A)) → (ℕ → ℕ) → Type 0
+AreAbove {A} node_epochs bounds = (p : ℕ) (s : Epoch A) (older : List (Epoch A)) → HasEpoch (node_epochs p) s older → s.ring.seq < bounds p
 
 -- Texts
 
--- what a processor said among these messages, as it was handed over: a Pack as its calls
-abbrev pub said_by : {A : Type 0} → ℕ → List (Message A) → List (Payload A)
-said_by p [] = []
-said_by p (x ∷ xs) = (if x.sender == p then units x.payload else []) ++ said_by p xs
+-- the payloads that a processor sent among these messages, as they were handed over: the calls of a Pack one by one
+abbrev pub payloads_from : {A : Type 0} → ℕ → List (Message A) → List (Payload A)
+payloads_from p [] = []
+payloads_from p (x ∷ xs) = (if x.sender == p then unpacked_payloads x.payload else []) ++ payloads_from p xs
 
--- what of a stay is known to be safe
-abbrev pub safe_part : {A : Type 0} → Stay A → List (Message A)
+-- the messages of an epoch that are known to be safe
+abbrev pub safe_part : {A : Type 0} → Epoch A → List (Message A)
 safe_part s = upto s.mark s.heard
 
--- Each member of the ring heard this there, first of all.
-abbrev pub AllHeard : {A : Type 0} → (ℕ → List (Stay A)) → RingId → ℕ → List (Message A) → Type 0
-AllHeard lives r members xs = (p : ℕ) → IsMember members p → (at : StayIn (lives p) r) × IsFront xs at.stay.heard
+-- Each member of the ring received these messages there, before all others.
+abbrev pub IsReceivedByAll : {A : Type 0} → (ℕ → List (Epoch A)) → RingId → ℕ → List (Message A) → Type 0
+IsReceivedByAll node_epochs r members xs = (p : ℕ) → IsMember members p → (at : EpochIn (node_epochs p) r) × IsListPrefix xs at.epoch.heard
 
--- The facts, for some members and some text of each ring. A processor that isn't one of the run has the empty life.
-pub record RingFacts {A : Type 0} (lives : ℕ → List (Stay A)) (members : RingId → ℕ) (text : RingId → List (Message A)) : Type 0 where
+-- The facts, given the members and the text of each ring. A processor that isn't in the run has the empty life.
+pub record RingFacts {A : Type 0} (node_epochs : ℕ → List (Epoch A)) (members : RingId → ℕ) (text : RingId → List (Message A)) : Type 0 where
   -- the numbers of the rings that a processor installs rise
-  pub rises : (p : ℕ) → Rises (lives p)
+  pub rises : (p : ℕ) → Rises (node_epochs p)
   -- a ring's name fixes its members, in all lives
-  pub one_set : (p : ℕ) (s : Stay A) (older : List (Stay A)) → IsStay (lives p) s older → s.members ≡ members s.ring
+  pub one_set : (p : ℕ) (s : Epoch A) (older : List (Epoch A)) → HasEpoch (node_epochs p) s older → s.members ≡ members s.ring
   -- a processor is a member of each ring that it installs
-  pub own : (p : ℕ) (s : Stay A) (older : List (Stay A)) → IsStay (lives p) s older → IsMember s.members p
-  -- what was agreed in a stay is of its ring, the newest installed, and is a front of the ring's text of user messages
-  pub heard : (p : ℕ) (s : Stay A) (older : List (Stay A)) → IsStay (lives p) s older → IsFront s.heard (text s.ring)
+  pub own : (p : ℕ) (s : Epoch A) (older : List (Epoch A)) → HasEpoch (node_epochs p) s older → IsMember s.members p
+  -- the messages agreed in an epoch are of its ring, and are a prefix of the ring's text of user messages
+  pub heard : (p : ℕ) (s : Epoch A) (older : List (Epoch A)) → HasEpoch (node_epochs p) s older → IsListPrefix s.heard (text s.ring)
   pub named : (r : RingId) → Each (λ (x : Message A). x.ring ≡ r) (text r)
-  -- what a processor said in a ring is a front of what it was given to send while it stayed there; where it never stayed it said nothing
-  pub said : (p : ℕ) (r : RingId) → (said_by p (text r) ≡ []) ⊎ ((at : StayIn (lives p) r) × IsFront (said_by p (text r)) at.stay.sent)
-  -- what is safe in a ring, each of its members heard there
-  pub safe : (p : ℕ) (s : Stay A) (older : List (Stay A)) → IsStay (lives p) s older → (safe_part s ≡ []) ⊎ AllHeard lives s.ring s.members (safe_part s)
+  -- the payloads that a processor sent in a ring are a prefix of those handed over during its epoch there; without an epoch
+  -- there, it sent nothing
+  pub said : (p : ℕ) (r : RingId) → (payloads_from p (text r) ≡ []) ⊎ ((at : EpochIn (node_epochs p) r) × IsListPrefix (payloads_from p (text r)) at.epoch.sent)
+  -- each member of a ring received the messages there that are safe in it
+  pub safe : (p : ℕ) (s : Epoch A) (older : List (Epoch A)) → HasEpoch (node_epochs p) s older → (safe_part s ≡ []) ⊎ IsReceivedByAll node_epochs s.ring s.members (safe_part s)

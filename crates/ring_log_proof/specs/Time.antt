@@ -1,104 +1,106 @@
--- How lives go on as cores put out and nodes hand over, and which calls stand in them: Outputs, rule 9, and The replicated log, rules 1, 2 and 10, of
--- docs/PROTOCOL.md.
+-- How lives are extended as cores give outputs and nodes hand over payloads; which calls these contain; and runs.
+-- Rules: Outputs 9; The replicated log 1, 2 and 10
 use Rattle.std.specs.Prelude.{◌≡◌, ℕ, ◌≤◌, List, [], ◌∷◌, ◌++◌, Contains, Some}
 use Rattle.std.specs.List.{AllByRecursion as Each}
-use Rattle.ring_base.specs.Fronts.{IsFront}
+use Rattle.ring_base.specs.Prefixes.{IsListPrefix}
 use Rattle.ring_base.specs.Group.{Group, IsPrimary}
 use Rattle.ring_base.specs.declared.ring_id.RingId.{RingId}
 use Rattle.ring_payload.specs.declared.call.Call.{Call as OneCall}
 use Rattle.ring_payload.specs.declared.content.Payload.{Payload}
 use Rattle.ring_payload.specs.declared.content.Payload.TheVariants.{Call, Wrapped, End, Head, Part, Pack, Snap}
 use Rattle.ring_log.specs.Messages.{Message}
-use Rattle.ring_log.specs.Stays.{Stay, stay_in, hears, marks, hands, trims}
-use Rattle.ring_log.specs.Kept.{kept_of, head_kept}
-use Rattle.ring_log.specs.Exchanges.{opened}
-use Rattle.ring_log.specs.Lives.{Whole, whole_from, committed_of}
-use Rattle.ring_log_proof.specs.RingFacts.{IsStay}
-use Rattle.ring_log_proof.specs.Discipline.{FollowsHead, OrderlyLives}
+use Rattle.ring_log.specs.Epochs.{Epoch, epoch_opening, epochs_with_message, epochs_with_mark, epochs_with_sends, epochs_with_trim}
+use Rattle.ring_log.specs.KnownLog.{known_log_of, known_log_head}
+use Rattle.ring_log.specs.Exchanges.{exchange_opening}
+use Rattle.ring_log.specs.EpochHistories.{CompleteExchange, complete_exchange_from, committed_of}
+use Rattle.ring_log_proof.specs.RingFacts.{HasEpoch}
+use Rattle.ring_log_proof.specs.Discipline.{FollowsHead, ConsistentEpochs}
 
--- One stay and what it became: more was heard and handed over there, and its mark didn't fall.
-pub record Grows {A : Type 0} (before after : Stay A) : Type 0 where
+-- An epoch and its extension: more was received and handed over, and its mark didn't fall.
+pub record IsEpochExtended {A : Type 0} (before after : Epoch A) : Type 0 where
   pub ring : before.ring ≡ after.ring
   pub members : before.members ≡ after.members
-  pub heard : IsFront before.heard after.heard
+  pub heard : IsListPrefix before.heard after.heard
   pub mark : before.mark ≤ after.mark
-  pub sent : IsFront before.sent after.sent
+  pub sent : IsListPrefix before.sent after.sent
   pub trimmed : before.trimmed ≤ after.trimmed
-  -- once all was heard of an exchange, what a snapshot stands for that was sent in it is settled
-  pub front : (w : Whole A) → whole_from (opened before.members) before.heard ≡ Some w → before.front ≡ after.front
+  -- once an exchange was received whole, the places of the snapshot sent in it are fixed
+  pub front : (w : CompleteExchange A) → complete_exchange_from (exchange_opening before.members) before.heard ≡ Some w → before.front ≡ after.front
 
--- One life and what it became: its newest stay grew, and newer ones may stand before it; what it heard and knew as safe of the rings that it had left is as
--- it was.
-abbrev pub LivesOn : {A : Type 0} → List (Stay A) → List (Stay A) → Type 0
-LivesOn [] after = Unit {0}
-LivesOn {A} (s ∷ older) after = (newer : List (Stay A)) × (t : Stay A) × (after ≡ newer ++ t ∷ older) × Grows s t
+-- A life and its extension: its newest epoch was extended, and newer epochs may come before it; the epochs of rings that it had
+-- left are unchanged.
+abbrev pub IsEpochsExtended : {A : Type 0} → List (Epoch A) → List (Epoch A) → Type 0
+IsEpochsExtended [] after = Unit {0}
+IsEpochsExtended {A} (s ∷ older) after = (newer : List (Epoch A)) × (t : Epoch A) × (after ≡ newer ++ t ∷ older) × IsEpochExtended s t
 
--- What happens to a life
+-- Events of a life
 
--- a message is agreed, a mark rises, a ring is installed; payloads are handed to the core; or places are dropped, so many of the log in all
-pub data LifeEvent (A : Type 0) : Type 0 where
-  Agreed : (message : Message A) → LifeEvent A
-  Safe : (mark : ℕ) → LifeEvent A
-  Regular : (ring : RingId) → (members : ℕ) → LifeEvent A
-  Handed : (payloads : List (Payload A)) → LifeEvent A
-  Dropped : (places : ℕ) → LifeEvent A
+-- a message is agreed, a mark rises, a ring is installed, payloads are handed to the core, or places are dropped, counted from
+-- the log's beginning
+pub data EpochEvent (A : Type 0) : Type 0 where
+  Agreed : (message : Message A) → EpochEvent A
+  Safe : (mark : ℕ) → EpochEvent A
+  Regular : (ring : RingId) → (members : ℕ) → EpochEvent A
+  Handed : (payloads : List (Payload A)) → EpochEvent A
+  Dropped : (places : ℕ) → EpochEvent A
 
 -- a life after an event
-abbrev pub lived : {A : Type 0} → List (Stay A) → LifeEvent A → List (Stay A)
-lived life (Agreed message) = hears message life
-lived life (Safe mark) = marks mark life
-lived life (Regular ring members) = stay_in ring members ∷ life
-lived life (Handed payloads) = hands payloads life
-lived life (Dropped places) = trims places life
+abbrev pub epochs_after_event : {A : Type 0} → List (Epoch A) → EpochEvent A → List (Epoch A)
+epochs_after_event epochs (Agreed message) = epochs_with_message message epochs
+epochs_after_event epochs (Safe mark) = epochs_with_mark mark epochs
+epochs_after_event epochs (Regular ring members) = epoch_opening ring members ∷ epochs
+epochs_after_event epochs (Handed payloads) = epochs_with_sends payloads epochs
+epochs_after_event epochs (Dropped places) = epochs_with_trim places epochs
 
 -- a life after events, in their order
-abbrev pub all_lived : {A : Type 0} → List (Stay A) → List (LifeEvent A) → List (Stay A)
-all_lived life [] = life
-all_lived life (e ∷ events) = all_lived (lived life e) events
+abbrev pub epochs_after_events : {A : Type 0} → List (Epoch A) → List (EpochEvent A) → List (Epoch A)
+epochs_after_events epochs [] = epochs
+epochs_after_events epochs (e ∷ events) = epochs_after_events (epochs_after_event epochs e) events
 
--- a mark never falls
-abbrev pub IsRaised : {A : Type 0} → List (Stay A) → ℕ → Type 0
+-- a mark isn't below the newest epoch's
+abbrev pub IsRaised : {A : Type 0} → List (Epoch A) → ℕ → Type 0
 IsRaised [] mark = Unit {0}
 IsRaised (s ∷ older) mark = s.mark ≤ mark
 
--- committed places are dropped, no fewer than before
-abbrev pub MayDrop : {A : Type 0} → Group → List (Stay A) → ℕ → Type 0
+-- the places dropped are committed, and no fewer than before
+abbrev pub MayDrop : {A : Type 0} → Group → List (Epoch A) → ℕ → Type 0
 MayDrop group [] places = Unit {0}
-MayDrop group (s ∷ older) places = (s.trimmed ≤ places) × (places ≤ (kept_of group (s ∷ older)).committed)
+MayDrop group (s ∷ older) places = (s.trimmed ≤ places) × (places ≤ (known_log_of group (s ∷ older)).committed)
 
--- What a node may hand over: in a primary ring, as the first thing there, its Head, which states its life before the ring, and after that what follows a Head.
-abbrev pub MayHandFirst : {A : Type 0} → Group → Stay A → List (Stay A) → List (Payload A) → Type 0
-MayHandFirst group s older [] = Unit {0}
-MayHandFirst group s older (payload ∷ rest) = IsPrimary group s.members × (payload ≡ Head (head_kept (kept_of group older)))
-    × Each (FollowsHead (kept_of group older)) rest
+-- The payloads that a node may hand over first: in a primary ring its Head, which states its life before the ring, and then
+-- payloads that may follow a Head.
+abbrev pub MaySendFirst : {A : Type 0} → Group → Epoch A → List (Epoch A) → List (Payload A) → Type 0
+MaySendFirst group s older [] = Unit {0}
+MaySendFirst group s older (payload ∷ rest) = IsPrimary group s.members × (payload ≡ Head (known_log_head (known_log_of group older)))
+    × Each (FollowsHead (known_log_of group older)) rest
 
--- The same by what it has handed over there already: behind the first thing only what follows a Head.
-abbrev pub MayHandAfter : {A : Type 0} → Group → Stay A → List (Stay A) → List (Payload A) → List (Payload A) → Type 0
-MayHandAfter group s older [] payloads = MayHandFirst group s older payloads
-MayHandAfter group s older (x ∷ sent) payloads = Each (FollowsHead (kept_of group older)) payloads
+-- The payloads that a node may hand over after these: once something was handed over, only payloads that may follow a Head.
+abbrev pub MaySendAfter : {A : Type 0} → Group → Epoch A → List (Epoch A) → List (Payload A) → List (Payload A) → Type 0
+MaySendAfter group s older [] payloads = MaySendFirst group s older payloads
+MaySendAfter group s older (x ∷ sent) payloads = Each (FollowsHead (known_log_of group older)) payloads
 
--- so in its newest ring
-abbrev pub MayHand : {A : Type 0} → Group → List (Stay A) → List (Payload A) → Type 0
-MayHand group [] payloads = ⊥
-MayHand group (s ∷ older) payloads = MayHandAfter group s older s.sent payloads
+-- the payloads that a node may hand over in its newest ring
+abbrev pub MaySend : {A : Type 0} → Group → List (Epoch A) → List (Payload A) → Type 0
+MaySend group [] payloads = ⊥
+MaySend group (s ∷ older) payloads = MaySendAfter group s older s.sent payloads
 
--- an event may happen to a life: hand-overs and drops keep these rules, and a mark never falls; of a message that is agreed and of a ring
--- that is installed nothing is asked here
-abbrev pub MayHappen : {A : Type 0} → Group → List (Stay A) → LifeEvent A → Type 0
-MayHappen group life (Agreed message) = Unit {0}
-MayHappen group life (Safe mark) = IsRaised life mark
-MayHappen group life (Regular ring members) = Unit {0}
-MayHappen group life (Handed payloads) = MayHand group life payloads
-MayHappen group life (Dropped places) = MayDrop group life places
+-- an event that may happen to a life: payloads handed over and places dropped keep these rules, and a mark never falls; nothing
+-- is asked of a message agreed and of a ring installed
+abbrev pub MayHappen : {A : Type 0} → Group → List (Epoch A) → EpochEvent A → Type 0
+MayHappen group epochs (Agreed message) = Unit {0}
+MayHappen group epochs (Safe mark) = IsRaised epochs mark
+MayHappen group epochs (Regular ring members) = Unit {0}
+MayHappen group epochs (Handed payloads) = MaySend group epochs payloads
+MayHappen group epochs (Dropped places) = MayDrop group epochs places
 
--- so each of these events, after those before it
-abbrev pub AllMayHappen : {A : Type 0} → Group → List (Stay A) → List (LifeEvent A) → Type 0
-AllMayHappen group life [] = Unit {0}
-AllMayHappen group life (e ∷ events) = MayHappen group life e × AllMayHappen group (lived life e) events
+-- each of these events may happen after those before it
+abbrev pub AllMayHappen : {A : Type 0} → Group → List (Epoch A) → List (EpochEvent A) → Type 0
+AllMayHappen group epochs [] = Unit {0}
+AllMayHappen group epochs (e ∷ events) = MayHappen group epochs e × AllMayHappen group (epochs_after_event epochs e) events
 
 -- Calls
 
--- a call that is handed over is one of these, such as those that were issued
+-- the call of this payload is known: in a given set, such as that of the issued calls
 abbrev pub IsKnownCall : {A : Type 0} → (OneCall A → Type 0) → Payload A → Type 0
 IsKnownCall Known (Call call) = Known call
 IsKnownCall Known (Part part) = Unit {0}
@@ -108,41 +110,41 @@ IsKnownCall Known (Snap snap) = Unit {0}
 IsKnownCall Known (Wrapped old) = Unit {0}
 IsKnownCall Known End = Unit {0}
 
--- so each call that an event hands over
-abbrev pub HandsKnown : {A : Type 0} → (OneCall A → Type 0) → LifeEvent A → Type 0
-HandsKnown Known (Handed payloads) = Each (IsKnownCall Known) payloads
-HandsKnown Known (Agreed message) = Unit {0}
-HandsKnown Known (Safe mark) = Unit {0}
-HandsKnown Known (Regular ring members) = Unit {0}
-HandsKnown Known (Dropped places) = Unit {0}
+-- each call that an event hands over is known
+abbrev pub SendsKnown : {A : Type 0} → (OneCall A → Type 0) → EpochEvent A → Type 0
+SendsKnown Known (Handed payloads) = Each (IsKnownCall Known) payloads
+SendsKnown Known (Agreed message) = Unit {0}
+SendsKnown Known (Safe mark) = Unit {0}
+SendsKnown Known (Regular ring members) = Unit {0}
+SendsKnown Known (Dropped places) = Unit {0}
 
--- so of all that was ever handed over
-abbrev pub OnlyHandsOver : {A : Type 0} → (OneCall A → Type 0) → (ℕ → List (Stay A)) → Type 0
-OnlyHandsOver {A} Known lives = (p : ℕ) (s : Stay A) (older : List (Stay A)) → IsStay (lives p) s older → Each (IsKnownCall Known) s.sent
+-- each call that was ever handed over is known
+abbrev pub SendsOnlyKnown : {A : Type 0} → (OneCall A → Type 0) → (ℕ → List (Epoch A)) → Type 0
+SendsOnlyKnown {A} Known node_epochs = (p : ℕ) (s : Epoch A) (older : List (Epoch A)) → HasEpoch (node_epochs p) s older → Each (IsKnownCall Known) s.sent
 
 -- Runs
 
--- a moment of a run: the lives, and the calls issued so far, among which are all calls handed over
-pub record OrderlyMoment (A : Type 0) (group : Group) : Type 0 where
-  pub now : OrderlyLives A group
+-- a moment of a run: consistent lives, and the calls issued so far, which include all calls handed over
+pub record ConsistentMoment (A : Type 0) (group : Group) : Type 0 where
+  pub now : ConsistentEpochs A group
   pub issued : List (OneCall A)
-  pub handed : OnlyHandsOver (Contains issued) now.lives
+  pub handed : SendsOnlyKnown (Contains issued) now.node_epochs
 
--- a later moment: lives went on, and more may have been issued
-pub record Follows {A : Type 0} {group : Group} (before after : OrderlyMoment A group) : Type 0 where
-  pub lives : (p : ℕ) → LivesOn (before.now.lives p) (after.now.lives p)
-  pub issued : IsFront before.issued after.issued
+-- a later moment: lives were extended, and more calls may have been issued
+pub record IsNextMoment {A : Type 0} {group : Group} (before after : ConsistentMoment A group) : Type 0 where
+  pub node_epochs : (p : ℕ) → IsEpochsExtended (before.now.node_epochs p) (after.now.node_epochs p)
+  pub issued : IsListPrefix before.issued after.issued
 
 -- a run from a moment on: each of these moments follows the one before it
-abbrev pub IsOrderlyRun : {A : Type 0} {group : Group} → OrderlyMoment A group → List (OrderlyMoment A group) → Type 0
+abbrev pub IsOrderlyRun : {A : Type 0} {group : Group} → ConsistentMoment A group → List (ConsistentMoment A group) → Type 0
 IsOrderlyRun moment [] = Unit {0}
-IsOrderlyRun moment (after ∷ rest) = Follows moment after × IsOrderlyRun after rest
+IsOrderlyRun moment (after ∷ rest) = IsNextMoment moment after × IsOrderlyRun after rest
 
--- its last moment
-abbrev pub last_of_run : {A : Type 0} {group : Group} → OrderlyMoment A group → List (OrderlyMoment A group) → OrderlyMoment A group
+-- the last moment of a run
+abbrev pub last_of_run : {A : Type 0} {group : Group} → ConsistentMoment A group → List (ConsistentMoment A group) → ConsistentMoment A group
 last_of_run moment [] = moment
 last_of_run moment (after ∷ rest) = last_of_run after rest
 
--- what a processor committed by then
-abbrev pub committed_at : {A : Type 0} {group : Group} → OrderlyMoment A group → ℕ → List (OneCall A)
-committed_at {A} {group} moment p = committed_of group (moment.now.lives p)
+-- the committed places of a processor at a moment
+abbrev pub committed_at : {A : Type 0} {group : Group} → ConsistentMoment A group → ℕ → List (OneCall A)
+committed_at {A} {group} moment p = committed_of group (moment.now.node_epochs p)

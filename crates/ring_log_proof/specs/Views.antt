@@ -1,14 +1,14 @@
--- Both views of a log: what a node knows of it by its own life is the rest of the whole log behind the snapshot that it restored last.
+-- The two views of a log agree: the known log is the rest of the whole log after the snapshot that was restored last.
 use Rattle.std.specs.Prelude.{◌≡◌, ℕ, ◌≤◌, List, length, drop, Option}
 use Rattle.ring_base.specs.Group.{Group}
 use Rattle.ring_base.specs.declared.ring_id.RingId.{RingId}
 use Rattle.ring_payload.specs.declared.call.Call.{Call as OneCall}
-use Rattle.ring_log.specs.Stays.{Stay}
-use Rattle.ring_log.specs.Kept.{Kept, kept_of}
-use Rattle.ring_log.specs.Lives.{log_of, last_of, committed_of, trimmed_of}
+use Rattle.ring_log.specs.Epochs.{Epoch}
+use Rattle.ring_log.specs.KnownLog.{KnownLog, known_log_of}
+use Rattle.ring_log.specs.EpochHistories.{log_of, last_of, committed_of, trimmed_of}
 
--- the places behind the first so many; and how many are committed and dropped
-pub record Rests {A : Type 0} (log : List (OneCall A)) (done gone : ℕ) (newest : Option RingId) (k : Kept A) : Type 0 where
+-- the known log has the places of the log from `from` on, and the same committed length, trimmed length and last primary
+pub record IsLogSuffix {A : Type 0} (log : List (OneCall A)) (done gone : ℕ) (newest : Option RingId) (k : KnownLog A) : Type 0 where
   pub calls : k.calls ≡ drop k.from log
   pub within : k.from ≤ length log
   pub committed : k.committed ≡ done
@@ -17,6 +17,6 @@ pub record Rests {A : Type 0} (log : List (OneCall A)) (done gone : ℕ) (newest
   pub low : k.from ≤ k.trimmed
   pub high : k.trimmed ≤ k.committed
 
--- so of a life
-abbrev pub IsView : {A : Type 0} → Group → List (Stay A) → Type 0
-IsView group life = Rests (log_of group life) (length (committed_of group life)) (trimmed_of group life) (last_of group life) (kept_of group life)
+-- the known log of a life is the rest of its whole log
+abbrev pub IsView : {A : Type 0} → Group → List (Epoch A) → Type 0
+IsView group epochs = IsLogSuffix (log_of group epochs) (length (committed_of group epochs)) (trimmed_of group epochs) (last_of group epochs) (known_log_of group epochs)

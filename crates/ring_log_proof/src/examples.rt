@@ -1,19 +1,21 @@
-//! Worked lives, of which the definitions are computed.
+//! Worked lives, computed from the definitions.
 
 ghost use Rattle.std.specs.Prelude.{◌≡◌, ℕ, List, [], ◌∷◌, Some, None, length};
 ghost use Rattle.std.specs.declared.alloc.Global.{Global};
 ghost use Rattle.ring_log.specs.Examples.{group_of_three};
-ghost use Rattle.ring_log.specs.Lives.{log_of, last_of, committed_of, is_sound, exchange_end, ring_log};
+ghost use Rattle.ring_log.specs.EpochHistories.{log_of, last_of, committed_of, is_sound, exchange_end, ring_log};
 ghost use Rattle.ring_log_proof.specs.RingFacts.{RingFacts};
 ghost use Rattle.ring_log_proof.specs.Discipline.{KeepsDiscipline};
-ghost use Rattle.ring_log_proof.specs.Examples.{first_ring, second_ring, call_by, text, members, second_exchange, second_text, lives, lives_with};
-ghost use Rattle.ring_log_proof.specs.Examples.{life_of_one, life_of_two, life_of_three, unheard, misheard, smaller, silent, falling, older_head, late_head};
+ghost use Rattle.ring_log_proof.specs.Examples.{first_ring, second_ring, call_by, text, members, second_exchange, second_text, node_epochs, lives_with};
+ghost use Rattle.ring_log_proof.specs.Examples.{life_of_one, life_of_two, life_of_three, missing_heads, misheard, smaller, silent, falling, older_head, late_head};
 ghost use Rattle.ring_log_proof.specs.Examples.{wrong_part};
 
-/// Three processors form a ring, and two of them go on in a second one: what they and their logs are.
+/// States a worked example: of three processors that formed a ring, two go on in a second one. Their histories have the
+/// facts that hold of ring cores, and their logs are those that the contract names.
+/// Rules: The replicated log 16; Outputs 11
 pub fn three_lives()
-    ensures facts { RingFacts lives members text }
-    ensures discipline { KeepsDiscipline group_of_three lives }
+    ensures facts { RingFacts node_epochs members text }
+    ensures discipline { KeepsDiscipline group_of_three node_epochs }
     ensures log_of_one { log_of group_of_three life_of_one ≡ call_by 7 ∷ call_by 9 ∷ [] }
     ensures log_of_two { log_of group_of_three life_of_two ≡ call_by 7 ∷ [] }
     ensures last_of_two { last_of group_of_three life_of_two ≡ Some second_ring }
@@ -21,14 +23,16 @@ pub fn three_lives()
     ensures committed_of_two { committed_of group_of_three life_of_two ≡ [] }
     ensures committed_of_three { committed_of group_of_three life_of_three ≡ [] }
     ensures end { exchange_end group_of_three 3 second_text ≡ Some 5 }
-    ensures log { ring_log group_of_three lives second_ring 3 second_exchange ≡ Some (call_by 7 ∷ []) }
+    ensures log { ring_log group_of_three node_epochs second_ring 3 second_exchange ≡ Some (call_by 7 ∷ []) }
 {}
 
-/// Lives that no ring core and no node can have: what processor 1 knows as safe, 2 hasn't heard; a Head heard that was
-/// not said so; a ring with other members; something said that was never handed over; rings that fall; a Head that
-/// names the ring before the last primary, or comes after a call; a Part with a place of no log.
+/// States examples of wrong lives: lives of processor 2 that no ring core and no node can have. Each breaks one fact or one rule.
+/// Processor 1 knows messages as safe that 2 didn't receive. A Head was received that isn't of the ring's text. A ring has other
+/// members. A payload was sent that was never handed over. Ring numbers fall. A Head names the ring before the last primary, or
+/// comes after a call. A Part has a place that isn't in the log.
+/// Rules: Outputs 11; The replicated log 2
 pub fn wrong_lives()
-    ensures unheard { RingFacts (lives_with unheard) members text → ⊥ }
+    ensures missing_heads { RingFacts (lives_with missing_heads) members text → ⊥ }
     ensures misheard { RingFacts (lives_with misheard) members text → ⊥ }
     ensures smaller { RingFacts (lives_with smaller) members text → ⊥ }
     ensures silent { RingFacts (lives_with silent) members text → ⊥ }

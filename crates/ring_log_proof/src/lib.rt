@@ -1,6 +1,8 @@
-//! The one order of the replicated log: at each moment all committed places of all nodes are fronts of one list, and this list only
-//! grows. It is proved of the lives of all nodes together, from what the ring core gives (`RingFacts`), from what nodes hand to their
-//! cores (`KeepsDiscipline`) and from this, that two primary sets share a processor; of frames, tokens and votes nothing is used.
+//! The one order of the replicated log.
+//! At each moment all nodes' committed places are prefixes of one list, and this list only grows. The proof is about the lives of
+//! all nodes together. It uses the guarantees of the ring core (`RingFacts`), the payloads that nodes hand to their cores
+//! (`KeepsDiscipline`), and the fact that two primary sets share a processor. It uses nothing of frames, tokens and votes.
+//! Rules: The replicated log 2, 6, 8, 12, 16 and 17
 #![tactic(auto)]
 
 pub mod examples;

@@ -1,5 +1,6 @@
-//! What no contract of the log says: that each call that takes memory succeeds where memory is left, and what is told as
-//! each request is refused in turn.
+//! Tests of logs and exchanges under refused memory, which no contract covers.
+//! Each call that takes memory succeeds if memory is left. As each of its requests is refused in turn, the right fault is
+//! returned.
 #![tactic(auto)]
 
 #[cfg(test)]

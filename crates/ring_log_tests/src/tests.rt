@@ -1,28 +1,28 @@
-//! Exchanges of three members, and logs that adopt what they bring and that drop places.
+//! Tests of exchanges of three members, and of logs that adopt their bases and drop places, with and without refused memory.
 
-use refusing_alloc::{Refusing, refuse_in_turn};
+use refusing_alloc::{RefusingHeap, refuse_in_turn};
 use ring_base::{Fault, Proc, ProcSet, RingId};
 use ring_log::{Adoption, Base, Exchange, Log, Snapshot, Wanted, pieces_of};
 use ring_payload::{Call, Calls, Head, Part, Payload, Snap};
 use std::alloc::{AllocError, Allocator, Global};
 
-/// What a member sends to an exchange.
+/// A payload that a member sends to an exchange.
 #[derive(Clone, Copy)]
 enum Content {
-    /// A Head: the number of its last primary, which processor 1 represents, 0 for none; its length, how much of it is
-    /// committed, and how much is dropped.
+    /// A Head: the number of its last primary; its length, its committed length and its trimmed length.
+    /// The representative of the last primary is processor 1; the number 0 stands for none.
     Head(u64, u64, u64, u64),
-    /// A Part by its first place and count.
+    /// A Part: its first place and its number of places.
     Part(u64, u64),
-    /// A piece of a snapshot of 7,001 bytes, the first or the second.
+    /// A piece of a snapshot of 7,001 bytes: 0 for the first, 1 for the second.
     Piece(usize),
 }
 
-/// Processor 1, 2 or 3, and what it sends.
+/// Processor 1, 2 or 3, and the payload that it sends.
 type Row = (u8, Content);
 
-/// What an exchange hears, and the last, by which it becomes whole.
-type LogStory = (&'static [Row], Row);
+/// The payloads that an exchange receives, and the last one, which completes it.
+type PayloadSequence = (&'static [Row], Row);
 
 /// The places 9 to 19 of processor 1's log are wanted. A Part that doesn't continue, and one of another sender, are ignored.
 const PLACES: [Row; 6] = [
@@ -34,8 +34,8 @@ const PLACES: [Row; 6] = [
     (1, Content::Part(9, 7)),
 ];
 
-/// A snapshot of the first 256 places of processor 1's log is wanted, in two pieces, and those from 256 to 299. A Part
-/// before a piece is ignored.
+/// Of processor 1's log, a snapshot of the first 256 places in two pieces and the places 256 to 299 are wanted.
+/// A Part before a piece is ignored.
 const SNAPSHOT: [Row; 13] = [
     (1, Content::Head(4, 300, 290, 256)),
     (2, Content::Head(4, 298, 290, 256)),
@@ -52,7 +52,7 @@ const SNAPSHOT: [Row; 13] = [
     (1, Content::Part(291, 7)),
 ];
 
-/// Client 7's calls of numbers in a row.
+/// Returns client 7's calls with the numbers `first` to `end` - 1.
 fn calls<A: Allocator + Copy>(alloc: A, first: u64, end: u64) -> Result<Calls<A>, Fault> {
     let mut calls = Vec::new(alloc);
     for number in first..end {
@@ -61,14 +61,14 @@ fn calls<A: Allocator + Copy>(alloc: A, first: u64, end: u64) -> Result<Calls<A>
     Ok(Calls::from_vec(calls))
 }
 
-/// A Part of a log that has client 7's call of number p + 1 at place p.
+/// Returns a Part of a log that has client 7's call of number p + 1 at place p.
 fn part<A: Allocator + Copy>(alloc: A, first: u64, count: u64) -> Result<Payload<A>, Fault> {
     let end = first.saturating_add(count);
     let calls = calls(alloc, first.saturating_add(1), end.saturating_add(1))?;
     Ok(Payload::Part(Part { first, calls }))
 }
 
-/// So many bytes, whose values go round.
+/// Returns `count` bytes whose values cycle.
 fn bytes<A: Allocator + Copy>(alloc: A, count: usize) -> Result<Vec<u8, A>, Fault> {
     let mut bytes = Vec::new(alloc);
     for place in 0..count {
@@ -77,14 +77,14 @@ fn bytes<A: Allocator + Copy>(alloc: A, count: usize) -> Result<Vec<u8, A>, Faul
     Ok(bytes)
 }
 
-/// The pieces of 7,001 bytes.
+/// Returns the pieces of a snapshot of 7,001 bytes.
 fn pieces<A: Allocator + Copy>(alloc: A) -> Result<Vec<Snap<A>, A>, Fault> {
     let bytes = bytes(alloc, 7_001)?;
     let most = bytes.len().min(20_000);
     pieces_of(alloc, 256, &bytes.as_slice()[..most])
 }
 
-/// The piece at this place.
+/// Returns the piece at this place of the list.
 fn piece<A: Allocator + Copy>(alloc: A, place: usize) -> Result<Payload<A>, Fault> {
     let mut pieces = pieces(alloc)?;
     pieces.truncate(place.saturating_add(1));
@@ -94,7 +94,7 @@ fn piece<A: Allocator + Copy>(alloc: A, place: usize) -> Result<Payload<A>, Faul
     }
 }
 
-/// The payload that is sent.
+/// Returns the payload of this content.
 fn payload<A: Allocator + Copy>(alloc: A, content: Content) -> Result<Payload<A>, Fault> {
     match content {
         Content::Head(seq, length, committed, trimmed) => {
@@ -116,7 +116,7 @@ fn payload<A: Allocator + Copy>(alloc: A, content: Content) -> Result<Payload<A>
     }
 }
 
-/// Hears a payload, again where it was refused memory, and counts the refusals.
+/// Applies a payload, again if it was refused memory, and counts the refusals.
 fn hear<A: Allocator + Copy>(
     exchange: &mut Exchange<A>,
     sender: u8,
@@ -133,12 +133,12 @@ fn hear<A: Allocator + Copy>(
             *refused = refused.saturating_add(1);
             exchange.hear(sender, payload)
         }
-        heard => heard,
+        receive_content => receive_content,
     }
 }
 
-/// The same of what this member sends.
-fn heard<A: Allocator + Copy>(
+/// Applies the payload that this member sends.
+fn receive_content<A: Allocator + Copy>(
     heap: A,
     exchange: &mut Exchange<A>,
     (sender, content): Row,
@@ -148,32 +148,33 @@ fn heard<A: Allocator + Copy>(
     hear(exchange, sender, &payload, refused)
 }
 
-/// The base that the last of a story brings, if the exchange went on so far.
+/// Returns the base that the last payload of a sequence brings, if the exchange was incomplete until then.
 fn ended<A: Allocator + Copy>(
     heap: A,
     exchange: &mut Exchange<A>,
-    (before, last): LogStory,
+    (before, last): PayloadSequence,
     refused: &mut u64,
 ) -> Result<Option<Base<A>>, Fault> {
     for row in before {
-        if heard(heap, exchange, *row, refused)?.is_some() {
+        if receive_content(heap, exchange, *row, refused)?.is_some() {
             return Ok(None);
         }
     }
-    heard(heap, exchange, last, refused)
+    receive_content(heap, exchange, last, refused)
 }
 
-/// The base that a new exchange brings.
-fn brought<A: Allocator + Copy>(
+/// Returns the base that a new exchange brings.
+fn base_of_new_exchange<A: Allocator + Copy>(
     heap: A,
-    story: LogStory,
+    story: PayloadSequence,
     refused: &mut u64,
 ) -> Result<Option<Base<A>>, Fault> {
     let mut exchange = Exchange::new(heap, ProcSet::from_bits(0b111));
     ended(heap, &mut exchange, story, refused)
 }
 
-/// Adopts the base with ring 12.1 as last primary: whether the log is restored by it, where there is one that it may adopt.
+/// Adopts the base with ring 12.1 as last primary. Returns whether the log was restored.
+/// `None` if there is no base or it may not be adopted.
 fn adopts<A: Allocator + Copy>(
     log: &mut Log<A>,
     base: Option<Base<A>>,
@@ -190,8 +191,12 @@ fn adopts<A: Allocator + Copy>(
     }
 }
 
-/// Appends client 7's calls of the numbers before this one.
-fn append_before<A: Allocator + Copy>(heap: A, log: &mut Log<A>, end: u64) -> Result<(), Fault> {
+/// Appends client 7's calls with the numbers below this one.
+fn append_calls_before<A: Allocator + Copy>(
+    heap: A,
+    log: &mut Log<A>,
+    end: u64,
+) -> Result<(), Fault> {
     let calls = calls(heap, 1, end)?;
     match log.append_all(calls.as_slice()) {
         Ok(_) => Ok(()),
@@ -199,15 +204,16 @@ fn append_before<A: Allocator + Copy>(heap: A, log: &mut Log<A>, end: u64) -> Re
     }
 }
 
-/// Whether the log of processor 3, of nine places, all committed, joins what the exchange brings, and is sent in two Parts.
+/// Whether the log of processor 3 joins the base that the exchange brings, and is sent in two Parts.
+/// It has nine places, all committed.
 fn catches_up<A: Allocator + Copy>(
     heap: A,
     log: &mut Log<A>,
     refused: &mut u64,
 ) -> Result<bool, Fault> {
-    append_before(heap, log, 10)?;
+    append_calls_before(heap, log, 10)?;
     log.commit_upto(9);
-    let base = brought(heap, (&PLACES, (1, Content::Part(16, 4))), refused)?;
+    let base = base_of_new_exchange(heap, (&PLACES, (1, Content::Part(16, 4))), refused)?;
     if adopts(log, base)? != Some(false) {
         return Ok(false);
     }
@@ -220,17 +226,17 @@ fn catches_up<A: Allocator + Copy>(
     Ok(log.parts(heap, &wanted)?.len() == 2)
 }
 
-/// Whether the exchange brings a snapshot by which the log is restored.
+/// Whether the exchange brings a snapshot that restores the log.
 fn is_restored<A: Allocator + Copy>(
     heap: A,
     log: &mut Log<A>,
     refused: &mut u64,
 ) -> Result<bool, Fault> {
-    let base = brought(heap, (&SNAPSHOT, (1, Content::Part(298, 2))), refused)?;
+    let base = base_of_new_exchange(heap, (&SNAPSHOT, (1, Content::Part(298, 2))), refused)?;
     Ok(adopts(log, base)? == Some(true))
 }
 
-/// A base from place 250 on, with a snapshot before it.
+/// Returns a base from place 250 on, with a snapshot before it.
 fn base_from_250<A: Allocator + Copy>(heap: A) -> Result<Base<A>, Fault> {
     let snapshot = Snapshot::from_vec(bytes(heap, 45)?);
     Ok(Base {
@@ -240,16 +246,16 @@ fn base_from_250<A: Allocator + Copy>(heap: A) -> Result<Base<A>, Fault> {
     })
 }
 
-/// Whether a log of 300 places drops the 256 that are committed, and joins a base that begins below them.
+/// Whether a log of 300 places drops the 256 committed ones, and joins a base that begins below them.
 fn drops<A: Allocator + Copy>(heap: A, log: &mut Log<A>) -> Result<bool, Fault> {
-    append_before(heap, log, 301)?;
+    append_calls_before(heap, log, 301)?;
     log.commit_upto(256);
     let dropped = log.trim()?.into_calls().len();
     let joins = adopts(log, Some(base_from_250(heap)?))?;
     Ok(dropped == 256 && joins == Some(false) && log.calls().len() == 54)
 }
 
-/// Work that takes memory.
+/// A piece of work that takes memory.
 #[derive(Clone, Copy)]
 enum Work {
     /// A log catches up, and is sent in Parts.
@@ -260,8 +266,8 @@ enum Work {
     Dropped,
 }
 
-/// Whether the work comes out right with a new log.
-fn is_done(heap: &Refusing, work: Work, refused: &mut u64) -> Result<bool, Fault> {
+/// Whether the work has the right outcome on a new log.
+fn is_done(heap: &RefusingHeap, work: Work, refused: &mut u64) -> Result<bool, Fault> {
     let mut log = Log::new(heap);
     match work {
         Work::Parts => catches_up(heap, &mut log, refused),
@@ -270,9 +276,10 @@ fn is_done(heap: &Refusing, work: Work, refused: &mut u64) -> Result<bool, Fault
     }
 }
 
-/// What `refuse_in_turn` asks: an error where a request was refused. Then it is a payload that is heard again, or the end of
-/// all; where this was wrong, the other answer.
-fn done_or_refused(heap: &Refusing, work: Work) -> Result<(), AllocError> {
+/// The probe for `refuse_in_turn`: returns an error exactly if a request was refused.
+/// If the outcome is wrong, it returns the opposite. After a refusal, either one payload was applied again, or the whole work
+/// ended with `Memory`.
+fn done_or_refused(heap: &RefusingHeap, work: Work) -> Result<(), AllocError> {
     let mut refused = 0;
     let done = is_done(heap, work, &mut refused);
     let is_right = match (done, heap.has_refused()) {
@@ -283,9 +290,9 @@ fn done_or_refused(heap: &Refusing, work: Work) -> Result<(), AllocError> {
     heap.answer(is_right)
 }
 
-/// How often the work asks for memory, each time refused once.
+/// The number of memory requests of the work, each refused once.
 fn requests_of(alloc: Global, work: Work) -> Option<u64> {
-    refuse_in_turn(alloc, &|heap: &Refusing| done_or_refused(heap, work))
+    refuse_in_turn(alloc, &|heap: &RefusingHeap| done_or_refused(heap, work))
 }
 
 #[test]

@@ -1,2 +1,2 @@
--- Where nothing more is known nothing is newly committed, as the replica's crate has it.
-pub use Rattle.ring_replica.proofs.RestingReplicas.{newly-nothing}
+-- If the known log is the same, nothing is newly committed; re-exported from the replica.
+pub use Rattle.ring_replica.proofs.IdleReplicas.{newly_committed-nothing}

@@ -1,3 +1,3 @@
--- What a step of a core that has stopped comes to, as the ring core's crate has it.
+-- The result of a stopped core's step, re-exported from the ring core.
 pub use Rattle.ring_srp.proofs.PayloadSent.{GaveNothing}
 pub use Rattle.ring_srp.proofs.StoppedCore.{stopped_step}

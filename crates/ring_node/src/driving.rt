@@ -1,27 +1,29 @@
-//! A ring core and a replica go on together.
+//! One step of a ring core together with its replica.
+//! `follow_step` is a function of its own to keep its large stack slot out of its caller.
+//! Rules: Rings and states 13; The replicated log 1, 2, 8 and 10
 
 ghost use Rattle.std.specs.Prelude.{◌≡◌, [], true, false, if◌then◌else◌, IfErr, OnOk, OnErr};
 ghost use Rattle.ring_base.specs.declared.fault.Fault.TheVariants.{Memory};
-ghost use Rattle.ring_core.specs.Frames.{FrameFits};
-ghost use Rattle.ring_core.specs.Stepping.{ring_step};
-ghost use Rattle.ring_core.specs.declared.input.Input.TheVariants.{Frame as FrameInput, Timeout as TimeoutInput};
-ghost use Rattle.ring_replica.specs.NodeRules.{is_stopped, handed_over};
-ghost use Rattle.ring_replica.specs.Courses.{rises, IsSteady};
-ghost use Rattle.ring_replica.specs.Replicas.{IsDone, replica_stopped, running_of};
-ghost use Rattle.ring_node.specs.Given.{Follows, sending};
-ghost use Rattle.ring_node.specs.Kept.{Runs, followed_by, stepped_by};
-ghost use Rattle.ring_node.specs.Nothing.{GivesFrames, GivesNothing};
+ghost use Rattle.ring_core_spec.specs.Frames.{FrameFits};
+ghost use Rattle.ring_core_spec.specs.Stepping.{ring_step};
+ghost use Rattle.ring_core_spec.specs.declared.input.Input.TheVariants.{Frame as FrameInput, Timeout as TimeoutInput};
+ghost use Rattle.ring_replica.specs.NodeSpec.{is_stopped, handed_over};
+ghost use Rattle.ring_replica.specs.Replications.{rises, HasSoundEpochs};
+ghost use Rattle.ring_replica.specs.Replicas.{IsBetweenSteps, replica_stopped, running_of};
+ghost use Rattle.ring_node.specs.Given.{IsReplicaStepResult, sending};
+ghost use Rattle.ring_node.specs.KnownLog.{IsRunningNode, followed_by, stepped_by};
+ghost use Rattle.ring_node.specs.EmptyResults.{HasFramesOnly, IsEmptyResult};
 
 use crate::outs::Outs;
 use ring_base::{Fault, Kind, RingId, State};
-use ring_core::{Frame, Out, Sent};
+use ring_core_spec::{Frame, Out, OutgoingFrame};
 use ring_object::Object;
 use ring_payload::Payload;
 use ring_replica::Replica;
 use ring_srp::Srp;
 use std::alloc::Allocator;
 
-/// The ring that runs, if one does.
+/// Returns the ring in which the core is Operational, `None` in every other state.
 pub(crate) fn running<A: Allocator + Copy>(core: &Srp<A>) -> Option<RingId>
     ensures { result ≡ running_of core.now }
 {
@@ -31,7 +33,9 @@ pub(crate) fn running<A: Allocator + Copy>(core: &Srp<A>) -> Option<RingId>
     }
 }
 
-/// Hands payloads to the core, in their order. Refused with `Memory` alone.
+/// Hands payloads to the core, in their order. It queues them in Operational, and drops them in every other state.
+/// Errors: `Memory` where an allocation fails; the caller must then stop the node.
+/// Rules: The replicated log 1; Rings and states 9
 pub(crate) fn hand_over<A: Allocator + Copy>(
     core: &mut Srp<A>,
     due: Vec<Payload<A>, A>,
@@ -46,7 +50,9 @@ pub(crate) fn hand_over<A: Allocator + Copy>(
     Ok(())
 }
 
-/// A frame came: the core steps, and the replica follows. What they give goes into `outs`, in which nothing stands yet.
+/// Lets the core receive a frame, and the replica follow. The outputs are stored in `outs`, which is empty at the call.
+/// Errors: `Memory` where an allocation fails; the caller must stop both, which leaves the replica as before the step.
+/// Rules: Rings and states 13; The replicated log 1
 pub(crate) fn advance_by_frame<O: Object>(
     core: &mut Srp<O::Alloc>,
     replica: &mut Replica<O>,
@@ -54,32 +60,34 @@ pub(crate) fn advance_by_frame<O: Object>(
     outs: &mut Outs<O::Alloc>,
 ) -> Result<(), Fault>
     requires fits { FrameFits frame.now }
-    requires empty { GivesNothing outs.old }
-    requires runs { Runs core.old replica.old }
+    requires empty { IsEmptyResult outs.old }
+    requires runs { IsRunningNode core.old replica.old }
     requires going { replica.old.stopped ≡ false }
-    ensures ok { OnOk result (Follows (stepped_by O.sequential core.old replica.old (FrameInput frame.now))
+    ensures ok { OnOk result (IsReplicaStepResult (stepped_by O.sequential core.old replica.old (FrameInput frame.now))
         (ring_step core.old (FrameInput frame.now)).core core.new replica.new outs.new) }
-    ensures steady { OnOk result (IsSteady replica.old.group replica.old.life) }
+    ensures steady { OnOk result (HasSoundEpochs replica.old.group replica.old.epochs) }
     ensures err { OnErr result (replica_stopped replica.new ≡ replica_stopped replica.old) }
     ensures refused { IfErr result (λ fault. fault ≡ Memory) }
 {
-    let told = core.hear(frame, &mut outs.sends)?;
+    let told = core.receive(frame, &mut outs.sends)?;
     follow(core, replica, told, outs)
 }
 
-/// A time is over: the core steps, and the replica follows. What they give goes into `outs`, in which nothing stands yet.
+/// Lets the core handle a timeout, and the replica follow. The outputs are stored in `outs`, which is empty at the call.
+/// Errors: `Memory` where an allocation fails; the caller must stop both, which leaves the replica as before the step.
+/// Rules: Rings and states 13; The replicated log 1
 pub(crate) fn advance_by_time<O: Object>(
     core: &mut Srp<O::Alloc>,
     replica: &mut Replica<O>,
     kind: Kind,
     outs: &mut Outs<O::Alloc>,
 ) -> Result<(), Fault>
-    requires empty { GivesNothing outs.old }
-    requires runs { Runs core.old replica.old }
+    requires empty { IsEmptyResult outs.old }
+    requires runs { IsRunningNode core.old replica.old }
     requires going { replica.old.stopped ≡ false }
-    ensures ok { OnOk result (Follows (stepped_by O.sequential core.old replica.old (TimeoutInput kind))
+    ensures ok { OnOk result (IsReplicaStepResult (stepped_by O.sequential core.old replica.old (TimeoutInput kind))
         (ring_step core.old (TimeoutInput kind)).core core.new replica.new outs.new) }
-    ensures steady { OnOk result (IsSteady replica.old.group replica.old.life) }
+    ensures steady { OnOk result (HasSoundEpochs replica.old.group replica.old.epochs) }
     ensures err { OnErr result (replica_stopped replica.new ≡ replica_stopped replica.old) }
     ensures refused { IfErr result (λ fault. fault ≡ Memory) }
 {
@@ -87,47 +95,47 @@ pub(crate) fn advance_by_time<O: Object>(
     follow(core, replica, told, outs)
 }
 
-/// The replica takes what the core told in a step, of which the frames stand in `outs`, and what is due is handed to the core.
-/// Where the replica stops by that, nothing is given. Refused with `Memory` alone: then the replica, once stopped, is what it was
-/// before.
+/// Applies the core's outputs to the replica, and hands the due payloads to the core; the frames sent are in `outs` already.
+/// If the replica stops, `outs` is emptied. A step that changes nothing of the replica is skipped.
+/// Errors: `Memory` where an allocation fails; the replica, once stopped, is as before the step.
 fn follow<O: Object>(
     core: &mut Srp<O::Alloc>,
     replica: &mut Replica<O>,
     told: Vec<Out<O::Alloc>, O::Alloc>,
     outs: &mut Outs<O::Alloc>,
 ) -> Result<(), Fault>
-    requires done { IsDone replica.old }
-    requires rises { rises replica.old.life told.items ≡ true }
+    requires done { IsBetweenSteps replica.old }
+    requires rises { rises replica.old.epochs told.items ≡ true }
     requires runs { is_stopped core.old.state ≡ false }
     requires going { replica.old.stopped ≡ false }
-    requires frames { GivesFrames outs.old }
-    ensures ok { OnOk result (Follows (sending outs.old.sends.items (followed_by O.sequential core.old replica.old told.items))
+    requires frames { HasFramesOnly outs.old }
+    ensures ok { OnOk result (IsReplicaStepResult (sending outs.old.sends.items (followed_by O.sequential core.old replica.old told.items))
         core.old core.new replica.new outs.new) }
-    ensures steady { OnOk result (IsSteady replica.old.group replica.old.life) }
+    ensures steady { OnOk result (HasSoundEpochs replica.old.group replica.old.epochs) }
     ensures err { OnErr result (replica_stopped replica.new ≡ replica_stopped replica.old) }
     ensures refused { IfErr result (λ fault. fault ≡ Memory) }
 {
-    if told.is_empty() && replica.rests() {
+    if told.is_empty() && replica.is_step_idle() {
         return Ok(());
     }
-    follow_told(core, replica, told.as_slice(), outs)
+    follow_step(core, replica, told.as_slice(), outs)
 }
 
-/// The same where the replica takes a step of its own. It stands apart, since a call clears its room for what that gives.
+/// Does the same with a step of the replica.
 #[inline(never)]
-fn follow_told<O: Object>(
+fn follow_step<O: Object>(
     core: &mut Srp<O::Alloc>,
     replica: &mut Replica<O>,
     told: &[Out<O::Alloc>],
     outs: &mut Outs<O::Alloc>,
 ) -> Result<(), Fault>
-    requires done { IsDone replica.old }
-    requires rises { rises replica.old.life told.now ≡ true }
+    requires done { IsBetweenSteps replica.old }
+    requires rises { rises replica.old.epochs told.now ≡ true }
     requires runs { is_stopped core.old.state ≡ false }
     requires going { replica.old.stopped ≡ false }
-    ensures ok { OnOk result (Follows (sending outs.old.sends.items (followed_by O.sequential core.old replica.old told.now))
+    ensures ok { OnOk result (IsReplicaStepResult (sending outs.old.sends.items (followed_by O.sequential core.old replica.old told.now))
         core.old core.new replica.new outs.new) }
-    ensures steady { OnOk result (IsSteady replica.old.group replica.old.life) }
+    ensures steady { OnOk result (HasSoundEpochs replica.old.group replica.old.epochs) }
     ensures err { OnErr result (replica_stopped replica.new ≡ replica_stopped replica.old) }
     ensures refused { IfErr result (λ fault. fault ≡ Memory) }
 {
@@ -138,12 +146,12 @@ fn follow_told<O: Object>(
     outs.answers = given.answers;
     outs.committed = given.committed;
     outs.restored = given.restored;
-    let_go_if(replica.is_stopped(), &mut outs.sends);
+    clear_if_stopped(replica.is_stopped(), &mut outs.sends);
     Ok(())
 }
 
-/// Lets go of the frames of a step by which the replica stopped.
-fn let_go_if<A: Allocator + Copy>(stopped: bool, sends: &mut Vec<Sent<A>, A>)
+/// Drops the frames of a step in which the replica stopped.
+fn clear_if_stopped<A: Allocator + Copy>(stopped: bool, sends: &mut Vec<OutgoingFrame<A>, A>)
     ensures { sends.new.items ≡ (if stopped then [] else sends.old.items) }
 {
     if stopped {

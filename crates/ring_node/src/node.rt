@@ -1,55 +1,61 @@
-//! A node.
+//! The node and its calls. `time_out` is a function of its own to keep its large stack slot out of its caller.
+//! Rules: Rings and states 3, 6, 12 and 13; The replicated log 8, 13 to 15, 18 and 20; Refusals 4 to 6
 
 ghost use Rattle.std.specs.Prelude.{◌≡◌, ◌≤◌, true, false, length, if◌then◌else◌, Some, None, Ok, IsOk, IfOk, IfErr, OnOk, OnErr, MatchOption};
 ghost use Rattle.ring_base.specs.declared.fault.Fault.TheVariants.{Memory, Stopped as StoppedFault};
 ghost use Rattle.ring_payload.specs.Calls.{CallFits};
-ghost use Rattle.ring_core.specs.Frames.{FrameFits};
-ghost use Rattle.ring_core.specs.Stepping.{ring_step};
-ghost use Rattle.ring_core.specs.declared.input.Input.TheVariants.{Frame as FrameInput, Timeout as TimeoutInput};
+ghost use Rattle.ring_core_spec.specs.Frames.{FrameFits};
+ghost use Rattle.ring_core_spec.specs.Stepping.{ring_step};
+ghost use Rattle.ring_core_spec.specs.declared.input.Input.TheVariants.{Frame as FrameInput, Timeout as TimeoutInput};
 ghost use Rattle.ring_replica.specs.Sessions.{pending_from};
-ghost use Rattle.ring_replica.specs.NodeRules.{node_opening, node_kept, node_length, node_trimmed, node_committed, node_reply, node_stopped};
-ghost use Rattle.ring_replica.specs.NodeRules.{is_stopped, effects_at, after_core, node_step, submit_fault, submitted, InputFits};
-ghost use Rattle.ring_node.specs.Given.{Gives};
+ghost use Rattle.ring_replica.specs.NodeSpec.{node_opening, node_known_log, node_length, node_trimmed, node_committed, node_reply, node_stopped};
+ghost use Rattle.ring_replica.specs.NodeSpec.{is_stopped, effects_at, after_core, node_step, submit_fault, submitted, InputFits};
+ghost use Rattle.ring_node.specs.Given.{IsNodeStepResult};
 ghost use Rattle.ring_node.specs.Restores.{node_restored};
-ghost use Rattle.ring_node.specs.Nothing.{GivesNothing};
+ghost use Rattle.ring_node.specs.EmptyResults.{IsEmptyResult};
 ghost use Rattle.ring_replica.specs.InputVariants.{Frame as ComesInput, Stop as StopInput};
 
 use crate::driving::{advance_by_frame, advance_by_time, running};
 use crate::outs::Outs;
-use ring_base::{Fault, Fixed, Kind, Past, Proc, ProcSet, RingId, State, paired, seen};
-use ring_core::{Configuration, Frame};
+use ring_base::{Fault, Fixed, Ghost, Kind, Proc, ProcSet, RingId, State, ghost_now, pair_result};
+use ring_core_spec::{Configuration, Frame};
 use ring_object::Object;
 use ring_payload::{Call, Payload};
 use ring_replica::{Answer, Input, Replica, Ticket, copy_of};
 use ring_srp::Srp;
 use std::marker::Model;
 
-/// A node: the running state of a processor of the group, its ring core with its log, its tickets and its sessions. Contracts see a
-/// `Node`: its group, its core, its life, its tickets, the calls that it did and the answers that it gave.
+/// `Node`: the running state of a processor of the group: its ring core, its log, its tickets and its sessions.
+/// It has neither clock, network nor thread: it takes one input at a time. Contracts see a `Node` value: its group, its core, its
+/// life, its tickets, the calls that it did and the answers that it gave.
+/// Rules: Rings and states 3; The replicated log 1
 #[derive(Drop)]
 pub struct Node<O: Object> {
     alloc: O::Alloc,
     core: Srp<O::Alloc>,
     replica: Replica<O>,
-    /// The last installed ring with its members, as the node stopped.
+    /// The last installed ring with its members, at the time the node stopped.
     last: Configuration,
-    /// The core as it was before the step in which the node stopped.
-    ended: Past<Srp<O::Alloc>>,
+    /// The core before the step in which the node stopped.
+    ended: Ghost<Srp<O::Alloc>>,
 }
 
 impl<O: Object> Model for Node<O> {
-    ghost use Rattle.ring_replica.specs.NodeRules.{Node as ToldNode};
-    ghost use Rattle.ring_node.specs.Kept.{told_node, IsNode};
+    ghost use Rattle.ring_replica.specs.NodeSpec.{Node as ToldNode};
+    ghost use Rattle.ring_node.specs.KnownLog.{node_view, IsNode};
 
     ghost Value = { ToldNode O.Alloc };
 
-    ghost view = { λ n. told_node n.core n.replica n.ended.value };
+    ghost view = { λ n. node_view n.core n.replica n.ended.value };
 
     ghost invariant = { λ n. IsNode n.core n.replica n.last n.ended.value };
 }
 
 impl<O: Object> Node<O> {
-    /// Processor `me` of the group at its opening, or `Memory`.
+    /// Creates processor `me` of the group at its opening: alone in Gather, with an empty log. `me` is at most the group's number
+    /// of processors.
+    /// Errors: `Memory` where an allocation fails.
+    /// Rules: Rings and states 5; The replicated log 1
     pub fn new(alloc: O::Alloc, fixed: Fixed, me: Proc) -> Result<Node<O>, Fault>
         requires { me ≤ fixed.count }
         ensures ok { IfOk result (λ node. node ≡ node_opening fixed me) }
@@ -58,7 +64,7 @@ impl<O: Object> Node<O> {
         let core = Srp::new(alloc, fixed, me)?;
         let replica = Replica::new(alloc, fixed, me)?;
         let last = core.installed();
-        let ended = seen(&core);
+        let ended = ghost_now(&core);
         Ok(Node {
             alloc,
             core,
@@ -68,15 +74,16 @@ impl<O: Object> Node<O> {
         })
     }
 
-    /// A copy of the node, which goes on apart from it. Its object is what the snapshot of this one's is restored to. Refused
-    /// with `Memory` alone.
+    /// Returns a copy that runs independently of this node. Its object is restored from a snapshot of this one's.
+    /// Errors: `Memory` where an allocation fails; this node is unchanged.
+    /// Rules: Objects 3; Sessions 12
     pub fn copy(&self) -> Result<Node<O>, Fault>
         ensures ok { IfOk result (λ copy. copy ≡ self.now) }
         ensures refused { IfErr result (λ fault. fault ≡ Memory) }
     {
         let ended = self.ended.clone()?;
         let core = self.core.clone()?;
-        let (core, replica) = paired(core, self.replica.copy())?;
+        let (core, replica) = pair_result(core, self.replica.copy())?;
         Ok(Node {
             alloc: self.alloc,
             core,
@@ -86,9 +93,11 @@ impl<O: Object> Node<O> {
         })
     }
 
-    /// Submits a call that keeps the limits of frames, as each does that `Call::new` makes, and gives its ticket. Refused, in
-    /// this order: `Stopped` in a stopped node; `PendingFull` where 64 tickets have no answer, or 2^62 were given; `Memory`. A
-    /// refusal leaves the node as it was.
+    /// Submits a call and returns its ticket: its index, from 0, in the list of all tickets that this node gave. The call keeps
+    /// the limits of frames, as each one from `Call::new` does.
+    /// Errors, in this order: `Stopped` in a stopped node; `PendingFull` if 64 tickets are unanswered or 2^62 have been given;
+    /// `Memory` where an allocation fails. The node is unchanged by each.
+    /// Rules: The replicated log 10 and 13; Refusals 4
     pub fn submit(&mut self, call: Call<O::Alloc>) -> Result<Ticket, Fault>
         requires fits { CallFits call }
         ensures ticket { IfOk result (λ ticket. ticket ≡ length self.old.tickets) }
@@ -100,7 +109,9 @@ impl<O: Object> Node<O> {
         self.submit_on(&call)
     }
 
-    /// The same for a call that the caller keeps: the node copies it.
+    /// Submits a copy of a call that the caller keeps, and returns its ticket; otherwise the same as `submit`.
+    /// Errors: as in `submit`, in the same order. The node is unchanged by each.
+    /// Rules: The replicated log 10 and 13; Refusals 4
     pub fn submit_on(&mut self, call: &Call<O::Alloc>) -> Result<Ticket, Fault>
         requires fits { CallFits call.now }
         ensures ticket { IfOk result (λ ticket. ticket ≡ length self.old.tickets) }
@@ -113,10 +124,13 @@ impl<O: Object> Node<O> {
         self.take(copy_of(call)?)
     }
 
-    /// Does a step on an input, whose frame keeps the limits of frames, as a decoded one does: gives the frames sent, the answers that
-    /// come, the calls newly committed, those of places dropped, and how many places were restored. Refused with `Stopped` in a stopped
-    /// node, which stays as it was, else with `Memory`, also where that was wanted to drop places: then the node has stopped for good,
-    /// its log as before the step, and nothing is given. A stop takes no memory.
+    /// Handles an input, and returns the outputs of the step. A frame must be within the limits of frames, as every
+    /// decoded frame is.
+    /// The outputs are the frames sent, the answers, the calls newly committed, the calls of the places dropped, and the number
+    /// of places restored. A stop takes no memory.
+    /// Errors: `Stopped` in a stopped node, which is unchanged; `Memory` where an allocation fails, also for dropping places.
+    /// After `Memory` the node is stopped for good with its log from before the step, and there are no outputs.
+    /// Rules: Rings and states 12 and 13; The replicated log 8, 18 and 20; Refusals 4 and 6
     pub fn step(&mut self, input: Input<O::Alloc>) -> Result<Outs<O::Alloc>, Fault>
         requires fits { InputFits input }
         ensures runs { OnOk result (is_stopped self.old.core.state ≡ false) }
@@ -135,8 +149,10 @@ impl<O: Object> Node<O> {
         Ok(outs)
     }
 
-    /// The same for an input that the caller keeps, into lists of the caller: the node copies its frame, unless it is a token. What stands
-    /// in the lists is let go first, and their room is used again. Where the step is refused, nothing stands in them.
+    /// Handles an input that the caller keeps, and stores the outputs in `outs`; otherwise the same as `step`.
+    /// The node copies the input's frame, unless it is a token. The lists of `outs` are emptied first, and their room is reused.
+    /// Errors: as in `step`; `outs` is then empty.
+    /// Rules: Rings and states 12 and 13; The replicated log 8, 18 and 20; Refusals 4 and 6
     pub fn step_into(
         &mut self,
         input: &Input<O::Alloc>,
@@ -149,14 +165,14 @@ impl<O: Object> Node<O> {
         ensures committed { OnOk result (outs.new.committed.items ≡ (node_step O.sequential self.old input.now).committed) }
         ensures dropped { OnOk result (outs.new.dropped.items ≡ (node_step O.sequential self.old input.now).dropped) }
         ensures restored { OnOk result (outs.new.restored ≡ node_restored self.old (node_step O.sequential self.old input.now).node) }
-        ensures nothing { OnErr result (GivesNothing outs.new) }
+        ensures nothing { OnErr result (IsEmptyResult outs.new) }
         ensures ok { OnOk result (self.new ≡ (node_step O.sequential self.old input.now).node) }
         ensures err { OnErr result (self.new ≡ node_stopped self.old) }
         ensures refused { IfErr result (λ fault. fault ≡ (if is_stopped self.old.core.state then StoppedFault else Memory)) }
         ensures stops { input.now ≡ StopInput → is_stopped self.old.core.state ≡ false → IsOk result }
     {
         match input {
-            Input::Frame(frame) => self.hear_into(frame, outs),
+            Input::Frame(frame) => self.receive_into(frame, outs),
             Input::Timeout(kind) => {
                 self.begin(outs)?;
                 self.time_out(*kind, outs)
@@ -170,8 +186,10 @@ impl<O: Object> Node<O> {
         }
     }
 
-    /// The same for a frame that comes.
-    pub fn hear_into(
+    /// Handles a frame that the caller keeps, and stores the outputs in `outs`; otherwise the same as `step_into`.
+    /// Errors: as in `step`; `outs` is then empty.
+    /// Rules: Rings and states 12 and 13; The replicated log 8, 18 and 20; Refusals 4 and 6
+    pub fn receive_into(
         &mut self,
         frame: &Frame<O::Alloc>,
         outs: &mut Outs<O::Alloc>,
@@ -183,30 +201,33 @@ impl<O: Object> Node<O> {
         ensures committed { OnOk result (outs.new.committed.items ≡ (node_step O.sequential self.old (ComesInput frame.now)).committed) }
         ensures dropped { OnOk result (outs.new.dropped.items ≡ (node_step O.sequential self.old (ComesInput frame.now)).dropped) }
         ensures restored { OnOk result (outs.new.restored ≡ node_restored self.old (node_step O.sequential self.old (ComesInput frame.now)).node) }
-        ensures nothing { OnErr result (GivesNothing outs.new) }
+        ensures nothing { OnErr result (IsEmptyResult outs.new) }
         ensures ok { OnOk result (self.new ≡ (node_step O.sequential self.old (ComesInput frame.now)).node) }
         ensures err { OnErr result (self.new ≡ node_stopped self.old) }
         ensures refused { IfErr result (λ fault. fault ≡ (if is_stopped self.old.core.state then StoppedFault else Memory)) }
     {
         self.begin(outs)?;
-        self.hear(frame, outs)
+        self.receive(frame, outs)
     }
 
-    /// The answer to a ticket, if it is among the 64 that were answered last.
+    /// Returns the answer to a ticket, if it is one of the last 64 answered here; otherwise `None`. It takes no memory.
+    /// Rules: The replicated log 15
     pub fn reply(&self, ticket: Ticket) -> Option<Answer>
         ensures { result ≡ node_reply self.now ticket }
     {
         self.replica.reply(ticket)
     }
 
-    /// The committed places of the log that aren't dropped, in order.
+    /// Returns the calls of the committed places that haven't been dropped, in order, repeats included.
+    /// Rules: The replicated log 18
     pub fn committed(&self) -> &[Call<O::Alloc>]
         ensures { result.now ≡ node_committed self.now }
     {
         self.replica.committed()
     }
 
-    /// The node's state.
+    /// Returns the node's state: Gather, Commit, Recovery, Operational, or Stopped once it has stopped.
+    /// Rules: Rings and states 6
     pub fn state(&self) -> State
         ensures { result ≡ self.now.core.state }
     {
@@ -217,50 +238,58 @@ impl<O: Object> Node<O> {
         }
     }
 
-    /// The last installed ring: (0, me) before any.
+    /// Returns the last installed ring; (0, `me`) before any was installed. After a stop it is the one at the stop.
+    /// Rules: Rings and states 3 and 5; The replicated log 18
     pub fn ring(&self) -> RingId
         ensures { result ≡ self.now.core.installed.ring }
     {
         self.installed().ring
     }
 
-    /// The members of the last installed ring: `me` alone before any.
+    /// Returns the members of the last installed ring; `me` alone before any was installed. After a stop they are those at the
+    /// stop.
+    /// Rules: Rings and states 3 and 5; The replicated log 18
     pub fn members(&self) -> ProcSet
         ensures { result ≡ self.now.core.installed.members }
     {
         self.installed().members
     }
 
-    /// How many places of the log are committed, dropped ones included.
+    /// Returns the number of committed places, dropped ones included. It never falls.
+    /// Rules: The replicated log 12 and 18
     pub fn committed_len(&self) -> u64
-        ensures { result ≡ (node_kept self.now).committed }
+        ensures { result ≡ (node_known_log self.now).committed }
     {
         self.replica.committed_len()
     }
 
-    /// How many of the log's first places are dropped.
+    /// Returns the number of committed places that have been dropped: those before the first of `committed`.
+    /// Rules: The replicated log 18 and 20
     pub fn trimmed(&self) -> u64
         ensures { result ≡ node_trimmed self.now }
     {
         self.replica.trimmed()
     }
 
-    /// How many places the log has, committed or not, dropped ones included.
+    /// Returns the number of the log's places, committed or not, dropped ones included.
+    /// Rules: The replicated log 18
     pub fn log_len(&self) -> u64
         ensures { result ≡ node_length self.now }
     {
         self.replica.log_len()
     }
 
-    /// How many calls of all committed places took effect. Of the places that a restored snapshot stands for, that is the sum of its
-    /// clients' last numbers, or the greatest number of 64 bits where that is more.
+    /// Returns the number of committed calls that took effect, at most 2^64 - 1.
+    /// For the places of a restored snapshot, this counts the sum of its clients' last numbers.
+    /// Rules: Sessions 6; The replicated log 18
     pub fn order_len(&self) -> u64
-        ensures { result ≡ effects_at O.sequential (node_kept self.now) (node_kept self.now).committed }
+        ensures { result ≡ effects_at O.sequential (node_known_log self.now) (node_known_log self.now).committed }
     {
         self.replica.order_len()
     }
 
-    /// How many tickets have no answer: at most 64.
+    /// Returns the number of tickets that haven't been answered, at most 64.
+    /// Rules: The replicated log 13 and 18
     pub fn waiting(&self) -> usize
         ensures { result ≡ length (pending_from self.now.done 0 self.now.tickets) }
     {
@@ -269,7 +298,7 @@ impl<O: Object> Node<O> {
 }
 
 impl<O: Object> Node<O> {
-    /// The last installed ring with its members.
+    /// Returns the last installed ring with its members.
     fn installed(&self) -> Configuration
         ensures { result ≡ self.now.core.installed }
     {
@@ -280,7 +309,7 @@ impl<O: Object> Node<O> {
         }
     }
 
-    /// Refuses a submit that is refused whatever the memory.
+    /// Checks whether a ticket may be given, which takes no memory.
     fn check(&self) -> Result<(), Fault>
         ensures ok { OnOk result (submit_fault self.now ≡ None) }
         ensures err { IfErr result (λ fault. submit_fault self.now ≡ Some fault) }
@@ -288,7 +317,8 @@ impl<O: Object> Node<O> {
         self.replica.check()
     }
 
-    /// Takes a call, or leaves the node as it was.
+    /// Gives a call a ticket, and sends it at once if an adopted ring runs.
+    /// Errors: `Memory` where an allocation fails; the node is unchanged.
     fn take(&mut self, call: Call<O::Alloc>) -> Result<Ticket, Fault>
         requires { submit_fault self.old ≡ None }
         ensures ticket { IfOk result (λ ticket. ticket ≡ length self.old.tickets) }
@@ -303,9 +333,10 @@ impl<O: Object> Node<O> {
         Ok(self.replica.give(&running, call))
     }
 
-    /// Empties the lists for a step. Refused with `Stopped` in a stopped node.
+    /// Empties the lists for a step.
+    /// Errors: `Stopped` in a stopped node.
     fn begin(&self, outs: &mut Outs<O::Alloc>) -> Result<(), Fault>
-        ensures nothing { GivesNothing outs.new }
+        ensures nothing { IsEmptyResult outs.new }
         ensures ok { OnOk result (is_stopped self.now.core.state ≡ false) }
         ensures err { OnErr result (is_stopped self.now.core.state ≡ true) }
         ensures refused { IfErr result (λ fault. fault ≡ StoppedFault) }
@@ -317,18 +348,19 @@ impl<O: Object> Node<O> {
         Ok(())
     }
 
-    /// The core hears a frame, and what follows of it is done. Refused with `Memory` alone, and then the node has stopped.
-    fn hear(&mut self, frame: &Frame<O::Alloc>, outs: &mut Outs<O::Alloc>) -> Result<(), Fault>
+    /// Does the step on a frame.
+    /// Errors: `Memory` where an allocation fails; the node is stopped.
+    fn receive(&mut self, frame: &Frame<O::Alloc>, outs: &mut Outs<O::Alloc>) -> Result<(), Fault>
         requires fits { FrameFits frame.now }
-        requires empty { GivesNothing outs.old }
+        requires empty { IsEmptyResult outs.old }
         requires runs { is_stopped self.old.core.state ≡ false }
-        ensures ok { OnOk result (Gives self.old (after_core O.sequential self.old (ring_step self.old.core (FrameInput frame.now))) self.new outs.new) }
-        ensures nothing { OnErr result (GivesNothing outs.new) }
+        ensures ok { OnOk result (IsNodeStepResult self.old (after_core O.sequential self.old (ring_step self.old.core (FrameInput frame.now))) self.new outs.new) }
+        ensures nothing { OnErr result (IsEmptyResult outs.new) }
         ensures err { OnErr result (self.new ≡ node_stopped self.old) }
         ensures refused { IfErr result (λ fault. fault ≡ Memory) }
     {
         self.last = self.core.installed();
-        self.ended = seen(&self.core);
+        self.ended = ghost_now(&self.core);
         match advance_by_frame(&mut self.core, &mut self.replica, frame, outs) {
             Ok(()) => Ok(()),
             Err(refused) => {
@@ -340,19 +372,19 @@ impl<O: Object> Node<O> {
         }
     }
 
-    /// A time is over, and what follows of it is done. Refused with `Memory` alone, and then the node has stopped. It stands apart, since a
-    /// call clears its room for an input of the core.
+    /// Does the step on a timeout.
+    /// Errors: `Memory` where an allocation fails; the node is stopped.
     #[inline(never)]
     fn time_out(&mut self, kind: Kind, outs: &mut Outs<O::Alloc>) -> Result<(), Fault>
-        requires empty { GivesNothing outs.old }
+        requires empty { IsEmptyResult outs.old }
         requires runs { is_stopped self.old.core.state ≡ false }
-        ensures ok { OnOk result (Gives self.old (after_core O.sequential self.old (ring_step self.old.core (TimeoutInput kind))) self.new outs.new) }
-        ensures nothing { OnErr result (GivesNothing outs.new) }
+        ensures ok { OnOk result (IsNodeStepResult self.old (after_core O.sequential self.old (ring_step self.old.core (TimeoutInput kind))) self.new outs.new) }
+        ensures nothing { OnErr result (IsEmptyResult outs.new) }
         ensures err { OnErr result (self.new ≡ node_stopped self.old) }
         ensures refused { IfErr result (λ fault. fault ≡ Memory) }
     {
         self.last = self.core.installed();
-        self.ended = seen(&self.core);
+        self.ended = ghost_now(&self.core);
         match advance_by_time(&mut self.core, &mut self.replica, kind, outs) {
             Ok(()) => Ok(()),
             Err(refused) => {
@@ -364,13 +396,13 @@ impl<O: Object> Node<O> {
         }
     }
 
-    /// Stops for good. It takes no memory, and gives back what the core kept.
+    /// Stops the node for good. It takes no memory, and frees the core's memory.
     fn halt(&mut self)
         requires { is_stopped self.old.core.state ≡ false }
         ensures { self.new ≡ node_stopped self.old }
     {
         self.last = self.core.installed();
-        self.ended = seen(&self.core);
+        self.ended = ghost_now(&self.core);
         self.core.stop();
         self.replica.stop();
     }

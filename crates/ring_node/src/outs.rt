@@ -1,32 +1,40 @@
-//! What a step of a node gives.
+//! The outputs of a node's step.
+//! Rules: Outputs 1 and 2; The replicated log 14, 18 and 20
 
-ghost use Rattle.ring_node.specs.Nothing.{GivesNothing};
+ghost use Rattle.ring_node.specs.EmptyResults.{IsEmptyResult};
 
-use ring_core::Sent;
+use ring_core_spec::OutgoingFrame;
 use ring_payload::Call;
-use ring_replica::Answered;
+use ring_replica::TicketAnswer;
 use std::alloc::{Allocator, Global};
 
-/// What a step of a node gives: the frames sent, with their receivers, the answers, by the order of their places, then of
-/// their tickets, the calls newly committed, the calls of the committed places that the node dropped, and how many places it
-/// restored.
+/// `Outs`: the outputs of one step of a node.
+/// Rules: Outputs 2; The replicated log 18
 #[derive(Drop)]
 pub struct Outs<A: Allocator + Copy + Drop = Global> {
-    pub sends: Vec<Sent<A>, A>,
-    pub answers: Vec<Answered<A>, A>,
-    /// The calls newly committed, in order.
+    /// The frames sent, each with its receivers: a join, a commit token, repeated messages, new messages, the token.
+    /// Rules: Outputs 2
+    pub sends: Vec<OutgoingFrame<A>, A>,
+    /// The answers to tickets, in the order of the calls' places, then of the tickets.
+    /// Rules: The replicated log 14
+    pub answers: Vec<TicketAnswer<A>, A>,
+    /// The calls of the places newly committed, in order, but for those that a snapshot brought.
+    /// Rules: The replicated log 12 and 18
     pub committed: Vec<Call<A>, A>,
-    /// The calls of the places that the node dropped at the step's end, in order: after it `Node::committed` begins behind them.
+    /// The calls of the places dropped at the end of the step, in order. Afterwards `Node::committed` begins behind these places.
+    /// Rules: The replicated log 20
     pub dropped: Vec<Call<A>, A>,
-    /// How many of the log's first places the snapshot stands for that the step restored, if it restored one. The calls of those
-    /// that weren't committed before are told by no step of this node: `committed` begins behind them.
+    /// The number of places of the snapshot that the step restored; `None` if it restored none. Afterwards `Node::committed`
+    /// begins behind these places.
+    /// No step of this node reports the calls of those places that it hadn't committed.
+    /// Rules: The replicated log 6 and 18
     pub restored: Option<u64>,
 }
 
 impl<A: Allocator + Copy + Drop> Outs<A> {
-    /// Nothing, with no room for anything.
+    /// Creates empty outputs, with no room reserved. It takes no memory.
     pub fn new(alloc: A) -> Outs<A>
-        ensures { GivesNothing result }
+        ensures { IsEmptyResult result }
     {
         Outs {
             sends: Vec::new(alloc),
@@ -37,9 +45,9 @@ impl<A: Allocator + Copy + Drop> Outs<A> {
         }
     }
 
-    /// Lets go of all that stands in it. Its lists keep their room.
+    /// Empties the outputs. The lists keep their room.
     pub(crate) fn clear(&mut self)
-        ensures { GivesNothing self.new }
+        ensures { IsEmptyResult self.new }
     {
         self.sends.clear();
         self.answers.clear();

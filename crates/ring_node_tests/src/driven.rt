@@ -1,4 +1,5 @@
-//! A node of a ring of one, driven by hand. Its frames are those of `docs/FORMATS.md`, byte by byte.
+//! A node of a ring of one, driven by hand with frames given byte by byte.
+//! Formats: Frames; first reply
 
 ghost use Rattle.std.specs.Prelude.{IfOk};
 ghost use Rattle.ring_wire.specs.Frames.{FrameFits};
@@ -7,28 +8,28 @@ use ring_base::{Fault, Fixed, Kind, State};
 use ring_node::{Input, Node, Outs};
 use ring_object::Object;
 use ring_payload::Call;
-use ring_session::{Answer, Ticket};
+use ring_session::Ticket;
 use ring_things::Counters;
 use ring_wire::{Frame, Wire};
 use std::alloc::Allocator;
 use std::mem;
 
-/// The commit token of ring 1.1 of processor 1 alone; its hop, here 0, stands at 19.
+/// The commit token of ring 1.1 of processor 1 alone; its hop, here 0, is at byte 19.
 const COMMIT: [u8; 77] = *b"TR\x01\x04\0\0\0\x45\0\0\0\0\0\0\0\x01\x01\0\x01\0\0\0\0\0\0\0\0\0\x01\
     \0\0\0\0\0\0\0\0\0\0\0\0\0\0\0\0\0\0\0\0\0\0\0\0\0\0\0\0\0\0\0\0\0\0\0\0\0\0\0\0\0\0\0\0\0\0\0\0";
 
-/// The token of ring 1.1 that asks for nothing; its number, here 0, ends at 24, `seq` at 32 and `aru` at 40.
+/// The token of ring 1.1 that requests nothing. Its number, here 0, ends at byte 24, `seq` at 32 and `aru` at 40.
 const TOKEN: [u8; 43] = *b"TR\x01\x02\0\0\0\x23\0\0\0\0\0\0\0\x01\x01\0\0\0\0\0\0\0\0\
     \0\0\0\0\0\0\0\0\0\0\0\0\0\0\0\0\0\0";
 
-/// The commit token at this hop.
+/// Returns the commit token at this hop.
 fn commit(hop: u8) -> [u8; 77] {
     let mut bytes = COMMIT;
     bytes[19] = hop;
     bytes
 }
 
-/// The token of this number, where so many messages were sent and all are held.
+/// Returns the token of this number after `messages` messages, all of which are held.
 fn token(number: u8, messages: u8) -> [u8; 43] {
     let mut bytes = TOKEN;
     bytes[24] = number;
@@ -37,7 +38,7 @@ fn token(number: u8, messages: u8) -> [u8; 43] {
     bytes
 }
 
-/// The frame that these bytes spell.
+/// Returns the frame that these bytes encode.
 fn frame_of<A: Allocator + Copy>(alloc: A, bytes: &[u8]) -> Result<Frame<A>, Fault>
     ensures { IfOk result (λ frame. FrameFits frame) }
 {
@@ -45,34 +46,32 @@ fn frame_of<A: Allocator + Copy>(alloc: A, bytes: &[u8]) -> Result<Frame<A>, Fau
     Ok(frame)
 }
 
-/// What is seen of a node: its state, the number of its last installed ring, how many places are committed, how many the
-/// log has, and how many calls took effect.
+/// A node as observed: its state, its last installed ring's number, and three counts.
+/// These are the committed places that it keeps, the places of its log, and the calls that took effect.
 pub type Seen = (State, u64, usize, u64, u64);
 
-/// A node, how many frames, answers, committed calls and dropped calls its steps gave, and the token that it sent last. What the node
-/// has no hand in lies in memory of its own, which is ample.
+/// A node under test, the counts of the outputs of its steps, and the last token that it sent.
+/// Values that aren't the node's are allocated in `ample`, where no request is refused.
 #[derive(Drop)]
 pub struct DrivenNode<O: Object> {
     ample: O::Alloc,
     pub node: Node<O>,
-    pub sends: usize,
     answers: usize,
     committed: usize,
     pub dropped: usize,
-    /// Its number, and how many messages were sent by then.
+    /// The last token's number, and the number of messages sent by then.
     last: Option<(u8, u8)>,
-    /// What the last step by reference gave: the next one uses the room of its lists.
+    /// The outputs of the last step by reference; the next one reuses their room.
     lent: Outs<O::Alloc>,
 }
 
 impl<O: Object> DrivenNode<O> {
-    /// A node at its opening, with its memory in `heap`.
+    /// Creates a node at its opening, with its memory in `heap`.
     pub fn new(heap: O::Alloc, ample: O::Alloc) -> Result<DrivenNode<O>, Fault> {
         let fixed = Fixed::new(1)?;
         Ok(DrivenNode {
             ample,
             node: Node::new(heap, fixed, fixed.proc(1)?)?,
-            sends: 0,
             answers: 0,
             committed: 0,
             dropped: 0,
@@ -81,9 +80,8 @@ impl<O: Object> DrivenNode<O> {
         })
     }
 
-    /// Counts what a step gives.
+    /// Counts the outputs of a step.
     fn count(&mut self, outs: &Outs<O::Alloc>) {
-        self.sends = self.sends.saturating_add(outs.sends.len());
         self.answers = self.answers.saturating_add(outs.answers.len());
         self.committed = self.committed.saturating_add(outs.committed.len());
         self.dropped = self.dropped.saturating_add(outs.dropped.len());
@@ -96,14 +94,14 @@ impl<O: Object> DrivenNode<O> {
         }
     }
 
-    /// The join timeout comes.
+    /// Lets the join timeout occur.
     pub fn time(&mut self) -> Result<(), Fault> {
         let outs = self.node.step(Input::Timeout(Kind::Join))?;
         self.count(&outs);
         Ok(())
     }
 
-    /// A frame comes, which is handed over.
+    /// Delivers a frame, which is moved into the node.
     fn deliver(&mut self, bytes: &[u8]) -> Result<(), Fault> {
         let frame = frame_of(self.ample, bytes)?;
         let outs = self.node.step(Input::Frame(frame))?;
@@ -111,7 +109,7 @@ impl<O: Object> DrivenNode<O> {
         Ok(())
     }
 
-    /// A frame comes, which the node copies.
+    /// Delivers a frame, which the node copies.
     fn deliver_on(&mut self, bytes: &[u8]) -> Result<(), Fault> {
         let frame = frame_of(self.ample, bytes)?;
         let mut outs = mem::replace(&mut self.lent, Outs::new(self.ample));
@@ -121,7 +119,7 @@ impl<O: Object> DrivenNode<O> {
         Ok(())
     }
 
-    /// Client 7's call of this number, `add 0 5`, is submitted: the first is handed over, the others the node copies.
+    /// Submits client 7's call of this number, `add 0 5`. The first is moved into the node; the others the node copies.
     pub fn submit(&mut self, number: u64) -> Result<Ticket, Fault> {
         let add = Counters::add(0, 5);
         let call = Call::new(self.ample, 7, number, add.as_slice())?;
@@ -132,7 +130,7 @@ impl<O: Object> DrivenNode<O> {
         }
     }
 
-    /// The token that the node sent last comes.
+    /// Delivers the token that the node sent last.
     pub fn turn(&mut self) -> Result<(), Fault> {
         match self.last {
             Some((number, messages)) => self.deliver(&token(number, messages)),
@@ -140,15 +138,15 @@ impl<O: Object> DrivenNode<O> {
         }
     }
 
-    /// Client 7's call of this number, `add 0 1`, is submitted.
+    /// Submits client 7's call of this number, `add 0 1`.
     pub fn add(&mut self, number: u64) -> Result<Ticket, Fault> {
         let add = Counters::add(0, 1);
         let call = Call::new(self.ample, 7, number, add.as_slice())?;
         self.node.submit(call)
     }
 
-    /// The step of this place in the run, in which the ring is formed, and its token goes round. Each message was sent
-    /// before the token, and is held.
+    /// Does the step at this place of the run, in which the ring is formed and its token circulates.
+    /// Each message was sent before the token, and is held.
     pub fn step(&mut self, place: u8) -> Result<(), Fault> {
         match place {
             0 => self.time(),
@@ -161,12 +159,7 @@ impl<O: Object> DrivenNode<O> {
         }
     }
 
-    /// The answers to two tickets, where they came.
-    pub fn replies(&self, tickets: [Ticket; 2]) -> [Option<Answer>; 2] {
-        [self.node.reply(tickets[0]), self.node.reply(tickets[1])]
-    }
-
-    /// How many calls were committed, and how many answers came.
+    /// Returns the numbers of calls committed and of answers given.
     pub fn told(&self) -> (usize, usize) {
         (self.committed, self.answers)
     }
@@ -176,7 +169,7 @@ impl<O: Object> DrivenNode<O> {
         self.node.state() == State::Stopped
     }
 
-    /// What is seen of the node.
+    /// Returns the node as observed.
     pub fn seen(&self) -> Seen {
         let node = &self.node;
         (

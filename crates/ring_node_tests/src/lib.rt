@@ -1,5 +1,7 @@
-//! What no contract of a node says: a worked run of a ring of one, that each call succeeds where memory is left, that each
-//! request for memory which is refused is answered as such, and that a node may go to another thread.
+//! Tests of nodes beyond their contracts.
+//! Each call succeeds if memory is left, and each refused request for memory is reported as such, in a ring of one that answers and
+//! in one that trims its log. A node may be sent to another thread. What nodes answer is shown by `ring_node_spec_examples` and by
+//! the data of `totem_examples`.
 #![tactic(auto)]
 
 #[cfg(test)]
@@ -7,6 +9,6 @@ mod driven;
 #[cfg(test)]
 mod memory;
 #[cfg(test)]
-mod trimming;
+mod threads;
 #[cfg(test)]
-mod worked;
+mod trimming;

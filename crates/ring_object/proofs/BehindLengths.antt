@@ -1,4 +1,4 @@
--- A text that is appended behind zeros, over which its length is written, stands behind its length.
+-- A text appended after zeros, over which its length is then written, is a length-prefixed text.
 use Rattle.std.proofs.Common.{◌≡◌, ℕ, ◌+◌, ◌-◌, List, [], ◌++◌, length, take, drop, refl, sym, ap, ◌∙◌, arith}
 use Rattle.std.proofs.lemmas.List.{take_rest, take_at, drop_at, drop_all, take_all, length-append, length-drop, append_assoc, append-nil}
 use borrow.Rule.Slice.PartMut.{post_of}
@@ -6,7 +6,7 @@ use Rattle.byteorder.specs.Endian.{big_bytes}
 use Rattle.byteorder.specs.Numbers.{length-bytes_high_first}
 use Rattle.ring_object.specs.Sized.{sized}
 
--- a text that was appended behind zeros, over which its length was written
+-- a text appended after zeros, over which its length was written
 pub patched : (width number start n : ℕ) (old zeros text xs items buf : List ℕ) → xs ≡ (old ++ zeros) ++ text
     → items ≡ xs → start ≡ length old → length zeros ≡ width → number ≡ length text → n ≡ length items →
     buf ≡ big_bytes width number ++ drop width (take (length xs - start) (drop start xs)) →
@@ -36,7 +36,7 @@ patched width number start n old zeros text xs items buf is_xs is_items is_start
     drop_all (length (old ++ (big_bytes width (length text) ++ text))) items (rw (is_items, size) (omega arith)) in
     rw (whole, none, append-nil) (take_all n (old ++ (big_bytes width (length text) ++ text)) (rw (size, is_n, is_items) (omega arith)))
 
--- how long the text behind the zeros is
+-- the length of the text after the zeros
 pub length_behind : (old zeros text : List ℕ) (start len : ℕ) (items : List ℕ) → items ≡ (old ++ zeros) ++ text
     → start ≡ length old → len ≡ length items → len - start - length zeros ≡ length text
 length_behind old zeros text start len items is is_start is_len =

@@ -1,4 +1,4 @@
--- What each operation keeps, a list of them keeps.
+-- A fact that each operation keeps, a list of operations keeps.
 use Rattle.std.proofs.Common.{◌≡◌, refl, ℕ, ◌<◌, List, [], ◌∷◌, ◌++◌, length, take, slice_index_or, All}
 use Rattle.std.proofs.lemmas.List.Elements.{All-head, All-tail, All-take, All-get_or}
 use Rattle.ring_object.specs.Bytes.{AreBytes}
@@ -10,7 +10,7 @@ content_kept P object keeps o [] bytes holds = holds
 content_kept P object keeps o (op ∷ ops) bytes holds =
     content_kept P object keeps (object.next o op) ops (All-tail AreBytes op ops bytes) (keeps o op (All-head AreBytes op ops bytes) holds)
 
--- the reply at each place is one, where each reply to a content is
+-- the reply at each place is a reply, if each reply to a content is one
 pub replied : {O : Type 0} (P : O → Type 0) (object : Sequential O) →
     ((o : O) (op : List ℕ) → AreBytes op → P o → P (object.next o op)) → ((o : O) (op : List ℕ) → AreBytes op → P o → IsReply (object.reply o op)) →
     P object.initial → (ops : List (List ℕ)) (p : ℕ) → All AreBytes ops → p < length ops → IsReply (reply_at object ops p)

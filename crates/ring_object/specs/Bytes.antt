@@ -4,11 +4,11 @@ use Rattle.std.proofs.lemmas.Bool.{cases_lt}
 use Rattle.std.proofs.lemmas.List.{get_or_past}
 use Rattle.std.proofs.lemmas.List.Elements.{All-get_or, All-from_get_or}
 
--- each is a byte
+-- each element is a byte: below 256
 abbrev pub AreBytes : List ℕ → Type 0
 AreBytes bytes = All (λ byte. byte < 256) bytes
 
--- a byte stands at each place, a zero past the end
+-- the element at each place is a byte, with 0 past the end
 pub bytes_everywhere : (bytes : List ℕ) → AreBytes bytes → (i : ℕ) → get_or bytes i 0 < 256
 bytes_everywhere bytes are i =
     elim (cases_lt i (length bytes)) [
@@ -16,6 +16,6 @@ bytes_everywhere bytes are i =
       | inr past ↦ rw (get_or_past bytes i 0 past) (omega arith)
     ]
 
--- what a slice of bytes holds
+-- a list whose elements fit in 8 bits is bytes
 pub AreBytes-fits : (bytes : List ℕ) → ((i : ℕ) → Fits w8 (get_or bytes i 0)) → AreBytes bytes
 AreBytes-fits bytes fits = All-from_get_or (λ byte. byte < 256) bytes 0 (λ i within. omega (arith, fits i))

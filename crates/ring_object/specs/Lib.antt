@@ -1,6 +1,6 @@
 pub mod Bytes
-pub mod Nothing
+pub mod StatelessObject
 pub mod Operations
-pub mod Short
+pub mod ShortBytes
 pub mod Sized
 pub mod Snapshots

@@ -1,7 +1,8 @@
--- A text behind its length, as snapshots lie within another. Snapshots, of docs/FORMATS.md.
+-- Length-prefixed bytes, as a snapshot within another.
+-- Formats: Snapshots
 use Rattle.std.specs.Prelude.{ℕ, List, ◌++◌, length}
 use Rattle.byteorder.specs.Endian.{big_bytes}
 
--- a text behind its length, a number of the width in bytes
+-- the bytes prefixed by their length, a number of `width` bytes
 unfoldable pub sized : ℕ → List ℕ → List ℕ
 sized width text = big_bytes width (length text) ++ text

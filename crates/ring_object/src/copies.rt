@@ -6,8 +6,10 @@ ghost use Rattle.ring_base.specs.declared.fault.Fault.TheVariants.{Memory};
 use crate::object::Object;
 use ring_base::Fault;
 
-/// A copy of the object: what its snapshot is restored to. Refused with `Memory` alone.
-pub fn copied<O: Object>(alloc: O::Alloc, object: &O) -> Result<O, Fault>
+/// Returns a copy of the object with the same content: it is restored from the object's snapshot, in memory of `alloc`.
+/// Errors: `Memory`; `object` is unchanged in any case.
+/// Rules: Objects 3
+pub fn copy_by_snapshot<O: Object>(alloc: O::Alloc, object: &O) -> Result<O, Fault>
     ensures ok { IfOk result (λ copy. copy ≡ object.now) }
     ensures refused { IfErr result (λ fault. fault ≡ Memory) }
 {

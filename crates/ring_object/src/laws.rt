@@ -1,4 +1,5 @@
-//! What every list of operations does to every object.
+//! The effect of a list of operations on any object.
+//! Rules: Objects 1 and 3
 
 ghost use Rattle.std.specs.Prelude.{◌≡◌, ℕ, ◌+◌, ◌^◌, ◌<◌, List, ◌++◌, length, Some, All};
 ghost use Rattle.ring_object.specs.Bytes.{AreBytes};
@@ -6,8 +7,10 @@ ghost use Rattle.ring_object.specs.Operations.{IsReply, content_after, reply_at}
 
 use crate::object::Object;
 
-/// Law, for every object and every list of operations, each any bytes. Each content that is reached is a content, and
-/// its snapshot is restored to it. Each reply has at most 64 bytes, and stays the same as the list grows.
+/// States that, for every object and every list of operations, which are any bytes, the content after the list is a
+/// valid content. A snapshot of this content that has fewer than 2^64 bytes restores it. The reply to each operation of
+/// the list has at most 64 bytes, and further operations don't change it.
+/// Rules: Objects 1 and 3
 pub fn object_law<O: Object>()
     ensures reached { (ops : List (List ℕ)) → All AreBytes ops →
         O.is_content (content_after O.sequential O.sequential.initial ops) }

@@ -1,7 +1,8 @@
-//! Sequential objects: what an object is, what it promises, and what a list of operations makes of it.
+//! Sequential objects: their interface, their laws, and the content that a list of operations leads to.
 //!
-//! An object has one content at the start. An operation, any bytes, gives a reply and the next content, both functions
+//! An object has one start content. An operation, any bytes, gives a reply and the next content; both are functions
 //! of the content and the operation. A snapshot is the content as bytes, from which the same content is restored.
+//! Rules: Objects 1 to 4
 #![tactic(auto)]
 
 mod copies;
@@ -11,9 +12,9 @@ mod object;
 mod short;
 mod sized;
 
-pub use copies::copied;
+pub use copies::copy_by_snapshot;
 pub use laws::object_law;
-pub use nothing::Nothing;
+pub use nothing::StatelessObject;
 pub use object::Object;
-pub use short::{MOST_REPLY, Reply, Short};
+pub use short::{MAX_REPLY, Reply, ShortBytes};
 pub use sized::append_sized;

@@ -1,26 +1,29 @@
-//! The object that keeps nothing.
+//! The object without a state.
+//! Rules: Objects 2
 
 use crate::{Object, Reply};
 use ring_base::Fault;
 use std::alloc::Allocator;
 use std::marker::{Model, PhantomData};
 
-/// No content: an operation changes nothing and is replied the byte `FF`.
+/// An object without a state: every operation changes nothing, and its reply is the byte `FF`.
+/// Its snapshot has no bytes, and any other bytes are refused with `BadSnapshot`. No call takes memory.
+/// Rules: Objects 2 and 3
 #[derive(Drop)]
-pub struct Nothing<A: Allocator + Copy> {
+pub struct StatelessObject<A: Allocator + Copy> {
     home: PhantomData<A>,
 }
 
-impl<A: Allocator + Copy> Model for Nothing<A> {
-    ghost use Rattle.ring_object.specs.Nothing.{Content};
+impl<A: Allocator + Copy> Model for StatelessObject<A> {
+    ghost use Rattle.ring_object.specs.StatelessObject.{Content};
 
     ghost Value = { Content };
 
     ghost view = { λ nothing. tt };
 }
 
-impl<A: Allocator + Copy + Drop> Object for Nothing<A> {
-    ghost use Rattle.ring_object.specs.Nothing.{is_content, is_readable, nothing, ignores, replies, restores};
+impl<A: Allocator + Copy + Drop> Object for StatelessObject<A> {
+    ghost use Rattle.ring_object.specs.StatelessObject.{is_content, is_readable, nothing, ignores, replies, restores};
 
     type Alloc = A;
 
@@ -40,8 +43,8 @@ impl<A: Allocator + Copy + Drop> Object for Nothing<A> {
 
     ghost restores = { restores };
 
-    fn start(_alloc: A) -> Result<Nothing<A>, Fault> {
-        Ok(Nothing { home: PhantomData })
+    fn start(_alloc: A) -> Result<StatelessObject<A>, Fault> {
+        Ok(StatelessObject { home: PhantomData })
     }
 
     fn apply(&mut self, _op: &[u8]) -> Result<Reply, Fault> {
@@ -52,10 +55,10 @@ impl<A: Allocator + Copy + Drop> Object for Nothing<A> {
         Ok(())
     }
 
-    fn restore(_alloc: A, bytes: &[u8]) -> Result<Nothing<A>, Fault> {
+    fn restore(_alloc: A, bytes: &[u8]) -> Result<StatelessObject<A>, Fault> {
         if !bytes.is_empty() {
             return Err(Fault::BadSnapshot);
         }
-        Ok(Nothing { home: PhantomData })
+        Ok(StatelessObject { home: PhantomData })
     }
 }

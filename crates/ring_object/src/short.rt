@@ -1,26 +1,29 @@
-//! Bytes that are kept in place.
+//! Short byte strings, stored inline.
 
 ghost use Rattle.std.specs.Prelude.{◌≡◌, ◌==◌, ◌≤◌, length};
 
 use std::fmt;
 use std::marker::Model;
 
-/// A reply has at most so many bytes.
-pub const MOST_REPLY: usize = 64;
+/// The most bytes of a reply.
+/// Rules: Limits 1
+pub const MAX_REPLY: usize = 64;
 
-/// The reply to an operation: 0 to 64 bytes.
-pub type Reply = Short<MOST_REPLY>;
+/// The reply to an operation: 0 to 64 bytes, stored inline.
+/// Rules: Objects 1
+pub type Reply = ShortBytes<MAX_REPLY>;
 
-/// At most `N` bytes, kept in place: copied and compared without memory.
+/// A string of 0 to `N` bytes, stored inline. Copying and comparing such strings takes no memory. Contracts see the
+/// bytes.
 #[derive(Clone, Copy, PartialEq, Eq)]
-pub struct Short<const N: usize> {
+pub struct ShortBytes<const N: usize> {
     bytes: [u8; N],
     len: usize,
 }
 
-impl<const N: usize> Model for Short<N> {
+impl<const N: usize> Model for ShortBytes<N> {
     ghost use Rattle.std.specs.Prelude.{ℕ, List, length, take};
-    ghost use Rattle.ring_object.specs.Short.{filled, IsFilled};
+    ghost use Rattle.ring_object.specs.ShortBytes.{filled, IsFilled};
 
     ghost Value = { List ℕ };
 
@@ -33,21 +36,21 @@ impl<const N: usize> Model for Short<N> {
     ghost inverse_ok = { λ short is_filled. Prim.rw (is_filled.zeros, is_filled.exact) (λ i. short) };
 }
 
-impl<const N: usize> Short<N> {
-    /// The same bytes, in place.
-    pub fn from_slice(bytes: &[u8]) -> Short<N>
+impl<const N: usize> ShortBytes<N> {
+    /// Returns the string of these bytes. That they are at most `N` is the caller's condition.
+    pub fn from_slice(bytes: &[u8]) -> ShortBytes<N>
         requires { length bytes.now ≤ N }
         ensures { result ≡ bytes.now }
     {
         let mut filled = [0; N];
         filled[..bytes.len()].copy_from_slice(bytes);
-        Short {
+        ShortBytes {
             bytes: filled,
             len: bytes.len(),
         }
     }
 
-    /// How many bytes there are, at most `N`.
+    /// Returns the number of bytes, 0 to `N`.
     pub fn len(&self) -> usize
         ensures value { result ≡ length self.now }
         ensures in_range { result ≤ N }
@@ -55,14 +58,14 @@ impl<const N: usize> Short<N> {
         self.len
     }
 
-    /// Whether there is no byte.
+    /// Returns whether the string has no bytes.
     pub fn is_empty(&self) -> bool
         ensures { result ≡ (length self.now == 0) }
     {
         self.len == 0
     }
 
-    /// The bytes.
+    /// Returns the bytes of the string, 0 to `N`.
     pub fn as_slice(&self) -> &[u8]
         ensures value { result.now ≡ self.now }
         ensures in_range { length result.now ≤ N }
@@ -71,7 +74,7 @@ impl<const N: usize> Short<N> {
     }
 }
 
-impl<const N: usize> fmt::Debug for Short<N> {
+impl<const N: usize> fmt::Debug for ShortBytes<N> {
     fn fmt<W: fmt::Write>(&self, f: &mut fmt::Formatter<W>) -> fmt::Result {
         let bytes = self.as_slice();
         write!(f, "{bytes:?}")

@@ -1,4 +1,5 @@
-//! Snapshots behind their lengths.
+//! Length-prefixed snapshots.
+//! Formats: Snapshots
 
 ghost use Rattle.std.specs.Prelude.{◌≡◌, ◌++◌, IfErr, OnOk, OnErr};
 ghost use Rattle.ring_base.specs.declared.fault.Fault.TheVariants.{Memory};
@@ -8,7 +9,10 @@ use crate::object::Object;
 use byteorder::{BigEndian, ByteOrder};
 use ring_base::Fault;
 
-/// Appends the object's snapshot behind its length, in 8 bytes; or nothing, for want of memory.
+/// Appends the length of the object's snapshot to `out`, in 8 bytes, big-endian, then the snapshot.
+/// The bytes before it stay.
+/// Errors: `Memory`; `out` is then unchanged.
+/// Formats: Snapshots
 pub fn append_sized<O: Object>(object: &O, out: &mut Vec<u8, O::Alloc>) -> Result<(), Fault>
     ensures content { OnOk result (O.is_content object.now) }
     ensures ok { OnOk result (out.new.items ≡ out.old.items ++ sized 8 (O.sequential.snapshot_of object.now)) }

@@ -1,4 +1,4 @@
--- How many answers come as calls are done: each ticket has one at most, and none that had one before.
+-- The number of answers as calls are done: each ticket has at most one, and none if it had one before.
 use Rattle.std.proofs.Common.{◌≡◌, ℕ, suc, ◌+◌, ◌≤◌, ◌<◌, Bool, true, false, ◌==◌, List, [], ◌∷◌, ◌++◌, length}
 use Rattle.std.proofs.Common.{Option, Some, None, is_none, refl, ap, sym, subst, arith, append_assoc, append-nil}
 use Rattle.std.proofs.Common.{if◌then◌else◌}
@@ -11,30 +11,30 @@ use Rattle.ring_payload.specs.declared.call.Call.{Call}
 use Rattle.ring_session.specs.declared.answer.Answer.{Answer}
 use Rattle.ring_session.specs.SessionAnswer.{is_same}
 use Rattle.ring_session.specs.Table.{Table, table_answer, table_next}
-use Rattle.ring_core.specs.declared.input.Input.{Input}
-use Rattle.ring_core.specs.declared.input.Input.TheVariants.{Frame as FrameInput, Timeout as TimeInput}
-use Rattle.ring_core.specs.declared.out.Out.{Out}
-use Rattle.ring_core.specs.Stepping.{ring_step}
-use Rattle.ring_session.specs.declared.answered.Answered.{Answered}
-use Rattle.ring_session.specs.Tickets.{Asked, place_of, unanswered, is_place, answers_at, answers_after}
+use Rattle.ring_core_spec.specs.declared.input.Input.{Input}
+use Rattle.ring_core_spec.specs.declared.input.Input.TheVariants.{Frame as FrameInput, Timeout as TimeInput}
+use Rattle.ring_core_spec.specs.declared.out.Out.{Out}
+use Rattle.ring_core_spec.specs.Stepping.{ring_step}
+use Rattle.ring_session.specs.declared.answered.TicketAnswer.{TicketAnswer}
+use Rattle.ring_session.specs.Tickets.{TicketCall, place_of, unanswered, is_place, answers_at, answers_after}
 use Rattle.ring_session.proofs.TicketPlaces.{first_place-below, last_place, first_place-push}
-use Rattle.ring_rules.specs.declared.input.Input.{Input as NodeInput}
-use Rattle.ring_rules.specs.declared.input.Input.TheVariants.{Frame as NodeFrame, Noise as NodeNoise, Timeout as NodeTime, Stop as NodeStop}
-use Rattle.ring_rules.specs.Lives.{lived_through}
-use Rattle.ring_rules.specs.Nodes.{Node, node_kept, node_pending, is_closed, is_restored}
-use Rattle.ring_rules.specs.Dues.{due_by}
-use Rattle.ring_rules.specs.Stepping.{NodeStepped, with_dropped, newly, drops, table_since, did, settled, walked, after_core, node_step}
-use Rattle.ring_log.specs.Kept.{Kept, kept_of, log_kept, is_kept_sound}
+use Rattle.ring_node_spec.specs.declared.input.Input.{Input as NodeInput}
+use Rattle.ring_node_spec.specs.declared.input.Input.TheVariants.{Frame as NodeFrame, Noise as NodeNoise, Timeout as NodeTime, Stop as NodeStop}
+use Rattle.ring_node_spec.specs.EpochHistories.{epochs_after}
+use Rattle.ring_node_spec.specs.Nodes.{Node, node_known_log, node_pending, is_closed, is_restored}
+use Rattle.ring_node_spec.specs.DueSends.{due_by}
+use Rattle.ring_node_spec.specs.Stepping.{NodeStepResult, with_dropped, newly_committed, drops, table_since, did, settled, node_after_outputs, after_core, node_step}
+use Rattle.ring_log.specs.KnownLog.{KnownLog, known_log_of, retained_log, is_known_log_sound}
 use Rattle.ring_log.specs.Logs.{committed_calls}
 
--- One call more, one ticket
+-- One more call, one ticket
 
--- counted among those that wait
+-- counted among the unanswered tickets
 abbrev counted : Option ℕ → ℕ → ℕ
 counted o n = if is_none o then suc n else n
 
--- answers told before those of the tickets behind, and the tickets that wait then, are at most those that waited
-one_ticket : {A : Type 0} → (n : ℕ) (o last : Option ℕ) (told behind : List (Answered A)) (waits waited : ℕ) → ((p : ℕ) → o ≡ Some p → p < n) →
+-- the answers given before those of the later tickets, and the tickets then unanswered, are at most the tickets unanswered before
+one_ticket : {A : Type 0} → (n : ℕ) (o last : Option ℕ) (told behind : List (TicketAnswer A)) (waits waited : ℕ) → ((p : ℕ) → o ≡ Some p → p < n) →
     ((p : ℕ) → last ≡ Some p → p ≡ n) → length told ≤ 1 → length behind + waits ≤ waited →
     length ((if is_place n (option_or o last) then told else []) ++ behind) + counted (option_or o last) waits ≤ counted o waited
 one_ticket n (Some p) last told behind waits waited below at few h =
@@ -54,18 +54,18 @@ last_is c since at d p e = by_test (nat_le since at && is_same c d) e
     by_test true h = (let x : at ≡ p = cc in sym x)
     by_test false h = absurd (let x : ⊥ = cc in x)
 
-length_if : {A : Type 0} → (o : Option ℕ) (t : Asked A) (ts : List (Asked A)) → length (if is_none o then t ∷ ts else ts) ≡ counted o (length ts)
+length_if : {A : Type 0} → (o : Option ℕ) (t : TicketCall A) (ts : List (TicketCall A)) → length (if is_none o then t ∷ ts else ts) ≡ counted o (length ts)
 length_if None t ts = refl
 length_if (Some p) t ts = refl
 
-few_at : {A : Type 0} → (answer : Answer) (done : List (Call A)) (c : Call A) (ticket : ℕ) (ts : List (Asked A)) →
+few_at : {A : Type 0} → (answer : Answer) (done : List (Call A)) (c : Call A) (ticket : ℕ) (ts : List (TicketCall A)) →
     length (answers_at answer (done ++ c ∷ []) (length done) ticket ts) + length (unanswered (done ++ c ∷ []) ts) ≤ length (unanswered done ts)
 few_at answer done c ticket [] = omega arith
 few_at {A} answer done c ticket (t ∷ ts) =
     let n = length done in
     let o = place_of done t in
     let last = last_place t.call t.since (0 + n) c in
-    let told : List (Answered A) = record { ticket = ticket; call = t.call; answer = answer } ∷ [] in
+    let told : List (TicketAnswer A) = record { ticket = ticket; call = t.call; answer = answer } ∷ [] in
     let behind = answers_at answer (done ++ c ∷ []) n (ticket + 1) ts in
     let waits = length (unanswered (done ++ c ∷ []) ts) in
     let waited = length (unanswered done ts) in
@@ -84,7 +84,7 @@ few_at {A} answer done c ticket (t ∷ ts) =
 module _ {O A : Type 0} (object : Sequential O) where
   -- More calls
 
-  pub few_more : (table : Table O) (tickets : List (Asked A)) (done more : List (Call A)) →
+  pub few_more : (table : Table O) (tickets : List (TicketCall A)) (done more : List (Call A)) →
       length (answers_after object table tickets done more) + length (unanswered (done ++ more) tickets) ≤ length (unanswered done tickets)
   few_more table tickets done [] = (let e = ap (λ calls. length (unanswered calls tickets)) (append-nil done) in omega (arith, e))
   few_more table tickets done (c ∷ more) =
@@ -98,22 +98,22 @@ module _ {O A : Type 0} (object : Sequential O) where
 
   -- A step of a node
 
-  few_if : (b : Bool) (old new : Node A) (outs : List (Out A)) (k : Kept A) → length (settled object b old new outs k).answers ≤ length (node_pending old)
+  few_if : (b : Bool) (old new : Node A) (outs : List (Out A)) (k : KnownLog A) → length (settled object b old new outs k).answers ≤ length (node_pending old)
   few_if false old new outs k = omega arith
   few_if true old new outs k =
-      let more = newly (node_kept old) k in
+      let more = newly_committed (node_known_log old) k in
       let s = did object old new outs k more in
-      let few : length s.answers ≤ length (node_pending old) = omega (arith, few_more (table_since object (node_kept old) k) old.tickets old.done more) in
-      cond_both (drops object (is_closed old.group new.life) k)
-      (record s { node = with_dropped k.committed s.node; dropped = committed_calls (log_kept k) }) s
-      (λ (x : NodeStepped A). length x.answers ≤ length (node_pending old)) (λ t. few) (λ e. few)
+      let few : length s.answers ≤ length (node_pending old) = omega (arith, few_more (table_since object (node_known_log old) k) old.tickets old.done more) in
+      cond_both (drops object (is_closed old.group new.epochs) k)
+      (record s { node = with_dropped k.committed s.node; dropped = committed_calls (retained_log k) }) s
+      (λ (x : NodeStepResult A). length x.answers ≤ length (node_pending old)) (λ t. few) (λ e. few)
 
   few_after : (n : Node A) (input : Input A) → length (after_core object n (ring_step n.core input)).answers ≤ length (node_pending n)
   few_after n input =
       let s = ring_step n.core input in
-      let life = lived_through n.life s.outs in
-      few_if (is_kept_sound n.group life && is_restored object (kept_of n.group life)) n (walked n s.core life (due_by object n s.core n.life s.outs)) s.outs
-      (kept_of n.group life)
+      let epochs = epochs_after n.epochs s.outs in
+      few_if (is_known_log_sound n.group epochs && is_restored object (known_log_of n.group epochs)) n (node_after_outputs n s.core epochs (due_by object n s.core n.epochs s.outs)) s.outs
+      (known_log_of n.group epochs)
 
   pub few_answers : (n : Node A) (input : NodeInput A) → length (node_step object n input).answers ≤ length (node_pending n)
   few_answers n (NodeFrame frame) = few_after n (FrameInput frame)

@@ -1,4 +1,4 @@
--- Each event of a world of nodes, and so every list of them, keeps the discipline of each node, and lets its life go on.
+-- Each event of a world of nodes, and so every list of them, keeps the discipline of each node, and extends its life.
 use Rattle.std.proofs.Common.{◌≡◌, ℕ, ◌<◌, ◌≤◌, Bool, true, false, ◌==◌, inl, inr, List, [], ◌∷◌, Option, Some, None, refl, ap, sym, ◌∙◌, subst, arith}
 use Rattle.std.specs.Prelude.{nat_le, ◌&&◌, if◌then◌else◌}
 use Rattle.std.proofs.lemmas.Bool.{cond_both, eqb-true}
@@ -8,55 +8,55 @@ use Rattle.ring_base.specs.declared.fault.Fault.{Fault}
 use Rattle.ring_object.specs.Operations.{Sequential}
 use Rattle.ring_payload.specs.declared.call.Call.{Call as OneCall}
 use Rattle.ring_wire.specs.declared.frame.Frame.{Frame}
-use Rattle.ring_core.specs.State.{Carried, frame_at}
-use Rattle.ring_log.specs.Stays.{Stay, stay_in, above}
-use Rattle.ring_log.specs.Kept.{kept_of}
-use Rattle.ring_log.specs.Lives.{whole_life}
+use Rattle.ring_core_spec.specs.State.{Transmission, frame_at}
+use Rattle.ring_log.specs.Epochs.{Epoch, epoch_opening, above}
+use Rattle.ring_log.specs.KnownLog.{known_log_of}
+use Rattle.ring_log.specs.EpochHistories.{whole_epochs}
 use Rattle.ring_core_proof.specs.LawWords.{IsFalling}
-use Rattle.ring_rules.specs.declared.input.Input.{Input as NodeInput}
-use Rattle.ring_rules.specs.declared.input.Input.TheVariants.{Frame as NodeFrame, Timeout as NodeTime}
-use Rattle.ring_rules.specs.Nodes.{Node, node_opening}
-use Rattle.ring_rules.specs.Stepping.{submit_fault}
-use Rattle.ring_rules.specs.declared.event.Event.{Event}
-use Rattle.ring_rules.specs.declared.event.Event.TheVariants.{Issue, Deliver, Noise, Timeout, Stop}
-use Rattle.ring_rules.specs.Worlds.{World, put, world_opening, is_node, issued_or, issued_if, stopped_if}
-use Rattle.ring_rules.specs.Worlds.{stepped_if, handed_if, handed, happens, run, lives_in, lives_of}
-use Rattle.ring_log_proof.specs.RingFacts.{IsStay, Rises}
-use Rattle.ring_log_proof.specs.Discipline.{KeepsDiscipline, IsDropping, DropsCommitted, KeepsRules}
-use Rattle.ring_log_proof.specs.Time.{AllMayHappen, LivesOn}
-use Rattle.ring_log_proof.proofs.Living.{on-self, on-trans, events-on, events-orderly}
+use Rattle.ring_node_spec.specs.declared.input.Input.{Input as NodeInput}
+use Rattle.ring_node_spec.specs.declared.input.Input.TheVariants.{Frame as NodeFrame, Timeout as NodeTime}
+use Rattle.ring_node_spec.specs.Nodes.{Node, node_opening}
+use Rattle.ring_node_spec.specs.Stepping.{submit_fault}
+use Rattle.ring_node_spec.specs.declared.event.Event.{Event}
+use Rattle.ring_node_spec.specs.declared.event.Event.TheVariants.{Issue, Deliver, Noise, Timeout, Stop}
+use Rattle.ring_node_spec.specs.Worlds.{World, put, world_opening, is_node, issued_or, issued_if, stopped_if}
+use Rattle.ring_node_spec.specs.Worlds.{stepped_if, handed_if, handed, happens, run, epochs_in, whole_epochs_in}
+use Rattle.ring_log_proof.specs.RingFacts.{HasEpoch, Rises}
+use Rattle.ring_log_proof.specs.Discipline.{KeepsDiscipline, DropsOnlyCommitted, DropsCommitted, KeepsRules}
+use Rattle.ring_log_proof.specs.Time.{AllMayHappen, IsEpochsExtended}
+use Rattle.ring_log_proof.proofs.RunEpochs.{on-self, on-trans, events-on, events-orderly}
 use Rattle.ring_synchrony_proof.proofs.Ordered.{opening_ordered}
-use Rattle.ring_log_proof.proofs.FilledLives.{rules-whole}
-use Rattle.ring_log_proof.proofs.Stays.{seq-same, top-above}
+use Rattle.ring_log_proof.proofs.FilledEpochs.{rules-whole}
+use Rattle.ring_log_proof.proofs.Epochs.{seq-same, top-above}
 use Rattle.ring_order_proof.proofs.DisciplinedNodes.{IsOrderlyNode, Becomes, node_becomes, node_stops, node_submits, rises}
 use Rattle.ring_order_proof.proofs.DisciplinedSteps.{rings_of}
-use Rattle.ring_log_proof.proofs.Living.{IsOrderly}
+use Rattle.ring_log_proof.proofs.RunEpochs.{IsOrderly}
 
--- A node of a group, its life orderly
+-- A node of a group whose life is consistent
 pub record IsNodeKept {A : Type 0} (group : Group) (n : Node A) : Type 0 where
   pub group_is : n.group ≡ group
   pub orderly : IsOrderlyNode n
-  pub keeps : IsOrderly group n.life
+  pub keeps : IsOrderly group n.epochs
 
--- and what it became
+-- the node after an event
 pub record GoesOn {A : Type 0} (group : Group) (n new : Node A) : Type 0 where
   pub kept : IsNodeKept group new
-  pub on : LivesOn n.life new.life
+  pub on : IsEpochsExtended n.epochs new.epochs
 
 goes_on : {A : Type 0} → (group : Group) (n new : Node A) → IsNodeKept group n → Becomes n new → GoesOn group n new
 goes_on {A} group n new k b =
-    let may : AllMayHappen group n.life b.events = subst (λ g. AllMayHappen g n.life b.events) k.group_is b.may in
+    let may : AllMayHappen group n.epochs b.events = subst (λ g. AllMayHappen g n.epochs b.events) k.group_is b.may in
     record {
       kept = record {
         group_is = b.group ∙ k.group_is;
         orderly = b.orderly;
-        keeps = subst (λ (l : List (Stay A)). IsOrderly group l) (sym b.lives) (events-orderly group n.life b.events may k.keeps);
+        keeps = subst (λ (l : List (Epoch A)). IsOrderly group l) (sym b.node_epochs) (events-orderly group n.epochs b.events may k.keeps);
       };
-      on = subst (λ (l : List (Stay A)). LivesOn n.life l) (sym b.lives) (events-on group n.life b.events may);
+      on = subst (λ (l : List (Epoch A)). IsEpochsExtended n.epochs l) (sym b.node_epochs) (events-on group n.epochs b.events may);
     }
 
 same_goes_on : {A : Type 0} → (group : Group) (n : Node A) → IsNodeKept group n → GoesOn group n n
-same_goes_on group n k = record { kept = k; on = on-self n.life }
+same_goes_on group n k = record { kept = k; on = on-self n.epochs }
 
 -- All nodes of a world
 
@@ -101,7 +101,7 @@ module _ {O A : Type 0} (object : Sequential O) (group : Group) (w : World A) (k
   hands_if i frame false = all_same group w k
   hands_if i frame true = steps_on i (NodeFrame frame) (is_node w i)
 
-  hands_on : (i : ℕ) (f : Option (Carried A)) → AllGoOn group w (handed object w i f)
+  hands_on : (i : ℕ) (f : Option (Transmission A)) → AllGoOn group w (handed object w i f)
   hands_on i None = all_same group w k
   hands_on i (Some f) = hands_if i f.frame (has f.to i)
 
@@ -116,7 +116,7 @@ then_on : {A : Type 0} → (group : Group) (a b c : World A) → AllGoOn group a
 then_on group a b c f g =
     record {
       group_is = g.group_is ∙ f.group_is;
-      nodes = λ i. record { kept = (g.nodes i).kept; on = on-trans (a.nodes i).life (b.nodes i).life (c.nodes i).life (f.nodes i).on (g.nodes i).on };
+      nodes = λ i. record { kept = (g.nodes i).kept; on = on-trans (a.nodes i).epochs (b.nodes i).epochs (c.nodes i).epochs (f.nodes i).on (g.nodes i).on };
     }
 
 pub run_on : {O A : Type 0} → (object : Sequential O) (group : Group) (w : World A) → AllKept group w
@@ -134,19 +134,19 @@ opening_kept {A} group me =
     record {
       group_is = refl;
       orderly = record {
-        stay = stay_in (record { seq = 0; rep = me }) (only me);
+        epoch = epoch_opening (record { seq = 0; rep = me }) (only me);
         older = [];
-        life = refl;
-        stands = record { ring = refl; members = refl; marked = omega arith; opened = λ e. absurd (let x : ⊥ = cc in x) };
+        epochs = refl;
+        stands = record { ring = refl; members = refl; marked = omega arith; exchange_opening = λ e. absurd (let x : ⊥ = cc in x) };
         rings = refl;
         ordered = opening_ordered A group.count me;
         ready = refl;
         drops = λ s older i. elim (i) [
-          | inl e ↦ subst (λ (t : Stay A). t.trimmed ≤ (kept_of group (t ∷ older)).committed) e.0 (omega arith)
+          | inl e ↦ subst (λ (t : Epoch A). t.trimmed ≤ (known_log_of group (t ∷ older)).committed) e.0 (omega arith)
           | inr n ↦ absurd n
         ];
       };
-      keeps = λ s older i. elim (i) [ inl e ↦ inl (ap (λ (t : Stay A). t.sent) (sym e.0)) | inr n ↦ absurd n ];
+      keeps = λ s older i. elim (i) [ inl e ↦ inl (ap (λ (t : Epoch A). t.sent) (sym e.0)) | inr n ↦ absurd n ];
     }
 
 pub opened_on : {O A : Type 0} → (object : Sequential O) (group : Group) (events : List (Event A))
@@ -155,63 +155,63 @@ opened_on object group events = run_on object group (world_opening group) (openi
 
 -- The lives of the group's processors, as they know them
 
-pub in_lives : {A : Type 0} → (w : World A) (P : List (Stay A) → Type 0) (p : ℕ) → P (w.nodes p).life → P [] → P (lives_in w p)
-in_lives w P p h none = cond_both (is_node w p) (w.nodes p).life [] P (λ e. h) (λ e. none)
+pub in_lives : {A : Type 0} → (w : World A) (P : List (Epoch A) → Type 0) (p : ℕ) → P (w.nodes p).epochs → P [] → P (epochs_in w p)
+in_lives w P p h none = cond_both (is_node w p) (w.nodes p).epochs [] P (λ e. h) (λ e. none)
 
 pub own_keep : {O A : Type 0} → (object : Sequential O) (group : Group) (events : List (Event A))
-    → KeepsDiscipline group (lives_in (run object (world_opening group) events))
+    → KeepsDiscipline group (epochs_in (run object (world_opening group) events))
 own_keep {O} {A} object group events p =
     let w = run object (world_opening group) events in
-    in_lives w (λ (l : List (Stay A)). IsOrderly group l) p ((opened_on object group events).nodes p).kept.keeps (λ s older i. absurd i)
+    in_lives w (λ (l : List (Epoch A)). IsOrderly group l) p ((opened_on object group events).nodes p).kept.keeps (λ s older i. absurd i)
 
 pub own_drop : {O A : Type 0} → (object : Sequential O) (group : Group) (events : List (Event A))
-    → DropsCommitted group (lives_in (run object (world_opening group) events))
+    → DropsCommitted group (epochs_in (run object (world_opening group) events))
 own_drop {O} {A} object group events p =
     let w = run object (world_opening group) events in
     let k = ((opened_on object group events).nodes p).kept in
-    in_lives w (λ (l : List (Stay A)). IsDropping group l) p (subst (λ g. IsDropping g (w.nodes p).life) k.group_is k.orderly.drops) (λ s older i. absurd i)
+    in_lives w (λ (l : List (Epoch A)). DropsOnlyCommitted group l) p (subst (λ g. DropsOnlyCommitted g (w.nodes p).epochs) k.group_is k.orderly.drops) (λ s older i. absurd i)
 
 -- the numbers of their rings rise
-pub kept_rise : {A : Type 0} → (group : Group) (w : World A) → AllKept group w → (p : ℕ) → Rises (lives_in w p)
+pub kept_rise : {A : Type 0} → (group : Group) (w : World A) → AllKept group w → (p : ℕ) → Rises (epochs_in w p)
 kept_rise {A} group w k p =
     let o = (k p).orderly in
-    in_lives w (λ (l : List (Stay A)). Rises l) p (rises (w.nodes p).life (w.nodes p).core.installs (ap rings_of o.life ∙ o.rings)
+    in_lives w (λ (l : List (Epoch A)). Rises l) p (rises (w.nodes p).epochs (w.nodes p).core.installs (ap rings_of o.epochs ∙ o.rings)
     (subst IsFalling (sym o.ordered.newest) o.ordered.falls)) tt
 
 pub own_on : {O A : Type 0} → (object : Sequential O) (group : Group) (before later : List (Event A)) (i : ℕ) →
-    LivesOn (lives_in (run object (world_opening group) before) i) (lives_in (run object (run object (world_opening group) before) later) i)
+    IsEpochsExtended (epochs_in (run object (world_opening group) before) i) (epochs_in (run object (run object (world_opening group) before) later) i)
 own_on {O} {A} object group before later i =
     let w = run object (world_opening group) before in
     let first = opened_on object group before in
     let more = run_on object group w (λ j. (first.nodes j).kept) later in
     let after = run object w later in
     let same : is_node after i ≡ is_node w i = ap (λ (g : Group). nat_le 1 i && nat_le i g.count) more.group_is in
-    subst (λ b. LivesOn (lives_in w i) (if b then (after.nodes i).life else [])) (sym same)
-    (cond_on (is_node w i) (w.nodes i).life (after.nodes i).life (more.nodes i).on)
+    subst (λ b. IsEpochsExtended (epochs_in w i) (if b then (after.nodes i).epochs else [])) (sym same)
+    (cond_on (is_node w i) (w.nodes i).epochs (after.nodes i).epochs (more.nodes i).on)
   where
-    cond_on : (b : Bool) (x y : List (Stay A)) → LivesOn x y → LivesOn (if b then x else []) (if b then y else [])
+    cond_on : (b : Bool) (x y : List (Epoch A)) → IsEpochsExtended x y → IsEpochsExtended (if b then x else []) (if b then y else [])
     cond_on true x y h = h
     cond_on false x y h = tt
 
 -- the rings below a life's bound
-pub below_above : {A : Type 0} → (life : List (Stay A)) → Rises life → (s : Stay A) (older : List (Stay A)) → IsStay life s older → s.ring.seq < above life
+pub below_above : {A : Type 0} → (epochs : List (Epoch A)) → Rises epochs → (s : Epoch A) (older : List (Epoch A)) → HasEpoch epochs s older → s.ring.seq < above epochs
 below_above [] r s older i = absurd i
 below_above (t ∷ before) r s older (inl e) = omega (arith, seq-same e.0)
 below_above (t ∷ before) r s older (inr i) = omega (arith, top-above t before s older r i)
 
--- With what snapshots stand for
+-- With the places that snapshots stand for
 
 abbrev pub tops : {A : Type 0} → World A → ℕ → ℕ
-tops w p = above (lives_in w p)
+tops w p = above (epochs_in w p)
 
 pub run_group : {O A : Type 0} → (object : Sequential O) (group : Group) (events : List (Event A)) → (run object (world_opening group) events).group ≡ group
 run_group object group events = (opened_on object group events).group_is
 
 pub lives_keep : {O A : Type 0} → (object : Sequential O) (group : Group) (events : List (Event A))
-    → KeepsRules group (lives_of (run object (world_opening group) events))
+    → KeepsRules group (whole_epochs_in (run object (world_opening group) events))
 lives_keep {O} {A} object group events =
     let w = run object (world_opening group) events in
     let same = run_group object group events in
-    let rises : (p : ℕ) → Rises (lives_in w p) = kept_rise group w (λ p. ((opened_on object group events).nodes p).kept) in
-    subst (λ g. KeepsRules group (λ p. whole_life g (lives_in w) (tops w p) p)) (sym same)
-    (rules-whole group (lives_in w) (tops w) (λ p. below_above (lives_in w p) (rises p)) rises (own_keep object group events) (own_drop object group events))
+    let rises : (p : ℕ) → Rises (epochs_in w p) = kept_rise group w (λ p. ((opened_on object group events).nodes p).kept) in
+    subst (λ g. KeepsRules group (λ p. whole_epochs g (epochs_in w) (tops w p) p)) (sym same)
+    (rules-whole group (epochs_in w) (tops w) (λ p. below_above (epochs_in w p) (rises p)) rises (own_keep object group events) (own_drop object group events))

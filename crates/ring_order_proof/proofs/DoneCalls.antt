@@ -1,44 +1,44 @@
--- In every run whose issued calls keep the limits a node has done just the calls that it has committed, but for those that it has by a snapshot.
--- And all answers that it gave are those of the session table before each call that it did, after all places that stand before that in the one
--- list.
+-- In every run whose issued calls keep the limits, a node has done exactly the calls that it has committed, except those that it
+-- has from a snapshot. All answers that it gave are those of the session table before each call that it did, after all earlier
+-- places of the one list.
 use Rattle.std.proofs.Common.{◌≡◌, ℕ, ◌+◌, ◌≤◌, ◌==◌, Bool, true, false, List, [], ◌∷◌, ◌++◌, length}
 use Rattle.std.proofs.Common.{fold, Option, Some, None, inl, inr, refl, ap, sym, ◌∙◌, subst}
 use Rattle.std.proofs.Common.{arith, append_assoc, append-nil, length-append}
 use Rattle.std.specs.List.{AllByRecursion as Each}
 use Rattle.std.proofs.lemmas.Bool.{cond_both, eqb-true}
 use Rattle.std.proofs.lemmas.List.Sums.{fold-append}
-use Rattle.ring_base.specs.Fronts.{front_whole}
+use Rattle.ring_base.specs.Prefixes.{prefix_whole}
 use Rattle.ring_base.specs.Group.{Group}
 use Rattle.ring_base.specs.Processors.{has}
 use Rattle.ring_base.specs.declared.fault.Fault.{Fault}
 use Rattle.ring_base.proofs.Each.{each-append}
 use Rattle.ring_object.specs.Operations.{Sequential}
 use Rattle.ring_payload.specs.declared.call.Call.{Call}
-use Rattle.ring_core.specs.State.{Carried, frame_at}
-use Rattle.ring_log.specs.Kept.{Kept, kept_of}
-use Rattle.ring_log.specs.Lives.{committed_of}
-use Rattle.ring_log.proofs.CommittedOf.{hands-kept}
+use Rattle.ring_core_spec.specs.State.{Transmission, frame_at}
+use Rattle.ring_log.specs.KnownLog.{KnownLog, known_log_of}
+use Rattle.ring_log.specs.EpochHistories.{committed_of}
+use Rattle.ring_log.proofs.CommittedOf.{epochs_with_sends-kept}
 use Rattle.ring_session.specs.Table.{Table, opening, table_next, table_after}
-use Rattle.ring_session.specs.Tickets.{Asked, answers_after}
-use Rattle.ring_session.specs.declared.answered.Answered.{Answered}
+use Rattle.ring_session.specs.Tickets.{TicketCall, answers_after}
+use Rattle.ring_session.specs.declared.answered.TicketAnswer.{TicketAnswer}
 use Rattle.ring_session.proofs.AnswersGrow.{answers_after-push}
-use Rattle.ring_rules.specs.Nodes.{Node, node_kept, node_stopped}
-use Rattle.ring_rules.specs.Stepping.{newly, table_since, node_step, due_by_submit, submit_fault, submitted}
-use Rattle.ring_rules.specs.declared.input.Input.{Input}
-use Rattle.ring_rules.specs.declared.input.Input.TheVariants.{Frame as FrameInput, Timeout as TimeInput}
-use Rattle.ring_rules.specs.declared.event.Event.{Event}
-use Rattle.ring_rules.specs.declared.event.Event.TheVariants.{Issue, Deliver, Noise, Timeout, Stop}
-use Rattle.ring_rules.specs.Worlds.{World, world_opening, put, is_node, issued_or, issued_if, stopped_if, stepped_if, handed_if, handed, happens, run}
+use Rattle.ring_node_spec.specs.Nodes.{Node, node_known_log, node_stopped}
+use Rattle.ring_node_spec.specs.Stepping.{newly_committed, table_since, node_step, due_by_submit, submit_fault, submitted}
+use Rattle.ring_node_spec.specs.declared.input.Input.{Input}
+use Rattle.ring_node_spec.specs.declared.input.Input.TheVariants.{Frame as FrameInput, Timeout as TimeInput}
+use Rattle.ring_node_spec.specs.declared.event.Event.{Event}
+use Rattle.ring_node_spec.specs.declared.event.Event.TheVariants.{Issue, Deliver, Noise, Timeout, Stop}
+use Rattle.ring_node_spec.specs.Worlds.{World, world_opening, put, is_node, issued_or, issued_if, stopped_if, stepped_if, handed_if, handed, happens, run}
 use Rattle.ring_order_proof.specs.Done.{Span, places_in, done_in, answers_in, HasDone}
 use Rattle.ring_order_proof.specs.Linear.{EventKeeps}
-use Rattle.ring_order_proof.specs.Living.{lives_of}
-use Rattle.ring_order_proof.proofs.CommittingSteps.{IsSteady, Moves, StillKnows, step-moves, commits}
+use Rattle.ring_order_proof.specs.RunEpochs.{whole_epochs_in}
+use Rattle.ring_order_proof.proofs.CommittingSteps.{HasSoundEpochs, Moves, StillKnows, step-moves, commits}
 use Rattle.ring_order_proof.proofs.OrderSteps.{AllKnow, whole-grows, still-know}
 use Rattle.ring_order_proof.proofs.OrderedRuns.{steady, know, opening-none}
-use Rattle.ring_order_proof.proofs.Orderly.{run-more, orderly, orderly-after, lives_on}
+use Rattle.ring_order_proof.proofs.ConsistentRuns.{run-more, orderly, orderly-after, lives_on}
 use Rattle.ring_order_proof.proofs.RestoredTables.{ComesBack}
 
--- One span more
+-- One more span
 
 places-more : {A : Type 0} (spans : List (Span A)) (s : Span A) → places_in (spans ++ s ∷ []) ≡ places_in spans ++ (s.restored ++ s.did)
 places-more [] s = append-nil (s.restored ++ s.did)
@@ -53,7 +53,7 @@ module _ {O A : Type 0} (object : Sequential O) where
   abbrev after : Table O → List (Call A) → Table O
   after = fold (table_next object)
 
-  answers-more : (table : Table O) (tickets : List (Asked A)) (done : List (Call A)) (spans : List (Span A)) (s : Span A)
+  answers-more : (table : Table O) (tickets : List (TicketCall A)) (done : List (Call A)) (spans : List (Span A)) (s : Span A)
       → answers_in object table tickets done (spans ++ s ∷ [])
       ≡ answers_in object table tickets done spans
       ++ answers_after object (after (after table (places_in spans)) s.restored) tickets (done ++ done_in spans) s.did
@@ -64,14 +64,14 @@ module _ {O A : Type 0} (object : Sequential O) where
       let first = answers_after object (after table r.restored) tickets done r.did in
       let next = after table (r.restored ++ r.did) in
       let others = answers_in object next tickets (done ++ r.did) rest in
-      let last : Table O → List (Call A) → List (Answered A) = λ t d. answers_after object (after t s.restored) tickets d s.did in
+      let last : Table O → List (Call A) → List (TicketAnswer A) = λ t d. answers_after object (after t s.restored) tickets d s.did in
       ap (λ l. first ++ l) (answers-more next tickets (done ++ r.did) rest s
       ∙ ap (λ t. others ++ last t ((done ++ r.did) ++ done_in rest)) (sym (fold-append (table_next object) table (r.restored ++ r.did) (places_in rest)))
       ∙ ap (λ d. others ++ last (after table (places_in (r ∷ rest))) d) (append_assoc done r.did (done_in rest)))
       ∙ sym (append_assoc first others (last (after table (places_in (r ∷ rest))) (done ++ done_in (r ∷ rest))))
 
   -- a new ticket has no answer yet
-  answers-push : (table : Table O) (ts : List (Asked A)) (t : Asked A) (done : List (Call A)) (spans : List (Span A))
+  answers-push : (table : Table O) (ts : List (TicketCall A)) (t : TicketCall A) (done : List (Call A)) (spans : List (Span A))
       → length done + length (done_in spans) ≤ t.since → answers_in object table (ts ++ t ∷ []) done spans ≡ answers_in object table ts done spans
   answers-push table ts t done [] late = refl
   answers-push table ts t done (s ∷ rest) late =
@@ -85,16 +85,16 @@ module _ {O A : Type 0} (object : Sequential O) where
 
   -- One node
 
-  -- of what a node did, and of what it knows, nothing changed
+  -- nothing changed in what a node did and in its known log
   record IsSame (n new : Node A) : Type 0 where
-    kept : node_kept new ≡ node_kept n
+    kept : node_known_log new ≡ node_known_log n
     done : new.done ≡ n.done
     answers : new.answers ≡ n.answers
     tickets : new.tickets ≡ n.tickets
 
-  same-whole : (n new : Node A) (whole whole' : List (Call A)) → StillKnows object n new whole whole' → node_kept new ≡ node_kept n → whole ≡ whole'
+  same-whole : (n new : Node A) (whole whole' : List (Call A)) → StillKnows object n new whole whole' → node_known_log new ≡ node_known_log n → whole ≡ whole'
   same-whole n new whole whole' g e =
-      front_whole whole whole' g.grows (omega (arith, g.before.committed, g.after.committed, ap (λ (k : Kept A). k.committed) e))
+      prefix_whole whole whole' g.grows (omega (arith, g.before.committed, g.after.committed, ap (λ (k : KnownLog A). k.committed) e))
 
   same-done : (n new : Node A) (whole whole' : List (Call A)) → StillKnows object n new whole whole' → IsSame n new → HasDone object n whole
       → HasDone object new whole'
@@ -105,16 +105,16 @@ module _ {O A : Type 0} (object : Sequential O) where
         places = h.places ∙ same;
         done = h.done ∙ sym s.done;
         answers = ap (λ ts. answers_in object (opening object.initial) ts [] h.spans) s.tickets ∙ h.answers ∙ sym s.answers;
-        all = λ none. s.done ∙ h.all (sym (ap (λ (k : Kept A). k.from) s.kept) ∙ none) ∙ same;
+        all = λ none. s.done ∙ h.all (sym (ap (λ (k : KnownLog A). k.from) s.kept) ∙ none) ∙ same;
       }
 
   moved-done : (n : Node A) (input : Input A) (whole whole' : List (Call A)) → StillKnows object n (node_step object n input).node whole whole'
       → Moves object n (node_step object n input) → HasDone object n whole → HasDone object (node_step object n input).node whole'
   moved-done n input whole whole' g m h =
       let s = node_step object n input in
-      let old = node_kept n in
+      let old = node_known_log n in
       let c = commits object n s.node whole whole' m.known m.goes m.dropped g in
-      let more = newly old m.known in
+      let more = newly_committed old m.known in
       let span : Span A = record { restored = c.grows.0; did = more } in
       let start : Table O = opening object.initial in
       let table : after (after start (places_in h.spans)) c.grows.0 ≡ table_since object old m.known =
@@ -137,13 +137,13 @@ module _ {O A : Type 0} (object : Sequential O) where
             m.done ∙ ap (λ l. l ++ more) (h.all p.1) ∙ ap (λ l. l ++ more) (sym p.0) ∙ c.parts;
       }
 
-  step-done : (n : Node A) (input : Input A) (whole whole' : List (Call A)) → IsSteady n → StillKnows object n (node_step object n input).node whole whole'
+  step-done : (n : Node A) (input : Input A) (whole whole' : List (Call A)) → HasSoundEpochs n → StillKnows object n (node_step object n input).node whole whole'
       → HasDone object n whole → HasDone object (node_step object n input).node whole'
   step-done n input whole whole' k g h =
       let new = (node_step object n input).node in
       elim (step-moves object n input k) as (λ _. HasDone object new whole') [
         | inl r ↦
-            let kept : node_kept new ≡ node_kept n = ap (λ group. kept_of group new.life) r.group ∙ ap (kept_of n.group) r.life in
+            let kept : node_known_log new ≡ node_known_log n = ap (λ group. known_log_of group new.epochs) r.group ∙ ap (known_log_of n.group) r.epochs in
             same-done n new whole whole' g (record { kept = kept; done = r.done; answers = r.given; tickets = r.tickets }) h
         | inr m ↦ moved-done n input whole whole' g m h
       ]
@@ -151,8 +151,8 @@ module _ {O A : Type 0} (object : Sequential O) where
   submit-done : (n : Node A) (c : Call A) (whole whole' : List (Call A)) → StillKnows object n (submitted n c) whole whole' → HasDone object n whole
       → HasDone object (submitted n c) whole'
   submit-done n c whole whole' g h =
-      let t : Asked A = record { call = c; since = length n.done } in
-      let kept : node_kept (submitted n c) ≡ node_kept n = hands-kept n.group (due_by_submit n c) n.life in
+      let t : TicketCall A = record { call = c; since = length n.done } in
+      let kept : node_known_log (submitted n c) ≡ node_known_log n = epochs_with_sends-kept n.group (due_by_submit n c) n.epochs in
       let same = same-whole n (submitted n c) whole whole' g kept in
       let long = ap length h.done in
       record {
@@ -160,22 +160,22 @@ module _ {O A : Type 0} (object : Sequential O) where
         places = h.places ∙ same;
         done = h.done;
         answers = answers-push (opening object.initial) n.tickets t [] h.spans (omega (arith, long)) ∙ h.answers;
-        all = λ none. h.all (sym (ap (λ (k : Kept A). k.from) kept) ∙ none) ∙ same;
+        all = λ none. h.all (sym (ap (λ (k : KnownLog A). k.from) kept) ∙ none) ∙ same;
       }
 
   -- All nodes
 
   module _ (group : Group) where
-    abbrev Whole : World A → ℕ → List (Call A)
-    Whole w i = committed_of group (lives_of w i)
+    abbrev CompleteExchange : World A → ℕ → List (Call A)
+    CompleteExchange w i = committed_of group (whole_epochs_in w i)
 
     abbrev AllDone : World A → Type 0
-    AllDone w = (i : ℕ) → 1 ≤ i → i ≤ group.count → HasDone object (w.nodes i) (Whole w i)
+    AllDone w = (i : ℕ) → 1 ≤ i → i ≤ group.count → HasDone object (w.nodes i) (CompleteExchange w i)
 
     abbrev AllStill : World A → World A → Type 0
-    AllStill w w' = (i : ℕ) → 1 ≤ i → i ≤ group.count → StillKnows object (w.nodes i) (w'.nodes i) (Whole w i) (Whole w' i)
+    AllStill w w' = (i : ℕ) → 1 ≤ i → i ≤ group.count → StillKnows object (w.nodes i) (w'.nodes i) (CompleteExchange w i) (CompleteExchange w' i)
 
-    -- of one node the value is another
+    -- replacing one node's value
     put-done : (nodes : ℕ → Node A) (whole whole' : ℕ → List (Call A)) (i : ℕ) (new : Node A)
         → ((j : ℕ) → 1 ≤ j → j ≤ group.count → StillKnows object (nodes j) (put nodes i new j) (whole j) (whole' j))
         → (StillKnows object (nodes i) new (whole i) (whole' i) → HasDone object (nodes i) (whole i) → HasDone object new (whole' i))
@@ -188,19 +188,19 @@ module _ {O A : Type 0} (object : Sequential O) where
         (λ f k. same-done (nodes j) (nodes j) (whole j) (whole' j) k (record { kept = refl; done = refl; answers = refl; tickets = refl }) (all j low high))
         (still j low high)
 
-    module _ (w : World A) (steady : (i : ℕ) → IsSteady (w.nodes i)) (all : AllDone w) where
+    module _ (w : World A) (steady : (i : ℕ) → HasSoundEpochs (w.nodes i)) (all : AllDone w) where
       steps-done : (b : Bool) (i : ℕ) (input : Input A) → AllStill w (stepped_if object b w i input) → AllDone (stepped_if object b w i input)
       steps-done false i input still = all
       steps-done true i input still =
           let w' = stepped_if object true w i input in
-          put-done w.nodes (Whole w) (Whole w') i (node_step object (w.nodes i) input).node still
-          (step-done (w.nodes i) input (Whole w i) (Whole w' i) (steady i)) all
+          put-done w.nodes (CompleteExchange w) (CompleteExchange w') i (node_step object (w.nodes i) input).node still
+          (step-done (w.nodes i) input (CompleteExchange w i) (CompleteExchange w' i) (steady i)) all
 
       issued-done : (o : Option Fault) (i : ℕ) (c : Call A) → AllStill w (issued_or o w i c) → AllDone (issued_or o w i c)
       issued-done (Some fault) i c still = all
       issued-done None i c still =
           let w' = issued_or None w i c in
-          put-done w.nodes (Whole w) (Whole w') i (submitted (w.nodes i) c) still (submit-done (w.nodes i) c (Whole w i) (Whole w' i)) all
+          put-done w.nodes (CompleteExchange w) (CompleteExchange w') i (submitted (w.nodes i) c) still (submit-done (w.nodes i) c (CompleteExchange w i) (CompleteExchange w' i)) all
 
       issue-done : (b : Bool) (i : ℕ) (c : Call A) → AllStill w (issued_if b w i c) → AllDone (issued_if b w i c)
       issue-done false i c still = all
@@ -210,15 +210,15 @@ module _ {O A : Type 0} (object : Sequential O) where
       stop-done false i still = all
       stop-done true i still =
           let w' = stopped_if true w i in
-          put-done w.nodes (Whole w) (Whole w') i (node_stopped (w.nodes i)) still
-          (λ k h. same-done (w.nodes i) (node_stopped (w.nodes i)) (Whole w i) (Whole w' i) k
+          put-done w.nodes (CompleteExchange w) (CompleteExchange w') i (node_stopped (w.nodes i)) still
+          (λ k h. same-done (w.nodes i) (node_stopped (w.nodes i)) (CompleteExchange w i) (CompleteExchange w' i) k
           (record { kept = refl; done = refl; answers = refl; tickets = refl }) h) all
 
-      frame-done : (b : Bool) (f : Carried A) (i : ℕ) → AllStill w (handed_if object b w i f.frame) → AllDone (handed_if object b w i f.frame)
+      frame-done : (b : Bool) (f : Transmission A) (i : ℕ) → AllStill w (handed_if object b w i f.frame) → AllDone (handed_if object b w i f.frame)
       frame-done false f i still = all
       frame-done true f i still = steps-done (is_node w i) i (FrameInput f.frame) still
 
-      handed-done : (o : Option (Carried A)) (i : ℕ) → AllStill w (handed object w i o) → AllDone (handed object w i o)
+      handed-done : (o : Option (Transmission A)) (i : ℕ) → AllStill w (handed object w i o) → AllDone (handed object w i o)
       handed-done None i still = all
       handed-done (Some f) i still = frame-done (has f.to i) f i still
 

@@ -1,4 +1,5 @@
--- How many places a node has committed, and how many of these calls took effect: as many as the sum of its table's last numbers tells.
+-- The number of places that a node has committed, and of the calls of these that took effect: the sum of the last numbers in its
+-- table.
 use Rattle.std.proofs.Common.{◌≡◌, ℕ, ◌+◌, ◌-◌, ◌^◌, ◌≤◌, ◌==◌, min, Bool, true, false, List, [], ◌∷◌, ◌++◌, length, take, drop, if◌then◌else◌}
 use Rattle.std.proofs.Common.{Some, None, refl, ap, sym, ◌∙◌, arith, append-nil, append_assoc, length-take, length-drop, cond}
 use Rattle.std.specs.BTreeMap.{insert_entry, is_at}
@@ -15,14 +16,14 @@ use Rattle.std.proofs.lemmas.List.Sums.{fold-append}
 use Rattle.std.proofs.lemmas.Map.{lookup-none}
 use Rattle.std.proofs.lemmas.Map.Entries.{none_below_head}
 use Rattle.std.proofs.lemmas.Map.Keys.{sorted_tail}
-use Rattle.ring_base.specs.Fronts.{front_length}
+use Rattle.ring_base.specs.Prefixes.{prefix_length}
 use Rattle.ring_base.specs.Group.{Group}
 use Rattle.ring_base.specs.Numbers.{max_number}
 use Rattle.ring_base.proofs.ListFronts.{take-whole}
 use Rattle.ring_object.specs.Operations.{Sequential}
 use Rattle.ring_payload.specs.declared.call.Call.{Call as OneCall}
-use Rattle.ring_log.specs.Kept.{Kept, kept_of, kept_length}
-use Rattle.ring_log.specs.Lives.{log_of, committed_of}
+use Rattle.ring_log.specs.KnownLog.{KnownLog, known_log_of, known_log_length}
+use Rattle.ring_log.specs.EpochHistories.{log_of, committed_of}
 use Rattle.ring_log_proof.proofs.Moment.{view-at, committed-front}
 use Rattle.ring_session.specs.Deduplicated.{deduplicated}
 use Rattle.ring_session.specs.SessionAnswer.{is_done}
@@ -31,20 +32,20 @@ use Rattle.ring_session.specs.Table.{table_of, table_answer, table_next, table_a
 use Rattle.ring_session.specs.TicketEffects.{done_after, numbers_in, table_effects}
 use Rattle.ring_session.proofs.TableLaws.{table_holds, done-taken}
 use Rattle.ring_session.proofs.TicketEffects.{length-deduplicated, deduplicated_after-few}
-use Rattle.ring_rules.specs.Nodes.{Node, node_kept, effects_at}
-use Rattle.ring_rules.specs.declared.event.Event.{Event}
-use Rattle.ring_rules.specs.Worlds.{World, world_opening, run, lives_of}
+use Rattle.ring_node_spec.specs.Nodes.{Node, node_known_log, effects_at}
+use Rattle.ring_node_spec.specs.declared.event.Event.{Event}
+use Rattle.ring_node_spec.specs.Worlds.{World, world_opening, run, whole_epochs_in}
 use Rattle.ring_order_proof.specs.Counts.{CountsPlaces}
 use Rattle.ring_order_proof.specs.Linear.{EventKeeps}
 use Rattle.ring_order_proof.proofs.IssuedInWorlds.{WorldKnows, opening-knows, run-knows}
-use Rattle.ring_order_proof.proofs.KnownByNodes.{kept-lives}
+use Rattle.ring_order_proof.proofs.KnownByNodes.{kept-node_epochs}
 use Rattle.ring_order_proof.proofs.KnownWhole.{Knows, before-known}
 use Rattle.ring_order_proof.proofs.OrderedRuns.{know}
-use Rattle.ring_order_proof.proofs.Orderly.{orderly}
+use Rattle.ring_order_proof.proofs.ConsistentRuns.{orderly}
 use Rattle.ring_order_proof.proofs.RestoredTables.{ComesBack}
-use Rattle.ring_order_proof.proofs.Undropped.{all-undropping}
+use Rattle.ring_order_proof.proofs.TrimmedRuns.{all-undropping}
 
--- The sum of the last numbers, as one client's call is put in
+-- The sum of the last numbers, with one client's call added
 
 put-step : (e : ℕ × LastCall) (es : List (ℕ × LastCall)) (k : ℕ) (w : LastCall) (o : Ordering)
     → (o ≡ Less → cond (is_eq o) (Some e.1) (lookup (is_at (nat_cmp k)) es) ≡ None)
@@ -66,7 +67,7 @@ least-twice : (most a b c n : ℕ) → a ≡ n → n + b ≡ c → min most (min
 least-twice most a b c n is sum = omega (arith, is, sum)
 
 module _ {O A : Type 0} (object : Sequential O) where
-  -- a call that takes effect is one more
+  -- a call that takes effect adds one
   numbers-next : (table : Table O) (c : OneCall A) → IsStrictlySortedBy nat_cmp (keys_of table.sessions)
       → numbers_in (table_next object table c).sessions ≡ numbers_in table.sessions + (if is_done (table_answer object table c) then 1 else 0)
   numbers-next table c sorted =
@@ -100,7 +101,7 @@ module _ {O A : Type 0} (object : Sequential O) where
       let whole = ap (λ l. numbers_in (table_after object l).sessions) (append_assoc before (c ∷ []) more) in
       omega (arith, one, here, rest, same, whole)
 
-  -- the sum is how many calls of a list took effect
+  -- the sum is the number of a list's calls that took effect
   numbers-deduplicated : (calls : List (OneCall A)) → numbers_in (table_after object calls).sessions ≡ length (deduplicated calls)
   numbers-deduplicated calls =
       let sum = numbers-after [] calls in
@@ -115,8 +116,8 @@ module _ {O A : Type 0} (object : Sequential O) where
       least-twice (2 ^ 64 - 1) (numbers_in (table_after object first).sessions) (done_after object (table_after object first) more)
       (length (deduplicated (first ++ more))) (length (deduplicated first)) (numbers-deduplicated first) (length-deduplicated object first more)
 
-  -- of what a node knows of its log
-  effects-known : (k : Kept A) (log whole : List (OneCall A)) → Knows object k log whole
+  -- of the known log
+  effects-known : (k : KnownLog A) (log whole : List (OneCall A)) → Knows object k log whole
       → effects_at object k k.committed ≡ min (2 ^ 64 - 1) (length (deduplicated whole))
   effects-known k log whole knows =
       let f = k.from in
@@ -136,28 +137,28 @@ module _ {O A : Type 0} (object : Sequential O) (group : Group) (few : group.cou
   abbrev at : List (Event A) → World A
   at events = run object (world_opening group) events
 
-  -- what a node has dropped and keeps is all that it has committed
+  -- the dropped and the kept places are all that a node has committed
   pub places : (events : List (Event A)) (node : ℕ) → 1 ≤ node → node ≤ group.count → CountsPlaces ((at events).nodes node)
   places events node low high =
       let w = at events in
       let o = orderly object group few events in
       let know : WorldKnows group w = run-knows object group (world_opening group) events (opening-knows group) in
-      let view = view-at group (lives_of w) o.members o.text o.facts o.discipline node in
-      let within = front_length (committed_of group (lives_of w node)) (log_of group (lives_of w node))
-      (committed-front group (lives_of w) o.members o.text o.facts o.discipline node) in
-      let own : kept_of group (lives_of w node) ≡ node_kept (w.nodes node) = kept-lives group w know.here node low high (know.groups node) in
-      by (w.nodes node) (kept_of group (lives_of w node)) (log_of group (lives_of w node)) (committed_of group (lives_of w node)) own view.calls view.committed
+      let view = view-at group (whole_epochs_in w) o.members o.text o.facts o.discipline node in
+      let within = prefix_length (committed_of group (whole_epochs_in w node)) (log_of group (whole_epochs_in w node))
+      (committed-front group (whole_epochs_in w) o.members o.text o.facts o.discipline node) in
+      let own : known_log_of group (whole_epochs_in w node) ≡ node_known_log (w.nodes node) = kept-node_epochs group w know.here node low high (know.groups node) in
+      by (w.nodes node) (known_log_of group (whole_epochs_in w node)) (log_of group (whole_epochs_in w node)) (committed_of group (whole_epochs_in w node)) own view.calls view.committed
       view.low view.high within (all-undropping object group events node).short
     where
-      by : (n : Node A) (k : Kept A) (log whole : List (OneCall A)) → k ≡ node_kept n → k.calls ≡ drop k.from log → k.committed ≡ length whole
-          → k.from ≤ k.trimmed → k.trimmed ≤ k.committed → length whole ≤ length log → kept_length (node_kept n) ≤ max_number → CountsPlaces n
+      by : (n : Node A) (k : KnownLog A) (log whole : List (OneCall A)) → k ≡ node_known_log n → k.calls ≡ drop k.from log → k.committed ≡ length whole
+          → k.from ≤ k.trimmed → k.trimmed ≤ k.committed → length whole ≤ length log → known_log_length (node_known_log n) ≤ max_number → CountsPlaces n
       by n k log whole own calls committed low high within short =
           let many : length k.calls ≡ length log - k.from = ap length calls ∙ length-drop k.from log in
-          let c = ap (λ (x : Kept A). x.committed) own in
-          let t = ap (λ (x : Kept A). x.trimmed) own in
-          let f = ap (λ (x : Kept A). x.from) own in
-          let l = ap (λ (x : Kept A). length x.calls) own in
-          let kept = node_kept n in
+          let c = ap (λ (x : KnownLog A). x.committed) own in
+          let t = ap (λ (x : KnownLog A). x.trimmed) own in
+          let f = ap (λ (x : KnownLog A). x.from) own in
+          let l = ap (λ (x : KnownLog A). length x.calls) own in
+          let kept = node_known_log n in
           let undropped = length-drop (kept.trimmed - kept.from) kept.calls in
           let taken = length-take (kept.committed - kept.trimmed) (drop (kept.trimmed - kept.from) kept.calls) in
           record {
@@ -165,20 +166,20 @@ module _ {O A : Type 0} (object : Sequential O) (group : Group) (few : group.cou
             few = omega (arith, many, c, f, l, committed, low, high, within, short);
           }
 
-  -- and what takes effect of it is as many calls as its sessions tell
+  -- the number of calls that take effect in it is what its sessions give
   pub effects : ComesBack object A → (events : List (Event A)) (node : ℕ) → Each EventKeeps events → 1 ≤ node → node ≤ group.count
-      → effects_at object (node_kept ((at events).nodes node)) (node_kept ((at events).nodes node)).committed
-      ≡ length (deduplicated (committed_of group (lives_of (at events) node)))
+      → effects_at object (node_known_log ((at events).nodes node)) (node_known_log ((at events).nodes node)).committed
+      ≡ length (deduplicated (committed_of group (whole_epochs_in (at events) node)))
   effects back events node keeps low high =
       let w = at events in
-      let log = log_of group (lives_of w node) in
-      let whole = committed_of group (lives_of w node) in
+      let log = log_of group (whole_epochs_in w node) in
+      let whole = committed_of group (whole_epochs_in w node) in
       let knows = know object group few back events keeps node low high in
       let most = (places events node low high).few in
       let less = deduplicated_after-few [] whole in
       let long = knows.committed in
       let small : length (deduplicated whole) ≤ 2 ^ 62 = omega (arith, most, less, long) in
-      effects-known object (node_kept (w.nodes node)) log whole knows ∙ least (2 ^ 64 - 1) (length (deduplicated whole)) (omega (arith, small))
+      effects-known object (node_known_log (w.nodes node)) log whole knows ∙ least (2 ^ 64 - 1) (length (deduplicated whole)) (omega (arith, small))
     where
       least : (most n : ℕ) → n ≤ most → min most n ≡ n
       least most n le = omega (arith, le)

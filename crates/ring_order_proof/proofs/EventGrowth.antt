@@ -1,4 +1,4 @@
--- How much one event adds to a world: at most so many frames, items and words told as one step gives.
+-- The size of what one event adds to a world: at most the frames, items and reports of one step.
 use Rattle.std.proofs.Common.{◌≡◌, ℕ, ◌+◌, ◌≤◌, Bool, true, false, List, [], ◌∷◌, ◌++◌, length, Option, Some, None, refl, arith}
 use Rattle.std.specs.List.{AllByRecursion as Each}
 use Rattle.std.proofs.lemmas.List.{length-append, length-map}
@@ -10,18 +10,18 @@ use Rattle.ring_payload.specs.declared.call.Call.{Call}
 use Rattle.ring_session.specs.SessionAnswer.{reply_in}
 use Rattle.ring_wire.specs.Frames.{FrameFits}
 use Rattle.ring_wire.specs.declared.frame.Frame.{Frame}
-use Rattle.ring_core.specs.State.{Sent, Carried, frame_at}
-use Rattle.ring_session.specs.declared.answered.Answered.{Answered}
-use Rattle.ring_rules.specs.declared.input.Input.{Input as NodeInput}
-use Rattle.ring_rules.specs.declared.input.Input.TheVariants.{Frame as NodeFrame, Timeout as NodeTime}
-use Rattle.ring_rules.specs.NodeLimits.{InputFits as NodeInputFits}
-use Rattle.ring_rules.specs.Stepping.{node_step, submit_fault}
-use Rattle.ring_rules.specs.declared.event.Event.{Event}
-use Rattle.ring_rules.specs.declared.event.Event.TheVariants.{Issue, Deliver, Noise, Timeout, Stop}
-use Rattle.ring_rules.specs.declared.told.Told.TheVariants.{Answer as ToldAnswer}
-use Rattle.ring_rules.specs.WorldLimits.{EventFits}
-use Rattle.ring_rules.specs.Worlds.{World, world_opening, carried, replied, items_of, told_by, is_node, issued_or}
-use Rattle.ring_rules.specs.Worlds.{issued_if, stopped_if, stepped_if, handed_if, handed, happens, run}
+use Rattle.ring_core_spec.specs.State.{OutgoingFrame, Transmission, frame_at}
+use Rattle.ring_session.specs.declared.answered.TicketAnswer.{TicketAnswer}
+use Rattle.ring_node_spec.specs.declared.input.Input.{Input as NodeInput}
+use Rattle.ring_node_spec.specs.declared.input.Input.TheVariants.{Frame as NodeFrame, Timeout as NodeTime}
+use Rattle.ring_node_spec.specs.NodeLimits.{InputFits as NodeInputFits}
+use Rattle.ring_node_spec.specs.Stepping.{node_step, submit_fault}
+use Rattle.ring_node_spec.specs.declared.event.Event.{Event}
+use Rattle.ring_node_spec.specs.declared.event.Event.TheVariants.{Issue, Deliver, Noise, Timeout, Stop}
+use Rattle.ring_node_spec.specs.declared.told.Told.TheVariants.{Answer as ToldAnswer}
+use Rattle.ring_node_spec.specs.WorldLimits.{EventFits}
+use Rattle.ring_node_spec.specs.Worlds.{World, world_opening, carried_frames, reply_items, items_of, told_by, is_node, issued_or}
+use Rattle.ring_node_spec.specs.Worlds.{issued_if, stopped_if, stepped_if, handed_if, handed, happens, run}
 use Rattle.ring_order_proof.proofs.SendCounts.{few_sends}
 use Rattle.ring_order_proof.proofs.AnswerCounts.{few_answers}
 use Rattle.ring_order_proof.proofs.PendingTickets.{HasFew, pending_few}
@@ -42,20 +42,20 @@ adds_few xs ys l = omega (arith, length-append xs ys, l)
 same_grows : {A : Type 0} → (w : World A) → GrowsLittle w w
 same_grows w = record { frames = omega arith; history = omega arith; told = omega arith }
 
-one_replied : {A : Type 0} → (c : Call A) (o : Option (List ℕ)) → length (replied c o) ≤ 1
+one_replied : {A : Type 0} → (c : Call A) (o : Option (List ℕ)) → length (reply_items c o) ≤ 1
 one_replied c None = omega arith
 one_replied c (Some r) = omega arith
 
-few_items : {A : Type 0} → (answers : List (Answered A)) → length (items_of answers) ≤ length answers
+few_items : {A : Type 0} → (answers : List (TicketAnswer A)) → length (items_of answers) ≤ length answers
 few_items [] = omega arith
 few_items (a ∷ rest) =
-    omega (arith, length-append (replied a.call (reply_in a.answer)) (items_of rest), one_replied a.call (reply_in a.answer), few_items rest)
+    omega (arith, length-append (reply_items a.call (reply_in a.answer)) (items_of rest), one_replied a.call (reply_in a.answer), few_items rest)
 
-length-carried : {A : Type 0} → (i : ℕ) (sends : List (Sent A)) → length (carried i sends) ≡ length sends
-length-carried {A} i sends = length-map sends (λ (s : Sent A). record { from = i; to = s.to; frame = s.frame })
+length-carried_frames : {A : Type 0} → (i : ℕ) (sends : List (OutgoingFrame A)) → length (carried_frames i sends) ≡ length sends
+length-carried_frames {A} i sends = length-map sends (λ (s : OutgoingFrame A). record { from = i; to = s.to; frame = s.frame })
 
-length-told : {A : Type 0} → (i : ℕ) (answers : List (Answered A)) → length (told_by i answers) ≡ length answers
-length-told {A} i answers = length-map answers (λ (a : Answered A). ToldAnswer i a.call a.answer)
+length-told : {A : Type 0} → (i : ℕ) (answers : List (TicketAnswer A)) → length (told_by i answers) ≡ length answers
+length-told {A} i answers = length-map answers (λ (a : TicketAnswer A). ToldAnswer i a.call a.answer)
 
 module _ {O A : Type 0} (object : Sequential O) (w : World A) (few : (i : ℕ) → HasFew (w.nodes i)) where
   step_grows : (i : ℕ) (input : NodeInput A) (b : Bool) → NodeInputFits input → GrowsLittle w (stepped_if object b w i input)
@@ -64,7 +64,7 @@ module _ {O A : Type 0} (object : Sequential O) (w : World A) (few : (i : ℕ) �
       let s = node_step object (w.nodes i) input in
       let answers : length s.answers ≤ 64 = omega (arith, few_answers object (w.nodes i) input, few i) in
       record {
-        frames = adds_few w.frames (carried i s.sends) (omega (arith, length-carried i s.sends, few_sends object (w.nodes i) input h));
+        frames = adds_few w.frames (carried_frames i s.sends) (omega (arith, length-carried_frames i s.sends, few_sends object (w.nodes i) input h));
         history = adds_few w.history (items_of s.answers) (omega (arith, few_items s.answers, answers));
         told = adds_few w.told (told_by i s.answers) (omega (arith, length-told i s.answers, answers));
       }
@@ -85,11 +85,11 @@ module _ {O A : Type 0} (object : Sequential O) (w : World A) (few : (i : ℕ) �
   frame_grows i frame false h = same_grows w
   frame_grows i frame true h = step_grows i (NodeFrame frame) (is_node w i) h
 
-  hand_grows : (i k : ℕ) (o : Option (Carried A)) → ((f : Carried A) → o ≡ Some f → FrameFits f.frame) → GrowsLittle w (handed object w i o)
+  hand_grows : (i k : ℕ) (o : Option (Transmission A)) → ((f : Transmission A) → o ≡ Some f → FrameFits f.frame) → GrowsLittle w (handed object w i o)
   hand_grows i k None h = same_grows w
   hand_grows i k (Some g) h = frame_grows i g.frame (has g.to i) (h g refl)
 
-  event_grows : (e : Event A) → ((number : ℕ) (f : Carried A) → frame_at w.frames number ≡ Some f → FrameFits f.frame) → GrowsLittle w (happens object w e)
+  event_grows : (e : Event A) → ((number : ℕ) (f : Transmission A) → frame_at w.frames number ≡ Some f → FrameFits f.frame) → GrowsLittle w (happens object w e)
   event_grows (Issue i c) h = issued_grows i c (is_node w i)
   event_grows (Deliver i k) h = hand_grows i k (frame_at w.frames k) (h k)
   event_grows (Noise i bytes) h = same_grows w

@@ -1,43 +1,43 @@
--- In every run each ticket's call was issued, and so was each call handed over; and each node has the world's group.
+-- In every run each ticket's call was issued, and so was each call handed over; each node has the world's group.
 use Rattle.std.proofs.Common.{◌≡◌, ℕ, suc, zero, ◌==◌, ◌&&◌, Bool, true, false, List, [], ◌∷◌, ◌++◌, Option, Some, None, refl, subst, ◌∙◌, inl, inr}
 use Rattle.std.proofs.lemmas.Bool.{cond_both}
-use Rattle.ring_base.specs.Fronts.{front_get, front_append}
+use Rattle.ring_base.specs.Prefixes.{prefix_get, prefix_append}
 use Rattle.ring_base.specs.Group.{Group}
 use Rattle.ring_base.specs.Processors.{has}
 use Rattle.ring_base.specs.declared.fault.Fault.{Fault}
 use Rattle.ring_object.specs.Operations.{Sequential}
 use Rattle.ring_payload.specs.declared.call.Call.{Call}
-use Rattle.ring_core.specs.State.{Carried, Stepped, frame_at}
-use Rattle.ring_core.specs.Stepping.{ring_step}
-use Rattle.ring_core.specs.declared.input.Input.TheVariants.{Frame as CoreFrame, Timeout as CoreTimeout}
-use Rattle.ring_core.specs.declared.out.Out.{Out}
-use Rattle.ring_log.specs.Kept.{Kept, kept_of, log_kept, is_kept_sound}
+use Rattle.ring_core_spec.specs.State.{Transmission, StepResult, frame_at}
+use Rattle.ring_core_spec.specs.Stepping.{ring_step}
+use Rattle.ring_core_spec.specs.declared.input.Input.TheVariants.{Frame as CoreFrame, Timeout as CoreTimeout}
+use Rattle.ring_core_spec.specs.declared.out.Out.{Out}
+use Rattle.ring_log.specs.KnownLog.{KnownLog, known_log_of, retained_log, is_known_log_sound}
 use Rattle.ring_log.specs.Logs.{committed_calls}
-use Rattle.ring_log.specs.Stays.{Stay, born}
-use Rattle.ring_rules.specs.Lives.{lived_through}
-use Rattle.ring_rules.specs.Nodes.{Node, node_kept, node_stopped, is_closed, is_restored}
-use Rattle.ring_rules.specs.Dues.{due_by}
-use Rattle.ring_rules.specs.declared.input.Input.{Input}
-use Rattle.ring_rules.specs.declared.input.Input.TheVariants.{Frame as FrameInput, Noise as NoiseInput, Timeout as TimeInput, Stop as StopInput}
-use Rattle.ring_rules.specs.Stepping.{NodeStepped, walked, with_dropped, newly, drops, did, settled, after_core, node_step, submit_fault, submitted}
-use Rattle.ring_rules.specs.declared.event.Event.{Event}
-use Rattle.ring_rules.specs.declared.event.Event.TheVariants.{Issue, Deliver, Noise, Timeout, Stop}
-use Rattle.ring_rules.specs.declared.item.Item.{Item}
-use Rattle.ring_rules.specs.declared.item.Item.TheVariants.{Issue as IssuedItem}
-use Rattle.ring_rules.specs.declared.told.Told.{Told}
-use Rattle.ring_rules.specs.Histories.{IsIssuedAt}
-use Rattle.ring_rules.specs.Worlds.{World, world_opening, put, is_node, items_of, after_step, issued_or, issued_if}
-use Rattle.ring_rules.specs.Worlds.{stopped_if, stepped_if, handed_if, handed, happens, run}
-use Rattle.ring_log_proof.specs.RingFacts.{IsStay}
+use Rattle.ring_log.specs.Epochs.{Epoch, epochs_opening}
+use Rattle.ring_node_spec.specs.EpochHistories.{epochs_after}
+use Rattle.ring_node_spec.specs.Nodes.{Node, node_known_log, node_stopped, is_closed, is_restored}
+use Rattle.ring_node_spec.specs.DueSends.{due_by}
+use Rattle.ring_node_spec.specs.declared.input.Input.{Input}
+use Rattle.ring_node_spec.specs.declared.input.Input.TheVariants.{Frame as FrameInput, Noise as NoiseInput, Timeout as TimeInput, Stop as StopInput}
+use Rattle.ring_node_spec.specs.Stepping.{NodeStepResult, node_after_outputs, with_dropped, newly_committed, drops, did, settled, after_core, node_step, submit_fault, submitted}
+use Rattle.ring_node_spec.specs.declared.event.Event.{Event}
+use Rattle.ring_node_spec.specs.declared.event.Event.TheVariants.{Issue, Deliver, Noise, Timeout, Stop}
+use Rattle.ring_node_spec.specs.declared.item.Item.{Item}
+use Rattle.ring_node_spec.specs.declared.item.Item.TheVariants.{Issue as IssuedItem}
+use Rattle.ring_node_spec.specs.declared.told.Told.{Told}
+use Rattle.ring_node_spec.specs.Histories.{IsIssuedAt}
+use Rattle.ring_node_spec.specs.Worlds.{World, world_opening, put, is_node, items_of, after_step, issued_or, issued_if}
+use Rattle.ring_node_spec.specs.Worlds.{stopped_if, stepped_if, handed_if, handed, happens, run}
+use Rattle.ring_log_proof.specs.RingFacts.{HasEpoch}
 use Rattle.ring_log_proof.specs.Time.{IsKnownCall}
 use Rattle.std.specs.List.{AllByRecursion as Each}
-use Rattle.ring_order_proof.proofs.HandedTickets.{NodeKnows, step-known, submitted-known, stopped-known, knows-more}
+use Rattle.ring_order_proof.proofs.SentTickets.{NodeKnows, step-known, submitted-known, stopped-known, knows-more}
 
 abbrev pub IssuedIn : {A : Type 0} → List (Item A) → Call A → Type 0
 IssuedIn history c = (k : ℕ) × IsIssuedAt history c k
 
 pub issued-more : {A : Type 0} (history items : List (Item A)) (c : Call A) → IssuedIn history c → IssuedIn (history ++ items) c
-issued-more history items c i = (i.0, front_get history (history ++ items) i.0 (IssuedItem c) (front_append history items) i.1)
+issued-more history items c i = (i.0, prefix_get history (history ++ items) i.0 (IssuedItem c) (prefix_append history items) i.1)
 
 issued-last : {A : Type 0} (history : List (Item A)) (c : Call A) → IssuedIn (history ++ IssuedItem c ∷ []) c
 issued-last [] c = (zero, refl)
@@ -49,20 +49,20 @@ pub record WorldKnows {A : Type 0} (group : Group) (w : World A) : Type 0 where
   pub knows : (i : ℕ) → NodeKnows (IssuedIn w.history) (w.nodes i)
 
 module _ {O A : Type 0} (object : Sequential O) where
-  settled-group : (b : Bool) (old new : Node A) (outs : List (Out A)) (k : Kept A) → new.group ≡ old.group
+  settled-group : (b : Bool) (old new : Node A) (outs : List (Out A)) (k : KnownLog A) → new.group ≡ old.group
       → (settled object b old new outs k).node.group ≡ old.group
   settled-group false old new outs k e = refl
   settled-group true old new outs k e =
-      let s = did object old new outs k (newly (node_kept old) k) in
-      cond_both (drops object (is_closed old.group new.life) k) (record s { node = with_dropped k.committed s.node; dropped = committed_calls (log_kept k) }) s
-      (λ (x : NodeStepped A). x.node.group ≡ old.group) (λ t. e) (λ f. e)
+      let s = did object old new outs k (newly_committed (node_known_log old) k) in
+      cond_both (drops object (is_closed old.group new.epochs) k) (record s { node = with_dropped k.committed s.node; dropped = committed_calls (retained_log k) }) s
+      (λ (x : NodeStepResult A). x.node.group ≡ old.group) (λ t. e) (λ f. e)
 
-  core-group : (n : Node A) (s : Stepped A) → (after_core object n s).node.group ≡ n.group
+  core-group : (n : Node A) (s : StepResult A) → (after_core object n s).node.group ≡ n.group
   core-group n s =
-      let life = lived_through n.life s.outs in
-      settled-group (is_kept_sound n.group life && is_restored object (kept_of n.group life)) n
-      (walked n s.core life (due_by object n s.core n.life s.outs)) s.outs
-      (kept_of n.group life) refl
+      let epochs = epochs_after n.epochs s.outs in
+      settled-group (is_known_log_sound n.group epochs && is_restored object (known_log_of n.group epochs)) n
+      (node_after_outputs n s.core epochs (due_by object n s.core n.epochs s.outs)) s.outs
+      (known_log_of n.group epochs) refl
 
   step-group : (n : Node A) (input : Input A) → (node_step object n input).node.group ≡ n.group
   step-group n (FrameInput frame) = core-group n (ring_step n.core (CoreFrame frame))
@@ -71,7 +71,7 @@ module _ {O A : Type 0} (object : Sequential O) where
   step-group n StopInput = refl
 
   -- one node changes, and the history may grow
-  put-knows : (group : Group) (w : World A) (i : ℕ) (n : Node A) (frames : List (Carried A)) (history : List (Item A)) (told : List (Told A))
+  put-knows : (group : Group) (w : World A) (i : ℕ) (n : Node A) (frames : List (Transmission A)) (history : List (Item A)) (told : List (Told A))
       (longest : List (Call A))
       → WorldKnows group w
       → ((c : Call A) → IssuedIn w.history c → IssuedIn history c) → n.group ≡ group → NodeKnows (IssuedIn history) n
@@ -101,7 +101,7 @@ module _ {O A : Type 0} (object : Sequential O) where
       put-knows group w i (submitted (w.nodes i) c) w.frames now w.told w.longest k more (k.groups i)
       (submitted-known (IssuedIn now) (w.nodes i) c (issued-last w.history c) (knows-more (IssuedIn w.history) (IssuedIn now) more (w.nodes i) (k.knows i)))
 
-  frame-knows : (group : Group) (w : World A) (o : Option (Carried A)) (i : ℕ) → WorldKnows group w → WorldKnows group (handed object w i o)
+  frame-knows : (group : Group) (w : World A) (o : Option (Transmission A)) (i : ℕ) → WorldKnows group w → WorldKnows group (handed object w i o)
   frame-knows group w None i k = k
   frame-knows group w (Some f) i k = go (has f.to i)
     where
@@ -132,6 +132,6 @@ module _ {O A : Type 0} (object : Sequential O) where
 pub opening-knows : {A : Type 0} (group : Group) → WorldKnows {A = A} group (world_opening group)
 opening-knows {A} group = record { here = refl; groups = λ i. refl; knows = λ i. record { tickets = tt; sent = λ s older h. silent i s older h } }
   where
-    silent : (i : ℕ) (s : Stay A) (older : List (Stay A)) → IsStay (born i) s older → Each (IsKnownCall (IssuedIn {A = A} [])) s.sent
-    silent i s older (inl e) = subst (λ (t : Stay A). Each (IsKnownCall (IssuedIn {A = A} [])) t.sent) e.0 tt
+    silent : (i : ℕ) (s : Epoch A) (older : List (Epoch A)) → HasEpoch (epochs_opening i) s older → Each (IsKnownCall (IssuedIn {A = A} [])) s.sent
+    silent i s older (inl e) = subst (λ (t : Epoch A). Each (IsKnownCall (IssuedIn {A = A} [])) t.sent) e.0 tt
     silent i s older (inr e) = absurd e

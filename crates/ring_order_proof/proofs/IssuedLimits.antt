@@ -1,4 +1,4 @@
--- In every run whose issued calls keep the limits each call that was issued does, and so each that a node hands over.
+-- In every run whose issued calls keep the limits, so does each call that a node hands over.
 use Rattle.std.proofs.Common.{ℕ, Bool, true, false, List, [], ◌∷◌, Option, Some, None}
 use Rattle.std.specs.List.{AllByRecursion as Each}
 use Rattle.ring_base.specs.Processors.{has}
@@ -6,18 +6,18 @@ use Rattle.ring_base.specs.declared.fault.Fault.{Fault}
 use Rattle.ring_base.proofs.Each.{each-append, each-get}
 use Rattle.ring_object.specs.Operations.{Sequential}
 use Rattle.ring_payload.specs.declared.call.Call.{Call}
-use Rattle.ring_core.specs.State.{Carried, frame_at}
+use Rattle.ring_core_spec.specs.State.{Transmission, frame_at}
 use Rattle.ring_session.specs.Snapshots.{KeepsLimits}
 use Rattle.ring_session.specs.SessionAnswer.{reply_in}
-use Rattle.ring_session.specs.declared.answered.Answered.{Answered}
-use Rattle.ring_rules.specs.declared.input.Input.{Input}
-use Rattle.ring_rules.specs.declared.input.Input.TheVariants.{Frame as FrameInput, Timeout as TimeInput}
-use Rattle.ring_rules.specs.Stepping.{node_step, submit_fault}
-use Rattle.ring_rules.specs.declared.event.Event.{Event}
-use Rattle.ring_rules.specs.declared.event.Event.TheVariants.{Issue, Deliver, Noise, Timeout, Stop}
-use Rattle.ring_rules.specs.declared.item.Item.{Item}
-use Rattle.ring_rules.specs.declared.item.Item.TheVariants.{Issue as IssuedItem, Reply as ReplyItem}
-use Rattle.ring_rules.specs.Worlds.{World, is_node, replied, items_of, issued_or, issued_if, stopped_if, stepped_if, handed_if, handed, happens, run}
+use Rattle.ring_session.specs.declared.answered.TicketAnswer.{TicketAnswer}
+use Rattle.ring_node_spec.specs.declared.input.Input.{Input}
+use Rattle.ring_node_spec.specs.declared.input.Input.TheVariants.{Frame as FrameInput, Timeout as TimeInput}
+use Rattle.ring_node_spec.specs.Stepping.{node_step, submit_fault}
+use Rattle.ring_node_spec.specs.declared.event.Event.{Event}
+use Rattle.ring_node_spec.specs.declared.event.Event.TheVariants.{Issue, Deliver, Noise, Timeout, Stop}
+use Rattle.ring_node_spec.specs.declared.item.Item.{Item}
+use Rattle.ring_node_spec.specs.declared.item.Item.TheVariants.{Issue as IssuedItem, Reply as ReplyItem}
+use Rattle.ring_node_spec.specs.Worlds.{World, is_node, reply_items, items_of, issued_or, issued_if, stopped_if, stepped_if, handed_if, handed, happens, run}
 use Rattle.ring_order_proof.specs.Linear.{EventKeeps}
 use Rattle.ring_order_proof.proofs.IssuedInWorlds.{IssuedIn}
 
@@ -28,13 +28,13 @@ ItemKeeps (ReplyItem c r) = Unit {0}
 abbrev pub HistoryKeeps : {A : Type 0} → World A → Type 0
 HistoryKeeps w = Each ItemKeeps w.history
 
-replied-keeps : {A : Type 0} (c : Call A) (o : Option (List ℕ)) → Each ItemKeeps (replied c o)
-replied-keeps c None = tt
-replied-keeps c (Some r) = (tt, tt)
+reply_items-keeps : {A : Type 0} (c : Call A) (o : Option (List ℕ)) → Each ItemKeeps (reply_items c o)
+reply_items-keeps c None = tt
+reply_items-keeps c (Some r) = (tt, tt)
 
-items-keep : {A : Type 0} (answers : List (Answered A)) → Each ItemKeeps (items_of answers)
+items-keep : {A : Type 0} (answers : List (TicketAnswer A)) → Each ItemKeeps (items_of answers)
 items-keep [] = tt
-items-keep (a ∷ rest) = each-append ItemKeeps (replied a.call (reply_in a.answer)) (items_of rest) (replied-keeps a.call (reply_in a.answer)) (items-keep rest)
+items-keep (a ∷ rest) = each-append ItemKeeps (reply_items a.call (reply_in a.answer)) (items_of rest) (reply_items-keeps a.call (reply_in a.answer)) (items-keep rest)
 
 module _ {O A : Type 0} (object : Sequential O) where
   stepped-keeps : (w : World A) (b : Bool) (i : ℕ) (input : Input A) → HistoryKeeps w → HistoryKeeps (stepped_if object b w i input)
@@ -55,11 +55,11 @@ module _ {O A : Type 0} (object : Sequential O) where
   stop-keeps w false i h = h
   stop-keeps w true i h = h
 
-  frame-keeps : (w : World A) (b : Bool) (f : Carried A) (i : ℕ) → HistoryKeeps w → HistoryKeeps (handed_if object b w i f.frame)
+  frame-keeps : (w : World A) (b : Bool) (f : Transmission A) (i : ℕ) → HistoryKeeps w → HistoryKeeps (handed_if object b w i f.frame)
   frame-keeps w false f i h = h
   frame-keeps w true f i h = stepped-keeps w (is_node w i) i (FrameInput f.frame) h
 
-  handed-keeps : (w : World A) (o : Option (Carried A)) (i : ℕ) → HistoryKeeps w → HistoryKeeps (handed object w i o)
+  handed-keeps : (w : World A) (o : Option (Transmission A)) (i : ℕ) → HistoryKeeps w → HistoryKeeps (handed object w i o)
   handed-keeps w None i h = h
   handed-keeps w (Some f) i h = frame-keeps w (has f.to i) f i h
 
@@ -74,6 +74,6 @@ module _ {O A : Type 0} (object : Sequential O) where
   run-keeps w [] k h = h
   run-keeps w (e ∷ events) k h = run-keeps (happens object w e) events k.1 (event-keeps w e k.0 h)
 
--- an issued call is one of them
+-- an issued call is one of those issued by the events
 pub issued-limits : {A : Type 0} (w : World A) → HistoryKeeps w → (c : Call A) → IssuedIn w.history c → KeepsLimits c
 issued-limits w h c i = each-get ItemKeeps w.history i.0 (IssuedItem c) h i.1

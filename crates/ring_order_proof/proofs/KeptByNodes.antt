@@ -1,4 +1,5 @@
--- What each node has at the opening, and keeps in each step, submit and stop, each node has in every run. In a step and a submit its life goes on.
+-- A property that each node has at the opening, and keeps in each step, submit and stop, holds of each node in every run. In a
+-- step and a submit its life is extended.
 use Rattle.std.proofs.Common.{◌≡◌, ℕ, Bool, true, false, ◌==◌, List, [], ◌∷◌, Option, Some, None, refl, subst}
 use Rattle.std.proofs.lemmas.Bool.{cond_both, eqb-true}
 use Rattle.ring_base.specs.Group.{Group}
@@ -7,33 +8,33 @@ use Rattle.ring_base.specs.declared.fault.Fault.{Fault}
 use Rattle.ring_object.specs.Operations.{Sequential}
 use Rattle.ring_payload.specs.declared.call.Call.{Call}
 use Rattle.ring_wire.specs.declared.frame.Frame.{Frame}
-use Rattle.ring_core.specs.State.{Carried, frame_at}
-use Rattle.ring_rules.specs.declared.input.Input.{Input as NodeInput}
-use Rattle.ring_rules.specs.declared.input.Input.TheVariants.{Frame as NodeFrame, Timeout as NodeTime}
-use Rattle.ring_rules.specs.Nodes.{Node, node_opening, node_stopped}
-use Rattle.ring_rules.specs.Stepping.{node_step, submit_fault, submitted}
-use Rattle.ring_rules.specs.declared.event.Event.{Event}
-use Rattle.ring_rules.specs.declared.event.Event.TheVariants.{Issue, Deliver, Noise, Timeout, Stop}
-use Rattle.ring_rules.specs.Worlds.{World, put, world_opening, is_node, issued_or, issued_if, stopped_if}
-use Rattle.ring_rules.specs.Worlds.{stepped_if, handed_if, handed, happens, run}
-use Rattle.ring_log_proof.specs.Time.{LivesOn}
+use Rattle.ring_core_spec.specs.State.{Transmission, frame_at}
+use Rattle.ring_node_spec.specs.declared.input.Input.{Input as NodeInput}
+use Rattle.ring_node_spec.specs.declared.input.Input.TheVariants.{Frame as NodeFrame, Timeout as NodeTime}
+use Rattle.ring_node_spec.specs.Nodes.{Node, node_opening, node_stopped}
+use Rattle.ring_node_spec.specs.Stepping.{node_step, submit_fault, submitted}
+use Rattle.ring_node_spec.specs.declared.event.Event.{Event}
+use Rattle.ring_node_spec.specs.declared.event.Event.TheVariants.{Issue, Deliver, Noise, Timeout, Stop}
+use Rattle.ring_node_spec.specs.Worlds.{World, put, world_opening, is_node, issued_or, issued_if, stopped_if}
+use Rattle.ring_node_spec.specs.Worlds.{stepped_if, handed_if, handed, happens, run}
+use Rattle.ring_log_proof.specs.Time.{IsEpochsExtended}
 use Rattle.ring_order_proof.proofs.DisciplinedNodes.{IsOrderlyNode}
 use Rattle.ring_order_proof.proofs.DisciplinedWorlds.{AllKept, run_on, opened_on}
 
 abbrev AllOn : {A : Type 0} → World A → World A → Type 0
-AllOn w after = (i : ℕ) → LivesOn (w.nodes i).life (after.nodes i).life
+AllOn w after = (i : ℕ) → IsEpochsExtended (w.nodes i).epochs (after.nodes i).epochs
 
--- each keeps it, as its life goes on
+-- each node keeps it, as its life is extended
 pub record IsKept {O A : Type 0} (object : Sequential O) (Has : Node A → Type 0) : Type 0 where
   pub opens : (group : Group) (me : ℕ) → Has (node_opening group me)
-  pub steps : (n : Node A) (input : NodeInput A) → LivesOn n.life (node_step object n input).node.life → Has n → Has (node_step object n input).node
+  pub steps : (n : Node A) (input : NodeInput A) → IsEpochsExtended n.epochs (node_step object n input).node.epochs → Has n → Has (node_step object n input).node
   pub submits : (n : Node A) (c : Call A) → submit_fault n ≡ None → Has n → Has (submitted n c)
   pub stops : (n : Node A) → Has n → Has (node_stopped n)
 
--- so where a node that steps is an orderly one
+-- so if a node that steps is consistent
 pub record IsKeptOrderly {O A : Type 0} (object : Sequential O) (Has : Node A → Type 0) : Type 0 where
   pub opens : (group : Group) (me : ℕ) → Has (node_opening group me)
-  pub steps : (n : Node A) (input : NodeInput A) → IsOrderlyNode n → LivesOn n.life (node_step object n input).node.life → Has n
+  pub steps : (n : Node A) (input : NodeInput A) → IsOrderlyNode n → IsEpochsExtended n.epochs (node_step object n input).node.epochs → Has n
       → Has (node_step object n input).node
   pub submits : (n : Node A) (c : Call A) → submit_fault n ≡ None → Has n → Has (submitted n c)
   pub stops : (n : Node A) → Has n → Has (node_stopped n)
@@ -42,11 +43,11 @@ module _ {O A : Type 0} (object : Sequential O) (Has : Node A → Type 0) (kept 
   abbrev AllHave : World A → Type 0
   AllHave w = (i : ℕ) → Has (w.nodes i)
 
-  put_has : (nodes : ℕ → Node A) (i : ℕ) (n : Node A) → (LivesOn (nodes i).life n.life → Has n) → ((j : ℕ) → LivesOn (nodes j).life (put nodes i n j).life)
+  put_has : (nodes : ℕ → Node A) (i : ℕ) (n : Node A) → (IsEpochsExtended (nodes i).epochs n.epochs → Has n) → ((j : ℕ) → IsEpochsExtended (nodes j).epochs (put nodes i n j).epochs)
       → ((j : ℕ) → Has (nodes j)) → (j : ℕ) → Has (put nodes i n j)
   put_has nodes i n h on f j =
-      cond_both (j == i) n (nodes j) (λ (m : Node A). LivesOn (nodes j).life m.life → Has m)
-      (λ e k. h (subst (λ q. LivesOn (nodes q).life n.life) (eqb-true j i e) k)) (λ e k. f j) (on j)
+      cond_both (j == i) n (nodes j) (λ (m : Node A). IsEpochsExtended (nodes j).epochs m.epochs → Has m)
+      (λ e k. h (subst (λ q. IsEpochsExtended (nodes q).epochs n.epochs) (eqb-true j i e) k)) (λ e k. f j) (on j)
 
   module _ (group : Group) (w : World A) (all : AllKept group w) (f : AllHave w) where
     steps_have : (i : ℕ) (input : NodeInput A) (b : Bool) → AllOn w (stepped_if object b w i input) → AllHave (stepped_if object b w i input)
@@ -70,7 +71,7 @@ module _ {O A : Type 0} (object : Sequential O) (Has : Node A → Type 0) (kept 
     hands_if i frame false on = f
     hands_if i frame true on = steps_have i (NodeFrame frame) (is_node w i) on
 
-    hands_have : (i : ℕ) (o : Option (Carried A)) → AllOn w (handed object w i o) → AllHave (handed object w i o)
+    hands_have : (i : ℕ) (o : Option (Transmission A)) → AllOn w (handed object w i o) → AllHave (handed object w i o)
     hands_have i None on = f
     hands_have i (Some g) on = hands_if i g.frame (has g.to i) on
 

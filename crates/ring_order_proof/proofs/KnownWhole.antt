@@ -1,31 +1,31 @@
--- The tables and the snapshot that a node knows by its life alone are those of the whole log's first places.
--- The committed places that it keeps are the rest.
+-- The tables and the snapshot of the known log are those of the whole log's first places. The committed places that it keeps are
+-- the rest.
 use Rattle.std.proofs.Common.{◌≡◌, ℕ, ◌+◌, ◌-◌, ◌≤◌, ◌<◌, max, true, List, ◌++◌, length, take, drop, ap, sym, ◌∙◌, arith}
 use Rattle.std.specs.Prelude.{nat_lt}
 use Rattle.std.proofs.lemmas.Bool.{cond_both, ltb-true, ltb-false}
 use Rattle.std.proofs.lemmas.List.{take-append-drop, drop-take}
-use Rattle.ring_base.specs.Fronts.{IsFront}
+use Rattle.ring_base.specs.Prefixes.{IsListPrefix}
 use Rattle.ring_base.proofs.ListFronts.{take-front, take-whole, drop-more}
 use Rattle.ring_object.specs.Operations.{Sequential}
 use Rattle.ring_payload.specs.declared.call.Call.{Call as OneCall}
-use Rattle.ring_log.specs.Kept.{Kept, log_kept}
+use Rattle.ring_log.specs.KnownLog.{KnownLog, retained_log}
 use Rattle.ring_log.specs.Logs.{committed_calls}
 use Rattle.ring_session.specs.Snapshots.{table_snapshot}
 use Rattle.ring_session.specs.Table.{table_after}
-use Rattle.ring_rules.specs.Nodes.{table_before, table_at, snapshot_kept, is_restored}
-use Rattle.ring_rules.specs.Stepping.{newly, table_since}
+use Rattle.ring_node_spec.specs.Nodes.{table_before, table_at, snapshot_kept, is_restored}
+use Rattle.ring_node_spec.specs.Stepping.{newly_committed, table_since}
 use Rattle.ring_order_proof.proofs.RestoredTables.{Told, before-told, is-restored, at-told, snapshot-told}
 
--- what is known is the rest of this log, of which these are the committed places
-pub record HasPlaces {A : Type 0} (k : Kept A) (log whole : List (OneCall A)) : Type 0 where
+-- the known log is the rest of this log, with these committed places
+pub record HasPlaces {A : Type 0} (k : KnownLog A) (log whole : List (OneCall A)) : Type 0 where
   pub calls : k.calls ≡ drop k.from log
   pub low : k.from ≤ k.trimmed
   pub high : k.trimmed ≤ k.committed
   pub committed : k.committed ≡ length whole
-  pub within : IsFront whole log
+  pub within : IsListPrefix whole log
 
 -- the committed places that are kept
-pub committed-places : {A : Type 0} (k : Kept A) (log whole : List (OneCall A)) → HasPlaces k log whole → committed_calls (log_kept k) ≡ drop k.trimmed whole
+pub committed-places : {A : Type 0} (k : KnownLog A) (log whole : List (OneCall A)) → HasPlaces k log whole → committed_calls (retained_log k) ≡ drop k.trimmed whole
 committed-places k log whole has =
     let f = k.from in
     let t = k.trimmed in
@@ -37,26 +37,26 @@ committed-places k log whole has =
     ∙ sym (drop-take t (c - t) log)
     ∙ ap (λ n. drop t (take n log)) (sum ∙ has.committed) ∙ ap (drop t) (take-whole whole log has.within)
 
--- what is newly committed follows what was, or what is restored
-pub newly-places : {A : Type 0} (old k : Kept A) (log whole : List (OneCall A)) → HasPlaces k log whole
-    → take (max old.committed k.trimmed) whole ++ newly old k ≡ whole
-newly-places old k log whole has =
+-- what is newly committed comes after what was committed, or after what is restored
+pub newly_committed-places : {A : Type 0} (old k : KnownLog A) (log whole : List (OneCall A)) → HasPlaces k log whole
+    → take (max old.committed k.trimmed) whole ++ newly_committed old k ≡ whole
+newly_committed-places old k log whole has =
     let before = max old.committed k.trimmed in
     let sum : k.trimmed + (before - k.trimmed) ≡ before = omega arith in
     ap (λ l. take before whole ++ drop (before - k.trimmed) l) (committed-places k log whole has)
     ∙ ap (λ l. take before whole ++ l) (drop-more k.trimmed (before - k.trimmed) whole ∙ ap (λ n. drop n whole) sum)
     ∙ take-append-drop before whole
 
--- and where it was restored, that is the snapshot of the table after the places that it stands for
-pub record Knows {O A : Type 0} (object : Sequential O) (k : Kept A) (log whole : List (OneCall A)) : Type 0 where
+-- if it was restored, that is the snapshot of the table after its places
+pub record Knows {O A : Type 0} (object : Sequential O) (k : KnownLog A) (log whole : List (OneCall A)) : Type 0 where
   pub calls : k.calls ≡ drop k.from log
   pub low : k.from ≤ k.trimmed
   pub high : k.trimmed ≤ k.committed
   pub committed : k.committed ≡ length whole
-  pub within : IsFront whole log
+  pub within : IsListPrefix whole log
   pub told : Told object k.from k.snapshot log
 
-module _ {O A : Type 0} (object : Sequential O) (k : Kept A) (log whole : List (OneCall A)) (knows : Knows object k log whole) where
+module _ {O A : Type 0} (object : Sequential O) (k : KnownLog A) (log whole : List (OneCall A)) (knows : Knows object k log whole) where
   first-same : (n : ℕ) → n ≤ k.committed → take n log ≡ take n whole
   first-same n le = take-front whole log n knows.within (omega (arith, le, knows.committed))
 
@@ -78,24 +78,25 @@ module _ {O A : Type 0} (object : Sequential O) (k : Kept A) (log whole : List (
   places-known = record { calls = knows.calls; low = knows.low; high = knows.high; committed = knows.committed; within = knows.within }
 
   -- the committed places that are kept
-  pub committed-known : committed_calls (log_kept k) ≡ drop k.trimmed whole
+  pub committed-known : committed_calls (retained_log k) ≡ drop k.trimmed whole
   committed-known = committed-places k log whole places-known
 
--- A step: what is newly committed follows what was, or what is restored, and the table before it is the one after that
+-- A step: what is newly committed comes after what was committed, or after what is restored; the table before it is the one after
+-- that
 
--- no place is dropped in a step but by restoring more than was committed
-pub record Restores {A : Type 0} (old k : Kept A) : Type 0 where
+-- a step drops places only by restoring more than was committed
+pub record Restores {A : Type 0} (old k : KnownLog A) : Type 0 where
   pub from : k.trimmed ≡ k.from
   pub more : old.committed ≤ k.from
 
-module _ {O A : Type 0} (object : Sequential O) (old k : Kept A) (log whole log' whole' : List (OneCall A)) (before : Knows object old log whole)
-    (after : Knows object k log' whole') (grows : IsFront whole whole') (drops : old.trimmed < k.trimmed → Restores old k) where
+module _ {O A : Type 0} (object : Sequential O) (old k : KnownLog A) (log whole log' whole' : List (OneCall A)) (before : Knows object old log whole)
+    (after : Knows object k log' whole') (grows : IsListPrefix whole whole') (drops : old.trimmed < k.trimmed → Restores old k) where
   -- the places before the new ones
   abbrev pub done_before : ℕ
   done_before = max old.committed k.trimmed
 
-  pub newly-known : take done_before whole' ++ newly old k ≡ whole'
-  newly-known = newly-places old k log' whole' (places-known object k log' whole' after)
+  pub newly_committed-known : take done_before whole' ++ newly_committed old k ≡ whole'
+  newly_committed-known = newly_committed-places old k log' whole' (places-known object k log' whole' after)
 
   pub since-known : table_since object old k ≡ table_after object (take done_before whole')
   since-known =
@@ -114,5 +115,5 @@ module _ {O A : Type 0} (object : Sequential O) (old k : Kept A) (log whole log'
       table-known object old log whole before old.committed low (omega arith) ∙ ap (table_after object) (same ∙ ap (λ m. take m whole') n))
 
 -- the bytes are a snapshot
-pub restored-known : {O A : Type 0} (object : Sequential O) (k : Kept A) (log whole : List (OneCall A)) → Knows object k log whole → is_restored object k ≡ true
+pub restored-known : {O A : Type 0} (object : Sequential O) (k : KnownLog A) (log whole : List (OneCall A)) → Knows object k log whole → is_restored object k ≡ true
 restored-known object k log whole knows = is-restored object k log knows.told

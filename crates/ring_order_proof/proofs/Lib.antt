@@ -1,104 +1,122 @@
 -- ProjectedSends: Payloads handed to a core one after another, as events of a world of ring cores: only that core changes.
--- ProjectedSteps: An event of a world of nodes, as events of a world of ring cores: the core's own, and what is handed over after it, or the core's
---   stop.
+-- ProjectedSteps: An event of a world of nodes, as events of a world of ring cores: the core's own step and the payloads handed
+--   over after it, or the core's stop.
 -- ProjectedEvents: Each event of a world of nodes, and so each list of them, is events of a world of ring cores.
 -- SynchronousRuns: The ring part of every run of nodes is virtually synchronous.
--- DisciplinedDues: What is due by what a core tells of a ring: pieces of a snapshot, Parts of the log that the node had before the ring, and calls; and
---   nothing but in a primary ring that runs.
--- DisciplinedTelling: A life as a core tells it: what is agreed and safe of a ring changes the newest stay alone, by events that may happen to a life;
---   and what is due by it.
--- DisciplinedSteps: A node's step: what its core tells changes its life by events that may happen, and what it hands over keeps the discipline.
--- DisciplinedNodes: Each step of a node and each submit keeps the discipline, and drops committed places alone.
--- DisciplinedWorlds: Each event of a world of nodes, and so every list of them, keeps the discipline of each node, and lets its life go on.
--- Speaking: What a core said in a ring is a front of what was handed to it there; while it runs the ring, what it said and what waits in its queue are
---   all of it.
--- Numbering: A ring's text has the numbers 1, 2, 3 and so on; what a processor holds up to its front is a front of it, and what it said there is its
---   own part.
--- RunTexts: In every run of ring cores each ring has one text, all that was numbered in the visits of its token.
--- SpeakingNodes: Each node of every world: what its core said in a ring is a front of what the node handed to it while it stayed there.
--- LivesOfCores: The life of each node, what was handed over left out, is what its core's facts tell of each ring that it installed.
--- RingsOfRuns: What every run of ring cores has of a ring: its members, what each heard up to its front, and who heard what one of them knows as
---   safe.
--- RunFacts: The facts of every run of nodes, one by one: each node's life is what its core tells of the rings that it installed, and what a core said
---   was handed to it.
--- Between: The facts hold as well between a step of a node's core and what the node then hands over: the cores are still those of a run of ring cores; and
---   so does the discipline, and lives go on to there.
--- HonestPieces: What an exchange holds of a snapshot that was heard of honest senders: the first bytes of the one that is wanted, and all of them once it is
---   whole.
--- PiecesDue: What is due of a snapshot by what a core gives in a step are pieces of the one that the node kept as it entered its newest ring.
--- PiecesHanded: What a node hands to its core of a snapshot are pieces of the one that it kept as it entered the ring, in every run.
--- DroppedInSteps: What a core gives in a step lets its node drop no place but by restoring a snapshot of more than it had committed.
--- KnownWhole: What a node knows of its log by its life alone, beside the whole log: its tables, its snapshot and the places that it keeps.
--- CommittingSteps: What a step of a node commits, by the one list, and the table before that.
--- FollowedByNodes: A node that knows of its log what the whole log is follows its committed places, and the order.
--- RestoredTables: What snapshots hold, of all lives at one moment: each that was restored is that of the table after the places that it stands for.
--- RepliesTold: Each reply that a step adds to the history is the session table's at a committed place of that node at which the call stands.
--- HandedTickets: Each call that a node hands over is one of its tickets', and each ticket's call was issued.
--- IssuedInWorlds: In every run each ticket's call was issued, and so was each call handed over; and each node has the world's group.
--- IssuedLimits: In every run whose issued calls keep the limits each call that was issued does, and so each that a node hands over.
--- KnownByNodes: In every run whose issued calls keep the limits each node knows of its log what the whole log is.
--- Orderly: The lives of every run of at most 16 nodes are orderly: they have what ring cores give, and the nodes keep their discipline; and they go on.
--- OrderSteps: Each event of a run is a step by the rules of the one order, where the lives before and after it are orderly.
--- OrderedRuns: In every run of at most 16 nodes the order grows and has what each node committed as a front; and where issued calls keep the limits it
---   explains the history, and each node follows it.
--- Bases: No base lacks committed places: it is so of the lives between a step of a core and what its node hands over, which are orderly too.
--- BytesRestored: In no run whose issued calls keep the limits a node finds that the bytes which it restores are no snapshot.
--- StepSends: What a step of a core gives to send: what it does sends, to somebody. Whatever else it gives is no frame.
--- SendCounts: How many frames one step gives: what a visit sends again, its new messages and the token, or one frame, and perhaps a proposal.
--- AnswerCounts: How many answers come as calls are done: each ticket has one at most, and none that had one before.
--- KeptByNodes: What each node has at the opening, and keeps in each step, submit and stop, each node has in every run.
--- PendingTickets: In every run a node has at most 64 tickets without an answer: a submit is refused at 64, and the calls done only grow.
--- DoneCalls: In every run whose issued calls keep the limits a node has done just the calls that it has committed, but for those that it has by restoring;
---   and all answers that it gave are those of the session table at these places of the one list.
--- LogLimits: What was heard keeps the limits: so does each call that a node knows of its log, the Head and the Parts that state this log, and the
---   pieces of a snapshot.
--- OutputLimits: What a step of a core tells keeps the limits: each message that is agreed does, in a ring that is counted, and each ring that is
---   installed; and what is safe in a ring never falls.
--- DueLimits: What a node hands to its core keeps the limits: its Head, the pieces of its snapshot, the Parts of its log, and the calls of its tickets.
--- NodeLimits: A node keeps the limits after each step and each submit, where what comes and what is issued does; and so does each frame that a step
---   sends.
--- WorldLimits: Every frame ever sent keeps the limits, and every node does: after all events whose calls keep them.
--- EventGrowth: How much one event adds to a world: at most so many frames, items and words told as one step gives.
--- RestoredPlaces: What lies behind the places that a node knows as dropped: its steps dropped them, or it restored a snapshot of so many, whose sender had
---   committed them.
--- LongestCommitted: The longest of what nodes committed, as their steps gave it: each node's committed places are a front of it, and it is some node's.
--- Undropped: After each event of a run no node has committed places that wait to be dropped, and none knows of more places than a log may have.
--- EffectCounts: How many places a node has committed, and how many of these calls took effect: as many as its sessions tell.
+-- DisciplinedDueSends: The payloads due at a core's outputs are pieces of a snapshot, Parts of the log that the node had before
+--   the ring, and calls.
+-- DisciplinedOutputs: A life by its core's outputs: what is agreed and safe in a ring changes only the newest epoch, by events
+--   that may happen to a life; and what is due.
+-- DisciplinedSteps: A node's step: its core's outputs change its life by events that may happen, and what it hands over keeps the
+--   discipline.
+-- DisciplinedNodes: Each step of a node and each submit keeps the discipline, and drops only committed places.
+-- DisciplinedWorlds: Each event of a world of nodes, and so every list of them, keeps the discipline of each node, and extends
+--   its life.
+-- SendOrders: What a core sent in a ring is a prefix of what was handed to it there.
+-- Numbering: A ring's text has the numbers 1, 2, 3 and so on.
+-- RunTexts: In every run of ring cores each ring has one text: all that was numbered in the visits of its token.
+-- SendOrdersOfNodes: For each node of every world: what its core sent in a ring is a prefix of what the node handed to it during
+--   its epoch there.
+-- EpochsOfCores: The life of each node, without what was handed over, consists of its core's facts about each ring that it
+--   installed.
+-- RingsOfRuns: The facts about a ring in every run of ring cores: its members, what each received up to its front, and who
+--   received what one of them knows as safe.
+-- RunFacts: The facts of every run of nodes, one by one: each node's life consists of its core's facts about the rings that it
+--   installed, and what a core sent was handed to it.
+-- Between: The facts and the discipline also hold between a step of a node's core and what the node then hands over.
+-- HonestPieces: The snapshot bytes in an exchange of honest senders: the first bytes of the wanted snapshot, and all of them once
+--   the exchange is complete.
+-- PiecesDue: The Snaps due at a core's step are pieces of the snapshot that the node kept as it entered its newest ring.
+-- SentPieces: In every run, the snapshot pieces that a node hands to its core are of the snapshot that it kept as it entered the
+--   ring.
+-- DroppedInSteps: A core's outputs let its node drop places only by restoring a snapshot of more than it had committed.
+-- KnownWhole: The tables and the snapshot of the known log are those of the whole log's first places.
+-- CommittingSteps: A step of a node commits calls of the one list: those after what it had committed, or after what it restored.
+-- FollowedByNodes: A node whose known log agrees with the whole log follows its committed places, and the order, of which they,
+--   with repeats removed, are a prefix.
+-- RestoredTables: In all lives at one moment, each restored snapshot is that of the session table after the places that it stands
+--   for.
+-- ReportedReplies: Each reply that a step adds to the history is the session table's, at a place of the node's committed calls
+--   that has the call.
+-- SentTickets: Each call that a node hands over is one of its tickets', and each ticket's call was issued.
+-- IssuedInWorlds: In every run each ticket's call was issued, and so was each call handed over; each node has the world's group.
+-- IssuedLimits: In every run whose issued calls keep the limits, so does each call that a node hands over.
+-- KnownByNodes: In every run whose issued calls keep the limits, each node's known log agrees with the whole log.
+-- ConsistentRuns: The lives of every run of at most 16 nodes are consistent: they have the facts of ring cores, and the nodes
+--   keep their discipline; and they are extended.
+-- OrderSteps: Each event of a run is a step by the rules of the one order, if the lives before and after it are consistent and
+--   each node knows the whole log.
+-- OrderedRuns: In every run of at most 16 nodes the order grows, and what each node committed is a prefix of it.
+-- Bases: No base lacks committed places.
+-- BytesRestored: In no run whose issued calls keep the limits does a node find that the bytes that it restores are no snapshot.
+-- OpenExchanges: After a step that leaves the exchange of a node's newest ring open, no more places are due to be dropped than
+--   before.
+-- TrimsWhenDue: In every run whose issued calls keep the limits, no node has places left that are due to be dropped, and the test
+--   for an open exchange never decides.
+-- StepSends: The frames sent in a core's step, each to somebody.
+-- SendCounts: The number of frames that one step sends: a visit's repeated messages, new messages and token, or one frame, and
+--   perhaps a proposal.
+-- AnswerCounts: The number of answers as calls are done: each ticket has at most one, and none if it had one before.
+-- KeptByNodes: A property that each node has at the opening, and keeps in each step, submit and stop, holds of each node in every
+--   run.
+-- PendingTickets: In every run a node has at most 64 unanswered tickets: a submit is refused at 64, and the calls done only grow.
+-- DoneCalls: In every run whose issued calls keep the limits, a node has done exactly the calls that it has committed, except
+--   those that it has from a snapshot.
+-- LogLimits: What was received keeps the limits, and so do each call of the known log, the Head and the Parts of this log, and
+--   the pieces of a snapshot.
+-- OutputLimits: The outputs of a core's step keep the limits, and what is safe in a ring never falls.
+-- DueLimits: What a node hands to its core keeps the limits: its Head, the pieces of its snapshot, the Parts of its log, and the
+--   calls of its tickets.
+-- NodeLimits: A node keeps the limits after each step and each submit, if inputs and issued calls do; so does each frame that a
+--   step sends.
+-- WorldLimits: Every frame ever sent keeps the limits, and every node does, after all events whose calls keep them.
+-- EventGrowth: The size of what one event adds to a world: at most the frames, items and reports of one step.
+-- RestoredPlaces: The places that a known log has dropped were dropped by the node's steps, or are those of a restored snapshot.
+-- LongestCommitted: The longest of the nodes' committed logs, as their steps gave it: each node's committed places are a prefix
+--   of it, and it is some node's.
+-- TrimmedRuns: After each event of a run no node has committed places that are due to be dropped, and no known log has more
+--   places than a log may have.
+-- EffectCounts: The number of places that a node has committed, and of the calls of these that took effect: the sum of the last
+--   numbers in its table.
+-- ReportedLogs: Of the logs of a life, its own log is the newest, and what it committed is the longest safe one.
+-- LogsOfRuns: In every run of nodes: a node's log and its committed places, from its core's facts about the texts of its rings.
 pub mod ProjectedSends
 pub mod ProjectedSteps
 pub mod ProjectedEvents
 pub mod SynchronousRuns
-pub mod DisciplinedDues
-pub mod DisciplinedTelling
+pub mod DisciplinedDueSends
+pub mod DisciplinedOutputs
 pub mod DisciplinedSteps
 pub mod DisciplinedNodes
 pub mod DisciplinedWorlds
-pub mod Speaking
+pub mod SendOrders
 pub mod Numbering
 pub mod RunTexts
-pub mod SpeakingNodes
-pub mod LivesOfCores
+pub mod SendOrdersOfNodes
+pub mod EpochsOfCores
 pub mod RingsOfRuns
 pub mod RunFacts
 pub mod Between
 pub mod HonestPieces
 pub mod PiecesDue
-pub mod PiecesHanded
+pub mod SentPieces
 pub mod DroppedInSteps
 pub mod KnownWhole
 pub mod CommittingSteps
 pub mod FollowedByNodes
 pub mod RestoredTables
-pub mod RepliesTold
-pub mod HandedTickets
+pub mod ReportedReplies
+pub mod SentTickets
 pub mod IssuedInWorlds
 pub mod IssuedLimits
 pub mod KnownByNodes
-pub mod Orderly
+pub mod ConsistentRuns
 pub mod OrderSteps
 pub mod OrderedRuns
 pub mod Bases
 pub mod BytesRestored
+pub mod OpenExchanges
+pub mod TrimsWhenDue
 pub mod StepSends
 pub mod SendCounts
 pub mod AnswerCounts
@@ -113,5 +131,7 @@ pub mod WorldLimits
 pub mod EventGrowth
 pub mod RestoredPlaces
 pub mod LongestCommitted
-pub mod Undropped
+pub mod TrimmedRuns
 pub mod EffectCounts
+pub mod ReportedLogs
+pub mod LogsOfRuns

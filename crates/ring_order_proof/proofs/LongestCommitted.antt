@@ -1,11 +1,12 @@
--- The longest of what nodes committed, as their steps gave it: each node's committed places are a front of it, and it is some node's.
+-- The longest of the nodes' committed logs, as their steps gave it: each node's committed places are a prefix of it, and it is
+-- some node's.
 use Rattle.std.proofs.Common.{◌≡◌, ℕ, zero, suc, ◌+◌, ◌-◌, ◌≤◌, ◌<◌, ◌==◌, max, Bool, true, false, List, [], ◌∷◌, ◌++◌, length, drop}
 use Rattle.std.proofs.Common.{Option, Some, None, ◌⊎◌, inl, inr, refl, ap, sym, ◌∙◌, subst, arith, append-nil, append_assoc}
 use Rattle.std.specs.Prelude.{take, map, nat_lt, ◌&&◌, slice_get}
 use Rattle.std.proofs.Math.Seq.{drop-append_seam}
 use Rattle.std.proofs.lemmas.Bool.{cond_both, cond-true, cond-false, cases_Bool, and_parts, and_from, leb-true, le-leb, eqb-true, eq-eqb, ltb-true, ltb-false}
 use Rattle.std.proofs.lemmas.List.{take-append-drop, length-take}
-use Rattle.ring_base.specs.Fronts.{IsFront, front_self, front_trans, front_shorter, front_length, front_whole}
+use Rattle.ring_base.specs.Prefixes.{IsListPrefix, prefix_self, prefix_trans, prefix_shorter, prefix_length, prefix_whole}
 use Rattle.ring_base.specs.Group.{Group, is_primary}
 use Rattle.ring_base.specs.Numbers.{numbers_from}
 use Rattle.ring_base.specs.Processors.{only, has}
@@ -17,50 +18,50 @@ use Rattle.ring_object.specs.Operations.{Sequential}
 use Rattle.ring_payload.specs.declared.call.Call.{Call}
 use Rattle.ring_payload.specs.declared.content.Payload.{Payload}
 use Rattle.ring_wire.specs.declared.frame.Frame.{Frame}
-use Rattle.ring_core.specs.State.{Core, Carried, Stepped, frame_at}
-use Rattle.ring_core.specs.Stepping.{ring_step}
-use Rattle.ring_core.specs.declared.input.Input.TheVariants.{Frame as CoreFrame, Timeout as CoreTimeout}
-use Rattle.ring_core.specs.declared.out.Out.{Out}
-use Rattle.ring_log.specs.Stays.{Stay, born, hands, trims, above}
-use Rattle.ring_log.specs.Lives.{Whole, exchanged, log_of, committed_of, filled, fronts_below}
-use Rattle.ring_log.specs.Kept.{Kept, kept_by, nothing_kept, kept_of, log_kept, is_kept_sound}
+use Rattle.ring_core_spec.specs.State.{Core, Transmission, StepResult, frame_at}
+use Rattle.ring_core_spec.specs.Stepping.{ring_step}
+use Rattle.ring_core_spec.specs.declared.input.Input.TheVariants.{Frame as CoreFrame, Timeout as CoreTimeout}
+use Rattle.ring_core_spec.specs.declared.out.Out.{Out}
+use Rattle.ring_log.specs.Epochs.{Epoch, epochs_opening, epochs_with_sends, epochs_with_trim, above}
+use Rattle.ring_log.specs.EpochHistories.{CompleteExchange, complete_exchange, log_of, committed_of, filled, fronts_below}
+use Rattle.ring_log.specs.KnownLog.{KnownLog, kept_by, known_log_opening, known_log_of, retained_log, is_known_log_sound}
 use Rattle.ring_log.specs.Logs.{committed_calls}
-use Rattle.ring_log.proofs.CommittedOf.{hands-kept, trims-from}
-use Rattle.ring_log_proof.specs.RingFacts.{IsStay, StayIn}
-use Rattle.ring_log_proof.specs.Time.{LivesOn}
+use Rattle.ring_log.proofs.CommittedOf.{epochs_with_sends-kept, epochs_with_trim-from}
+use Rattle.ring_log_proof.specs.RingFacts.{HasEpoch, EpochIn}
+use Rattle.ring_log_proof.specs.Time.{IsEpochsExtended}
 use Rattle.ring_log_proof.specs.Views.{IsView}
-use Rattle.ring_log_proof.proofs.FilledLives.{kept-filled, filled-there}
-use Rattle.ring_log_proof.proofs.Fronts.{fill}
+use Rattle.ring_log_proof.proofs.FilledEpochs.{kept-filled, filled-there}
+use Rattle.ring_log_proof.proofs.Prefixes.{fill}
 use Rattle.ring_log_proof.proofs.Moment.{view-at, committed-front, committed-grows, one-log}
-use Rattle.ring_rules.proofs.Linear.{all-at}
-use Rattle.ring_log.proofs.Longer.{longer-either}
-use Rattle.ring_rules.proofs.Orders.{order_of-fronts}
-use Rattle.ring_rules.specs.Lives.{lived_through}
-use Rattle.ring_rules.specs.Orders.{order_of}
+use Rattle.ring_node_spec.proofs.Linear.{all-at}
+use Rattle.ring_log.proofs.LongerLists.{longer_list-either}
+use Rattle.ring_node_spec.proofs.Orders.{order_of-fronts}
+use Rattle.ring_node_spec.specs.EpochHistories.{epochs_after}
+use Rattle.ring_node_spec.specs.Orders.{order_of}
 use Rattle.ring_session.specs.Deduplicated.{deduplicated}
 use Rattle.ring_session.specs.DeduplicatedLaws.{deduplicated-front}
-use Rattle.ring_rules.specs.Nodes.{Node, node_stopped, node_kept, is_closed, is_restored}
-use Rattle.ring_rules.specs.Stepping.{NodeStepped, walked, newly, drops, ended, did, settled, after_core, node_step, submit_fault, submitted}
-use Rattle.ring_rules.specs.Stepping.{due_by_submit, with_dropped}
-use Rattle.ring_rules.specs.Dues.{due_by}
-use Rattle.ring_rules.specs.declared.input.Input.{Input}
-use Rattle.ring_rules.specs.declared.input.Input.TheVariants.{Frame as FrameInput, Noise as NoiseInput, Timeout as TimeInput, Stop as StopInput}
-use Rattle.ring_rules.specs.declared.event.Event.{Event}
-use Rattle.ring_rules.specs.declared.event.Event.TheVariants.{Issue, Deliver, Noise, Timeout, Stop}
-use Rattle.ring_rules.specs.Worlds.{World, world_opening, put, is_node, calls_past, after_step, issued_or, issued_if, stopped_if, stepped_if, handed_if}
-use Rattle.ring_rules.specs.Worlds.{handed, happens, run, lives_in, lives_of, committed_in, order}
+use Rattle.ring_node_spec.specs.Nodes.{Node, node_stopped, node_known_log, is_closed, is_restored}
+use Rattle.ring_node_spec.specs.Stepping.{NodeStepResult, node_after_outputs, newly_committed, drops, ended, did, settled, after_core, node_step, submit_fault, submitted}
+use Rattle.ring_node_spec.specs.Stepping.{due_by_submit, with_dropped}
+use Rattle.ring_node_spec.specs.DueSends.{due_by}
+use Rattle.ring_node_spec.specs.declared.input.Input.{Input}
+use Rattle.ring_node_spec.specs.declared.input.Input.TheVariants.{Frame as FrameInput, Noise as NoiseInput, Timeout as TimeInput, Stop as StopInput}
+use Rattle.ring_node_spec.specs.declared.event.Event.{Event}
+use Rattle.ring_node_spec.specs.declared.event.Event.TheVariants.{Issue, Deliver, Noise, Timeout, Stop}
+use Rattle.ring_node_spec.specs.Worlds.{World, world_opening, put, is_node, calls_past, after_step, issued_or, issued_if, stopped_if, stepped_if, handed_if}
+use Rattle.ring_node_spec.specs.Worlds.{handed, happens, run, epochs_in, whole_epochs_in, committed_in, order}
 use Rattle.ring_order_proof.proofs.DisciplinedWorlds.{AllKept, opened_on, run_group}
-use Rattle.ring_order_proof.proofs.Orderly.{IsOrderlyWorld, run-more, orderly, lives_on}
-use Rattle.ring_order_proof.proofs.RestoredPlaces.{Restored, gone, dropped-most, most-through, restored-hands, restored-trims, restored-owned}
-use Rattle.ring_order_proof.proofs.DisciplinedDues.{kept_low}
+use Rattle.ring_order_proof.proofs.ConsistentRuns.{IsOrderlyWorld, run-more, orderly, lives_on}
+use Rattle.ring_order_proof.proofs.RestoredPlaces.{Restored, gone, dropped-most, most-through, restored-epochs_with_sends, restored-epochs_with_trim, restored-owned}
+use Rattle.ring_order_proof.proofs.DisciplinedDueSends.{kept_low}
 
 -- ---- lists
 
--- a list that is a longer front of another and a call list behind it
-goes_on : {X : Type 0} (xs ys more : List X) → IsFront xs ys → IsFront ys (xs ++ more)
+-- a list, and a longer one that is a prefix of the same list and ends with these calls
+goes_on : {X : Type 0} (xs ys more : List X) → IsListPrefix xs ys → IsListPrefix ys (xs ++ more)
     → ys ++ drop (length more - (length (xs ++ more) - length ys)) more ≡ xs ++ more
 goes_on {X} [] ys more p q =
-    let le = front_length ys more q in
+    let le = prefix_length ys more q in
     let n : length more - (length more - length ys) ≡ length ys = omega (arith, le) in
     ap (λ (k : ℕ). ys ++ drop k more) n
     ∙ (ap (λ (zs : List X). ys ++ drop (length ys) zs) (sym q.1) ∙ (ap (λ (zs : List X). ys ++ zs) (drop-append_seam ys q.0) ∙ q.1))
@@ -71,8 +72,8 @@ goes_on {X} (x ∷ xs) (y ∷ ys) more p q =
     let rest = goes_on xs ys more (p.0, cc p.1) (q.0, cc q.1) in
     ap (λ (k : ℕ). y ∷ (ys ++ drop k more)) n ∙ (ap (λ (zs : List X). y ∷ zs) rest ∙ ap (λ (z : X). z ∷ (xs ++ more)) (sym same))
 
--- what of a front lies behind so many places
-behind : {X : Type 0} (n : ℕ) (xs ys : List X) → IsFront xs ys → take (length xs - n) (drop n ys) ≡ drop n xs
+-- the elements of a prefix after the first ones
+behind : {X : Type 0} (n : ℕ) (xs ys : List X) → IsListPrefix xs ys → take (length xs - n) (drop n ys) ≡ drop n xs
 behind zero xs ys f = let same : length xs - 0 ≡ length xs = omega arith in rw same (take-whole xs ys f)
 behind (suc n) [] ys f = let none : 0 - suc n ≡ 0 = omega arith in rw none refl
 behind (suc n) (x ∷ xs) [] f = absurd (cc f.1)
@@ -87,68 +88,68 @@ pub record IsOf {A : Type 0} (committed : ℕ → List (Call A)) (count : ℕ) (
   pub high : node ≤ count
   pub log_is : log ≡ committed node
 
--- each node's list is a front of this one, which is a node's
+-- each node's list is a prefix of this one, which is a node's
 pub record IsLongest {A : Type 0} (committed : ℕ → List (Call A)) (count : ℕ) (longest : List (Call A)) : Type 0 where
-  pub fronts : (i : ℕ) → 1 ≤ i → i ≤ count → IsFront (committed i) longest
+  pub fronts : (i : ℕ) → 1 ≤ i → i ≤ count → IsListPrefix (committed i) longest
   pub some : (longest ≡ []) ⊎ IsOf committed count longest
 
--- a node's list is one that isn't longer than the longest, and these calls behind it; the others' are as they were
+-- a node's list is one no longer than the longest, followed by these calls; the others' are as before
 pub record IsGrown {A : Type 0} (before after : ℕ → List (Call A)) (count node all : ℕ) (calls longest : List (Call A)) : Type 0 where
   pub low : 1 ≤ node
   pub high : node ≤ count
   pub start : List (Call A)
   pub own : after node ≡ start ++ calls
   pub within : length start ≤ length longest
-  pub grows : IsFront (before node) (after node)
+  pub grows : IsListPrefix (before node) (after node)
   pub others : (i : ℕ) → 1 ≤ i → i ≤ count → (i == node) ≡ false → after i ≡ before i
   pub all_is : all ≡ length (after node)
 
 module _ {A : Type 0} (before after : ℕ → List (Call A)) (count node all : ℕ) (calls longest : List (Call A))
     (grown : IsGrown before after count node all calls longest)
-    (log : List (Call A)) (one : (i : ℕ) → 1 ≤ i → i ≤ count → IsFront (after i) log) (is : IsLongest before count longest) where
-  front-on : (i : ℕ) → 1 ≤ i → i ≤ count → IsFront (before i) (after i)
+    (log : List (Call A)) (one : (i : ℕ) → 1 ≤ i → i ≤ count → IsListPrefix (after i) log) (is : IsLongest before count longest) where
+  front-on : (i : ℕ) → 1 ≤ i → i ≤ count → IsListPrefix (before i) (after i)
   front-on i low high = elim (cases_Bool (i == node)) [
-    | inl t ↦ let same : i ≡ node = eqb-true i node t in subst (λ (k : ℕ). IsFront (before k) (after k)) (sym same) grown.grows
-    | inr f ↦ subst (λ (zs : List (Call A)). IsFront (before i) zs) (sym (grown.others i low high f)) (front_self (before i))
+    | inl t ↦ let same : i ≡ node = eqb-true i node t in subst (λ (k : ℕ). IsListPrefix (before k) (after k)) (sym same) grown.grows
+    | inr f ↦ subst (λ (zs : List (Call A)). IsListPrefix (before i) zs) (sym (grown.others i low high f)) (prefix_self (before i))
   ]
 
-  old-front : IsFront longest log
+  old-front : IsListPrefix longest log
   old-front = elim is.some [
-    | inl e ↦ subst (λ (zs : List (Call A)). IsFront zs log) (sym e) (log, refl)
-    | inr j ↦ subst (λ (zs : List (Call A)). IsFront zs log) (sym j.log_is)
-        (front_trans (before j.node) (after j.node) log (front-on j.node j.low j.high) (one j.node j.low j.high))
+    | inl e ↦ subst (λ (zs : List (Call A)). IsListPrefix zs log) (sym e) (log, refl)
+    | inr j ↦ subst (λ (zs : List (Call A)). IsListPrefix zs log) (sym j.log_is)
+        (prefix_trans (before j.node) (after j.node) log (front-on j.node j.low j.high) (one j.node j.low j.high))
   ]
 
-  -- another's list is a front of any that the old one is a front of
-  other-fronts : (new : List (Call A)) → IsFront longest new → IsFront (after node) new → (i : ℕ) → 1 ≤ i → i ≤ count → IsFront (after i) new
+  -- another node's list is a prefix of any list of which the old one is a prefix
+  other-fronts : (new : List (Call A)) → IsListPrefix longest new → IsListPrefix (after node) new → (i : ℕ) → 1 ≤ i → i ≤ count → IsListPrefix (after i) new
   other-fronts new front mine i low high = elim (cases_Bool (i == node)) [
-    | inl t ↦ let same : i ≡ node = eqb-true i node t in subst (λ (k : ℕ). IsFront (after k) new) (sym same) mine
-    | inr f ↦ subst (λ (zs : List (Call A)). IsFront zs new) (sym (grown.others i low high f))
-        (front_trans (before i) longest new (is.fronts i low high) front)
+    | inl t ↦ let same : i ≡ node = eqb-true i node t in subst (λ (k : ℕ). IsListPrefix (after k) new) (sym same) mine
+    | inr f ↦ subst (λ (zs : List (Call A)). IsListPrefix zs new) (sym (grown.others i low high f))
+        (prefix_trans (before i) longest new (is.fronts i low high) front)
   ]
 
   stays : length (after node) ≤ length longest → IsLongest after count longest
   stays le =
-      let mine = front_shorter (after node) longest log (one node grown.low grown.high) old-front le in
+      let mine = prefix_shorter (after node) longest log (one node grown.low grown.high) old-front le in
       record {
-        fronts = other-fronts longest (front_self longest) mine;
+        fronts = other-fronts longest (prefix_self longest) mine;
         some = elim is.some [
           | inl e ↦ inl e
           | inr j ↦ inr (record {
             node = j.node;
             low = j.low;
             high = j.high;
-            log_is = front_whole longest (after j.node) (subst (λ (zs : List (Call A)). IsFront zs (after j.node)) (sym j.log_is) (front-on j.node j.low j.high))
-                (front_length (after j.node) longest (other-fronts longest (front_self longest) mine j.node j.low j.high));
+            log_is = prefix_whole longest (after j.node) (subst (λ (zs : List (Call A)). IsListPrefix zs (after j.node)) (sym j.log_is) (front-on j.node j.low j.high))
+                (prefix_length (after j.node) longest (other-fronts longest (prefix_self longest) mine j.node j.low j.high));
           })
         ];
       }
 
   longer_is : length longest ≤ length (after node) → IsLongest after count (after node)
   longer_is le =
-      let front = front_shorter longest (after node) log old-front (one node grown.low grown.high) le in
+      let front = prefix_shorter longest (after node) log old-front (one node grown.low grown.high) le in
       record {
-        fronts = other-fronts (after node) front (front_self (after node));
+        fronts = other-fronts (after node) front (prefix_self (after node));
         some = inr (record { node = node; low = grown.low; high = grown.high; log_is = refl });
       }
 
@@ -156,15 +157,15 @@ module _ {A : Type 0} (before after : ℕ → List (Call A)) (count node all : �
   longest-next = elim (cases_Bool (nat_lt (length longest) (length (after node)))) [
     | inl t ↦
         let lt = ltb-true (length longest) (length (after node)) t in
-        let front = front_shorter longest (after node) log old-front (one node grown.low grown.high) (omega (arith, lt)) in
-        let short : IsFront (after node) (start ++ calls) = subst (λ (zs : List (Call A)). IsFront (after node) zs) grown.own (front_self (after node)) in
-        let begins : IsFront start longest = front_shorter start longest (start ++ calls) (calls, refl)
-        (front_trans longest (after node) (start ++ calls) front short) grown.within in
+        let front = prefix_shorter longest (after node) log old-front (one node grown.low grown.high) (omega (arith, lt)) in
+        let short : IsListPrefix (after node) (start ++ calls) = subst (λ (zs : List (Call A)). IsListPrefix (after node) zs) grown.own (prefix_self (after node)) in
+        let begins : IsListPrefix start longest = prefix_shorter start longest (start ++ calls) (calls, refl)
+        (prefix_trans longest (after node) (start ++ calls) front short) grown.within in
         let n : length calls - (all - length longest) ≡ length calls - (length (start ++ calls) - length longest) =
         omega (arith, grown.all_is, ap length grown.own) in
         let new : longest ++ calls_past (length longest) all calls ≡ after node =
         ap (λ (k : ℕ). longest ++ drop k calls) n
-        ∙ goes_on start longest calls begins (front_trans longest (after node) (start ++ calls) front short) ∙ sym grown.own in
+        ∙ goes_on start longest calls begins (prefix_trans longest (after node) (start ++ calls) front short) ∙ sym grown.own in
         subst (IsLongest after count) (sym new) (longer_is (omega (arith, lt)))
     | inr f ↦
         let le = ltb-false (length longest) (length (after node)) f in
@@ -181,89 +182,89 @@ module _ {A : Type 0} (before after : ℕ → List (Call A)) (count node all : �
       nothing [] = refl
       nothing (x ∷ xs) = nothing xs
 
--- where nothing changes
+-- if nothing changes
 longest-same : {A : Type 0} (before after : ℕ → List (Call A)) (count : ℕ) (longest : List (Call A))
     → ((i : ℕ) → 1 ≤ i → i ≤ count → after i ≡ before i) → IsLongest before count longest → IsLongest after count longest
 longest-same {A} before after count longest same is = record {
-  fronts = λ i low high. subst (λ (zs : List (Call A)). IsFront zs longest) (sym (same i low high)) (is.fronts i low high);
+  fronts = λ i low high. subst (λ (zs : List (Call A)). IsListPrefix zs longest) (sym (same i low high)) (is.fronts i low high);
   some = elim is.some [
     | inl e ↦ inl e
     | inr j ↦ inr (record { node = j.node; low = j.low; high = j.high; log_is = j.log_is ∙ sym (same j.node j.low j.high) })
   ];
 }
 
--- ---- what a node knows
+-- ---- the known log of a node
 
-pub born-known : (A : Type 0) (group : Group) (me : ℕ) → (kept_of group (born {A = A} me)).committed ≡ 0
-born-known A group me =
-    let none : exchanged {A = A} group (only me) [] ≡ None = cond_both (is_primary group (only me)) None None (λ (o : Option (Whole A)). o ≡ None) (λ t. refl)
+pub epochs_opening-known : (A : Type 0) (group : Group) (me : ℕ) → (known_log_of group (epochs_opening {A = A} me)).committed ≡ 0
+epochs_opening-known A group me =
+    let none : complete_exchange {A = A} group (only me) [] ≡ None = cond_both (is_primary group (only me)) None None (λ (o : Option (CompleteExchange A)). o ≡ None) (λ t. refl)
     (λ f. refl) in
-    ap (λ (o : Option (Whole A)). (kept_by (record { seq = 0; rep = me }) nothing_kept o o).committed) none
+    ap (λ (o : Option (CompleteExchange A)). (kept_by (record { seq = 0; rep = me }) known_log_opening o o).committed) none
 
--- what a step makes of it: these calls are newly committed by what was known as they were
-pub record IsNew {A : Type 0} (n : Node A) (life : List (Stay A)) (x : NodeStepped A) : Type 0 where
+-- the known log after a step that newly commits these calls
+pub record IsNew {A : Type 0} (n : Node A) (epochs : List (Epoch A)) (x : NodeStepResult A) : Type 0 where
   pub group_is : x.node.group ≡ n.group
-  pub committed : x.committed ≡ newly (node_kept n) (kept_of n.group life)
-  pub calls : (node_kept x.node).calls ≡ (kept_of n.group life).calls
-  pub from : (node_kept x.node).from ≡ (kept_of n.group life).from
-  pub many : (node_kept x.node).committed ≡ (kept_of n.group life).committed
-  pub restored : (places : ℕ) → Restored n.group life places → Restored n.group x.node.life places
+  pub committed : x.committed ≡ newly_committed (node_known_log n) (known_log_of n.group epochs)
+  pub calls : (node_known_log x.node).calls ≡ (known_log_of n.group epochs).calls
+  pub from : (node_known_log x.node).from ≡ (known_log_of n.group epochs).from
+  pub many : (node_known_log x.node).committed ≡ (known_log_of n.group epochs).committed
+  pub restored : (places : ℕ) → Restored n.group epochs places → Restored n.group x.node.epochs places
 
--- nothing is committed, or calls that are new
-pub record IsQuiet {A : Type 0} (n : Node A) (x : NodeStepped A) : Type 0 where
+-- nothing is committed, or new calls are
+pub record IsQuiet {A : Type 0} (n : Node A) (x : NodeStepResult A) : Type 0 where
   pub none : x.committed ≡ []
-  pub many : (node_kept x.node).committed ≡ (node_kept n).committed
+  pub many : (node_known_log x.node).committed ≡ (node_known_log n).committed
 
-trims-calls : {A : Type 0} (group : Group) (places : ℕ) (life : List (Stay A)) → (kept_of group (trims places life)).calls ≡ (kept_of group life).calls
-trims-calls group places [] = refl
-trims-calls group places (s ∷ older) = refl
+epochs_with_trim-calls : {A : Type 0} (group : Group) (places : ℕ) (epochs : List (Epoch A)) → (known_log_of group (epochs_with_trim places epochs)).calls ≡ (known_log_of group epochs).calls
+epochs_with_trim-calls group places [] = refl
+epochs_with_trim-calls group places (s ∷ older) = refl
 
-trims-many : {A : Type 0} (group : Group) (places : ℕ) (life : List (Stay A)) → (kept_of group (trims places life)).committed ≡ (kept_of group life).committed
-trims-many group places [] = refl
-trims-many group places (s ∷ older) = refl
+epochs_with_trim-many : {A : Type 0} (group : Group) (places : ℕ) (epochs : List (Epoch A)) → (known_log_of group (epochs_with_trim places epochs)).committed ≡ (known_log_of group epochs).committed
+epochs_with_trim-many group places [] = refl
+epochs_with_trim-many group places (s ∷ older) = refl
 
 module _ {O A : Type 0} (object : Sequential O) (n : Node A) where
-  -- what comes of a step that goes on
-  step-new : (core : Core A) (outs : List (Out A)) (life : List (Stay A)) (due : List (Payload A)) (closed : Bool)
-      → IsNew n life (ended object closed (kept_of n.group life)
-      (did object n (walked n core life due) outs (kept_of n.group life) (newly (node_kept n) (kept_of n.group life))))
-  step-new core outs life due closed =
-      let k = kept_of n.group life in
-      let x = did object n (walked n core life due) outs k (newly (node_kept n) k) in
-      let handed-is : kept_of n.group (hands due life) ≡ k = hands-kept n.group due life in
-      cond_both (drops object closed k) (record x { node = with_dropped k.committed x.node; dropped = committed_calls (log_kept k) }) x (IsNew n life)
+  -- a step that isn't stopped
+  step-new : (core : Core A) (outs : List (Out A)) (epochs : List (Epoch A)) (due : List (Payload A)) (closed : Bool)
+      → IsNew n epochs (ended object closed (known_log_of n.group epochs)
+      (did object n (node_after_outputs n core epochs due) outs (known_log_of n.group epochs) (newly_committed (node_known_log n) (known_log_of n.group epochs))))
+  step-new core outs epochs due closed =
+      let k = known_log_of n.group epochs in
+      let x = did object n (node_after_outputs n core epochs due) outs k (newly_committed (node_known_log n) k) in
+      let handed-is : known_log_of n.group (epochs_with_sends due epochs) ≡ k = epochs_with_sends-kept n.group due epochs in
+      cond_both (drops object closed k) (record x { node = with_dropped k.committed x.node; dropped = committed_calls (retained_log k) }) x (IsNew n epochs)
       (λ t. record {
         group_is = refl;
         committed = refl;
-        calls = trims-calls n.group k.committed (hands due life) ∙ ap (λ (y : Kept A). y.calls) handed-is;
-        from = trims-from n.group k.committed (hands due life) ∙ ap (λ (y : Kept A). y.from) handed-is;
-        many = trims-many n.group k.committed (hands due life) ∙ ap (λ (y : Kept A). y.committed) handed-is;
-        restored = λ places r. restored-trims n.group k.committed (hands due life) places (restored-hands n.group due life places r);
+        calls = epochs_with_trim-calls n.group k.committed (epochs_with_sends due epochs) ∙ ap (λ (y : KnownLog A). y.calls) handed-is;
+        from = epochs_with_trim-from n.group k.committed (epochs_with_sends due epochs) ∙ ap (λ (y : KnownLog A). y.from) handed-is;
+        many = epochs_with_trim-many n.group k.committed (epochs_with_sends due epochs) ∙ ap (λ (y : KnownLog A). y.committed) handed-is;
+        restored = λ places r. restored-epochs_with_trim n.group k.committed (epochs_with_sends due epochs) places (restored-epochs_with_sends n.group due epochs places r);
       })
       (λ f. record {
         group_is = refl;
         committed = refl;
-        calls = ap (λ (y : Kept A). y.calls) handed-is;
-        from = ap (λ (y : Kept A). y.from) handed-is;
-        many = ap (λ (y : Kept A). y.committed) handed-is;
-        restored = λ places r. restored-hands n.group due life places r;
+        calls = ap (λ (y : KnownLog A). y.calls) handed-is;
+        from = ap (λ (y : KnownLog A). y.from) handed-is;
+        many = ap (λ (y : KnownLog A). y.committed) handed-is;
+        restored = λ places r. restored-epochs_with_sends n.group due epochs places r;
       })
 
-  abbrev Comes : NodeStepped A → Type 0
-  Comes x = IsQuiet n x ⊎ ((outs : List (Out A)) × IsNew n (lived_through n.life outs) x)
+  abbrev Comes : NodeStepResult A → Type 0
+  Comes x = IsQuiet n x ⊎ ((outs : List (Out A)) × IsNew n (epochs_after n.epochs outs) x)
 
   settled-comes : (b : Bool) (core : Core A) (outs : List (Out A)) (due : List (Payload A)) →
-      let life = lived_through n.life outs in
-      Comes (settled object b n (walked n core life due) outs (kept_of n.group life))
+      let epochs = epochs_after n.epochs outs in
+      Comes (settled object b n (node_after_outputs n core epochs due) outs (known_log_of n.group epochs))
   settled-comes false core outs due = inl (record { none = refl; many = refl })
   settled-comes true core outs due =
-      let life = lived_through n.life outs in
-      inr (outs, step-new core outs life due (is_closed n.group (hands due life)))
+      let epochs = epochs_after n.epochs outs in
+      inr (outs, step-new core outs epochs due (is_closed n.group (epochs_with_sends due epochs)))
 
-  core-comes : (s : Stepped A) → Comes (after_core object n s)
+  core-comes : (s : StepResult A) → Comes (after_core object n s)
   core-comes s =
-      let life = lived_through n.life s.outs in
-      settled-comes (is_kept_sound n.group life && is_restored object (kept_of n.group life)) s.core s.outs (due_by object n s.core n.life s.outs)
+      let epochs = epochs_after n.epochs s.outs in
+      settled-comes (is_known_log_sound n.group epochs && is_restored object (known_log_of n.group epochs)) s.core s.outs (due_by object n s.core n.epochs s.outs)
 
   pub step-comes : (input : Input A) → Comes (node_step object n input)
   step-comes (FrameInput frame) = core-comes (ring_step n.core (CoreFrame frame))
@@ -273,11 +274,11 @@ module _ {O A : Type 0} (object : Sequential O) (n : Node A) where
 
 -- ---- worlds
 
--- what a world's nodes committed, with what snapshots stand for
+-- the nodes' committed places in a world, with the places that snapshots stand for
 abbrev pub committed_by : {A : Type 0} → Group → World A → ℕ → List (Call A)
-committed_by group w i = committed_of group (lives_of w i)
+committed_by group w i = committed_of group (whole_epochs_in w i)
 
--- A world of this group whose lives are orderly
+-- A world of this group whose lives are consistent
 pub record IsWorld {A : Type 0} (group : Group) (w : World A) : Type 0 where
   pub orderly : IsOrderlyWorld group w
   pub nodes : AllKept group w
@@ -287,21 +288,21 @@ module _ {A : Type 0} (group : Group) (w : World A) (is : IsWorld group w) where
   a-node : (i : ℕ) → 1 ≤ i → i ≤ group.count → is_node w i ≡ true
   a-node i low high = and_from _ _ (le-leb 1 i low) (le-leb i w.group.count (omega (arith, high, ap (λ (g : Group). g.count) is.group_is)))
 
-  -- of each node what it knows is told by its life, whatever snapshots stand for
-  kept-is : (i : ℕ) → 1 ≤ i → i ≤ group.count → kept_of group (lives_of w i) ≡ node_kept (w.nodes i)
+  -- each node's known log is that of its life, whatever snapshots stand for
+  kept-is : (i : ℕ) → 1 ≤ i → i ≤ group.count → known_log_of group (whole_epochs_in w i) ≡ node_known_log (w.nodes i)
   kept-is i low high =
-      kept-filled (fronts_below w.group (lives_in w) (above (lives_in w i))) i group (lives_in w i)
-      ∙ ap (kept_of group) (cond-true (is_node w i) (w.nodes i).life [] (a-node i low high))
-      ∙ ap (λ g. kept_of g (w.nodes i).life) (sym (is.nodes i).group_is)
+      kept-filled (fronts_below w.group (epochs_in w) (above (epochs_in w i))) i group (epochs_in w i)
+      ∙ ap (known_log_of group) (cond-true (is_node w i) (w.nodes i).epochs [] (a-node i low high))
+      ∙ ap (λ g. known_log_of g (w.nodes i).epochs) (sym (is.nodes i).group_is)
 
-  view-is : (i : ℕ) → IsView group (lives_of w i)
-  view-is = view-at group (lives_of w) is.orderly.members is.orderly.text is.orderly.facts is.orderly.discipline
+  view-is : (i : ℕ) → IsView group (whole_epochs_in w i)
+  view-is = view-at group (whole_epochs_in w) is.orderly.members is.orderly.text is.orderly.facts is.orderly.discipline
 
-  size-is : (i : ℕ) → 1 ≤ i → i ≤ group.count → length (committed_by group w i) ≡ (node_kept (w.nodes i)).committed
-  size-is i low high = sym (view-is i).committed ∙ ap (λ (k : Kept A). k.committed) (kept-is i low high)
+  size-is : (i : ℕ) → 1 ≤ i → i ≤ group.count → length (committed_by group w i) ≡ (node_known_log (w.nodes i)).committed
+  size-is i low high = sym (view-is i).committed ∙ ap (λ (k : KnownLog A). k.committed) (kept-is i low high)
 
-  -- who has a stay is a node
-  in-group : (i : ℕ) (r : RingId) → StayIn (lives_of w i) r → (1 ≤ i) × (i ≤ group.count)
+  -- a processor with an epoch is a node
+  in-group : (i : ℕ) (r : RingId) → EpochIn (whole_epochs_in w i) r → (1 ≤ i) × (i ≤ group.count)
   in-group i r at = elim (cases_Bool (is_node w i)) as (λ _. (1 ≤ i) × (i ≤ group.count)) [
     | inl t ↦
         let parts = and_parts _ _ t in
@@ -310,21 +311,21 @@ module _ {A : Type 0} (group : Group) (w : World A) (is : IsWorld group w) where
           omega (arith, high, ap (λ (g : Group). g.count) is.group_is),
         )
     | inr f ↦
-        let none : lives_in w i ≡ [] = cond-false (is_node w i) (w.nodes i).life [] f in
-        absurd (subst (λ (l : List (Stay A)). IsStay (filled (fronts_below w.group (lives_in w) (above (lives_in w i))) i l) at.stay at.older) none at.there)
+        let none : epochs_in w i ≡ [] = cond-false (is_node w i) (w.nodes i).epochs [] f in
+        absurd (subst (λ (l : List (Epoch A)). HasEpoch (filled (fronts_below w.group (epochs_in w) (above (epochs_in w i))) i l) at.epoch at.older) none at.there)
   ]
 
-  -- what was restored in a node's life stands in the life that tells what snapshots stand for
-  restored-filled : (i places : ℕ) → 1 ≤ i → i ≤ group.count → Restored (w.nodes i).group (w.nodes i).life places → Restored group (lives_of w i) places
+  -- what a node's life restored is in the filled life
+  restored-filled : (i places : ℕ) → 1 ≤ i → i ≤ group.count → Restored (w.nodes i).group (w.nodes i).epochs places → Restored group (whole_epochs_in w i) places
   restored-filled i places low high r =
-      let fronts = fronts_below w.group (lives_in w) (above (lives_in w i)) in
-      let here : lives_in w i ≡ (w.nodes i).life = cond-true (is_node w i) (w.nodes i).life [] (a-node i low high) in
-      let own : Restored group (lives_in w i) places = subst (λ l. Restored group l places) (sym here)
-      (subst (λ g. Restored g (w.nodes i).life places) (is.nodes i).group_is r) in
+      let fronts = fronts_below w.group (epochs_in w) (above (epochs_in w i)) in
+      let here : epochs_in w i ≡ (w.nodes i).epochs = cond-true (is_node w i) (w.nodes i).epochs [] (a-node i low high) in
+      let own : Restored group (epochs_in w i) places = subst (λ l. Restored group l places) (sym here)
+      (subst (λ g. Restored g (w.nodes i).epochs places) (is.nodes i).group_is r) in
       record {
-        stay = fill fronts i own.stay;
+        epoch = fill fronts i own.epoch;
         older = filled fronts i own.older;
-        there = filled-there fronts i (lives_in w i) own.stay own.older own.there;
+        there = filled-there fronts i (epochs_in w i) own.epoch own.older own.there;
         whole = own.whole;
         exch = own.exch;
         w = own.w;
@@ -332,34 +333,34 @@ module _ {A : Type 0} (group : Group) (w : World A) (is : IsWorld group w) where
         at = own.at;
         snap = own.snap;
         from = own.from;
-        fewer = subst (λ (k : Kept A). k.committed < places) (sym (kept-filled fronts i group own.older)) own.fewer;
+        fewer = subst (λ (k : KnownLog A). k.committed < places) (sym (kept-filled fronts i group own.older)) own.fewer;
       }
 
-  -- all are fronts of one list
-  one-list : (log : List (Call A)) × ((i : ℕ) → 1 ≤ i → i ≤ group.count → IsFront (committed_by group w i) log)
+  -- all are prefixes of one list
+  one-list : (log : List (Call A)) × ((i : ℕ) → 1 ≤ i → i ≤ group.count → IsListPrefix (committed_by group w i) log)
   one-list =
-      let all = one-log group (lives_of w) is.orderly.members is.orderly.text is.orderly.facts is.orderly.discipline (numbers_from 1 group.count) in (
+      let all = one-log group (whole_epochs_in w) is.orderly.members is.orderly.text is.orderly.facts is.orderly.discipline (numbers_from 1 group.count) in (
         all.0,
         λ i low high.
             let at : 1 + (i - 1) ≡ i = omega (arith, low) in
-            all-at (λ (l : List (Call A)). IsFront l all.0) (map (committed_by group w) (numbers_from 1 group.count)) (i - 1) (committed_by group w i) all.1
+            all-at (λ (l : List (Call A)). IsListPrefix l all.0) (map (committed_by group w) (numbers_from 1 group.count)) (i - 1) (committed_by group w i) all.1
             (get-numbers (committed_by group w) 1 group.count (i - 1) (omega (arith, low, high)) ∙ ap (λ j. Some (committed_by group w j)) at),
       )
 
 module _ {A : Type 0} (group : Group) (w w' : World A) (is : IsWorld group w) (is' : IsWorld group w')
-    (on : (i : ℕ) → LivesOn (lives_of w i) (lives_of w' i)) where
-  grows-on : (i : ℕ) → IsFront (committed_by group w i) (committed_by group w' i)
+    (on : (i : ℕ) → IsEpochsExtended (whole_epochs_in w i) (whole_epochs_in w' i)) where
+  grows-on : (i : ℕ) → IsListPrefix (committed_by group w i) (committed_by group w' i)
   grows-on =
       let o = is.orderly in
       let o' = is'.orderly in
-      committed-grows group (record { lives = lives_of w; members = o.members; text = o.text; facts = o.facts; discipline = o.discipline })
-      (record { lives = lives_of w'; members = o'.members; text = o'.text; facts = o'.facts; discipline = o'.discipline }) on
+      committed-grows group (record { node_epochs = whole_epochs_in w; members = o.members; text = o.text; facts = o.facts; discipline = o.discipline })
+      (record { node_epochs = whole_epochs_in w'; members = o'.members; text = o'.text; facts = o'.facts; discipline = o'.discipline }) on
 
-  -- as many are committed as before
-  same-on : (i : ℕ) → 1 ≤ i → i ≤ group.count → (node_kept (w'.nodes i)).committed ≡ (node_kept (w.nodes i)).committed
+  -- the committed length is as before
+  same-on : (i : ℕ) → 1 ≤ i → i ≤ group.count → (node_known_log (w'.nodes i)).committed ≡ (node_known_log (w.nodes i)).committed
       → committed_by group w' i ≡ committed_by group w i
   same-on i low high same =
-      sym (front_whole (committed_by group w i) (committed_by group w' i) (grows-on i)
+      sym (prefix_whole (committed_by group w i) (committed_by group w' i) (grows-on i)
       (omega (arith, same, size-is group w is i low high, size-is group w' is' i low high)))
 
   module _ {O : Type 0} (object : Sequential O) (i : ℕ) (input : Input A) (low : 1 ≤ i) (high : i ≤ group.count)
@@ -367,7 +368,7 @@ module _ {A : Type 0} (group : Group) (w w' : World A) (is : IsWorld group w) (i
     abbrev n : Node A
     n = w.nodes i
 
-    abbrev x : NodeStepped A
+    abbrev x : NodeStepResult A
     x = node_step object n input
 
     here : w'.nodes i ≡ x.node
@@ -377,94 +378,94 @@ module _ {A : Type 0} (group : Group) (w w' : World A) (is : IsWorld group w) (i
     there j other = ap (λ (v : World A). v.nodes j) steps ∙ cond-false (j == i) x.node (w.nodes j) other
 
     others-same : (j : ℕ) → 1 ≤ j → j ≤ group.count → (j == i) ≡ false → committed_by group w' j ≡ committed_by group w j
-    others-same j l h other = same-on j l h (ap (λ (m : Node A). (node_kept m).committed) (there j other))
+    others-same j l h other = same-on j l h (ap (λ (m : Node A). (node_known_log m).committed) (there j other))
 
-    known-within : (j : ℕ) → 1 ≤ j → j ≤ group.count → (node_kept (w.nodes j)).committed ≤ length w.longest
+    known-within : (j : ℕ) → 1 ≤ j → j ≤ group.count → (node_known_log (w.nodes j)).committed ≤ length w.longest
     known-within j l h =
-        let le = front_length (committed_by group w j) w.longest (longest.fronts j l h) in
+        let le = prefix_length (committed_by group w j) w.longest (longest.fronts j l h) in
         omega (arith, le, size-is group w is j l h)
 
-    quiet-grown : IsQuiet n x → IsGrown (committed_by group w) (committed_by group w') group.count i (node_kept x.node).committed x.committed w.longest
-    quiet-grown q = record {
+    empty_step-grown : IsQuiet n x → IsGrown (committed_by group w) (committed_by group w') group.count i (node_known_log x.node).committed x.committed w.longest
+    empty_step-grown q = record {
       low = low;
       high = high;
       start = committed_by group w' i;
       own = sym (ap (λ l. committed_by group w' i ++ l) q.none ∙ append-nil (committed_by group w' i));
       within =
           let le = known-within i low high in
-          omega (arith, le, size-is group w' is' i low high, ap (λ (m : Node A). (node_kept m).committed) here, q.many);
+          omega (arith, le, size-is group w' is' i low high, ap (λ (m : Node A). (node_known_log m).committed) here, q.many);
       grows = grows-on i;
       others = others-same;
-      all_is = sym (size-is group w' is' i low high ∙ ap (λ (m : Node A). (node_kept m).committed) here);
+      all_is = sym (size-is group w' is' i low high ∙ ap (λ (m : Node A). (node_known_log m).committed) here);
     }
 
-    module _ (outs : List (Out A)) (new : IsNew n (lived_through n.life outs) x) where
-      abbrev k : Kept A
-      k = kept_of n.group (lived_through n.life outs)
+    module _ (outs : List (Out A)) (new : IsNew n (epochs_after n.epochs outs) x) where
+      abbrev k : KnownLog A
+      k = known_log_of n.group (epochs_after n.epochs outs)
 
-      abbrev old : Kept A
-      old = node_kept n
+      abbrev old : KnownLog A
+      old = node_known_log n
 
       abbrev all : List (Call A)
       all = committed_by group w' i
 
       abbrev log : List (Call A)
-      log = log_of group (lives_of w' i)
+      log = log_of group (whole_epochs_in w' i)
 
-      known : kept_of group (lives_of w' i) ≡ node_kept x.node
-      known = kept-is group w' is' i low high ∙ ap (λ (m : Node A). node_kept m) here
+      known : known_log_of group (whole_epochs_in w' i) ≡ node_known_log x.node
+      known = kept-is group w' is' i low high ∙ ap (λ (m : Node A). node_known_log m) here
 
       size : k.committed ≡ length all
-      size = sym new.many ∙ sym (size-is group w' is' i low high ∙ ap (λ (m : Node A). (node_kept m).committed) here)
+      size = sym new.many ∙ sym (size-is group w' is' i low high ∙ ap (λ (m : Node A). (node_known_log m).committed) here)
 
-      -- the committed places that it keeps are those behind what was dropped
-      kept-calls : committed_calls (log_kept k) ≡ drop k.trimmed all
+      -- the committed places that it keeps are those after the dropped ones
+      kept-calls : committed_calls (retained_log k) ≡ drop k.trimmed all
       kept-calls =
           let v = view-is group w' is' i in
-          let from : (kept_of group (lives_of w' i)).from ≡ k.from = ap (λ (y : Kept A). y.from) known ∙ new.from in
-          let calls : k.calls ≡ drop k.from log = sym (ap (λ (y : Kept A). y.calls) known ∙ new.calls) ∙ v.calls ∙ ap (λ m. drop m log) from in
-          let l = kept_low n.group (lived_through n.life outs) in
+          let from : (known_log_of group (whole_epochs_in w' i)).from ≡ k.from = ap (λ (y : KnownLog A). y.from) known ∙ new.from in
+          let calls : k.calls ≡ drop k.from log = sym (ap (λ (y : KnownLog A). y.calls) known ∙ new.calls) ∙ v.calls ∙ ap (λ m. drop m log) from in
+          let l = kept_low n.group (epochs_after n.epochs outs) in
           let sum : k.from + (k.trimmed - k.from) ≡ k.trimmed = omega (arith, l) in
-          let front = committed-front group (lives_of w') is'.orderly.members is'.orderly.text is'.orderly.facts is'.orderly.discipline i in
+          let front = committed-front group (whole_epochs_in w') is'.orderly.members is'.orderly.text is'.orderly.facts is'.orderly.discipline i in
           ap (λ y. take (k.committed - k.trimmed) (drop (k.trimmed - k.from) y)) calls
           ∙ ap (take (k.committed - k.trimmed)) (drop-more k.from (k.trimmed - k.from) log ∙ ap (λ m. drop m log) sum)
           ∙ ap (λ m. take (m - k.trimmed) (drop k.trimmed log)) size
           ∙ behind k.trimmed all log front
 
-      -- what is new lies behind what was committed, or restored
+      -- new ones come after those committed or restored
       new-calls : x.committed ≡ drop (max old.committed k.trimmed) all
       new-calls =
           let sum : k.trimmed + (max old.committed k.trimmed - k.trimmed) ≡ max old.committed k.trimmed = omega arith in
           new.committed ∙ ap (drop (max old.committed k.trimmed - k.trimmed)) kept-calls
           ∙ drop-more k.trimmed (max old.committed k.trimmed - k.trimmed) all ∙ ap (λ m. drop m all) sum
 
-      -- and some node had committed all of that
+      -- some node had committed all of that
       start-within : max old.committed k.trimmed ≤ length w.longest
       start-within =
           let mine = known-within i low high in
-          elim (gone n.group old.committed (lived_through n.life outs)
-          (most-through old.committed n.life outs (dropped-most n.group n.life (is.nodes i).orderly.drops)))
+          elim (gone n.group old.committed (epochs_after n.epochs outs)
+          (most-through old.committed n.epochs outs (dropped-most n.group n.epochs (is.nodes i).orderly.drops)))
           as (λ _. max old.committed k.trimmed ≤ length w.longest) [
             | inl le ↦ omega (arith, mine, le)
             | inr r ↦
-                let own : Restored x.node.group x.node.life k.trimmed = subst (λ g. Restored g x.node.life k.trimmed) (sym new.group_is) (new.restored k.trimmed r) in
-                let own' : Restored (w'.nodes i).group (w'.nodes i).life k.trimmed =
-                subst (λ (m : Node A). Restored m.group m.life k.trimmed) (sym here) own in
+                let own : Restored x.node.group x.node.epochs k.trimmed = subst (λ g. Restored g x.node.epochs k.trimmed) (sym new.group_is) (new.restored k.trimmed r) in
+                let own' : Restored (w'.nodes i).group (w'.nodes i).epochs k.trimmed =
+                subst (λ (m : Node A). Restored m.group m.epochs k.trimmed) (sym here) own in
                 let o' = is'.orderly in
-                let owned = restored-owned group (lives_of w') o'.members o'.text o'.facts o'.discipline i k.trimmed
+                let owned = restored-owned group (whole_epochs_in w') o'.members o'.text o'.facts o'.discipline i k.trimmed
                 (restored-filled group w' is' i k.trimmed low high own') in
                 let q = owned.owner in
                 let bounds = in-group group w' is' q owned.at.0 owned.at.1 in
-                let had : k.trimmed ≤ (node_kept (w'.nodes q)).committed =
+                let had : k.trimmed ≤ (node_known_log (w'.nodes q)).committed =
                 let le = owned.committed in
-                omega (arith, le, ap (λ (y : Kept A). y.committed) (kept-is group w' is' q bounds.0 bounds.1)) in
-                let was : (node_kept (w'.nodes q)).committed ≡ (node_kept (w.nodes q)).committed =
-                ap (λ (m : Node A). (node_kept m).committed) (there q owned.other) in
+                omega (arith, le, ap (λ (y : KnownLog A). y.committed) (kept-is group w' is' q bounds.0 bounds.1)) in
+                let was : (node_known_log (w'.nodes q)).committed ≡ (node_known_log (w.nodes q)).committed =
+                ap (λ (m : Node A). (node_known_log m).committed) (there q owned.other) in
                 let theirs = known-within q bounds.0 bounds.1 in
                 omega (arith, mine, had, was, theirs)
           ]
 
-      new-grown : IsGrown (committed_by group w) (committed_by group w') group.count i (node_kept x.node).committed x.committed w.longest
+      new-grown : IsGrown (committed_by group w) (committed_by group w') group.count i (node_known_log x.node).committed x.committed w.longest
       new-grown = record {
         low = low;
         high = high;
@@ -473,25 +474,25 @@ module _ {A : Type 0} (group : Group) (w w' : World A) (is : IsWorld group w) (i
         within = let le = start-within in omega (arith, le, length-take (max old.committed k.trimmed) all);
         grows = grows-on i;
         others = others-same;
-        all_is = sym (size-is group w' is' i low high ∙ ap (λ (m : Node A). (node_kept m).committed) here);
+        all_is = sym (size-is group w' is' i low high ∙ ap (λ (m : Node A). (node_known_log m).committed) here);
       }
 
     pub step-longest : IsLongest (committed_by group w') group.count w'.longest
     step-longest =
-        let grown : IsGrown (committed_by group w) (committed_by group w') group.count i (node_kept x.node).committed x.committed w.longest =
-        elim (step-comes object n input) [ inl q ↦ quiet-grown q | inr c ↦ new-grown c.0 c.1 ] in
+        let grown : IsGrown (committed_by group w) (committed_by group w') group.count i (node_known_log x.node).committed x.committed w.longest =
+        elim (step-comes object n input) [ inl q ↦ empty_step-grown q | inr c ↦ new-grown c.0 c.1 ] in
         let list = one-list group w' is' in
         subst (IsLongest (committed_by group w') group.count) (sym (ap (λ (v : World A). v.longest) steps))
-        (longest-next (committed_by group w) (committed_by group w') group.count i (node_kept x.node).committed x.committed w.longest grown list.0 list.1 longest)
+        (longest-next (committed_by group w) (committed_by group w') group.count i (node_known_log x.node).committed x.committed w.longest grown list.0 list.1 longest)
 
 -- ---- events
 
 -- no node commits anything
 pub record IsStill {A : Type 0} (group : Group) (w w' : World A) : Type 0 where
   pub longest : w'.longest ≡ w.longest
-  pub same : (j : ℕ) → (node_kept (w'.nodes j)).committed ≡ (node_kept (w.nodes j)).committed
+  pub same : (j : ℕ) → (node_known_log (w'.nodes j)).committed ≡ (node_known_log (w.nodes j)).committed
 
--- or one steps
+-- or one node steps
 pub record IsStepped {O A : Type 0} (object : Sequential O) (group : Group) (w w' : World A) : Type 0 where
   pub node : ℕ
   pub input : Input A
@@ -506,10 +507,10 @@ module _ {O A : Type 0} (object : Sequential O) (group : Group) (w : World A) (g
   still : Moves w
   still = inl (record { longest = refl; same = λ j. refl })
 
-  put-still : (i : ℕ) (n : Node A) → (node_kept n).committed ≡ (node_kept (w.nodes i)).committed → (j : ℕ)
-      → (node_kept (put w.nodes i n j)).committed ≡ (node_kept (w.nodes j)).committed
-  put-still i n e j = cond_both (j == i) n (w.nodes j) (λ (m : Node A). (node_kept m).committed ≡ (node_kept (w.nodes j)).committed)
-      (λ t. let same : j ≡ i = eqb-true j i t in e ∙ ap (λ q. (node_kept (w.nodes q)).committed) (sym same)) (λ f. refl)
+  put-still : (i : ℕ) (n : Node A) → (node_known_log n).committed ≡ (node_known_log (w.nodes i)).committed → (j : ℕ)
+      → (node_known_log (put w.nodes i n j)).committed ≡ (node_known_log (w.nodes j)).committed
+  put-still i n e j = cond_both (j == i) n (w.nodes j) (λ (m : Node A). (node_known_log m).committed ≡ (node_known_log (w.nodes j)).committed)
+      (λ t. let same : j ≡ i = eqb-true j i t in e ∙ ap (λ q. (node_known_log (w.nodes q)).committed) (sym same)) (λ f. refl)
 
   step-moves : (b : Bool) (i : ℕ) (input : Input A) → is_node w i ≡ b → Moves (stepped_if object b w i input)
   step-moves false i input e = still
@@ -529,7 +530,7 @@ module _ {O A : Type 0} (object : Sequential O) (group : Group) (w : World A) (g
   submit-moves None i c = inl (record {
     longest = refl;
     same = put-still i (submitted (w.nodes i) c)
-        (ap (λ (k : Kept A). k.committed) (hands-kept (w.nodes i).group (due_by_submit (w.nodes i) c) (w.nodes i).life));
+        (ap (λ (k : KnownLog A). k.committed) (epochs_with_sends-kept (w.nodes i).group (due_by_submit (w.nodes i) c) (w.nodes i).epochs));
   })
 
   issue-moves : (b : Bool) (i : ℕ) (c : Call A) → Moves (issued_if b w i c)
@@ -544,7 +545,7 @@ module _ {O A : Type 0} (object : Sequential O) (group : Group) (w : World A) (g
   frame-moves false i frame = still
   frame-moves true i frame = step-moves (is_node w i) i (FrameInput frame) refl
 
-  handed-moves : (o : Option (Carried A)) (i : ℕ) → Moves (handed object w i o)
+  handed-moves : (o : Option (Transmission A)) (i : ℕ) → Moves (handed object w i o)
   handed-moves None i = still
   handed-moves (Some f) i = frame-moves (has f.to i) i f.frame
 
@@ -576,7 +577,7 @@ module _ {O A : Type 0} (object : Sequential O) (group : Group) (few : group.cou
       let is : IsWorld group (world_opening {A = A} group) = world-is [] in record {
         fronts = λ i low high.
             let size = size-is group (world_opening {A = A} group) is i low high in
-            let none = born-known A group i in
+            let none = epochs_opening-known A group i in
             ([], append-nil (committed_by group (world_opening {A = A} group) i) ∙ empty (committed_by group (world_opening {A = A} group) i) (omega (arith, size, none)));
         some = inl refl;
       }
@@ -592,7 +593,7 @@ module _ {O A : Type 0} (object : Sequential O) (group : Group) (few : group.cou
       let w' = happens object w e in
       let known = world-is events in
       let known' = after-is events e in
-      let on : (i : ℕ) → LivesOn (lives_of w i) (lives_of w' i) = lives_on object group few events (e ∷ []) in
+      let on : (i : ℕ) → IsEpochsExtended (whole_epochs_in w i) (whole_epochs_in w' i) = lives_on object group few events (e ∷ []) in
       elim (event-moves object group w known.group_is e) as (λ _. IsLongest (committed_by group w') group.count w'.longest) [
         | inl s ↦ subst (IsLongest (committed_by group w') group.count) (sym s.longest)
             (longest-same (committed_by group w) (committed_by group w') group.count w.longest
@@ -613,33 +614,33 @@ module _ {O A : Type 0} (object : Sequential O) (group : Group) (few : group.cou
   pub longest-is : (events : List (Event A)) → IsLongest (committed_by group (At events)) group.count (At events).longest
   longest-is events = more-longest [] events opening-longest
 
-  -- a node's committed places are so many of them
+  -- the number of a node's committed places
   pub taken-longest : (events : List (Event A)) (i : ℕ) → 1 ≤ i → i ≤ group.count
-      → committed_by group (At events) i ≡ take (node_kept ((At events).nodes i)).committed (At events).longest
+      → committed_by group (At events) i ≡ take (node_known_log ((At events).nodes i)).committed (At events).longest
   taken-longest events i low high =
       let w = At events in
       sym (ap (λ n. take n w.longest) (sym (size-is group w (world-is events) i low high))
       ∙ take-whole (committed_by group w i) w.longest ((longest-is events).fronts i low high))
 
-  -- and there are so many
+  -- the node has as many
   pub within-longest : (events : List (Event A)) (i : ℕ) → 1 ≤ i → i ≤ group.count
-      → (node_kept ((At events).nodes i)).committed ≤ length (At events).longest
+      → (node_known_log ((At events).nodes i)).committed ≤ length (At events).longest
   within-longest events i low high =
       let w = At events in
-      let le = front_length (committed_by group w i) w.longest ((longest-is events).fronts i low high) in
+      let le = prefix_length (committed_by group w i) w.longest ((longest-is events).fronts i low high) in
       omega (arith, le, size-is group w (world-is events) i low high)
 
   -- ---- the order
 
-  order-front : (log : List (Call A)) (f : ℕ → List (Call A)) (first n : ℕ) → ((i : ℕ) → first ≤ i → i < first + n → IsFront (f i) log)
-      → IsFront (order_of (map f (numbers_from first n))) (deduplicated log)
+  order-front : (log : List (Call A)) (f : ℕ → List (Call A)) (first n : ℕ) → ((i : ℕ) → first ≤ i → i < first + n → IsListPrefix (f i) log)
+      → IsListPrefix (order_of (map f (numbers_from first n))) (deduplicated log)
   order-front log f first zero fronts = (deduplicated log, refl)
   order-front log f first (suc n) fronts =
-      longer-either (λ (w : List (Call A)). IsFront w (deduplicated log)) (deduplicated (f first)) (order_of (map f (numbers_from (suc first) n)))
+      longer_list-either (λ (w : List (Call A)). IsListPrefix w (deduplicated log)) (deduplicated (f first)) (order_of (map f (numbers_from (suc first) n)))
       (deduplicated-front (f first) log (fronts first (omega arith) (omega arith)))
       (order-front log f (suc first) n (λ i low high. fronts i (omega (arith, low)) (omega (arith, high))))
 
-  -- what takes effect of it is the order
+  -- its calls that take effect are the order
   pub order-longest : (events : List (Event A)) → order (At events) ≡ deduplicated (At events).longest
   order-longest events =
       let w = At events in
@@ -647,10 +648,10 @@ module _ {O A : Type 0} (object : Sequential O) (group : Group) (few : group.cou
       let committed = committed_by group w in
       let all = map committed (numbers_from 1 group.count) in
       let known = world-is events in
-      let lists : committed_in w ≡ all = ap (λ (g : Group). map (λ i. committed_of g (lives_of w i)) (numbers_from 1 g.count)) known.group_is in
-      let list = one-log group (lives_of w) known.orderly.members known.orderly.text known.orderly.facts known.orderly.discipline (numbers_from 1 group.count) in
+      let lists : committed_in w ≡ all = ap (λ (g : Group). map (λ i. committed_of g (whole_epochs_in w i)) (numbers_from 1 g.count)) known.group_is in
+      let list = one-log group (whole_epochs_in w) known.orderly.members known.orderly.text known.orderly.facts known.orderly.discipline (numbers_from 1 group.count) in
       let front = order-front w.longest committed 1 group.count (λ i low high. is.fronts i low (omega (arith, high))) in
-      ap order_of lists ∙ front_whole (order_of all) (deduplicated w.longest) front (elim is.some [
+      ap order_of lists ∙ prefix_whole (order_of all) (deduplicated w.longest) front (elim is.some [
         | inl e ↦ let none : length (deduplicated w.longest) ≡ 0 = ap (λ (zs : List (Call A)). length (deduplicated zs)) e in omega (arith, none)
         | inr j ↦
             let same : length (deduplicated w.longest) ≡ length (deduplicated (committed j.node)) = ap
@@ -661,6 +662,6 @@ module _ {O A : Type 0} (object : Sequential O) (group : Group) (few : group.cou
             omega (
               arith,
               same,
-              front_length (deduplicated (committed j.node)) (order_of all) (order_of-fronts all (j.node - 1) (committed j.node) list stands),
+              prefix_length (deduplicated (committed j.node)) (order_of all) (order_of-fronts all (j.node - 1) (committed j.node) list stands),
             )
       ])

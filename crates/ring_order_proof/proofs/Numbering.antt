@@ -1,4 +1,5 @@
--- A ring's text has the numbers 1, 2, 3 and so on; what a processor holds up to its front is a front of it, and what it said there is its own part.
+-- A ring's text has the numbers 1, 2, 3 and so on. What a processor holds up to its front is a prefix of it; what it sent there
+-- is its own part.
 
 -- The text is all that was numbered in the visits of the token, oldest first.
 use Rattle.std.proofs.Common.{◌≡◌, ℕ, zero, suc, ◌+◌, ◌<◌, ◌≤◌, inl, inr, Bool, true, false, ◌==◌, List, [], ◌∷◌, ◌++◌}
@@ -8,30 +9,30 @@ use Rattle.std.specs.Prelude.{filter, filter_map, nat_le, if◌then◌else◌}
 use Rattle.std.specs.List.{AllByRecursion as Each, flat_map, cons_option}
 use Rattle.std.proofs.lemmas.Bool.{cond_both, cond-true, cond-false, cases_Bool, eqb-true, le-leb, lt-leb}
 use Rattle.std.proofs.lemmas.List.Elements.{filter-append}
-use Rattle.ring_base.specs.Fronts.{IsFront}
+use Rattle.ring_base.specs.Prefixes.{IsListPrefix}
 use Rattle.ring_base.specs.Numbers.{numbers_from}
 use Rattle.ring_base.specs.declared.ring_id.RingId.{RingId}
 use Rattle.ring_base.proofs.Each.{each-weaker, each-append, each-take, each-filter}
 use Rattle.ring_payload.specs.declared.content.Payload.{Payload}
-use Rattle.ring_payload.specs.Kinds.{is_user, units}
+use Rattle.ring_payload.specs.Kinds.{is_user, unpacked_payloads}
 use Rattle.ring_wire.specs.declared.message.Message.{Message}
 use Rattle.ring_wire.specs.declared.token.Token.{Token}
-use Rattle.ring_core.specs.Tokens.{Turn, numbered, VisitBy, arrived, AreVisits}
-use Rattle.ring_core.proofs.Tokens.{length-numbered, numbered-ring}
+use Rattle.ring_core_spec.specs.Tokens.{TokenVisit, numbered, VisitBy, token_arrived, AreVisits}
+use Rattle.ring_core_spec.proofs.Tokens.{length-numbered, numbered-ring}
 use Rattle.ring_core_proof.specs.FactWords.{IsIn, SomeIs}
 use Rattle.ring_core_proof.proofs.InLists.{in-left, in-right, in-parts, in-filtered, each-in}
-use Rattle.ring_log.specs.Lives.{upto}
-use Rattle.ring_synchrony_proof.specs.Chains.{picked}
-use Rattle.ring_log_proof.specs.RingFacts.{said_by}
-use Rattle.ring_order_proof.specs.Spoken.{spoken_at, spoken_in}
+use Rattle.ring_log.specs.EpochHistories.{upto}
+use Rattle.ring_synchrony_proof.specs.Chains.{visits_taken_by}
+use Rattle.ring_log_proof.specs.RingFacts.{payloads_from}
+use Rattle.ring_order_proof.specs.SentPayloads.{payloads_of_visit, payloads_of_visits}
 use Rattle.ring_order_proof.specs.Texts.{Ascends}
 
--- all that was numbered in visits, which stand newest first
+-- all that was numbered in visits, given newest first
 abbrev pub all_numbered : {A : Type 0} → RingId → List (VisitBy A) → List (Message A)
 all_numbered ring [] = []
-all_numbered ring (v ∷ vs) = all_numbered ring vs ++ numbered ring v.who v.turn.came.seq v.turn.fresh
+all_numbered ring (v ∷ vs) = all_numbered ring vs ++ numbered ring v.who v.turn.received.seq v.turn.fresh
 
--- the users' messages of a list
+-- the user messages of a list
 abbrev pub users_in : {A : Type 0} → List (Message A) → List (Message A)
 users_in {A} xs = filter (λ (x : Message A). is_user x.payload) xs
 
@@ -51,18 +52,18 @@ numbered_from ring me seq [] = tt
 numbered_from ring me seq (p ∷ ps) = (refl, numbered_from ring me (suc seq) ps)
 
 pub all_from : {A : Type 0} → (members : ℕ) (ring : RingId) (vs : List (VisitBy A)) → AreVisits members ring vs →
-    AreFrom 0 (all_numbered ring vs) × (length (all_numbered ring vs) ≡ (arrived ring vs).seq)
+    AreFrom 0 (all_numbered ring vs) × (length (all_numbered ring vs) ≡ (token_arrived ring vs).seq)
 all_from members ring [] h = (tt, refl)
 all_from {A} members ring (v ∷ vs) h =
     let rest = all_from members ring vs h.1 in
-    let came : v.turn.came.seq ≡ (arrived ring vs).seq = ap (λ (t : Token). t.seq) (h.0).comes in
-    let went : v.turn.went.seq ≡ v.turn.came.seq + length v.turn.fresh = ap (λ (t : Token). t.seq) (h.0).goes in
-    let new = numbered ring v.who v.turn.came.seq v.turn.fresh in
-    let count : length new ≡ length v.turn.fresh = length-numbered ring v.who v.turn.came.seq v.turn.fresh in
-    let last : length (all_numbered ring vs) ≡ (arrived ring vs).seq = rest.1 in
-    let first : v.turn.came.seq ≡ 0 + length (all_numbered ring vs) = omega (arith, came, last) in (
-      from_append 0 (all_numbered ring vs) new rest.0 (subst (λ (n : ℕ). AreFrom n new) first (numbered_from ring v.who v.turn.came.seq v.turn.fresh)),
-      length-append (all_numbered ring vs) new ∙ omega (arith, came, went, count, last),
+    let received : v.turn.received.seq ≡ (token_arrived ring vs).seq = ap (λ (t : Token). t.seq) (h.0).comes in
+    let forwarded : v.turn.forwarded.seq ≡ v.turn.received.seq + length v.turn.fresh = ap (λ (t : Token). t.seq) (h.0).goes in
+    let new = numbered ring v.who v.turn.received.seq v.turn.fresh in
+    let count : length new ≡ length v.turn.fresh = length-numbered ring v.who v.turn.received.seq v.turn.fresh in
+    let last : length (all_numbered ring vs) ≡ (token_arrived ring vs).seq = rest.1 in
+    let first : v.turn.received.seq ≡ 0 + length (all_numbered ring vs) = omega (arith, received, last) in (
+      from_append 0 (all_numbered ring vs) new rest.0 (subst (λ (n : ℕ). AreFrom n new) first (numbered_from ring v.who v.turn.received.seq v.turn.fresh)),
+      length-append (all_numbered ring vs) new ∙ omega (arith, received, forwarded, count, last),
     )
 
 pub in_from : {A : Type 0} → (k : ℕ) (xs : List (Message A)) (x : Message A) → AreFrom k xs → IsIn x xs → k < x.number
@@ -72,49 +73,49 @@ in_from k (y ∷ xs) x h (inr i) = (let l = in_from (suc k) xs x h.1 i in omega 
 
 -- what was numbered in one of the visits is among all of it
 pub some_numbered : {A : Type 0} → (ring : RingId) (vs : List (VisitBy A)) (x : Message A) →
-    SomeIs (λ (v : VisitBy A). IsIn x (numbered ring v.who v.turn.came.seq v.turn.fresh)) vs → IsIn x (all_numbered ring vs)
+    SomeIs (λ (v : VisitBy A). IsIn x (numbered ring v.who v.turn.received.seq v.turn.fresh)) vs → IsIn x (all_numbered ring vs)
 some_numbered ring [] x h = absurd h
-some_numbered ring (v ∷ vs) x (inl i) = in-right x (all_numbered ring vs) (numbered ring v.who v.turn.came.seq v.turn.fresh) i
-some_numbered ring (v ∷ vs) x (inr i) = in-left x (all_numbered ring vs) (numbered ring v.who v.turn.came.seq v.turn.fresh) (some_numbered ring vs x i)
+some_numbered ring (v ∷ vs) x (inl i) = in-right x (all_numbered ring vs) (numbered ring v.who v.turn.received.seq v.turn.fresh) i
+some_numbered ring (v ∷ vs) x (inr i) = in-left x (all_numbered ring vs) (numbered ring v.who v.turn.received.seq v.turn.fresh) (some_numbered ring vs x i)
 
--- and the other way
+-- and conversely
 pub numbered_some : {A : Type 0} → (ring : RingId) (vs : List (VisitBy A)) (x : Message A) → IsIn x (all_numbered ring vs) →
-    SomeIs (λ (v : VisitBy A). IsIn x (numbered ring v.who v.turn.came.seq v.turn.fresh)) vs
+    SomeIs (λ (v : VisitBy A). IsIn x (numbered ring v.who v.turn.received.seq v.turn.fresh)) vs
 numbered_some ring [] x i = absurd i
 numbered_some ring (v ∷ vs) x i =
-    elim (in-parts x (all_numbered ring vs) (numbered ring v.who v.turn.came.seq v.turn.fresh) i) [
+    elim (in-parts x (all_numbered ring vs) (numbered ring v.who v.turn.received.seq v.turn.fresh) i) [
       | inl old ↦ inr (numbered_some ring vs x old)
       | inr new ↦ inl new
     ]
 
--- so is what its sender numbered at a visit that is one of these
-pub picked_numbered : {A : Type 0} → (ring : RingId) (vs : List (VisitBy A)) (x : Message A) (t : Turn A) → IsIn t (picked x.sender vs) →
-    IsIn x (numbered ring x.sender t.came.seq t.fresh) → IsIn x (all_numbered ring vs)
+-- so is what its sender numbered at one of these visits
+pub picked_numbered : {A : Type 0} → (ring : RingId) (vs : List (VisitBy A)) (x : Message A) (t : TokenVisit A) → IsIn t (visits_taken_by x.sender vs) →
+    IsIn x (numbered ring x.sender t.received.seq t.fresh) → IsIn x (all_numbered ring vs)
 picked_numbered ring [] x t i n = absurd i
 picked_numbered {A} ring (v ∷ vs) x t i n =
     let old = all_numbered ring vs in
-    let new = numbered ring v.who v.turn.came.seq v.turn.fresh in
-    let rest = picked x.sender vs in
+    let new = numbered ring v.who v.turn.received.seq v.turn.fresh in
+    let rest = visits_taken_by x.sender vs in
     elim (cases_Bool (v.who == x.sender)) [
-      | inl own ↦ elim (subst (λ (ts : List (Turn A)). IsIn t ts) (cond-true (v.who == x.sender) (v.turn ∷ rest) rest own) i) [
+      | inl own ↦ elim (subst (λ (ts : List (TokenVisit A)). IsIn t ts) (cond-true (v.who == x.sender) (v.turn ∷ rest) rest own) i) [
         | inl e ↦ in-right x old new
-            (subst (λ (q : ℕ). IsIn x (numbered ring q v.turn.came.seq v.turn.fresh)) (sym (eqb-true v.who x.sender own))
-            (subst (λ (u : Turn A). IsIn x (numbered ring x.sender u.came.seq u.fresh)) e n))
+            (subst (λ (q : ℕ). IsIn x (numbered ring q v.turn.received.seq v.turn.fresh)) (sym (eqb-true v.who x.sender own))
+            (subst (λ (u : TokenVisit A). IsIn x (numbered ring x.sender u.received.seq u.fresh)) e n))
         | inr j ↦ in-left x old new (picked_numbered ring vs x t j n)
       ]
       | inr other ↦ in-left x old new
-          (picked_numbered ring vs x t (subst (λ (ts : List (Turn A)). IsIn t ts) (cond-false (v.who == x.sender) (v.turn ∷ rest) rest other) i) n)
+          (picked_numbered ring vs x t (subst (λ (ts : List (TokenVisit A)). IsIn t ts) (cond-false (v.who == x.sender) (v.turn ∷ rest) rest other) i) n)
     ]
 
 pub all_named : {A : Type 0} → (ring : RingId) (vs : List (VisitBy A)) → Each (λ (x : Message A). x.ring ≡ ring) (all_numbered ring vs)
 all_named ring [] = tt
 all_named {A} ring (v ∷ vs) = each-append (λ (x : Message A). x.ring ≡ ring)
-    (all_numbered ring vs) _ (all_named ring vs) (numbered-ring ring v.who v.turn.came.seq v.turn.fresh)
+    (all_numbered ring vs) _ (all_named ring vs) (numbered-ring ring v.who v.turn.received.seq v.turn.fresh)
 
 pub users_named : {A : Type 0} → (ring : RingId) (vs : List (VisitBy A)) → Each (λ (x : Message A). x.ring ≡ ring) (users_in (all_numbered ring vs))
 users_named {A} ring vs = each-filter (λ (x : Message A). x.ring ≡ ring) (λ (x : Message A). is_user x.payload) (all_numbered ring vs) (all_named ring vs)
 
--- Users' messages alone ascend too
+-- User messages alone ascend too
 
 all_above : {A : Type 0} → (k : ℕ) (xs : List (Message A)) → AreFrom k xs → Each (λ (x : Message A). k < x.number) xs
 all_above k [] h = tt
@@ -136,9 +137,9 @@ pub users_each : {A : Type 0} → (xs : List (Message A)) → Each (λ (x : Mess
 users_each {A} xs =
     each-in (λ (x : Message A). is_user x.payload ≡ true) (users_in xs) (λ x i. (in-filtered (λ (y : Message A). is_user y.payload) x xs i).1)
 
--- What is found number by number is the first of them
+-- Looking up number by number gives the first elements
 
--- there is one of the number
+-- there is one with this number
 abbrev pub IsThere : {A : Type 0} → (ℕ → Option (Message A)) → List (Message A) → ℕ → Type 0
 IsThere {A} get xs j = (x : Message A) × (get j ≡ Some x) × IsIn x xs × (x.number ≡ j)
 
@@ -168,9 +169,9 @@ found_taken {A} get k (suc n) (x ∷ xs) f h =
       b.3,
     )
 
--- Fronts
+-- Prefixes
 
-pub users_front : {A : Type 0} → (xs ys : List (Message A)) → IsFront xs ys → IsFront (users_in xs) (users_in ys)
+pub users_front : {A : Type 0} → (xs ys : List (Message A)) → IsListPrefix xs ys → IsListPrefix (users_in xs) (users_in ys)
 users_front {A} xs ys f = (users_in f.0, sym (filter-append (λ (x : Message A). is_user x.payload) xs f.0) ∙ ap (λ (zs : List (Message A)). users_in zs) f.1)
 
 -- Up to a number
@@ -213,16 +214,16 @@ upto_all {A} m xs h =
     subst (λ (ys : List (Message A)). upto m (users_in ys) ≡ users_in (take m xs)) all
     (subst (λ (n : ℕ). upto n (users_in (take (length xs + m) xs)) ≡ users_in (take m xs)) same (upto_taken 0 m (length xs + m) xs h (omega arith)))
 
--- What one processor said
+-- What one processor sent
 
-said_append : {A : Type 0} → (p : ℕ) (xs ys : List (Message A)) → said_by p (xs ++ ys) ≡ said_by p xs ++ said_by p ys
+said_append : {A : Type 0} → (p : ℕ) (xs ys : List (Message A)) → payloads_from p (xs ++ ys) ≡ payloads_from p xs ++ payloads_from p ys
 said_append p [] ys = refl
 said_append {A} p (x ∷ xs) ys =
-    let own : List (Payload A) = if x.sender == p then units x.payload else [] in
-    ap (λ (zs : List (Payload A)). own ++ zs) (said_append p xs ys) ∙ sym (append_assoc own (said_by p xs) (said_by p ys))
+    let own : List (Payload A) = if x.sender == p then unpacked_payloads x.payload else [] in
+    ap (λ (zs : List (Payload A)). own ++ zs) (said_append p xs ys) ∙ sym (append_assoc own (payloads_from p xs) (payloads_from p ys))
 
 own_said : {A : Type 0} → (p : ℕ) (ring : RingId) (me seq : ℕ) (ps : List (Payload A)) → (me == p) ≡ true
-    → said_by p (users_in (numbered ring me seq ps)) ≡ spoken_at ps
+    → payloads_from p (users_in (numbered ring me seq ps)) ≡ payloads_of_visit ps
 own_said p ring me seq [] e = refl
 own_said {A} p ring me seq (q ∷ ps) e = by (is_user q) (own_said p ring me (suc seq) ps e)
   where
@@ -232,14 +233,14 @@ own_said {A} p ring me seq (q ∷ ps) e = by (is_user q) (own_said p ring me (su
     more : List (Message A)
     more = users_in (numbered ring me (suc seq) ps)
 
-    by : (b : Bool) → said_by p more ≡ spoken_at ps → said_by p (if b then first ∷ more else more) ≡ flat_map units
+    by : (b : Bool) → payloads_from p more ≡ payloads_of_visit ps → payloads_from p (if b then first ∷ more else more) ≡ flat_map unpacked_payloads
         (if b then q ∷ filter is_user ps else filter is_user ps)
     by true r =
-        ap (λ (zs : List (Payload A)). zs ++ said_by p more) (cond-true (me == p) (units q) [] e) ∙ ap (λ (zs : List (Payload A)). units q ++ zs) r
+        ap (λ (zs : List (Payload A)). zs ++ payloads_from p more) (cond-true (me == p) (unpacked_payloads q) [] e) ∙ ap (λ (zs : List (Payload A)). unpacked_payloads q ++ zs) r
     by false r = r
 
 other_said : {A : Type 0} → (p : ℕ) (ring : RingId) (me seq : ℕ) (ps : List (Payload A)) → (me == p) ≡ false
-    → said_by p (users_in (numbered ring me seq ps)) ≡ []
+    → payloads_from p (users_in (numbered ring me seq ps)) ≡ []
 other_said p ring me seq [] e = refl
 other_said {A} p ring me seq (q ∷ ps) e = by (is_user q) (other_said p ring me (suc seq) ps e)
   where
@@ -249,27 +250,27 @@ other_said {A} p ring me seq (q ∷ ps) e = by (is_user q) (other_said p ring me
     more : List (Message A)
     more = users_in (numbered ring me (suc seq) ps)
 
-    by : (b : Bool) → said_by p more ≡ [] → said_by p (if b then first ∷ more else more) ≡ []
-    by true r = ap (λ (zs : List (Payload A)). zs ++ said_by p more) (cond-false (me == p) (units q) [] e) ∙ r
+    by : (b : Bool) → payloads_from p more ≡ [] → payloads_from p (if b then first ∷ more else more) ≡ []
+    by true r = ap (λ (zs : List (Payload A)). zs ++ payloads_from p more) (cond-false (me == p) (unpacked_payloads q) [] e) ∙ r
     by false r = r
 
-pub said_visits : {A : Type 0} → (p : ℕ) (ring : RingId) (vs : List (VisitBy A)) → said_by p (users_in (all_numbered ring vs)) ≡ spoken_in (picked p vs)
+pub said_visits : {A : Type 0} → (p : ℕ) (ring : RingId) (vs : List (VisitBy A)) → payloads_from p (users_in (all_numbered ring vs)) ≡ payloads_of_visits (visits_taken_by p vs)
 said_visits p ring [] = refl
 said_visits {A} p ring (v ∷ vs) =
-    let new = numbered ring v.who v.turn.came.seq v.turn.fresh in
-    let parts : said_by p (users_in (all_numbered ring (v ∷ vs))) ≡ said_by p (users_in (all_numbered ring vs)) ++ said_by p (users_in new) =
-    ap (said_by p) (filter-append (λ (x : Message A). is_user x.payload) (all_numbered ring vs) new)
+    let new = numbered ring v.who v.turn.received.seq v.turn.fresh in
+    let parts : payloads_from p (users_in (all_numbered ring (v ∷ vs))) ≡ payloads_from p (users_in (all_numbered ring vs)) ++ payloads_from p (users_in new) =
+    ap (payloads_from p) (filter-append (λ (x : Message A). is_user x.payload) (all_numbered ring vs) new)
     ∙ said_append p (users_in (all_numbered ring vs)) (users_in new) in
-    let older : said_by p (users_in (all_numbered ring vs)) ++ said_by p (users_in new) ≡ spoken_in (picked p vs) ++ said_by p (users_in new) =
-    ap (λ (zs : List (Payload A)). zs ++ said_by p (users_in new)) (said_visits p ring vs) in
+    let older : payloads_from p (users_in (all_numbered ring vs)) ++ payloads_from p (users_in new) ≡ payloads_of_visits (visits_taken_by p vs) ++ payloads_from p (users_in new) =
+    ap (λ (zs : List (Payload A)). zs ++ payloads_from p (users_in new)) (said_visits p ring vs) in
     parts ∙ older ∙ by (v.who == p) refl
   where
     by : (b : Bool) → (v.who == p) ≡ b →
-        spoken_in (picked p vs) ++ said_by p (users_in (numbered ring v.who v.turn.came.seq v.turn.fresh)) ≡ spoken_in (picked p (v ∷ vs))
+        payloads_of_visits (visits_taken_by p vs) ++ payloads_from p (users_in (numbered ring v.who v.turn.received.seq v.turn.fresh)) ≡ payloads_of_visits (visits_taken_by p (v ∷ vs))
     by true e =
-        ap (λ (zs : List (Payload A)). spoken_in (picked p vs) ++ zs) (own_said p ring v.who v.turn.came.seq v.turn.fresh e)
-        ∙ sym (ap spoken_in (cond-true (v.who == p) (v.turn ∷ picked p vs) (picked p vs) e))
+        ap (λ (zs : List (Payload A)). payloads_of_visits (visits_taken_by p vs) ++ zs) (own_said p ring v.who v.turn.received.seq v.turn.fresh e)
+        ∙ sym (ap payloads_of_visits (cond-true (v.who == p) (v.turn ∷ visits_taken_by p vs) (visits_taken_by p vs) e))
     by false e =
-        ap (λ (zs : List (Payload A)). spoken_in (picked p vs) ++ zs) (other_said p ring v.who v.turn.came.seq v.turn.fresh e)
-        ∙ append-nil (spoken_in (picked p vs))
-        ∙ sym (ap spoken_in (cond-false (v.who == p) (v.turn ∷ picked p vs) (picked p vs) e))
+        ap (λ (zs : List (Payload A)). payloads_of_visits (visits_taken_by p vs) ++ zs) (other_said p ring v.who v.turn.received.seq v.turn.fresh e)
+        ∙ append-nil (payloads_of_visits (visits_taken_by p vs))
+        ∙ sym (ap payloads_of_visits (cond-false (v.who == p) (v.turn ∷ visits_taken_by p vs) (visits_taken_by p vs) e))

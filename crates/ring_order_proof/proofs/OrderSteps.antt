@@ -1,11 +1,12 @@
--- Each event of a run is a step by the rules of the one order, where the lives before and after it are orderly and each node knows the whole log.
+-- Each event of a run is a step by the rules of the one order, if the lives before and after it are consistent and each node
+-- knows the whole log.
 use Rattle.std.proofs.Common.{◌≡◌, ℕ, suc, zero, ◌+◌, ◌-◌, ◌≤◌, ◌<◌, ◌==◌, Bool, true, false, List, [], ◌∷◌, ◌++◌}
 use Rattle.std.proofs.Common.{Option, Some, None, refl, ap, sym}
 use Rattle.std.proofs.Common.{subst, ◌∙◌, inl, inr, arith, append-nil, All}
 use Rattle.std.specs.Prelude.{slice_get, map}
 use Rattle.std.proofs.lemmas.Bool.{cond-true, and_parts, leb-true, eq-eqb}
 use Rattle.std.proofs.lemmas.List.Elements.{All-nil, All-cons}
-use Rattle.ring_base.specs.Fronts.{IsFront}
+use Rattle.ring_base.specs.Prefixes.{IsListPrefix}
 use Rattle.ring_base.specs.Group.{Group}
 use Rattle.ring_base.specs.Numbers.{numbers_from}
 use Rattle.ring_base.specs.Processors.{has}
@@ -14,38 +15,38 @@ use Rattle.ring_base.proofs.Each.{each-get, each-front}
 use Rattle.ring_base.proofs.ListPlaces.{get-numbers}
 use Rattle.ring_object.specs.Operations.{Sequential}
 use Rattle.ring_payload.specs.declared.call.Call.{Call}
-use Rattle.ring_core.specs.State.{Carried, frame_at}
-use Rattle.ring_log.specs.Lives.{log_of, committed_of}
+use Rattle.ring_core_spec.specs.State.{Transmission, frame_at}
+use Rattle.ring_log.specs.EpochHistories.{log_of, committed_of}
 use Rattle.ring_session.specs.Table.{Table}
 use Rattle.ring_session.specs.Tickets.{answers_after}
-use Rattle.ring_session.specs.declared.answered.Answered.{Answered}
-use Rattle.ring_rules.specs.Nodes.{Node, node_kept}
-use Rattle.ring_rules.specs.declared.input.Input.{Input}
-use Rattle.ring_rules.specs.declared.input.Input.TheVariants.{Frame as FrameInput, Timeout as TimeInput}
-use Rattle.ring_rules.specs.Stepping.{newly, node_step, submit_fault}
-use Rattle.ring_rules.specs.declared.event.Event.{Event}
-use Rattle.ring_rules.specs.declared.event.Event.TheVariants.{Issue, Deliver, Noise, Timeout, Stop}
-use Rattle.ring_rules.specs.declared.item.Item.{Item}
-use Rattle.ring_rules.specs.declared.item.Item.TheVariants.{Issue as IssuedItem}
-use Rattle.ring_rules.specs.Histories.{AreIssued}
-use Rattle.ring_rules.specs.Orders.{EachGrows, AreOneLog, IsGiven, IsAdded, IsOrderStep}
-use Rattle.ring_rules.specs.Worlds.{World, put, is_node, items_of, after_step, issued_or, issued_if, stopped_if}
-use Rattle.ring_rules.specs.Worlds.{stepped_if, handed_if, handed, happens, committed_in, moment_of}
-use Rattle.ring_log_proof.specs.Discipline.{OrderlyLives}
-use Rattle.ring_log_proof.specs.Time.{LivesOn}
+use Rattle.ring_session.specs.declared.answered.TicketAnswer.{TicketAnswer}
+use Rattle.ring_node_spec.specs.Nodes.{Node, node_known_log}
+use Rattle.ring_node_spec.specs.declared.input.Input.{Input}
+use Rattle.ring_node_spec.specs.declared.input.Input.TheVariants.{Frame as FrameInput, Timeout as TimeInput}
+use Rattle.ring_node_spec.specs.Stepping.{newly_committed, node_step, submit_fault}
+use Rattle.ring_node_spec.specs.declared.event.Event.{Event}
+use Rattle.ring_node_spec.specs.declared.event.Event.TheVariants.{Issue, Deliver, Noise, Timeout, Stop}
+use Rattle.ring_node_spec.specs.declared.item.Item.{Item}
+use Rattle.ring_node_spec.specs.declared.item.Item.TheVariants.{Issue as IssuedItem}
+use Rattle.ring_node_spec.specs.Histories.{AreIssued}
+use Rattle.ring_node_spec.specs.Orders.{EachGrows, AreOneLog, IsGiven, IsAdded, IsOrderStep}
+use Rattle.ring_node_spec.specs.Worlds.{World, put, is_node, items_of, after_step, issued_or, issued_if, stopped_if}
+use Rattle.ring_node_spec.specs.Worlds.{stepped_if, handed_if, handed, happens, committed_in, moment_of}
+use Rattle.ring_log_proof.specs.Discipline.{ConsistentEpochs}
+use Rattle.ring_log_proof.specs.Time.{IsEpochsExtended}
 use Rattle.ring_log_proof.proofs.Issued.{logs-known}
 use Rattle.ring_log_proof.proofs.Moment.{committed-front, one-log, committed-grows}
-use Rattle.ring_order_proof.specs.Living.{lives_of}
-use Rattle.ring_order_proof.proofs.CommittingSteps.{IsSteady, StillKnows, step-moves, commits}
+use Rattle.ring_order_proof.specs.RunEpochs.{whole_epochs_in}
+use Rattle.ring_order_proof.proofs.CommittingSteps.{HasSoundEpochs, StillKnows, step-moves, commits}
 use Rattle.ring_order_proof.proofs.IssuedInWorlds.{IssuedIn, WorldKnows, event-knows}
 use Rattle.ring_order_proof.proofs.KnownByNodes.{only-of}
 use Rattle.ring_order_proof.proofs.KnownWhole.{Knows}
-use Rattle.ring_order_proof.proofs.Orderly.{IsOrderlyWorld}
-use Rattle.ring_order_proof.proofs.RepliesTold.{told-after}
+use Rattle.ring_order_proof.proofs.ConsistentRuns.{IsOrderlyWorld}
+use Rattle.ring_order_proof.proofs.ReportedReplies.{told-after}
 
 -- Lists of the processors' values
 
-each-grows : {A : Type 0} (f g : ℕ → List (Call A)) (first n : ℕ) → ((i : ℕ) → first ≤ i → i < first + n → IsFront (f i) (g i))
+each-grows : {A : Type 0} (f g : ℕ → List (Call A)) (first n : ℕ) → ((i : ℕ) → first ≤ i → i < first + n → IsListPrefix (f i) (g i))
     → EachGrows (map f (numbers_from first n)) (map g (numbers_from first n))
 each-grows f g first zero h = tt
 each-grows f g first (suc n) h = (
@@ -63,50 +64,50 @@ all-numbers P f first (suc n) h =
 -- Nodes of a world
 
 module _ {A : Type 0} (group : Group) (w : World A) (k : WorldKnows group w) where
-  -- what a node committed stands in its place among what all committed
-  pub committed-at : (i : ℕ) → 1 ≤ i → i ≤ group.count → slice_get (committed_in w) (i - 1) ≡ Some (committed_of group (lives_of w i))
+  -- the position of a node's committed places among those of all nodes
+  pub committed-at : (i : ℕ) → 1 ≤ i → i ≤ group.count → slice_get (committed_in w) (i - 1) ≡ Some (committed_of group (whole_epochs_in w i))
   committed-at i low high =
       let count : w.group.count ≡ group.count = ap (λ (g : Group). g.count) k.here in
       let at : 1 + (i - 1) ≡ i = omega (arith, low) in
-      get-numbers (λ j. committed_of w.group (lives_of w j)) 1 w.group.count (i - 1) (omega (arith, low, high, count))
-      ∙ ap (λ j. Some (committed_of w.group (lives_of w j))) at ∙ ap (λ g. Some (committed_of g (lives_of w i))) k.here
+      get-numbers (λ j. committed_of w.group (whole_epochs_in w j)) 1 w.group.count (i - 1) (omega (arith, low, high, count))
+      ∙ ap (λ j. Some (committed_of w.group (whole_epochs_in w j))) at ∙ ap (λ g. Some (committed_of g (whole_epochs_in w i))) k.here
 
-  pub lists-are : map (λ i. committed_of group (lives_of w i)) (numbers_from 1 group.count) ≡ committed_in w
-  lists-are = sym (ap (λ (g : Group). map (λ i. committed_of g (lives_of w i)) (numbers_from 1 g.count)) k.here)
+  pub lists-are : map (λ i. committed_of group (whole_epochs_in w i)) (numbers_from 1 group.count) ≡ committed_in w
+  lists-are = sym (ap (λ (g : Group). map (λ i. committed_of g (whole_epochs_in w i)) (numbers_from 1 g.count)) k.here)
 
   module _ (o : IsOrderlyWorld group w) where
     pub one-list : AreOneLog (committed_in w)
-    one-list = subst AreOneLog lists-are (one-log group (lives_of w) o.members o.text o.facts o.discipline (numbers_from 1 group.count))
+    one-list = subst AreOneLog lists-are (one-log group (whole_epochs_in w) o.members o.text o.facts o.discipline (numbers_from 1 group.count))
 
-    issued-list : (i : ℕ) → AreIssued w.history (committed_of group (lives_of w i))
+    issued-list : (i : ℕ) → AreIssued w.history (committed_of group (whole_epochs_in w i))
     issued-list i p c stands =
-        each-get (IssuedIn w.history) (committed_of group (lives_of w i)) p c
-        (each-front (IssuedIn w.history) (committed_of group (lives_of w i)) (log_of group (lives_of w i))
-        (committed-front group (lives_of w) o.members o.text o.facts o.discipline i)
-        (logs-known (IssuedIn w.history) group (lives_of w) o.members o.text o.facts o.discipline
+        each-get (IssuedIn w.history) (committed_of group (whole_epochs_in w i)) p c
+        (each-front (IssuedIn w.history) (committed_of group (whole_epochs_in w i)) (log_of group (whole_epochs_in w i))
+        (committed-front group (whole_epochs_in w) o.members o.text o.facts o.discipline i)
+        (logs-known (IssuedIn w.history) group (whole_epochs_in w) o.members o.text o.facts o.discipline
         (only-of group w k.here (IssuedIn w.history) k.knows) i)) stands
 
     pub all-issued : All (AreIssued w.history) (committed_in w)
-    all-issued = subst (All (AreIssued w.history)) lists-are (all-numbers (AreIssued w.history) (λ i. committed_of group (lives_of w i)) 1 group.count
+    all-issued = subst (All (AreIssued w.history)) lists-are (all-numbers (AreIssued w.history) (λ i. committed_of group (whole_epochs_in w i)) 1 group.count
         (λ i low high. issued-list i))
 
--- the lives of a world that are orderly
-abbrev lives-in : {A : Type 0} → (group : Group) (w : World A) → IsOrderlyWorld group w → OrderlyLives A group
-lives-in group w o = record { lives = lives_of w; members = o.members; text = o.text; facts = o.facts; discipline = o.discipline }
+-- the lives of a world that are consistent
+abbrev node_epochs-in : {A : Type 0} → (group : Group) (w : World A) → IsOrderlyWorld group w → ConsistentEpochs A group
+node_epochs-in group w o = record { node_epochs = whole_epochs_in w; members = o.members; text = o.text; facts = o.facts; discipline = o.discipline }
 
--- as lives go on, what each node committed grows
+-- as lives are extended, what each node committed grows
 module _ {A : Type 0} (group : Group) (w w' : World A) (o : IsOrderlyWorld group w) (o' : IsOrderlyWorld group w')
-    (on : (p : ℕ) → LivesOn (lives_of w p) (lives_of w' p)) where
-  pub whole-grows : (i : ℕ) → IsFront (committed_of group (lives_of w i)) (committed_of group (lives_of w' i))
-  whole-grows = committed-grows group (lives-in group w o) (lives-in group w' o') on
+    (on : (p : ℕ) → IsEpochsExtended (whole_epochs_in w p) (whole_epochs_in w' p)) where
+  pub whole-grows : (i : ℕ) → IsListPrefix (committed_of group (whole_epochs_in w i)) (committed_of group (whole_epochs_in w' i))
+  whole-grows = committed-grows group (node_epochs-in group w o) (node_epochs-in group w' o') on
 
   pub lists-grow : WorldKnows group w → WorldKnows group w' → EachGrows (committed_in w) (committed_in w')
   lists-grow k k' =
       subst (λ l. EachGrows (committed_in w) l) (lists-are group w' k')
-      (subst (λ l. EachGrows l (map (λ i. committed_of group (lives_of w' i)) (numbers_from 1 group.count))) (lists-are group w k)
-      (each-grows (λ i. committed_of group (lives_of w i)) (λ i. committed_of group (lives_of w' i)) 1 group.count (λ i low high. whole-grows i)))
+      (subst (λ l. EachGrows l (map (λ i. committed_of group (whole_epochs_in w' i)) (numbers_from 1 group.count))) (lists-are group w k)
+      (each-grows (λ i. committed_of group (whole_epochs_in w i)) (λ i. committed_of group (whole_epochs_in w' i)) 1 group.count (λ i low high. whole-grows i)))
 
--- What an event adds
+-- The additions of an event
 
 module _ {O A : Type 0} (object : Sequential O) where
   abbrev Adds : World A → World A → Type 0
@@ -116,30 +117,30 @@ module _ {O A : Type 0} (object : Sequential O) where
   adds-nothing w w' e = ([], append-nil w.history ∙ e, inr (All-nil (IsGiven object (committed_in w'))))
 
   -- a step adds replies at the node's committed places
-  node-adds : (lists : List (List (Call A))) (node : ℕ) (n : Node A) (input : Input A) (whole whole' : List (Call A)) → IsSteady n
+  node-adds : (lists : List (List (Call A))) (node : ℕ) (n : Node A) (input : Input A) (whole whole' : List (Call A)) → HasSoundEpochs n
       → StillKnows object n (node_step object n input).node whole whole' → slice_get lists node ≡ Some whole'
       → All (IsGiven object lists) (items_of (node_step object n input).answers)
   node-adds lists node n input whole whole' steady knows there =
       let s = node_step object n input in
-      let Right : List (Answered A) → Type 0 = λ answers. All (IsGiven object lists) (items_of answers) in
+      let Right : List (TicketAnswer A) → Type 0 = λ answers. All (IsGiven object lists) (items_of answers) in
       elim (step-moves object n input steady) as (λ _. Right s.answers) [
         | inl r ↦ subst Right (sym r.answers) (All-nil (IsGiven object lists))
         | inr m ↦
             let c = commits object n s.node whole whole' m.known m.goes m.dropped knows in
-            let more = newly (node_kept n) m.known in
+            let more = newly_committed (node_known_log n) m.known in
             subst Right (sym m.answers) (subst (λ (t : Table O). Right (answers_after object t n.tickets n.done more)) (sym c.since)
             (told-after object lists node whole' there n.tickets c.before n.done more c.parts))
       ]
 
   module _ (group : Group) where
-    -- each node goes on knowing the whole log, and its committed places stand among those of all
+    -- each node still knows the whole log, and its committed places are among those of all
     abbrev Tells : World A → World A → Type 0
     Tells w w' = (i : ℕ) → 1 ≤ i → i ≤ w.group.count
-        → StillKnows object (w.nodes i) (w'.nodes i) (committed_of group (lives_of w i)) (committed_of group (lives_of w' i))
-        × (slice_get (committed_in w') (i - 1) ≡ Some (committed_of group (lives_of w' i)))
+        → StillKnows object (w.nodes i) (w'.nodes i) (committed_of group (whole_epochs_in w i)) (committed_of group (whole_epochs_in w' i))
+        × (slice_get (committed_in w') (i - 1) ≡ Some (committed_of group (whole_epochs_in w' i)))
 
     -- so an event adds an issued call, or such replies
-    module _ (w : World A) (steady : (i : ℕ) → IsSteady (w.nodes i)) where
+    module _ (w : World A) (steady : (i : ℕ) → HasSoundEpochs (w.nodes i)) where
       stepped-adds : (b : Bool) (i : ℕ) (input : Input A) → is_node w i ≡ b → Tells w (stepped_if object b w i input)
           → Adds w (stepped_if object b w i input)
       stepped-adds false i input e tells = adds-nothing w w refl
@@ -149,8 +150,8 @@ module _ {O A : Type 0} (object : Sequential O) where
           let bounds = and_parts _ _ e in
           let t = tells i (leb-true 1 i bounds.0) (leb-true i w.group.count bounds.1) in
           let here : put w.nodes i s.node i ≡ s.node = cond-true (i == i) s.node (w.nodes i) (eq-eqb i i refl) in
-          let whole = committed_of group (lives_of w i) in
-          let whole' = committed_of group (lives_of w' i) in
+          let whole = committed_of group (whole_epochs_in w i) in
+          let whole' = committed_of group (whole_epochs_in w' i) in
           let knows = subst (λ (n : Node A). StillKnows object (w.nodes i) n whole whole') here t.0 in
           (items_of s.answers, refl, inr (node-adds (committed_in w') (i - 1) (w.nodes i) input whole whole' (steady i) knows t.1))
 
@@ -166,11 +167,11 @@ module _ {O A : Type 0} (object : Sequential O) where
       stop-adds false i = adds-nothing w w refl
       stop-adds true i = adds-nothing w (stopped_if true w i) refl
 
-      frame-adds : (b : Bool) (f : Carried A) (i : ℕ) → Tells w (handed_if object b w i f.frame) → Adds w (handed_if object b w i f.frame)
+      frame-adds : (b : Bool) (f : Transmission A) (i : ℕ) → Tells w (handed_if object b w i f.frame) → Adds w (handed_if object b w i f.frame)
       frame-adds false f i tells = adds-nothing w w refl
       frame-adds true f i tells = stepped-adds (is_node w i) i (FrameInput f.frame) refl tells
 
-      handed-adds : (o : Option (Carried A)) (i : ℕ) → Tells w (handed object w i o) → Adds w (handed object w i o)
+      handed-adds : (o : Option (Transmission A)) (i : ℕ) → Tells w (handed object w i o) → Adds w (handed object w i o)
       handed-adds None i tells = adds-nothing w w refl
       handed-adds (Some f) i tells = frame-adds (has f.to i) f i tells
 
@@ -184,14 +185,14 @@ module _ {O A : Type 0} (object : Sequential O) where
     -- each node of the world knows the whole log
     abbrev pub AllKnow : World A → Type 0
     AllKnow w = (i : ℕ) → 1 ≤ i → i ≤ group.count
-        → Knows object (node_kept (w.nodes i)) (log_of group (lives_of w i)) (committed_of group (lives_of w i))
+        → Knows object (node_known_log (w.nodes i)) (log_of group (whole_epochs_in w i)) (committed_of group (whole_epochs_in w i))
 
-    pub still-know : (w w' : World A) → AllKnow w → AllKnow w' → ((i : ℕ) → IsFront (committed_of group (lives_of w i)) (committed_of group (lives_of w' i)))
+    pub still-know : (w w' : World A) → AllKnow w → AllKnow w' → ((i : ℕ) → IsListPrefix (committed_of group (whole_epochs_in w i)) (committed_of group (whole_epochs_in w' i)))
         → (i : ℕ) → 1 ≤ i → i ≤ group.count
-        → StillKnows object (w.nodes i) (w'.nodes i) (committed_of group (lives_of w i)) (committed_of group (lives_of w' i))
+        → StillKnows object (w.nodes i) (w'.nodes i) (committed_of group (whole_epochs_in w i)) (committed_of group (whole_epochs_in w' i))
     still-know w w' know know' grows i low high = record {
-      log = log_of group (lives_of w i);
-      log' = log_of group (lives_of w' i);
+      log = log_of group (whole_epochs_in w i);
+      log' = log_of group (whole_epochs_in w' i);
       before = know i low high;
       after = know' i low high;
       grows = grows i;
@@ -199,7 +200,7 @@ module _ {O A : Type 0} (object : Sequential O) where
 
     -- all four facts
     pub order-step : (w : World A) (e : Event A) → WorldKnows group w → IsOrderlyWorld group w → IsOrderlyWorld group (happens object w e)
-        → ((p : ℕ) → LivesOn (lives_of w p) (lives_of (happens object w e) p)) → ((i : ℕ) → IsSteady (w.nodes i))
+        → ((p : ℕ) → IsEpochsExtended (whole_epochs_in w p) (whole_epochs_in (happens object w e) p)) → ((i : ℕ) → HasSoundEpochs (w.nodes i))
         → AllKnow w → AllKnow (happens object w e) → IsOrderStep object (moment_of w) (moment_of (happens object w e))
     order-step w e k o o' on steady know know' =
         let w' = happens object w e in

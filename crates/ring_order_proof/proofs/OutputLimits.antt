@@ -1,5 +1,5 @@
--- What a step of a core tells keeps the limits, and what is safe in a ring never falls.
--- Each message that is agreed keeps them, in a ring that is counted, and each ring that is installed.
+-- The outputs of a core's step keep the limits, and what is safe in a ring never falls. Each agreed message keeps them, in a ring
+-- of number 1 or more, and so does each installed ring.
 use Rattle.std.proofs.Common.{◌≡◌, ℕ, ◌+◌, ◌-◌, ◌≤◌, Bool, true, false, List, [], ◌∷◌, ◌++◌, Some, refl, sym, subst, arith}
 use Rattle.std.specs.Prelude.{map, filter_map, nat_lt, ◌&&◌}
 use Rattle.std.specs.List.{AllByRecursion as Each}
@@ -11,29 +11,29 @@ use Rattle.ring_wire.specs.Rings.{RingFits}
 use Rattle.ring_payload.specs.Kinds.{is_user}
 use Rattle.ring_wire.specs.Messages.{MessageFits}
 use Rattle.ring_wire.specs.declared.message.Message.{Message}
-use Rattle.ring_core.specs.Windows.{found}
-use Rattle.ring_core.specs.Recoveries.{rests}
-use Rattle.ring_core.proofs.Tokens.{safe_mark-turn, safe_mark-raise}
-use Rattle.ring_core.specs.Commits.{Configuration}
-use Rattle.ring_core.specs.declared.input.Input.{Input}
-use Rattle.ring_core.specs.declared.out.Out.{Out}
-use Rattle.ring_core.specs.declared.out.Out.TheVariants.{Send, Agreed, Safe, Trans, Rest, Regular}
-use Rattle.ring_core.specs.State.{Core, Sent}
-use Rattle.ring_core.specs.Joining.{proposes}
-use Rattle.ring_core.specs.Views.{front, mark, plan}
-use Rattle.ring_core.specs.Deciding.{Act, Ignore, Enqueue, Repeat, Announce, Invite, GiveUp, Regather, Agree, Widen}
-use Rattle.ring_core.specs.Deciding.{RegatherAndAgree, RegatherAndWiden, Take, Visit, Fill, Learn, decide}
-use Rattle.ring_core.specs.Acting.{act, may_follow, done}
-use Rattle.ring_core.specs.Giving.{may_install, addressed, sent, users, agreed_from, safe_from, delivered_from, given, configured, settle}
-use Rattle.ring_core.specs.Stepping.{ring_step}
+use Rattle.ring_core_spec.specs.Windows.{found}
+use Rattle.ring_core_spec.specs.Recoveries.{rests}
+use Rattle.ring_core_spec.proofs.Tokens.{safe_mark-turn, safe_mark-raise}
+use Rattle.ring_core_spec.specs.Commits.{Configuration}
+use Rattle.ring_core_spec.specs.declared.input.Input.{Input}
+use Rattle.ring_core_spec.specs.declared.out.Out.{Out}
+use Rattle.ring_core_spec.specs.declared.out.Out.TheVariants.{Send, Agreed, Safe, Trans, Rest, Regular}
+use Rattle.ring_core_spec.specs.State.{Core, OutgoingFrame}
+use Rattle.ring_core_spec.specs.Joining.{proposes}
+use Rattle.ring_core_spec.specs.Views.{front, mark, plan}
+use Rattle.ring_core_spec.specs.Deciding.{Transition, Ignore, Enqueue, Repeat, Announce, Invite, GiveUp, EnterGather, Agree, MergeJoin}
+use Rattle.ring_core_spec.specs.Deciding.{EnterGatherAndAgree, EnterGatherAndMergeJoin, Take, Visit, Fill, Learn, decide}
+use Rattle.ring_core_spec.specs.Transitions.{apply_transition, may_propose_after, done}
+use Rattle.ring_core_spec.specs.Giving.{may_install, addressed, sent, users, agreed_from, safe_from, delivered_from, given, installation_outputs, settle}
+use Rattle.ring_core_spec.specs.Stepping.{ring_step}
 use Rattle.ring_core_proof.proofs.InLists.{in-each, each-in}
 use Rattle.ring_core_proof.proofs.WrapsAndEnd.{found_in}
 use Rattle.ring_core_proof.specs.Limits.{InputFits, CoreFits}
-use Rattle.ring_core_proof.proofs.ActLimits.{done_fits}
-use Rattle.ring_core.proofs.InstalledKept.{done_installed, proposed_marks}
+use Rattle.ring_core_proof.proofs.TransitionLimits.{done_fits}
+use Rattle.ring_core_spec.proofs.InstalledKept.{done_installed, proposed_marks}
 use Rattle.ring_order_proof.specs.NodeFits.{HeardFits}
 
--- Outputs that come in a ring of one number, where so much is safe, and lead to a ring of another, where so much is
+-- Outputs that begin in a ring of one number with one safe mark, and end in a ring of another number with another mark
 abbrev pub Tells : {A : Type 0} → ℕ → ℕ → ℕ → ℕ → List (Out A) → Type 0
 Tells n low m high [] = (n ≡ m) × (low ≡ high)
 Tells n low m high (Agreed ring k x ∷ outs) = HeardFits n x × Tells n low m high outs
@@ -53,7 +53,7 @@ tells-append n low m mid k high (Send to frame ∷ xs) ys h t = tells-append n l
 tells-append n low m mid k high (Trans old new set ∷ xs) ys h t = tells-append n low m mid k high xs ys h t
 tells-append n low m mid k high (Rest ring q x ∷ xs) ys h t = tells-append n low m mid k high xs ys h t
 
-tells_sent : {A : Type 0} → (n low : ℕ) (sends : List (Sent A)) → Tells {A = A} n low n low (map (λ (s : Sent A). Send s.to s.frame) sends)
+tells_sent : {A : Type 0} → (n low : ℕ) (sends : List (OutgoingFrame A)) → Tells {A = A} n low n low (map (λ (s : OutgoingFrame A). Send s.to s.frame) sends)
 tells_sent n low [] = (refl, refl)
 tells_sent n low (s ∷ sends) = tells_sent n low sends
 
@@ -66,7 +66,7 @@ tells_rest : {A : Type 0} → (n low : ℕ) (xs : List (Message A)) → Tells n 
 tells_rest n low [] = (refl, refl)
 tells_rest n low (x ∷ xs) = tells_rest n low xs
 
--- What a core gives of a ring
+-- A core's outputs about a ring
 
 module _ {A : Type 0} (c : Core A) (f : CoreFits c) where
   found_fits : (ring : RingId) (n : ℕ) (x : Message A) → found c.held ring n ≡ Some x → HeardFits ring.seq x
@@ -93,7 +93,7 @@ module _ {A : Type 0} (c : Core A) (f : CoreFits c) where
       (tells_agreed ring.seq m ring (users c ring before (front c ring)) (users_fit ring before (front c ring)))
       (tells_safe ring.seq ring m le)
 
-  tells_configured : (n low : ℕ) → Tells n low c.running.ring.seq (mark c c.running.ring) (configured c)
+  tells_configured : (n low : ℕ) → Tells n low c.running.ring.seq (mark c c.running.ring) (installation_outputs c)
   tells_configured n low =
       tells-append n low n low c.running.ring.seq (mark c c.running.ring) (map (λ (x : Message A). Rest x.ring x.number x) (rests (plan c) c.held))
       (Regular c.running.ring c.running.members ∷ delivered_from c c.running.ring 0 0)
@@ -102,32 +102,32 @@ module _ {A : Type 0} (c : Core A) (f : CoreFits c) where
 
 -- No act lowers a safe mark
 
-act_marks : {A : Type 0} → (c : Core A) (a : Act A) (ring : RingId) → mark c ring ≤ mark (act c a).core ring
+act_marks : {A : Type 0} → (c : Core A) (a : Transition A) (ring : RingId) → mark c ring ≤ mark (apply_transition c a).core ring
 act_marks c Ignore ring = omega arith
 act_marks c (Enqueue payload) ring = omega arith
 act_marks c Repeat ring = omega arith
 act_marks c Announce ring = omega arith
 act_marks c Invite ring = omega arith
 act_marks c GiveUp ring = omega arith
-act_marks c Regather ring = omega arith
+act_marks c EnterGather ring = omega arith
 act_marks c (Agree j) ring = omega arith
-act_marks c (Widen j) ring = omega arith
-act_marks c (RegatherAndAgree j) ring = omega arith
-act_marks c (RegatherAndWiden j) ring = omega arith
+act_marks c (MergeJoin j) ring = omega arith
+act_marks c (EnterGatherAndAgree j) ring = omega arith
+act_marks c (EnterGatherAndMergeJoin j) ring = omega arith
 act_marks c (Take x) ring = omega arith
 act_marks c (Visit t) ring = safe_mark-turn _ c.turns c.raises ring
 act_marks c (Fill k) ring = omega arith
 act_marks c (Learn k) ring = safe_mark-raise _ c.turns c.raises ring
 
-done_marks : {A : Type 0} → (c : Core A) (a : Act A) (ring : RingId) → mark c ring ≤ mark (done c a).core ring
+done_marks : {A : Type 0} → (c : Core A) (a : Transition A) (ring : RingId) → mark c ring ≤ mark (done c a).core ring
 done_marks c a ring =
-    let same = proposed_marks (may_follow a && proposes (act c a).core) (act c a) ring in
+    let same = proposed_marks (may_propose_after a && proposes (apply_transition c a).core) (apply_transition c a) ring in
     let rises = act_marks c a ring in
     omega (arith, same, rises)
 
 -- A step
 
-module _ {A : Type 0} (old c : Core A) (sends : List (Sent A)) (f : CoreFits c) where
+module _ {A : Type 0} (old c : Core A) (sends : List (OutgoingFrame A)) (f : CoreFits c) where
   told_before : mark old old.installed.ring ≤ mark c old.installed.ring →
       Tells old.installed.ring.seq (mark old old.installed.ring) old.installed.ring.seq (mark c old.installed.ring) (sent sends ++ given old c)
   told_before le =
@@ -145,7 +145,7 @@ module _ {A : Type 0} (old c : Core A) (sends : List (Sent A)) (f : CoreFits c) 
   tells_settled true e le =
       let n = old.installed.ring.seq in
       let mid = mark c old.installed.ring in
-      tells-append n (mark old old.installed.ring) n mid c.running.ring.seq (mark c c.running.ring) (sent sends ++ given old c) (configured c)
+      tells-append n (mark old old.installed.ring) n mid c.running.ring.seq (mark c c.running.ring) (sent sends ++ given old c) (installation_outputs c)
       (told_before le) (tells_configured c f n mid)
 
 pub step_tells : {A : Type 0} → (c : Core A) (input : Input A) → CoreFits c → InputFits input →

@@ -1,4 +1,4 @@
--- In every run a node has at most 64 tickets without an answer: a submit is refused at 64, and the calls done only grow.
+-- In every run a node has at most 64 unanswered tickets: a submit is refused at 64, and the calls done only grow.
 use Rattle.std.proofs.Common.{◌≡◌, ℕ, suc, ◌<◌, ◌≤◌, Bool, true, false, List, [], ◌∷◌, ◌++◌, length, Some}
 use Rattle.std.proofs.Common.{None, is_none, refl, ap, arith}
 use Rattle.std.specs.Prelude.{nat_le, if◌then◌else◌, ◌&&◌}
@@ -8,37 +8,37 @@ use Rattle.ring_base.specs.Numbers.{max_number}
 use Rattle.ring_base.specs.declared.fault.Fault.TheVariants.{PendingFull, Stopped as StoppedFault}
 use Rattle.ring_object.specs.Operations.{Sequential}
 use Rattle.ring_payload.specs.declared.call.Call.{Call}
-use Rattle.ring_core.specs.declared.input.Input.TheVariants.{Frame as FrameInput, Timeout as TimeInput}
-use Rattle.ring_core.specs.declared.out.Out.{Out}
-use Rattle.ring_core.specs.State.{Stepped}
-use Rattle.ring_core.specs.Stepping.{ring_step}
-use Rattle.ring_session.specs.Tickets.{Asked, place_of, unanswered}
-use Rattle.ring_rules.specs.declared.input.Input.{Input as NodeInput}
-use Rattle.ring_rules.specs.declared.input.Input.TheVariants.{Frame as NodeFrame, Noise as NodeNoise, Timeout as NodeTime, Stop as NodeStop}
-use Rattle.ring_rules.specs.Lives.{lived_through}
-use Rattle.ring_rules.specs.Nodes.{Node, node_kept, node_pending, is_stopped, is_closed, is_restored}
-use Rattle.ring_rules.specs.Dues.{due_by}
-use Rattle.ring_rules.specs.Stepping.{NodeStepped, with_dropped, newly, drops, table_since, did, settled, walked, after_core, node_step}
-use Rattle.ring_rules.specs.Stepping.{submit_fault, submitted}
-use Rattle.ring_rules.specs.declared.event.Event.{Event}
-use Rattle.ring_rules.specs.Worlds.{world_opening, run}
+use Rattle.ring_core_spec.specs.declared.input.Input.TheVariants.{Frame as FrameInput, Timeout as TimeInput}
+use Rattle.ring_core_spec.specs.declared.out.Out.{Out}
+use Rattle.ring_core_spec.specs.State.{StepResult}
+use Rattle.ring_core_spec.specs.Stepping.{ring_step}
+use Rattle.ring_session.specs.Tickets.{TicketCall, place_of, unanswered}
+use Rattle.ring_node_spec.specs.declared.input.Input.{Input as NodeInput}
+use Rattle.ring_node_spec.specs.declared.input.Input.TheVariants.{Frame as NodeFrame, Noise as NodeNoise, Timeout as NodeTime, Stop as NodeStop}
+use Rattle.ring_node_spec.specs.EpochHistories.{epochs_after}
+use Rattle.ring_node_spec.specs.Nodes.{Node, node_known_log, node_pending, is_stopped, is_closed, is_restored}
+use Rattle.ring_node_spec.specs.DueSends.{due_by}
+use Rattle.ring_node_spec.specs.Stepping.{NodeStepResult, with_dropped, newly_committed, drops, table_since, did, settled, node_after_outputs, after_core, node_step}
+use Rattle.ring_node_spec.specs.Stepping.{submit_fault, submitted}
+use Rattle.ring_node_spec.specs.declared.event.Event.{Event}
+use Rattle.ring_node_spec.specs.Worlds.{world_opening, run}
 use Rattle.ring_order_proof.proofs.KeptByNodes.{all_have}
 use Rattle.ring_order_proof.proofs.AnswerCounts.{few_more}
-use Rattle.ring_log.specs.Kept.{Kept, kept_of, log_kept, is_kept_sound}
+use Rattle.ring_log.specs.KnownLog.{KnownLog, known_log_of, retained_log, is_known_log_sound}
 use Rattle.ring_log.specs.Logs.{committed_calls}
 
--- Tickets that wait
+-- Unanswered tickets
 
-waiting_if : {A : Type 0} → (b : Bool) (t : Asked A) (xs ys : List (Asked A)) → length xs ≤ suc (length ys) →
+waiting_if : {A : Type 0} → (b : Bool) (t : TicketCall A) (xs ys : List (TicketCall A)) → length xs ≤ suc (length ys) →
     length (if b then t ∷ xs else xs) ≤ suc (length (if b then t ∷ ys else ys))
 waiting_if true t xs ys l = omega (arith, l)
 waiting_if false t xs ys l = l
 
--- a ticket more
-waiting_push : {A : Type 0} → (done : List (Call A)) (ts : List (Asked A)) (t : Asked A) →
+-- one more ticket
+waiting_push : {A : Type 0} → (done : List (Call A)) (ts : List (TicketCall A)) (t : TicketCall A) →
     length (unanswered done (ts ++ t ∷ [])) ≤ suc (length (unanswered done ts))
 waiting_push {A} done [] t =
-    cond_both (is_none (place_of done t)) (t ∷ []) [] (λ (xs : List (Asked A)). length xs ≤ 1) (λ e. omega arith) (λ e. omega arith)
+    cond_both (is_none (place_of done t)) (t ∷ []) [] (λ (xs : List (TicketCall A)). length xs ≤ 1) (λ e. omega arith) (λ e. omega arith)
 waiting_push done (u ∷ ts) t =
     waiting_if (is_none (place_of done u)) u (unanswered done (ts ++ t ∷ [])) (unanswered done ts) (waiting_push done ts t)
 
@@ -65,29 +65,29 @@ not_refused n e = by_state (is_stopped n.core.state) e
 
 submitted_few : {A : Type 0} → (n : Node A) (c : Call A) → submit_fault n ≡ None → HasFew (submitted n c)
 submitted_few {A} n c e =
-    let t : Asked A = record { call = c; since = length n.done } in
+    let t : TicketCall A = record { call = c; since = length n.done } in
     let l = not_refused n e in
     let a = waiting_push n.done n.tickets t in
     omega (arith, l, a)
 
 module _ {O A : Type 0} (object : Sequential O) where
-  settled_few : (b : Bool) (n new : Node A) (outs : List (Out A)) (k : Kept A) → new.tickets ≡ n.tickets → HasFew n →
+  settled_few : (b : Bool) (n new : Node A) (outs : List (Out A)) (k : KnownLog A) → new.tickets ≡ n.tickets → HasFew n →
       HasFew (settled object b n new outs k).node
   settled_few false n new outs k same f = f
   settled_few true n new outs k same f =
-      let more = newly (node_kept n) k in
+      let more = newly_committed (node_known_log n) k in
       let s = did object n new outs k more in
-      let less = few_more object (table_since object (node_kept n) k) n.tickets n.done more in
+      let less = few_more object (table_since object (node_known_log n) k) n.tickets n.done more in
       let few : HasFew s.node = omega (arith, less, f, ap (λ ts. length (unanswered (n.done ++ more) ts)) same) in
-      cond_both (drops object (is_closed n.group new.life) k)
-      (record s { node = with_dropped k.committed s.node; dropped = committed_calls (log_kept k) }) s
-      (λ (x : NodeStepped A). HasFew x.node) (λ t. few) (λ e. few)
+      cond_both (drops object (is_closed n.group new.epochs) k)
+      (record s { node = with_dropped k.committed s.node; dropped = committed_calls (retained_log k) }) s
+      (λ (x : NodeStepResult A). HasFew x.node) (λ t. few) (λ e. few)
 
-  after_few : (n : Node A) (s : Stepped A) → HasFew n → HasFew (after_core object n s).node
+  after_few : (n : Node A) (s : StepResult A) → HasFew n → HasFew (after_core object n s).node
   after_few n s f =
-      let life = lived_through n.life s.outs in
-      settled_few (is_kept_sound n.group life && is_restored object (kept_of n.group life)) n
-      (walked n s.core life (due_by object n s.core n.life s.outs)) s.outs (kept_of n.group life) refl f
+      let epochs = epochs_after n.epochs s.outs in
+      settled_few (is_known_log_sound n.group epochs && is_restored object (known_log_of n.group epochs)) n
+      (node_after_outputs n s.core epochs (due_by object n s.core n.epochs s.outs)) s.outs (known_log_of n.group epochs) refl f
 
   stepped_few : (n : Node A) (input : NodeInput A) → HasFew n → HasFew (node_step object n input).node
   stepped_few n (NodeFrame frame) f = after_few n (ring_step n.core (FrameInput frame)) f

@@ -1,23 +1,23 @@
 -- Payloads handed to a core one after another, as events of a world of ring cores: only that core changes.
 use Rattle.std.proofs.Common.{◌≡◌, ℕ, true, false, List, [], ◌∷◌, ap, sym, ◌∙◌, subst, append-nil}
 use Rattle.ring_payload.specs.declared.content.Payload.{Payload}
-use Rattle.ring_core.specs.declared.input.Input.TheVariants.{Send as SendInput}
-use Rattle.ring_core.specs.State.{Core}
-use Rattle.ring_core.specs.Giving.{may_install}
-use Rattle.ring_core.specs.Stepping.{ring_step}
-use Rattle.ring_rules.specs.Stepping.{handed_over}
+use Rattle.ring_core_spec.specs.declared.input.Input.TheVariants.{Send as SendInput}
+use Rattle.ring_core_spec.specs.State.{Core}
+use Rattle.ring_core_spec.specs.Giving.{may_install}
+use Rattle.ring_core_spec.specs.Stepping.{ring_step}
+use Rattle.ring_node_spec.specs.Stepping.{handed_over}
 use Rattle.ring_core_proof.specs.declared.event.RingEvent.TheVariants.{Send}
 use Rattle.ring_core_proof.specs.Worlds.{World as RingWorld, put, after_step, is_node, stepped_if, happens, run}
 use Rattle.ring_core_proof.proofs.Lifting.{put-put, put-own, put-here}
 use Rattle.ring_order_proof.specs.Projection.{sends_to}
-use Rattle.ring_core.proofs.Quiet.{IsQuiet, with_queue, quiet_send, stepped_is}
+use Rattle.ring_core_spec.proofs.Quiet.{IsQuiet, with_queue, quiet_send, stepped_is}
 use Rattle.ring_base.proofs.TwoEqual.{ap-both}
 
 -- a world with other cores
 abbrev pub with_cores : {A : Type 0} → RingWorld A → (ℕ → Core A) → RingWorld A
 with_cores r cores = record r { cores = cores }
 
--- a step that gives nothing
+-- a step without outputs
 silent_step : {A : Type 0} → (r : RingWorld A) (i : ℕ) (c : Core A) → after_step r i (record { core = c; outs = [] }) ≡ with_cores r (put r.cores i c)
 silent_step r i c = ap-both (λ frames outs. record r { cores = put r.cores i c; frames = frames; outs = outs }) (append-nil r.frames) (append-nil r.outs)
 
@@ -42,7 +42,7 @@ run_sends {A} r i (p ∷ ps) n h =
     ∙ ap (λ x. with_cores r (put r.cores i (handed_over x ps))) here
     ∙ ap (λ x. with_cores r (put r.cores i (handed_over x.core ps))) (sym q.is)
 
--- what is handed over leaves no ring that may be installed
+-- after handing over payloads no installation is due
 pub handed_is : {A : Type 0} → (c : Core A) (ps : List (Payload A)) → may_install c ≡ false → may_install (handed_over c ps) ≡ false
 handed_is c [] h = h
 handed_is c (p ∷ ps) h = handed_is (ring_step c (SendInput p)).core ps (stepped_is c (SendInput p))

@@ -1,4 +1,5 @@
--- What every run of ring cores has of a ring: its members, what each heard up to its front, and who heard what one of them knows as safe.
+-- The facts about a ring in every run of ring cores: its members, what each received up to its front, and who received what one
+-- of them knows as safe.
 use Rattle.std.proofs.Common.{◌≡◌, ℕ, ◌+◌, ◌-◌, ◌^◌, ◌<◌, ◌≤◌, true, ◌⊎◌, inl, inr, List, [], ◌∷◌, take, Option, Some, None, refl, ap, sym, ◌∙◌, subst, arith}
 use Rattle.std.specs.Prelude.{filter, filter_map, if◌then◌else◌}
 use Rattle.std.specs.List.{AllByRecursion as Each, cons_option}
@@ -9,13 +10,13 @@ use Rattle.ring_base.specs.Rings.{same_ring}
 use Rattle.ring_base.specs.declared.ring_id.RingId.{RingId}
 use Rattle.ring_payload.specs.Kinds.{is_user}
 use Rattle.ring_wire.specs.declared.message.Message.{Message}
-use Rattle.ring_core.specs.Windows.{found}
+use Rattle.ring_core_spec.specs.Windows.{found}
 use Rattle.ring_base.proofs.SameRing.{ring_same, same-self}
-use Rattle.ring_core.specs.Tokens.{Turn, IsSafeIn}
-use Rattle.ring_core.specs.Commits.{Configuration}
-use Rattle.ring_core.specs.State.{Core}
-use Rattle.ring_core.specs.Views.{front, mark}
-use Rattle.ring_core.specs.Giving.{users}
+use Rattle.ring_core_spec.specs.Tokens.{TokenVisit, IsSafeIn}
+use Rattle.ring_core_spec.specs.Commits.{Configuration}
+use Rattle.ring_core_spec.specs.State.{Core}
+use Rattle.ring_core_spec.specs.Views.{front, mark}
+use Rattle.ring_core_spec.specs.Giving.{users}
 use Rattle.ring_core_proof.specs.FactWords.{IsIn}
 use Rattle.ring_core_proof.specs.declared.event.RingEvent.{RingEvent}
 use Rattle.ring_core_proof.specs.Worlds.{World, is_node, run, unformed}
@@ -24,12 +25,12 @@ use Rattle.ring_core_proof.proofs.InLists.{in-each}
 use Rattle.ring_synchrony_proof.specs.Chains.{IsRingOf, MarksAreSafe}
 use Rattle.ring_synchrony_proof.proofs.Chains.{AreRings, one_members, unformed_marks}
 use Rattle.ring_synchrony_proof.proofs.Quantified.{numbers_in}
-use Rattle.ring_synchrony_proof.proofs.Heard.{found_as}
+use Rattle.ring_synchrony_proof.proofs.UserMessages.{found_as}
 use Rattle.ring_synchrony_proof.proofs.Recovering.{Recovered, all_recovered}
 use Rattle.ring_synchrony_proof.proofs.Installed.{all_orderly, all_ready, heard_installed}
-use Rattle.ring_log.specs.Lives.{upto}
+use Rattle.ring_log.specs.EpochHistories.{upto}
 use Rattle.ring_order_proof.proofs.Numbering.{users_in, upto_taken}
-use Rattle.ring_order_proof.proofs.RunTexts.{whole, whole_from, heard_is, numbered_by_sender}
+use Rattle.ring_order_proof.proofs.RunTexts.{whole, complete_exchange_from, heard_is, numbered_by_sender}
 use Rattle.ring_core_proof.proofs.MembersOfRings.{StandsAs, AllStand, IsWithin, all_stand}
 
 pub record HasInstalled {A : Type 0} (c : Core A) (ring : RingId) : Type 0 where
@@ -43,20 +44,20 @@ IsAmong ring rings = (members : ℕ) × IsIn (record { ring = ring; members = me
 
 pub record IsWhole {A : Type 0} (w : World A) : Type 0 where
   pub recovered : Recovered w.cores w.frames
-  pub marks : MarksAreSafe w.cores
-  -- who holds a users' message within its front has installed the ring
+  pub epochs_with_mark : MarksAreSafe w.cores
+  -- a processor that holds a user message within its front has installed the ring
   pub installed : (p q : ℕ) (x : Message A) → IsIn x (w.cores p).held → is_user x.payload ≡ true → x.number ≤ front (w.cores q) x.ring →
       HasInstalled (w.cores q) x.ring
   pub stand : AllStand w
-  -- who visits a ring's token takes part in the ring
-  pub took : (p : ℕ) → Each (λ (v : Turn A). IsAmong v.came.ring (w.cores p).rings) (w.cores p).turns
+  -- a processor that visits a ring's token takes part in the ring
+  pub took : (p : ℕ) → Each (λ (v : TokenVisit A). IsAmong v.received.ring (w.cores p).rings) (w.cores p).turns
 
 pub all_whole : {A : Type 0} → (n : ℕ) (events : List (RingEvent A)) → IsWhole (run (unformed n) events)
 all_whole {A} n events =
     let w : World A = run (unformed n) events in
     record {
       recovered = all_recovered n events;
-      marks = unformed_marks n events;
+      epochs_with_mark = unformed_marks n events;
       installed = λ p q x held user within.
           let r = heard_installed w.cores w.frames (all_orderly n events) (all_ready n events) p q x held user within in
           record { at = r.0; there = r.1; ring_is = r.2 };
@@ -64,7 +65,7 @@ all_whole {A} n events =
       took = λ p. ((((all_orderly n events).orderly p).local).facts).turns;
     }
 
--- The members of a ring: those that its representative took part in it with
+-- The members of a ring: those with which its representative took part in it
 
 first_members : RingId → List Configuration → ℕ
 first_members ring [] = 0
@@ -92,7 +93,7 @@ pub members_are : {A : Type 0} → (cores : ℕ → Core A) → AreRings cores �
 unfolding members_of
 members_are cores are ring m h = one_members cores are ring m (members_of cores ring) h (first_is ring (cores ring.rep).rings m h)
 
--- Users' messages that are found under numbers: none, or there is a first one
+-- User messages found by number: none, or there is a first one
 
 abbrev users_found : {A : Type 0} → (ℕ → Option (Message A)) → List ℕ → List (Message A)
 users_found {A} get ns = filter (λ (x : Message A). is_user x.payload) (filter_map get ns)
@@ -146,13 +147,13 @@ module _ {A : Type 0} (w : World A) (k : IsWhole w) where
       let zero : 0 + m ≡ m = omega arith in
       ap (upto m) (heard_is w k.recovered p ring f (omega arith))
       ∙ ap (λ n. upto n (users_in (take f (whole w k.recovered ring)))) (sym zero)
-      ∙ upto_taken 0 m f (whole w k.recovered ring) (whole_from w k.recovered ring) (mark_within p ring)
+      ∙ upto_taken 0 m f (whole w k.recovered ring) (complete_exchange_from w k.recovered ring) (mark_within p ring)
 
   -- each of these members has installed the ring, and its front has reached the number
   abbrev pub AllReached : RingId → ℕ → ℕ → Type 0
   AllReached ring members n = (q : ℕ) → IsProc q → IsMember members q → HasInstalled (w.cores q) ring × (n ≤ front (w.cores q) ring)
 
-  -- what every member's front has reached, if there is any such, all of them have installed the ring for
+  -- if every member's front has reached some user message, all of them have installed the ring
   pub reached_installed : (ring : RingId) (members n : ℕ) → IsSafeIn members (λ q. front (w.cores q) ring) n →
       (numbered_upto ring n ≡ []) ⊎ AllReached ring members n
   reached_installed ring members n safe = by (numbered_upto ring n) refl
@@ -186,10 +187,10 @@ module _ {A : Type 0} (w : World A) (k : IsWhole w) where
         | inl here ↦ here
         | inr stranger ↦
             let none : c.turns ≡ [] = subst (λ b. StandsAs b w.total c) stranger (k.stand x.sender) in
-            absurd (subst (λ (ts : List (Turn A)). IsIn n.turn ts) none n.taken)
+            absurd (subst (λ (ts : List (TokenVisit A)). IsIn n.turn ts) none n.taken)
       ] in
       let all : IsWithin w.total c = subst (λ b. StandsAs b w.total c) node (k.stand x.sender) in
-      let taken = in-each (λ (v : Turn A). IsAmong v.came.ring c.rings) n.turn c.turns (k.took x.sender) n.taken in
+      let taken = in-each (λ (v : TokenVisit A). IsAmong v.received.ring c.rings) n.turn c.turns (k.took x.sender) n.taken in
       let among : IsAmong ring c.rings = subst (λ (r : RingId). IsAmong r c.rings) n.ring_is taken in
       let small = in-each (λ (y : Configuration). y.members < 2 ^ w.total) (record { ring = ring; members = among.0 }) c.rings all.rings among.1 in
       subst (λ set. set < 2 ^ w.total) (members_are w.cores are_rings ring among.0 (are_rings.shared x.sender ring among.0 among.1)) small
@@ -199,7 +200,7 @@ module _ {A : Type 0} (w : World A) (k : IsWhole w) where
   safe_reached p ring members known =
       let c = w.cores p in
       let m = mark c ring in
-      elim (k.marks p ring) [
+      elim (k.epochs_with_mark p ring) [
         | inl zero ↦ inl (ap (numbered_upto ring) zero)
         | inr safe ↦
             let same : safe.0 ≡ members = one_members w.cores are_rings ring safe.0 members safe.1 known in

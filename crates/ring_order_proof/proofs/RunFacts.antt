@@ -1,60 +1,61 @@
--- The facts of every run of nodes, one by one: each node's life is what its core tells of the rings that it installed, and what a core said was handed to it.
+-- The facts of every run of nodes, one by one: each node's life consists of its core's facts about the rings that it installed,
+-- and what a core sent was handed to it.
 use Rattle.std.proofs.Common.{◌≡◌, ℕ, zero, suc, ◌^◌, ◌<◌, ◌≤◌, true, false, ◌&&◌, ◌⊎◌, inl, inr, List, [], ◌∷◌, take, refl, ap, sym, ◌∙◌, subst, arith}
 use Rattle.std.specs.Prelude.{nat_le}
 use Rattle.std.proofs.lemmas.Bool.{cond_both, cond-true, and_parts, and_from, leb-true, le-leb}
-use Rattle.ring_base.specs.Fronts.{IsFront}
+use Rattle.ring_base.specs.Prefixes.{IsListPrefix}
 use Rattle.ring_base.specs.Group.{Group}
 use Rattle.ring_base.specs.Members.{member_had}
 use Rattle.ring_base.specs.Processors.{IsMember, has}
 use Rattle.ring_base.specs.declared.ring_id.RingId.{RingId}
-use Rattle.ring_base.proofs.ListFronts.{take-longer}
+use Rattle.ring_base.proofs.ListFronts.{take-longer_list}
 use Rattle.ring_object.specs.Operations.{Sequential}
 use Rattle.ring_payload.specs.declared.content.Payload.{Payload}
 use Rattle.ring_wire.specs.declared.message.Message.{Message}
-use Rattle.ring_core.specs.Commits.{Configuration}
-use Rattle.ring_core.specs.Views.{front, mark}
-use Rattle.ring_core.specs.Giving.{users}
+use Rattle.ring_core_spec.specs.Commits.{Configuration}
+use Rattle.ring_core_spec.specs.Views.{front, mark}
+use Rattle.ring_core_spec.specs.Giving.{users}
 use Rattle.ring_core_proof.specs.FactWords.{IsIn}
 use Rattle.ring_core_proof.specs.LawWords.{IsFalling}
 use Rattle.ring_core_proof.specs.Worlds.{World as RingWorld}
 use Rattle.ring_core_proof.proofs.InLists.{in-each}
 use Rattle.ring_synchrony_proof.specs.Chains.{IsRingOf}
 use Rattle.ring_synchrony_proof.proofs.Ordered.{Ordered}
-use Rattle.ring_log.specs.Stays.{Stay, above}
-use Rattle.ring_log.specs.Lives.{upto, fronts_below}
+use Rattle.ring_log.specs.Epochs.{Epoch, above}
+use Rattle.ring_log.specs.EpochHistories.{upto, fronts_below}
 use Rattle.ring_payload.specs.declared.call.Call.{Call as OneCall}
-use Rattle.ring_log_proof.specs.RingFacts.{IsStay, StayIn, Rises, said_by, safe_part, AllHeard, RingFacts}
-use Rattle.ring_log_proof.proofs.FilledLives.{filled-heard, facts-filled}
-use Rattle.ring_core.specs.Tokens.{Turn, turns_of, IsSafeIn}
-use Rattle.ring_rules.specs.declared.event.Event.{Event}
-use Rattle.ring_rules.specs.Worlds.{World, world_opening, is_node, run, lives_in, lives_of}
+use Rattle.ring_log_proof.specs.RingFacts.{HasEpoch, EpochIn, Rises, payloads_from, safe_part, IsReceivedByAll, RingFacts}
+use Rattle.ring_log_proof.proofs.FilledEpochs.{filled-heard, facts-filled}
+use Rattle.ring_core_spec.specs.Tokens.{TokenVisit, turns_of, IsSafeIn}
+use Rattle.ring_node_spec.specs.declared.event.Event.{Event}
+use Rattle.ring_node_spec.specs.Worlds.{World, world_opening, is_node, run, epochs_in, whole_epochs_in}
 use Rattle.ring_order_proof.specs.Projection.{ring_part, IsRingRun}
 use Rattle.ring_order_proof.proofs.ProjectedEvents.{ring_run}
 use Rattle.ring_order_proof.proofs.DisciplinedWorlds.{opened_on}
-use Rattle.ring_order_proof.specs.Spoken.{spoken, spoken_in}
-use Rattle.ring_order_proof.specs.Said.{SpeaksInOrder}
+use Rattle.ring_order_proof.specs.SentPayloads.{sent_payloads, payloads_of_visits}
+use Rattle.ring_order_proof.specs.SendOrder.{SendsInOrder}
 use Rattle.ring_order_proof.proofs.Numbering.{users_in, users_front, upto_all}
-use Rattle.ring_order_proof.proofs.RunTexts.{whole, whole_from, heard_is, texts, text_is}
-use Rattle.ring_order_proof.proofs.SpeakingNodes.{all_in_order}
+use Rattle.ring_order_proof.proofs.RunTexts.{whole, complete_exchange_from, heard_is, texts, text_is}
+use Rattle.ring_order_proof.proofs.SendOrdersOfNodes.{all_in_order}
 use Rattle.ring_order_proof.specs.RunFacts.{HasFacts}
-use Rattle.ring_order_proof.proofs.LivesOfCores.{IsToldOf, told_of, stay_for, life_told, rings_told}
+use Rattle.ring_order_proof.proofs.EpochsOfCores.{IsToldOf, told_of, stay_for, life_told, rings_told}
 use Rattle.ring_core_proof.proofs.MembersOfRings.{StandsAs, IsWithin, member_below}
 use Rattle.ring_order_proof.proofs.RingsOfRuns.{HasInstalled, IsWhole, all_whole, members_of, members_are, numbered_upto, safe_is}
 use Rattle.ring_order_proof.proofs.RingsOfRuns.{AllReached, reached_installed, members_within, safe_reached}
 use Rattle.ring_order_proof.proofs.DisciplinedNodes.{rises}
 
--- nothing is there, or some of it
+-- a list is empty, or has an element
 some_taken : {A : Type 0} → (n : ℕ) (xs : List (Message A)) → (users_in (take n xs) ≡ []) ⊎ ((x : Message A) × IsIn x xs)
 some_taken zero [] = inl refl
 some_taken (suc n) [] = inl refl
 some_taken n (x ∷ xs) = inr (x, inl refl)
 
--- What is known of the nodes of a world
+-- The facts about the nodes of a world
 pub record AreNodes {A : Type 0} (group : Group) (w : World A) : Type 0 where
   pub ring : IsRingRun group w
   pub cores : IsWhole (ring_part w ring.outs)
   pub ordered : (i : ℕ) → Ordered (w.nodes i).core
-  pub speaks : (i : ℕ) → SpeaksInOrder (w.nodes i)
+  pub speaks : (i : ℕ) → SendsInOrder (w.nodes i)
   pub few : w.group.count ≤ 16
 
 module _ {A : Type 0} (group : Group) (w : World A) (k : AreNodes group w) where
@@ -64,35 +65,35 @@ module _ {A : Type 0} (group : Group) (w : World A) (k : AreNodes group w) where
   abbrev text : RingId → List (Message A)
   text = (texts part k.cores.recovered).text
 
-  told : (i : ℕ) (s : Stay A) (older : List (Stay A)) → IsStay (w.nodes i).life s older → IsToldOf (w.nodes i).core s
+  told : (i : ℕ) (s : Epoch A) (older : List (Epoch A)) → HasEpoch (w.nodes i).epochs s older → IsToldOf (w.nodes i).core s
   told i s older j =
-      told_of (w.nodes i).core (w.nodes i).life (w.nodes i).core.installs (λ x h. h) (life_told group w k.ring i (k.ordered i)) s older j
+      told_of (w.nodes i).core (w.nodes i).epochs (w.nodes i).core.installs (λ x h. h) (life_told group w k.ring i (k.ordered i)) s older j
 
-  -- the ring of a stay, with its members
-  ring_told : (i : ℕ) (s : Stay A) (older : List (Stay A)) (j : IsStay (w.nodes i).life s older) →
+  -- the ring of an epoch, with its members
+  ring_told : (i : ℕ) (s : Epoch A) (older : List (Epoch A)) (j : HasEpoch (w.nodes i).epochs s older) →
       IsRingOf part.cores ((told i s older j).at).ring ((told i s older j).at).members
   ring_told i s older j =
       let t = told i s older j in
       (k.cores.recovered.all).all.rings.shared i (t.at).ring (t.at).members ((k.cores.recovered.local i).among t.at t.there)
 
-  one_set_of : (i : ℕ) (s : Stay A) (older : List (Stay A)) → IsStay (w.nodes i).life s older → s.members ≡ members_of part.cores s.ring
+  one_set_of : (i : ℕ) (s : Epoch A) (older : List (Epoch A)) → HasEpoch (w.nodes i).epochs s older → s.members ≡ members_of part.cores s.ring
   one_set_of i s older j =
       let t = told i s older j in
       let at = members_are part.cores (k.cores.recovered.all).all.rings (t.at).ring (t.at).members (ring_told i s older j) in
-      subst (λ (x : Stay A). x.members ≡ members_of part.cores x.ring) (sym t.is) at
+      subst (λ (x : Epoch A). x.members ≡ members_of part.cores x.ring) (sym t.is) at
 
-  own_of : (i : ℕ) → 1 ≤ i → (s : Stay A) (older : List (Stay A)) → IsStay (w.nodes i).life s older → IsMember s.members i
+  own_of : (i : ℕ) → 1 ≤ i → (s : Epoch A) (older : List (Epoch A)) → HasEpoch (w.nodes i).epochs s older → IsMember s.members i
   own_of i low s older j =
       let t = told i s older j in
       let mine = (k.cores.recovered.local i).member t.at ((k.cores.recovered.local i).among t.at t.there) in
       let here : has (t.at).members i ≡ true =
       subst (λ (q : ℕ). has (t.at).members q ≡ true) ((k.cores.recovered.all).all.rings.me i) mine in
-      member_had s.members i low (subst (λ (m : ℕ). has m i ≡ true) (sym (ap (λ (x : Stay A). x.members) t.is)) here)
+      member_had s.members i low (subst (λ (m : ℕ). has m i ≡ true) (sym (ap (λ (x : Epoch A). x.members) t.is)) here)
 
-  heard_of : (i : ℕ) (s : Stay A) (older : List (Stay A)) → IsStay (w.nodes i).life s older → IsFront s.heard (text s.ring)
+  heard_of : (i : ℕ) (s : Epoch A) (older : List (Epoch A)) → HasEpoch (w.nodes i).epochs s older → IsListPrefix s.heard (text s.ring)
   heard_of i s older j =
       let t = told i s older j in
-      subst (λ (x : Stay A). IsFront x.heard (text x.ring)) (sym t.is) ((texts part k.cores.recovered).heard i (t.at).ring)
+      subst (λ (x : Epoch A). IsListPrefix x.heard (text x.ring)) (sym t.is) ((texts part k.cores.recovered).heard i (t.at).ring)
 
   -- What is safe
 
@@ -114,33 +115,33 @@ module _ {A : Type 0} (group : Group) (w : World A) (k : AreNodes group w) where
       within_node x.members small
 
   record IsThere (q : ℕ) (ring : RingId) : Type 0 where
-    pub stay : Stay A
-    pub older : List (Stay A)
-    pub there : IsStay (w.nodes q).life stay older
-    pub ring_is : stay.ring ≡ ring
-    pub heard_is : stay.heard ≡ numbered_upto part k.cores ring (front (part.cores q) ring)
+    pub epoch : Epoch A
+    pub older : List (Epoch A)
+    pub there : HasEpoch (w.nodes q).epochs epoch older
+    pub ring_is : epoch.ring ≡ ring
+    pub heard_is : epoch.heard ≡ numbered_upto part k.cores ring (front (part.cores q) ring)
 
-  -- who has installed a ring has a stay of it, in which all was heard up to the front
+  -- a node that has installed a ring has an epoch of it, in which all was received up to the front
   stay_there : (q : ℕ) (ring : RingId) → HasInstalled (part.cores q) ring → IsThere q ring
   stay_there q ring h =
       let c = part.cores q in
-      let f = stay_for c (w.nodes q).life c.installs (life_told group w k.ring q (k.ordered q)) h.at h.there in
-      let all : (f.stay).heard ≡ users c ring 0 (front c ring) =
-      ap (λ (x : Stay A). x.heard) f.is ∙ ap (λ (r : RingId). users c r 0 (front c r)) h.ring_is in
+      let f = stay_for c (w.nodes q).epochs c.installs (life_told group w k.ring q (k.ordered q)) h.at h.there in
+      let all : (f.epoch).heard ≡ users c ring 0 (front c ring) =
+      ap (λ (x : Epoch A). x.heard) f.is ∙ ap (λ (r : RingId). users c r 0 (front c r)) h.ring_is in
       record {
-        stay = f.stay;
+        epoch = f.epoch;
         older = f.older;
         there = f.there;
-        ring_is = ap (λ (x : Stay A). x.ring) f.is ∙ h.ring_is;
+        ring_is = ap (λ (x : Epoch A). x.ring) f.is ∙ h.ring_is;
         heard_is = all ∙ heard_is part k.cores.recovered q ring (front c ring) (omega arith);
       }
 
-  abbrev lives_at : (q : ℕ) → is_node w q ≡ true → lives_in w q ≡ (w.nodes q).life
-  lives_at q node = cond-true (is_node w q) (w.nodes q).life [] node
+  abbrev lives_at : (q : ℕ) → is_node w q ≡ true → epochs_in w q ≡ (w.nodes q).epochs
+  lives_at q node = cond-true (is_node w q) (w.nodes q).epochs [] node
 
-  -- what is numbered up to where all of these members' fronts are, each of them heard
+  -- what is numbered up to a number that all of these members' fronts have reached, each of them received
   all_heard : (ring : RingId) (set : ℕ) → ((q : ℕ) → IsMember set q → is_node w q ≡ true) → (n : ℕ) → AllReached part k.cores ring set n →
-      AllHeard (lives_in w) ring set (numbered_upto part k.cores ring n)
+      IsReceivedByAll (epochs_in w) ring set (numbered_upto part k.cores ring n)
   all_heard ring set nodes n all q m =
       let other = nodes q m in
       let high = leb-true q w.group.count (and_parts (nat_le 1 q) (nat_le q w.group.count) other).1 in
@@ -149,95 +150,95 @@ module _ {A : Type 0} (group : Group) (w : World A) (k : AreNodes group w) where
       let t = stay_there q ring reached.0 in
       let numbered = whole part k.cores.recovered ring in
       let f = front (part.cores q) ring in
-      let first = users_front (take n numbered) (take f numbered) (take-longer n f numbered reached.1) in (
+      let first = users_front (take n numbered) (take f numbered) (take-longer_list n f numbered reached.1) in (
         record {
-          stay = t.stay;
+          epoch = t.epoch;
           older = t.older;
-          there = subst (λ (life : List (Stay A)). IsStay life t.stay t.older) (sym (lives_at q other)) t.there;
+          there = subst (λ (epochs : List (Epoch A)). HasEpoch epochs t.epoch t.older) (sym (lives_at q other)) t.there;
           ring = t.ring_is;
         },
-        subst (λ (xs : List (Message A)). IsFront (numbered_upto part k.cores ring n) xs) (sym t.heard_is) first,
+        subst (λ (xs : List (Message A)). IsListPrefix (numbered_upto part k.cores ring n) xs) (sym t.heard_is) first,
       )
 
-  safe_of : (i : ℕ) → is_node w i ≡ true → (s : Stay A) (older : List (Stay A)) → IsStay (w.nodes i).life s older →
-      (safe_part s ≡ []) ⊎ AllHeard (lives_in w) s.ring s.members (safe_part s)
+  safe_of : (i : ℕ) → is_node w i ≡ true → (s : Epoch A) (older : List (Epoch A)) → HasEpoch (w.nodes i).epochs s older →
+      (safe_part s ≡ []) ⊎ IsReceivedByAll (epochs_in w) s.ring s.members (safe_part s)
   safe_of i node s older j =
       let t = told i s older j in
       let ring = (t.at).ring in
       let is : safe_part s ≡ numbered_upto part k.cores ring (mark (part.cores i) ring) =
-      ap (λ (x : Stay A). upto x.mark x.heard) t.is ∙ safe_is part k.cores i ring in
+      ap (λ (x : Epoch A). upto x.mark x.heard) t.is ∙ safe_is part k.cores i ring in
       elim (safe_reached part k.cores i ring (t.at).members (ring_told i s older j)) [
         | inl none ↦ inl (is ∙ none)
         | inr all ↦
             let heard = all_heard ring (t.at).members (member_node i node t.at t.there) (mark (part.cores i) ring) all in
-            inr (subst (λ (xs : List (Message A)). AllHeard (lives_in w) s.ring s.members xs) (sym is)
-            (subst (λ (x : Stay A). AllHeard (lives_in w) x.ring x.members (numbered_upto part k.cores ring (mark (part.cores i) ring))) (sym t.is) heard))
+            inr (subst (λ (xs : List (Message A)). IsReceivedByAll (epochs_in w) s.ring s.members xs) (sym is)
+            (subst (λ (x : Epoch A). IsReceivedByAll (epochs_in w) x.ring x.members (numbered_upto part k.cores ring (mark (part.cores i) ring))) (sym t.is) heard))
       ]
 
-  -- and where every member's front has reached a number, what of the text lies up to it
+  -- if every member's front has reached a number, the text up to it
   reached_of : (ring : RingId) (n : ℕ) → IsSafeIn (members_of part.cores ring) (λ q. front (part.cores q) ring) n →
-      (upto n (text ring) ≡ []) ⊎ AllHeard (lives_in w) ring (members_of part.cores ring) (upto n (text ring))
+      (upto n (text ring) ≡ []) ⊎ IsReceivedByAll (epochs_in w) ring (members_of part.cores ring) (upto n (text ring))
   reached_of ring n safe =
       let set = members_of part.cores ring in
       let numbered = whole part k.cores.recovered ring in
       let is : upto n (text ring) ≡ numbered_upto part k.cores ring n =
-      ap (λ (xs : List (Message A)). upto n xs) (text_is part k.cores.recovered ring) ∙ upto_all n numbered (whole_from part k.cores.recovered ring) in
+      ap (λ (xs : List (Message A)). upto n xs) (text_is part k.cores.recovered ring) ∙ upto_all n numbered (complete_exchange_from part k.cores.recovered ring) in
       elim (some_taken n numbered) [
         | inl none ↦ inl (is ∙ none)
         | inr x ↦ elim (reached_installed part k.cores ring set n safe) [
           | inl none ↦ inl (is ∙ none)
           | inr all ↦
               let nodes = within_node set (members_within part k.cores ring x.0 x.1) in
-              inr (subst (λ (xs : List (Message A)). AllHeard (lives_in w) ring set xs) (sym is) (all_heard ring set nodes n all))
+              inr (subst (λ (xs : List (Message A)). IsReceivedByAll (epochs_in w) ring set xs) (sym is) (all_heard ring set nodes n all))
         ]
       ]
 
-  -- What was said
+  -- What was sent
 
-  said_of : (i : ℕ) (ring : RingId) → (said_by i (text ring) ≡ []) ⊎ ((at : StayIn (w.nodes i).life ring) × IsFront (said_by i (text ring)) at.stay.sent)
+  said_of : (i : ℕ) (ring : RingId) → (payloads_from i (text ring) ≡ []) ⊎ ((at : EpochIn (w.nodes i).epochs ring) × IsListPrefix (payloads_from i (text ring)) at.epoch.sent)
   said_of i ring =
       let e = (texts part k.cores.recovered).said i ring in
       elim ((k.speaks i).silent ring) [
         | inl none ↦ inl (e ∙ none)
         | inr at ↦ inr (
           at,
-          subst (λ (xs : List (Payload A)). IsFront xs at.stay.sent) (sym e)
-              (subst (λ (r : RingId). IsFront (spoken (w.nodes i).core r) at.stay.sent) at.ring ((k.speaks i).front at.stay at.older at.there)),
+          subst (λ (xs : List (Payload A)). IsListPrefix xs at.epoch.sent) (sym e)
+              (subst (λ (r : RingId). IsListPrefix (sent_payloads (w.nodes i).core r) at.epoch.sent) at.ring ((k.speaks i).front at.epoch at.older at.there)),
         )
       ]
 
-  -- who isn't of the group said nothing
-  stranger_silent : (i : ℕ) → is_node w i ≡ false → (ring : RingId) → said_by i (text ring) ≡ []
+  -- a processor outside the group sent nothing
+  stranger_silent : (i : ℕ) → is_node w i ≡ false → (ring : RingId) → payloads_from i (text ring) ≡ []
   stranger_silent i stranger ring =
       let none : (w.nodes i).core.turns ≡ [] = subst (λ b. StandsAs b w.group.count (part.cores i)) stranger (k.cores.stand i) in
-      (texts part k.cores.recovered).said i ring ∙ ap (λ (ts : List (Turn A)). spoken_in (turns_of ring ts)) none
+      (texts part k.cores.recovered).said i ring ∙ ap (λ (ts : List (TokenVisit A)). payloads_of_visits (turns_of ring ts)) none
 
-  -- All of it, of the lives of the group's processors
+  -- All facts, of the lives of the group's processors
 
-  abbrev OfStays : (ℕ → Stay A → List (Stay A) → Type 0) → ℕ → List (Stay A) → Type 0
-  OfStays P i life = (s : Stay A) (older : List (Stay A)) → IsStay life s older → P i s older
+  abbrev OfStays : (ℕ → Epoch A → List (Epoch A) → Type 0) → ℕ → List (Epoch A) → Type 0
+  OfStays P i epochs = (s : Epoch A) (older : List (Epoch A)) → HasEpoch epochs s older → P i s older
 
-  of_lives : (P : ℕ → Stay A → List (Stay A) → Type 0) → ((i : ℕ) → is_node w i ≡ true → OfStays P i (w.nodes i).life) → (i : ℕ) → OfStays P i (lives_in w i)
-  of_lives P f i = cond_both (is_node w i) (w.nodes i).life [] (OfStays P i) (λ e. f i e) (λ e s older j. absurd j)
+  of_lives : (P : ℕ → Epoch A → List (Epoch A) → Type 0) → ((i : ℕ) → is_node w i ≡ true → OfStays P i (w.nodes i).epochs) → (i : ℕ) → OfStays P i (epochs_in w i)
+  of_lives P f i = cond_both (is_node w i) (w.nodes i).epochs [] (OfStays P i) (λ e. f i e) (λ e s older j. absurd j)
 
   abbrev fronts : ℕ → ℕ → ℕ → List (OneCall A)
-  fronts p = fronts_below w.group (lives_in w) (above (lives_in w p))
+  fronts p = fronts_below w.group (epochs_in w) (above (epochs_in w p))
 
-  own_facts : RingFacts (lives_in w) (members_of part.cores) text
+  own_facts : RingFacts (epochs_in w) (members_of part.cores) text
   own_facts = record {
-    rises = λ i. cond_both (is_node w i) (w.nodes i).life [] (λ (life : List (Stay A)). Rises life)
-        (λ e. rises (w.nodes i).life (w.nodes i).core.installs (rings_told group w k.ring i (k.ordered i))
+    rises = λ i. cond_both (is_node w i) (w.nodes i).epochs [] (λ (epochs : List (Epoch A)). Rises epochs)
+        (λ e. rises (w.nodes i).epochs (w.nodes i).core.installs (rings_told group w k.ring i (k.ordered i))
         (subst IsFalling (sym (k.ordered i).newest) (k.ordered i).falls))
         (λ e. tt);
     one_set = of_lives (λ i s older. s.members ≡ members_of part.cores s.ring) (λ i e. one_set_of i);
     own = of_lives (λ i s older. IsMember s.members i) (λ i e. own_of i (node_low i e));
-    heard = of_lives (λ i s older. IsFront s.heard (text s.ring)) (λ i e. heard_of i);
+    heard = of_lives (λ i s older. IsListPrefix s.heard (text s.ring)) (λ i e. heard_of i);
     named = (texts part k.cores.recovered).named;
     said = λ i ring.
-        cond_both (is_node w i) (w.nodes i).life []
-        (λ (life : List (Stay A)). (said_by i (text ring) ≡ []) ⊎ ((at : StayIn life ring) × IsFront (said_by i (text ring)) at.stay.sent))
+        cond_both (is_node w i) (w.nodes i).epochs []
+        (λ (epochs : List (Epoch A)). (payloads_from i (text ring) ≡ []) ⊎ ((at : EpochIn epochs ring) × IsListPrefix (payloads_from i (text ring)) at.epoch.sent))
         (λ e. said_of i ring) (λ e. inl (stranger_silent i e ring));
-    safe = of_lives (λ i s older. (safe_part s ≡ []) ⊎ AllHeard (lives_in w) s.ring s.members (safe_part s)) safe_of;
+    safe = of_lives (λ i s older. (safe_part s ≡ []) ⊎ IsReceivedByAll (epochs_in w) s.ring s.members (safe_part s)) safe_of;
   }
 
   pub facts_of : HasFacts w
@@ -247,12 +248,12 @@ module _ {A : Type 0} (group : Group) (w : World A) (k : AreNodes group w) where
         text = text;
         is = (texts part k.cores.recovered).is;
         own = own_facts;
-        facts = facts-filled (lives_in w) fronts (members_of part.cores) text own_facts;
+        facts = facts-filled (epochs_in w) fronts (members_of part.cores) text own_facts;
         speech = (texts part k.cores.recovered).said;
         reached = λ ring n safe. elim (reached_of ring n safe) as (λ _. (upto n (text ring) ≡ [])
-            ⊎ AllHeard (lives_of w) ring (members_of part.cores ring) (upto n (text ring))) [
+            ⊎ IsReceivedByAll (whole_epochs_in w) ring (members_of part.cores ring) (upto n (text ring))) [
               | inl none ↦ inl none
-              | inr all ↦ inr (filled-heard (lives_in w) fronts ring (members_of part.cores ring) (upto n (text ring)) all)
+              | inr all ↦ inr (filled-heard (epochs_in w) fronts ring (members_of part.cores ring) (upto n (text ring)) all)
             ];
       }
 

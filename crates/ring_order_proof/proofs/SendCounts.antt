@@ -1,4 +1,5 @@
--- How many frames one step gives: what a visit sends again, its new messages and the token, or one frame, and perhaps a proposal.
+-- The number of frames that one step sends: a visit's repeated messages, new messages and token, or one frame, and perhaps a
+-- proposal.
 use Rattle.std.proofs.Common.{◌≡◌, suc, ◌≤◌, inl, inr, Bool, true, false, ◌==◌, List, [], ◌∷◌, ◌++◌, length, Option}
 use Rattle.std.proofs.Common.{Some, None, ap, sym, subst, arith}
 use Rattle.std.specs.Prelude.{filter, filter_map, map, not, nat_lt, ◌&&◌}
@@ -11,33 +12,33 @@ use Rattle.ring_wire.specs.Tokens.{TokenFits}
 use Rattle.ring_wire.specs.declared.frame.Frame.TheVariants.{Message as MessageFrame}
 use Rattle.ring_wire.specs.declared.message.Message.{Message}
 use Rattle.ring_wire.specs.declared.token.Token.{Token}
-use Rattle.ring_core.specs.Windows.{found}
-use Rattle.ring_core.specs.Tokens.{above_mark}
-use Rattle.ring_core.specs.declared.input.Input.{Input}
-use Rattle.ring_core.specs.declared.input.Input.TheVariants.{Frame as FrameInput, Timeout as TimeInput}
-use Rattle.ring_core.specs.declared.out.Out.{Out}
-use Rattle.ring_core.specs.State.{Core, Sent, Did}
-use Rattle.ring_core.specs.Views.{mark}
-use Rattle.ring_core.specs.Visiting.{repeated, new_payloads, new_messages, forwarded, to_next, visited}
-use Rattle.ring_core.specs.Deciding.{Act, Ignore, Enqueue, Repeat, Announce, Invite, GiveUp, Regather, Agree, Widen}
-use Rattle.ring_core.specs.Deciding.{RegatherAndAgree, RegatherAndWiden, Take, Visit, Fill, Learn, decide}
-use Rattle.ring_core.specs.Acting.{shown_again, may_follow, act, proposed_after, done}
-use Rattle.ring_core.specs.Joining.{proposes}
-use Rattle.ring_core.specs.Handing.{proposed}
-use Rattle.ring_core.specs.Stepping.{ring_step}
-use Rattle.ring_rules.specs.declared.input.Input.{Input as NodeInput}
-use Rattle.ring_rules.specs.declared.input.Input.TheVariants.{Frame as NodeFrame, Noise as NodeNoise, Timeout as NodeTime, Stop as NodeStop}
-use Rattle.ring_rules.specs.NodeLimits.{InputFits as NodeInputFits}
-use Rattle.ring_rules.specs.Lives.{lived_through}
-use Rattle.ring_rules.specs.Nodes.{Node, node_kept, is_closed, is_restored}
-use Rattle.ring_rules.specs.Dues.{due_by}
-use Rattle.ring_rules.specs.Stepping.{NodeStepped, send_of, with_dropped, newly, drops, did, settled, walked, after_core, node_step}
-use Rattle.ring_core.proofs.Tokens.{length-numbered}
-use Rattle.ring_core_proof.specs.LawWords.{CameWith}
+use Rattle.ring_core_spec.specs.Windows.{found}
+use Rattle.ring_core_spec.specs.Tokens.{above_mark}
+use Rattle.ring_core_spec.specs.declared.input.Input.{Input}
+use Rattle.ring_core_spec.specs.declared.input.Input.TheVariants.{Frame as FrameInput, Timeout as TimeInput}
+use Rattle.ring_core_spec.specs.declared.out.Out.{Out}
+use Rattle.ring_core_spec.specs.State.{Core, OutgoingFrame, TransitionResult}
+use Rattle.ring_core_spec.specs.Views.{mark}
+use Rattle.ring_core_spec.specs.Visiting.{repeated, new_payloads, new_messages, token_forwarded, to_next, token_visited}
+use Rattle.ring_core_spec.specs.Deciding.{Transition, Ignore, Enqueue, Repeat, Announce, Invite, GiveUp, EnterGather, Agree, MergeJoin}
+use Rattle.ring_core_spec.specs.Deciding.{EnterGatherAndAgree, EnterGatherAndMergeJoin, Take, Visit, Fill, Learn, decide}
+use Rattle.ring_core_spec.specs.Transitions.{last_sent_repeated, may_propose_after, apply_transition, with_proposal_if, done}
+use Rattle.ring_core_spec.specs.Joining.{proposes}
+use Rattle.ring_core_spec.specs.Handing.{after_proposal}
+use Rattle.ring_core_spec.specs.Stepping.{ring_step}
+use Rattle.ring_node_spec.specs.declared.input.Input.{Input as NodeInput}
+use Rattle.ring_node_spec.specs.declared.input.Input.TheVariants.{Frame as NodeFrame, Noise as NodeNoise, Timeout as NodeTime, Stop as NodeStop}
+use Rattle.ring_node_spec.specs.NodeLimits.{InputFits as NodeInputFits}
+use Rattle.ring_node_spec.specs.EpochHistories.{epochs_after}
+use Rattle.ring_node_spec.specs.Nodes.{Node, node_known_log, is_closed, is_restored}
+use Rattle.ring_node_spec.specs.DueSends.{due_by}
+use Rattle.ring_node_spec.specs.Stepping.{NodeStepResult, send_of, with_dropped, newly_committed, drops, did, settled, node_after_outputs, after_core, node_step}
+use Rattle.ring_core_spec.proofs.Tokens.{length-numbered}
+use Rattle.ring_core_proof.specs.LawWords.{IsInputOf}
 use Rattle.ring_core_proof.proofs.Causes.{caused}
 use Rattle.ring_core_proof.proofs.StepsAreMoves.{fresh_few}
 use Rattle.ring_core_proof.specs.Limits.{InputFits}
-use Rattle.ring_log.specs.Kept.{Kept, kept_of, log_kept, is_kept_sound}
+use Rattle.ring_log.specs.KnownLog.{KnownLog, known_log_of, retained_log, is_known_log_sound}
 use Rattle.ring_log.specs.Logs.{committed_calls}
 use Rattle.ring_order_proof.proofs.StepSends.{step_sends}
 
@@ -57,7 +58,7 @@ few_filter_map : {X Y : Type 0} → (f : X → Option Y) (xs : List X) → lengt
 few_filter_map f [] = omega arith
 few_filter_map f (x ∷ xs) = omega (arith, few_filter_map f xs, few_option (f x) (filter_map f xs))
 
--- What a visit sends
+-- The frames of a visit
 
 few_repeated : {A : Type 0} → (c : Core A) (t : Token) → length (repeated c t) ≤ length t.requests
 few_repeated c t =
@@ -71,76 +72,76 @@ few_new c t =
     let l = fresh_few c t in
     omega (arith, e, l)
 
-few_visited : {A : Type 0} → (c : Core A) (t : Token) → length t.requests ≤ 32 → length (visited c t).sends ≤ 41
+few_visited : {A : Type 0} → (c : Core A) (t : Token) → length t.requests ≤ 32 → length (token_visited c t).sends ≤ 41
 few_visited {A} c t few =
-    let f : Message A → Sent A = λ x. record { to = less c.running.members (only c.me); frame = MessageFrame x } in
+    let f : Message A → OutgoingFrame A = λ x. record { to = less c.running.members (only c.me); frame = MessageFrame x } in
     let xs = repeated c t ++ new_messages c t in
-    let a = length-append (map f xs) (to_next c (forwarded c t) ∷ []) in
+    let a = length-append (map f xs) (to_next c (token_forwarded c t) ∷ []) in
     let b = length-map xs f in
     let d = length-append (repeated c t) (new_messages c t) in
     omega (arith, a, b, d, few_repeated c t, few_new c t, few)
 
--- What each act sends
+-- The frames of each act
 
-few_shown : {A : Type 0} → (o : Option (Sent A)) → length (shown_again o) ≤ 41
+few_shown : {A : Type 0} → (o : Option (OutgoingFrame A)) → length (last_sent_repeated o) ≤ 41
 few_shown None = omega arith
 few_shown (Some s) = omega arith
 
-few_acted : {A : Type 0} → (c : Core A) (input : Input A) → InputFits input → (a : Act A) → CameWith c input a → length (act c a).sends ≤ 41
+few_acted : {A : Type 0} → (c : Core A) (input : Input A) → InputFits input → (a : Transition A) → IsInputOf c input a → length (apply_transition c a).sends ≤ 41
 few_acted c input w Ignore h = omega arith
 few_acted c input w (Enqueue p) h = omega arith
-few_acted c input w Repeat h = few_shown c.shown
+few_acted c input w Repeat h = few_shown c.last_sent
 few_acted c input w Announce h = omega arith
 few_acted c input w Invite h = omega arith
 few_acted c input w GiveUp h = omega arith
-few_acted c input w Regather h = omega arith
+few_acted c input w EnterGather h = omega arith
 few_acted c input w (Agree j) h = omega arith
-few_acted c input w (Widen j) h = omega arith
-few_acted c input w (RegatherAndAgree j) h = omega arith
-few_acted c input w (RegatherAndWiden j) h = omega arith
+few_acted c input w (MergeJoin j) h = omega arith
+few_acted c input w (EnterGatherAndAgree j) h = omega arith
+few_acted c input w (EnterGatherAndMergeJoin j) h = omega arith
 few_acted c input w (Take x) h = omega arith
 few_acted c input w (Fill k) h = omega arith
 few_acted c input w (Learn k) h = omega arith
 few_acted c input w (Visit t) (inl e) = (let f : TokenFits t = subst InputFits e w in few_visited c t f.few)
 few_acted c input w (Visit t) (inr s) = few_visited c t (subst (λ (u : Token). length u.requests ≤ 32) (sym s.first) (omega arith))
 
-few_proposed : {A : Type 0} → (b : Bool) (d : Did A) → length d.sends ≤ 41 → length (proposed_after b d).sends ≤ 42
+few_proposed : {A : Type 0} → (b : Bool) (d : TransitionResult A) → length d.sends ≤ 41 → length (with_proposal_if b d).sends ≤ 42
 few_proposed false d l = omega (arith, l)
-few_proposed true d l = omega (arith, l, length-append d.sends (proposed d.core).sends)
+few_proposed true d l = omega (arith, l, length-append d.sends (after_proposal d.core).sends)
 
 few_done : {A : Type 0} → (c : Core A) (input : Input A) → InputFits input → length (done c (decide c input)).sends ≤ 42
 few_done c input w =
     let a = decide c input in
-    few_proposed (may_follow a && proposes (act c a).core) (act c a) (few_acted c input w a (caused c input))
+    few_proposed (may_propose_after a && proposes (apply_transition c a).core) (apply_transition c a) (few_acted c input w a (caused c input))
 
--- What a step gives
+-- The frames of a step
 
 pub few_frames : {A : Type 0} → (c : Core A) (input : Input A) → InputFits input → length (filter_map send_of (ring_step c input).outs) ≤ 64
 few_frames {A} c input w =
     let sends = (done c (decide c input)).sends in
     let a = ap length (step_sends c input) in
-    let b = few_filter (λ (s : Sent A). not (s.to == nobody)) sends in
+    let b = few_filter (λ (s : OutgoingFrame A). not (s.to == nobody)) sends in
     let d = few_done c input w in
     omega (arith, a, b, d)
 
 -- A step of a node
 
 module _ {O A : Type 0} (object : Sequential O) where
-  few_if : (b : Bool) (old new : Node A) (outs : List (Out A)) (k : Kept A) → length (filter_map send_of outs) ≤ 64 →
+  few_if : (b : Bool) (old new : Node A) (outs : List (Out A)) (k : KnownLog A) → length (filter_map send_of outs) ≤ 64 →
       length (settled object b old new outs k).sends ≤ 64
   few_if false old new outs k l = omega arith
   few_if true old new outs k l =
-      let s = did object old new outs k (newly (node_kept old) k) in
-      cond_both (drops object (is_closed old.group new.life) k)
-      (record s { node = with_dropped k.committed s.node; dropped = committed_calls (log_kept k) }) s
-      (λ (x : NodeStepped A). length x.sends ≤ 64) (λ t. l) (λ e. l)
+      let s = did object old new outs k (newly_committed (node_known_log old) k) in
+      cond_both (drops object (is_closed old.group new.epochs) k)
+      (record s { node = with_dropped k.committed s.node; dropped = committed_calls (retained_log k) }) s
+      (λ (x : NodeStepResult A). length x.sends ≤ 64) (λ t. l) (λ e. l)
 
   few_after : (n : Node A) (input : Input A) → InputFits input → length (after_core object n (ring_step n.core input)).sends ≤ 64
   few_after n input w =
       let s = ring_step n.core input in
-      let life = lived_through n.life s.outs in
-      few_if (is_kept_sound n.group life && is_restored object (kept_of n.group life)) n (walked n s.core life (due_by object n s.core n.life s.outs)) s.outs
-      (kept_of n.group life) (few_frames n.core input w)
+      let epochs = epochs_after n.epochs s.outs in
+      few_if (is_known_log_sound n.group epochs && is_restored object (known_log_of n.group epochs)) n (node_after_outputs n s.core epochs (due_by object n s.core n.epochs s.outs)) s.outs
+      (known_log_of n.group epochs) (few_frames n.core input w)
 
   pub few_sends : (n : Node A) (input : NodeInput A) → NodeInputFits input → length (node_step object n input).sends ≤ 64
   few_sends n (NodeFrame frame) w = few_after n (FrameInput frame) w

@@ -1,18 +1,18 @@
--- What a step of a core gives to send: what it does sends, to somebody. Whatever else it gives is no frame.
+-- The frames sent in a core's step, each to somebody. No other output is a frame.
 use Rattle.std.proofs.Common.{◌≡◌, Bool, true, false, List, [], ◌∷◌, ◌++◌, None, refl, ap, sym, ◌∙◌, subst, append_assoc}
 use Rattle.std.specs.Prelude.{filter_map, map}
 use Rattle.std.specs.List.{AllByRecursion as Each, cons_option}
 use Rattle.std.proofs.lemmas.List.{append-nil}
 use Rattle.std.proofs.lemmas.List.Elements.{filter_map-append}
 use Rattle.ring_base.proofs.Each.{each-append}
-use Rattle.ring_core.specs.declared.input.Input.{Input}
-use Rattle.ring_core.specs.declared.out.Out.{Out}
-use Rattle.ring_core.specs.declared.out.Out.TheVariants.{Send, Agreed, Safe, Trans, Rest, Regular}
-use Rattle.ring_core.specs.Acting.{done}
-use Rattle.ring_core.specs.Deciding.{decide}
-use Rattle.ring_core.specs.Giving.{addressed, sent, given, configured, settle, may_install, send_of}
-use Rattle.ring_core.specs.State.{Core, Sent}
-use Rattle.ring_core.specs.Stepping.{ring_step}
+use Rattle.ring_core_spec.specs.declared.input.Input.{Input}
+use Rattle.ring_core_spec.specs.declared.out.Out.{Out}
+use Rattle.ring_core_spec.specs.declared.out.Out.TheVariants.{Send, Agreed, Safe, Trans, Rest, Regular}
+use Rattle.ring_core_spec.specs.Transitions.{done}
+use Rattle.ring_core_spec.specs.Deciding.{decide}
+use Rattle.ring_core_spec.specs.Giving.{addressed, sent, given, installation_outputs, settle, may_install, send_of}
+use Rattle.ring_core_spec.specs.State.{Core, OutgoingFrame}
+use Rattle.ring_core_spec.specs.Stepping.{ring_step}
 use Rattle.ring_core_proof.proofs.Lifting.{IsTold, told_from, told_configured}
 
 told_none : {A : Type 0} → (o : Out A) → IsTold o → send_of o ≡ None
@@ -27,23 +27,23 @@ none_sent : {A : Type 0} → (outs : List (Out A)) → Each IsTold outs → filt
 none_sent [] h = refl
 none_sent {A} (o ∷ outs) h = ap (λ x. cons_option x (filter_map send_of outs)) (told_none o h.0) ∙ none_sent outs h.1
 
-all_sent : {A : Type 0} → (sends : List (Sent A)) → filter_map send_of (map (λ (s : Sent A). Send s.to s.frame) sends) ≡ sends
+all_sent : {A : Type 0} → (sends : List (OutgoingFrame A)) → filter_map send_of (map (λ (s : OutgoingFrame A). Send s.to s.frame) sends) ≡ sends
 all_sent [] = refl
 all_sent (s ∷ sends) = ap (λ xs. s ∷ xs) (all_sent sends)
 
-only_sent : {A : Type 0} → (sends : List (Sent A)) (told : List (Out A)) → Each IsTold told → filter_map send_of (sent sends ++ told) ≡ addressed sends
+only_sent : {A : Type 0} → (sends : List (OutgoingFrame A)) (told : List (Out A)) → Each IsTold told → filter_map send_of (sent sends ++ told) ≡ addressed sends
 only_sent {A} sends told h =
     filter_map-append send_of (sent sends) told ∙ ap (λ xs. xs ++ filter_map send_of told) (all_sent (addressed sends))
     ∙ ap (λ xs. addressed sends ++ xs) (none_sent told h) ∙ append-nil (addressed sends)
 
-settled_sends : {A : Type 0} → (old c : Core A) (sends : List (Sent A)) (b : Bool) →
+settled_sends : {A : Type 0} → (old c : Core A) (sends : List (OutgoingFrame A)) (b : Bool) →
     filter_map send_of (settle b c (sent sends ++ given old c)).outs ≡ addressed sends
 settled_sends old c sends false = only_sent sends (given old c) (told_from c old.installed.ring _ _)
 settled_sends {A} old c sends true =
-    let told : Each IsTold (given old c ++ configured c) =
-    each-append IsTold (given old c) (configured c) (told_from c old.installed.ring _ _) (told_configured c) in
-    subst (λ (outs : List (Out A)). filter_map send_of outs ≡ addressed sends) (sym (append_assoc (sent sends) (given old c) (configured c)))
-    (only_sent sends (given old c ++ configured c) told)
+    let told : Each IsTold (given old c ++ installation_outputs c) =
+    each-append IsTold (given old c) (installation_outputs c) (told_from c old.installed.ring _ _) (told_configured c) in
+    subst (λ (outs : List (Out A)). filter_map send_of outs ≡ addressed sends) (sym (append_assoc (sent sends) (given old c) (installation_outputs c)))
+    (only_sent sends (given old c ++ installation_outputs c) told)
 
 pub step_sends : {A : Type 0} → (c : Core A) (i : Input A) → filter_map send_of (ring_step c i).outs ≡ addressed (done c (decide c i)).sends
 unfolding ring_step

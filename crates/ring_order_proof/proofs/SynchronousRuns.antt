@@ -3,9 +3,9 @@ use Rattle.std.proofs.Common.{List, ap, ◌∙◌, subst}
 use Rattle.ring_base.specs.Group.{Group}
 use Rattle.ring_object.specs.Operations.{Sequential}
 use Rattle.ring_core_proof.specs.Worlds.{World as RingWorld}
-use Rattle.ring_rules.specs.declared.event.Event.{Event}
-use Rattle.ring_rules.specs.Worlds.{world_opening, run}
-use Rattle.ring_synchrony_proof.specs.Chains.{NameSameMembers, SafeIsSafe, ToldIsHeld}
+use Rattle.ring_node_spec.specs.declared.event.Event.{Event}
+use Rattle.ring_node_spec.specs.Worlds.{world_opening, run}
+use Rattle.ring_synchrony_proof.specs.Chains.{NameSameMembers, SafeOutputsAreSafe, OutputsAreHeld}
 use Rattle.ring_synchrony_proof.proofs.Chains.{unformed_told, unformed_same_members, unformed_held}
 use Rattle.ring_synchrony_proof.proofs.Installed.{all_synchronous}
 use Rattle.ring_synchrony_proof.specs.Synchrony.{IsVirtuallySynchronous}
@@ -23,6 +23,6 @@ synchronous_run {O} {A} object group events =
       projected = p;
       synchronous = subst (λ (x : RingWorld A). IsVirtuallySynchronous x) part (all_synchronous group.count r.events);
       members = subst (λ (x : RingWorld A). NameSameMembers x.cores) part (unformed_same_members group.count r.events);
-      held = subst (λ (x : RingWorld A). ToldIsHeld x) part (unformed_held group.count r.events);
-      safe = subst (λ (x : RingWorld A). SafeIsSafe x) part (unformed_told group.count r.events);
+      held = subst (λ (x : RingWorld A). OutputsAreHeld x) part (unformed_held group.count r.events);
+      safe = subst (λ (x : RingWorld A). SafeOutputsAreSafe x) part (unformed_told group.count r.events);
     }

@@ -1,4 +1,4 @@
--- Every frame ever sent keeps the limits, and every node does: after all events whose calls keep them.
+-- Every frame ever sent keeps the limits, and every node does, after all events whose calls keep them.
 use Rattle.std.proofs.Common.{◌≡◌, ℕ, zero, suc, ◌≤◌, Bool, true, false, ◌==◌, List, [], ◌∷◌, Option, Some, None, refl, subst}
 use Rattle.std.specs.Prelude.{nat_le}
 use Rattle.std.specs.List.{AllByRecursion as Each}
@@ -12,22 +12,22 @@ use Rattle.ring_payload.specs.Calls.{CallFits}
 use Rattle.ring_payload.specs.declared.call.Call.{Call}
 use Rattle.ring_wire.specs.Frames.{FrameFits}
 use Rattle.ring_wire.specs.declared.frame.Frame.{Frame}
-use Rattle.ring_core.specs.State.{Sent, Carried, frame_at}
-use Rattle.ring_rules.specs.declared.input.Input.{Input as NodeInput}
-use Rattle.ring_rules.specs.declared.input.Input.TheVariants.{Frame as NodeFrame, Timeout as NodeTime}
-use Rattle.ring_rules.specs.NodeLimits.{InputFits as NodeInputFits}
-use Rattle.ring_rules.specs.Nodes.{Node, node_stopped}
-use Rattle.ring_rules.specs.Stepping.{node_step, submit_fault, submitted}
-use Rattle.ring_rules.specs.declared.event.Event.{Event}
-use Rattle.ring_rules.specs.declared.event.Event.TheVariants.{Issue, Deliver, Noise, Timeout, Stop}
-use Rattle.ring_rules.specs.WorldLimits.{EventFits}
-use Rattle.ring_rules.specs.Worlds.{World, put, world_opening, carried, is_node, issued_or, issued_if, stopped_if}
-use Rattle.ring_rules.specs.Worlds.{stepped_if, handed_if, handed, happens, run}
+use Rattle.ring_core_spec.specs.State.{OutgoingFrame, Transmission, frame_at}
+use Rattle.ring_node_spec.specs.declared.input.Input.{Input as NodeInput}
+use Rattle.ring_node_spec.specs.declared.input.Input.TheVariants.{Frame as NodeFrame, Timeout as NodeTime}
+use Rattle.ring_node_spec.specs.NodeLimits.{InputFits as NodeInputFits}
+use Rattle.ring_node_spec.specs.Nodes.{Node, node_stopped}
+use Rattle.ring_node_spec.specs.Stepping.{node_step, submit_fault, submitted}
+use Rattle.ring_node_spec.specs.declared.event.Event.{Event}
+use Rattle.ring_node_spec.specs.declared.event.Event.TheVariants.{Issue, Deliver, Noise, Timeout, Stop}
+use Rattle.ring_node_spec.specs.WorldLimits.{EventFits}
+use Rattle.ring_node_spec.specs.Worlds.{World, put, world_opening, carried_frames, is_node, issued_or, issued_if, stopped_if}
+use Rattle.ring_node_spec.specs.Worlds.{stepped_if, handed_if, handed, happens, run}
 use Rattle.ring_order_proof.specs.NodeFits.{NodeFits}
 use Rattle.ring_order_proof.proofs.NodeLimits.{node_opens, node_halts, stepped_fits, submitted_fits}
 
 -- the frame that was sent
-abbrev pub CarriedFits : {A : Type 0} → Carried A → Type 0
+abbrev pub CarriedFits : {A : Type 0} → Transmission A → Type 0
 CarriedFits f = FrameFits f.frame
 
 -- each node of the group, and each frame ever sent
@@ -36,8 +36,8 @@ pub record WorldFits {A : Type 0} (group : Group) (w : World A) : Type 0 where
   pub nodes : (i : ℕ) → 1 ≤ i → i ≤ group.count → NodeFits (w.nodes i)
   pub frames : Each CarriedFits w.frames
 
--- so does each by its number
-pub sent_fits : {A : Type 0} → (group : Group) (w : World A) (number : ℕ) (f : Carried A) → WorldFits group w →
+-- the same of each frame by its number
+pub sent_fits : {A : Type 0} → (group : Group) (w : World A) (number : ℕ) (f : Transmission A) → WorldFits group w →
     frame_at w.frames number ≡ Some f → FrameFits f.frame
 sent_fits group w zero f fits e = absurd (let x : ⊥ = cc in x)
 sent_fits group w (suc k) f fits e = each-get CarriedFits w.frames k f fits.frames e
@@ -59,8 +59,8 @@ module _ {O A : Type 0} (object : Sequential O) (group : Group) (w : World A) (f
       record {
         group_is = f.group_is;
         nodes = put_fits i (node_step object (w.nodes i) input).node s.node;
-        frames = each-append CarriedFits w.frames (carried i sends) f.frames
-            (each-map CarriedFits (λ (s : Sent A). record { from = i; to = s.to; frame = s.frame }) sends s.sends);
+        frames = each-append CarriedFits w.frames (carried_frames i sends) f.frames
+            (each-map CarriedFits (λ (s : OutgoingFrame A). record { from = i; to = s.to; frame = s.frame }) sends s.sends);
       }
 
   issues_or : (i : ℕ) (c : Call A) (fault : Option Fault) → is_node w i ≡ true → CallFits c → WorldFits group (issued_or fault w i c)
@@ -80,13 +80,13 @@ module _ {O A : Type 0} (object : Sequential O) (group : Group) (w : World A) (f
   frame_comes i frame false h = f
   frame_comes i frame true h = steps i (NodeFrame frame) (is_node w i) refl h
 
-  hands : (i k : ℕ) (o : Option (Carried A)) → frame_at w.frames k ≡ o → WorldFits group (handed object w i o)
-  hands i k None e = f
-  hands i k (Some g) e = frame_comes i g.frame (has g.to i) (sent_fits group w k g f e)
+  epochs_with_sends : (i k : ℕ) (o : Option (Transmission A)) → frame_at w.frames k ≡ o → WorldFits group (handed object w i o)
+  epochs_with_sends i k None e = f
+  epochs_with_sends i k (Some g) e = frame_comes i g.frame (has g.to i) (sent_fits group w k g f e)
 
   event_fits : (e : Event A) → EventFits e → WorldFits group (happens object w e)
   event_fits (Issue i c) h = issues i c (is_node w i) refl h
-  event_fits (Deliver i k) h = hands i k (frame_at w.frames k) refl
+  event_fits (Deliver i k) h = epochs_with_sends i k (frame_at w.frames k) refl
   event_fits (Noise i bytes) h = f
   event_fits (Timeout i kind) h = steps i (NodeTime kind) (is_node w i) refl tt
   event_fits (Stop i) h = stops i (is_node w i) refl

@@ -1,5 +1,6 @@
--- A node that keeps the limits of frames: what it sends has a spelling, whatever comes to it that keeps them too.
--- Limits, rule 1 of docs/PROTOCOL.md.
+-- A node that keeps the limits of frames: each frame that it sends has an encoding, if the frames that it receives keep the
+-- limits.
+-- Rules: Limits 1
 use Rattle.std.specs.Prelude.{◌≡◌, ℕ, ◌≤◌, false, List, [], ◌∷◌}
 use Rattle.std.specs.List.{AllByRecursion as Each}
 use Rattle.ring_wire.specs.Rings.{RingFits}
@@ -8,52 +9,52 @@ use Rattle.ring_payload.specs.Payloads.{PayloadFits}
 use Rattle.ring_wire.specs.Frames.{FrameFits}
 use Rattle.ring_wire.specs.Messages.{MessageFits}
 use Rattle.ring_wire.specs.declared.message.Message.{Message}
-use Rattle.ring_core.specs.Giving.{may_install}
-use Rattle.ring_core.specs.State.{Sent}
-use Rattle.ring_core.specs.Views.{mark}
-use Rattle.ring_log.specs.Stays.{Stay}
-use Rattle.ring_session.specs.Tickets.{Asked}
-use Rattle.ring_rules.specs.Nodes.{Node}
+use Rattle.ring_core_spec.specs.Giving.{may_install}
+use Rattle.ring_core_spec.specs.State.{OutgoingFrame}
+use Rattle.ring_core_spec.specs.Views.{mark}
+use Rattle.ring_log.specs.Epochs.{Epoch}
+use Rattle.ring_session.specs.Tickets.{TicketCall}
+use Rattle.ring_node_spec.specs.Nodes.{Node}
 use Rattle.ring_core_proof.specs.Limits.{CoreFits}
-use Rattle.ring_log_proof.specs.Discipline.{IsDropping}
+use Rattle.ring_log_proof.specs.Discipline.{DropsOnlyCommitted}
 
--- a message heard in a ring of this number: only in a ring that is counted is any heard
+-- a message received in a ring of this number keeps the limits; only in a ring of number 1 or more is any received
 pub record HeardFits {A : Type 0} (n : ℕ) (x : Message A) : Type 0 where
   pub message : MessageFits x
   pub counted : 1 ≤ n
 
--- a ring, what was heard there, and what was handed over
-pub record StayFits {A : Type 0} (s : Stay A) : Type 0 where
+-- an epoch keeps the limits: its ring, the messages received, and the payloads handed over
+pub record EpochFits {A : Type 0} (s : Epoch A) : Type 0 where
   pub ring : RingFits s.ring
   pub heard : Each (HeardFits s.ring.seq) s.heard
   pub sent : Each PayloadFits s.sent
 
--- a life whose newest ring has this number
-abbrev pub LifeFits : {A : Type 0} → ℕ → List (Stay A) → Type 0
-LifeFits n [] = Unit {0}
-LifeFits n (s ∷ older) = StayFits s × (s.ring.seq ≡ n) × Each StayFits older
+-- a life keeps the limits, and its newest ring has this number
+abbrev pub EpochsFit : {A : Type 0} → ℕ → List (Epoch A) → Type 0
+EpochsFit n [] = Unit {0}
+EpochsFit n (s ∷ older) = EpochFits s × (s.ring.seq ≡ n) × Each EpochFits older
 
--- in its newest ring no higher number is known as safe
-abbrev pub IsSafeUpTo : {A : Type 0} → ℕ → List (Stay A) → Type 0
-IsSafeUpTo n [] = Unit {0}
-IsSafeUpTo n (s ∷ older) = s.mark ≤ n
+-- the safe mark of the newest ring is at most this number
+abbrev pub IsMarkedUpTo : {A : Type 0} → ℕ → List (Epoch A) → Type 0
+IsMarkedUpTo n [] = Unit {0}
+IsMarkedUpTo n (s ∷ older) = s.mark ≤ n
 
--- the calls of tickets
-abbrev pub TicketsFit : {A : Type 0} → List (Asked A) → Type 0
-TicketsFit {A} tickets = Each (λ (t : Asked A). CallFits t.call) tickets
+-- the calls of tickets keep the limits
+abbrev pub TicketsFit : {A : Type 0} → List (TicketCall A) → Type 0
+TicketsFit {A} tickets = Each (λ (t : TicketCall A). CallFits t.call) tickets
 
--- a node that keeps the limits of frames: its core, what it heard and handed over in each ring, and the calls of its tickets do
+-- a node keeps the limits of frames: its core, its epochs' messages and payloads, and the calls of its tickets do
 pub record NodeFits {A : Type 0} (n : Node A) : Type 0 where
   pub core : CoreFits n.core
-  -- its core has no ring that it may install
+  -- no installation is due in its core
   pub ready : may_install n.core ≡ false
-  pub life : LifeFits n.core.installed.ring.seq n.life
-  -- its core knows as safe what it told as safe
-  pub safe : IsSafeUpTo (mark n.core n.core.installed.ring) n.life
-  -- committed places alone were dropped
-  pub drops : IsDropping n.group n.life
+  pub epochs : EpochsFit n.core.installed.ring.seq n.epochs
+  -- the core's safe mark is at least the one that it reported
+  pub safe : IsMarkedUpTo (mark n.core n.core.installed.ring) n.epochs
+  -- only committed places were dropped
+  pub drops : DropsOnlyCommitted n.group n.epochs
   pub tickets : TicketsFit n.tickets
 
--- all frames that are sent
-abbrev pub SendsFit : {A : Type 0} → List (Sent A) → Type 0
-SendsFit {A} sends = Each (λ (s : Sent A). FrameFits s.frame) sends
+-- all frames sent keep the limits
+abbrev pub SendsFit : {A : Type 0} → List (OutgoingFrame A) → Type 0
+SendsFit {A} sends = Each (λ (s : OutgoingFrame A). FrameFits s.frame) sends

@@ -1,28 +1,28 @@
--- What ring cores give the nodes of a world, of which the one order follows: Outputs, rules 3, 8, 9 and 11, Token and window, rule 13, and The replicated
--- log, rule 1, of docs/PROTOCOL.md.
+-- The facts of ring cores about the nodes of a world, from which the one order follows.
+-- Rules: Outputs 3, 8, 9 and 11; Token and window 13; The replicated log 1
 use Rattle.std.specs.Prelude.{◌≡◌, ℕ, ◌⊎◌, List, []}
 use Rattle.ring_base.specs.declared.ring_id.RingId.{RingId}
 use Rattle.ring_wire.specs.declared.message.Message.{Message}
-use Rattle.ring_core.specs.Tokens.{IsSafeIn}
-use Rattle.ring_core.specs.Views.{front}
-use Rattle.ring_log.specs.Lives.{upto}
-use Rattle.ring_rules.specs.Worlds.{World}
-use Rattle.ring_log_proof.specs.RingFacts.{said_by, AllHeard, RingFacts}
-use Rattle.ring_order_proof.specs.Living.{lives_in, lives_of}
-use Rattle.ring_order_proof.specs.Spoken.{spoken}
+use Rattle.ring_core_spec.specs.Tokens.{IsSafeIn}
+use Rattle.ring_core_spec.specs.Views.{front}
+use Rattle.ring_log.specs.EpochHistories.{upto}
+use Rattle.ring_node_spec.specs.Worlds.{World}
+use Rattle.ring_log_proof.specs.RingFacts.{payloads_from, IsReceivedByAll, RingFacts}
+use Rattle.ring_order_proof.specs.RunEpochs.{epochs_in, whole_epochs_in}
+use Rattle.ring_order_proof.specs.SentPayloads.{sent_payloads}
 use Rattle.ring_order_proof.specs.Texts.{IsText}
 
--- the facts of the nodes' lives, for the members and the text of each ring
+-- the facts of the nodes' lives, with the members and the text of each ring
 pub record HasFacts {A : Type 0} (w : World A) : Type 0 where
   pub members : RingId → ℕ
   pub text : RingId → List (Message A)
-  -- the users' messages that were numbered in the ring, in the order of their numbers
+  -- the user messages that were numbered in the ring, in the order of their numbers
   pub is : (ring : RingId) → IsText (λ q. (w.nodes q).core) ring (text ring)
-  -- so they are as the nodes know their lives, and with what snapshots stand for
-  pub own : RingFacts (lives_in w) members text
-  pub facts : RingFacts (lives_of w) members text
-  -- what a processor said in a text is what its core sent in its own visits of the ring's token
-  pub speech : (p : ℕ) (ring : RingId) → said_by p (text ring) ≡ spoken (w.nodes p).core ring
-  -- what of a text lies up to a number that every member's front has reached, each of them heard there
+  -- the facts hold of the lives as the nodes know them, and of the filled lives
+  pub own : RingFacts (epochs_in w) members text
+  pub facts : RingFacts (whole_epochs_in w) members text
+  -- the payloads that a processor sent in a text are those that its core sent in its own visits of the ring's token
+  pub speech : (p : ℕ) (ring : RingId) → payloads_from p (text ring) ≡ sent_payloads (w.nodes p).core ring
+  -- each member received the text up to a number that every member's front has reached
   pub reached : (ring : RingId) (n : ℕ) → IsSafeIn (members ring) (λ q. front (w.nodes q).core ring) n →
-      (upto n (text ring) ≡ []) ⊎ AllHeard (lives_of w) ring (members ring) (upto n (text ring))
+      (upto n (text ring) ≡ []) ⊎ IsReceivedByAll (whole_epochs_in w) ring (members ring) (upto n (text ring))

@@ -1,21 +1,24 @@
-//! How many places the nodes of every run have committed, and how many of these calls took effect.
+//! The number of places that the nodes of every run have committed, and of the calls of these that took effect.
+//! Rules: The replicated log 1, 18 and 20
 
 ghost use Rattle.std.specs.Prelude.{◌≡◌, ℕ, ◌≤◌, List, length};
 ghost use Rattle.std.specs.List.{AllByRecursion};
 ghost use Rattle.ring_base.specs.Group.{Group};
-ghost use Rattle.ring_log.specs.Lives.{committed_of};
+ghost use Rattle.ring_log.specs.EpochHistories.{committed_of};
 ghost use Rattle.ring_session.specs.Deduplicated.{deduplicated};
-ghost use Rattle.ring_rules.specs.Nodes.{node_kept, effects_at};
-ghost use Rattle.ring_rules.specs.declared.event.Event.{Event};
-ghost use Rattle.ring_rules.specs.Worlds.{world_opening, run, lives_of};
+ghost use Rattle.ring_node_spec.specs.Nodes.{node_known_log, effects_at};
+ghost use Rattle.ring_node_spec.specs.declared.event.Event.{Event};
+ghost use Rattle.ring_node_spec.specs.Worlds.{world_opening, run, whole_epochs_in};
 ghost use Rattle.ring_order_proof.specs.Counts.{CountsPlaces};
 ghost use Rattle.ring_order_proof.specs.Linear.{EventKeeps};
 
 use ring_object::Object;
 
-/// For every list of events: the places that a node has dropped and the committed ones that it keeps are all that it has
-/// committed, and no more than a log may have. If each issued call keeps the limits, the node's sessions tell exactly how many
-/// calls take effect of all that it has committed from the log's beginning, whatever snapshot it restored.
+/// States that a node's dropped and kept committed places together are all that it has committed, for every list of events. They
+/// are at most 2^62.
+/// If each issued call keeps the limits, the effects that the node's sessions count are exactly the calls that take effect in all
+/// its committed places, from the log's beginning, whatever snapshot it restored.
+/// Rules: The replicated log 1, 18 and 20; Sessions 6
 pub fn effects_law<O: Object>()
     ensures places { (group : Group) (events : List (Event O.Alloc)) (node : ℕ) → group.count ≤ 16 → 1 ≤ node → node ≤ group.count →
         let w = run O.sequential (world_opening group) events in
@@ -23,6 +26,6 @@ pub fn effects_law<O: Object>()
     ensures effects { (group : Group) (events : List (Event O.Alloc)) (node : ℕ) → group.count ≤ 16 → AllByRecursion EventKeeps events →
         1 ≤ node → node ≤ group.count →
         let w = run O.sequential (world_opening group) events in
-        effects_at O.sequential (node_kept (w.nodes node)) (node_kept (w.nodes node)).committed
-        ≡ length (deduplicated (committed_of group (lives_of w node))) }
+        effects_at O.sequential (node_known_log (w.nodes node)) (node_known_log (w.nodes node)).committed
+        ≡ length (deduplicated (committed_of group (whole_epochs_in w node))) }
 {}

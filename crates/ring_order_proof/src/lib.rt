@@ -1,14 +1,18 @@
-//! The proof of the one order of every run of nodes: the ring part of a world of nodes is a run of ring cores; nodes keep their
-//! discipline; each ring has one text; all that logs need of ring cores holds in every run; so each event is a step by the
-//! rules of the one order. And each frame that a node of a run sends keeps the limits.
+//! The proof of the one order of every run of nodes.
+//! The ring part of a world of nodes is a run of ring cores. Nodes keep their discipline, and each ring has one text. So all that
+//! logs need of ring cores holds in every run, and each event is a step by the rules of the one order. Besides, each frame that a
+//! node of a run sends keeps the limits.
+//! Rules: Sessions 10 and 11; The replicated log 8, 16 and 17
 #![tactic(auto)]
 
 pub mod discipline_laws;
 pub mod effect_laws;
+pub mod examples;
 pub mod fact_laws;
 pub mod fit_laws;
 pub mod frame_laws;
 pub mod laws;
+pub mod log_text_laws;
 pub mod longest_laws;
 pub mod projection_laws;
 pub mod text_laws;

@@ -1,6 +1,7 @@
--- Packing: What a queue's messages are: unpacked, they and what is left are the queue; each run is the longest that fits one Pack.
--- CallMade: a call that was made keeps the limits of calls.
--- Writes: How bytes are written one after another, passed on to frames.
+-- Packing: the messages of a queue: unpacked, they and the rest are the queue; each run is the longest that fits one
+-- Pack.
+-- CallMade: a call made by `Call::new` keeps the limits of calls.
+-- Writes: writing bytes one after another, re-exported for frames.
 pub mod Packing
 pub mod CallMade
 pub mod Writes

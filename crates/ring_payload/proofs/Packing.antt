@@ -1,4 +1,4 @@
--- What a queue's messages are: unpacked, they and what is left are the queue; each run is the longest that fits one Pack.
+-- The messages of a queue: unpacked, they and the rest are the queue; each run is the longest that fits one Pack.
 use Rattle.std.proofs.Common.{◌≡◌, ℕ, zero, suc, ◌+◌, ◌-◌, ◌≤◌, max, true, false, List, [], ◌∷◌, ◌++◌, length, map}
 use Rattle.std.proofs.Common.{drop, refl, sym, ap, subst, ◌∙◌, arith, append_assoc}
 use Rattle.std.specs.Prelude.{nat_le}
@@ -7,25 +7,25 @@ use Rattle.std.proofs.lemmas.Bool.{cond_both, leb-true, le-leb, true≢false}
 use Rattle.ring_payload.specs.declared.call.Call.{Call as OneCall}
 use Rattle.ring_payload.specs.declared.content.Payload.{Payload}
 use Rattle.ring_payload.specs.declared.content.Payload.TheVariants.{Call, Wrapped, End, Head, Part, Pack, Snap}
-use Rattle.ring_payload.specs.Limits.{most_pack, most_pack_bytes}
+use Rattle.ring_payload.specs.Limits.{max_pack_calls, max_pack_bytes}
 use Rattle.ring_payload.specs.Calls.{call_bytes, CallFits}
 use Rattle.ring_payload.specs.Packs.{calls_bytes, pack_bytes}
 use Rattle.ring_payload.specs.Payloads.{PayloadFits}
-use Rattle.ring_payload.specs.Kinds.{is_user, units}
-use Rattle.ring_payload.specs.Packing.{is_queued, AreQueued, IsLongestRun, run_within, front_run, made_of, behind, packed, left_behind}
+use Rattle.ring_payload.specs.Kinds.{is_user, unpacked_payloads}
+use Rattle.ring_payload.specs.Packing.{is_queued, AreQueued, IsLongestRun, run_within, first_run, first_packed_payload, behind, packed_payloads, unpacked_rest}
 
 -- as many as fit
-pub length-packed : {A : Type 0} → (count : ℕ) (queue : List (Payload A)) → length (packed count queue) ≤ count
-length-packed zero queue = omega arith
-length-packed (suc more) [] = omega arith
-length-packed (suc more) (first ∷ queue) =
-    let i : length (packed more (behind (first ∷ queue))) ≤ more = length-packed more (behind (first ∷ queue)) in
+pub length-packed_payloads : {A : Type 0} → (count : ℕ) (queue : List (Payload A)) → length (packed_payloads count queue) ≤ count
+length-packed_payloads zero queue = omega arith
+length-packed_payloads (suc more) [] = omega arith
+length-packed_payloads (suc more) (first ∷ queue) =
+    let i : length (packed_payloads more (behind (first ∷ queue))) ≤ more = length-packed_payloads more (behind (first ∷ queue)) in
     omega arith
 
 abbrev pub calls_as : {A : Type 0} → List (OneCall A) → List (Payload A)
 calls_as run = map (λ c. Call c) run
 
--- a run stands at the queue's front
+-- a run is at the queue's front
 run-front : {A : Type 0} → (more bytes : ℕ) (queue : List (Payload A)) →
     calls_as (run_within more bytes queue) ++ drop (length (run_within more bytes queue)) queue ≡ queue
 run-front zero bytes queue = refl
@@ -94,72 +94,72 @@ run-longest (suc more) bytes (Part part ∷ queue) (x ∷ other) rest e l b = ab
 run-longest (suc more) bytes (Pack pack ∷ queue) (x ∷ other) rest e l b = absurd cc
 run-longest (suc more) bytes (Snap snap ∷ queue) (x ∷ other) rest e l b = absurd cc
 
--- the run that a queue's first message is made of is the longest that fits one Pack
-pub front_run-longest : {A : Type 0} → (queue : List (Payload A)) → IsLongestRun queue (front_run queue)
-front_run-longest queue =
-    let bytes = most_pack_bytes - 2 in
-    let short : calls_bytes (front_run queue) ≤ bytes = run-short most_pack bytes queue in
+-- the run of a queue's first message is the longest that fits one Pack
+pub first_run-longest : {A : Type 0} → (queue : List (Payload A)) → IsLongestRun queue (first_run queue)
+first_run-longest queue =
+    let bytes = max_pack_bytes - 2 in
+    let short : calls_bytes (first_run queue) ≤ bytes = run-short max_pack_calls bytes queue in
     record {
       fits = record {
-        begins = (drop (length (front_run queue)) queue, run-front most_pack bytes queue);
-        few = run-few most_pack bytes queue;
+        begins = (drop (length (first_run queue)) queue, run-front max_pack_calls bytes queue);
+        few = run-few max_pack_calls bytes queue;
         short = omega arith;
       };
       longest = λ other r.
-          let i : pack_bytes other ≤ most_pack_bytes = r.short in
-          run-longest most_pack bytes queue other r.begins.0 r.begins.1 r.few (omega arith);
+          let i : pack_bytes other ≤ max_pack_bytes = r.short in
+          run-longest max_pack_calls bytes queue other r.begins.0 r.begins.1 r.few (omega arith);
     }
 
--- the first payload of a queue is its own unit
-units-queued : {A : Type 0} → (p : Payload A) → is_queued p ≡ true → units p ≡ p ∷ []
-units-queued (Call call) h = refl
-units-queued (Wrapped old) h = refl
-units-queued End h = refl
-units-queued (Head head) h = refl
-units-queued (Part part) h = refl
-units-queued (Pack pack) h = absurd cc
-units-queued (Snap snap) h = refl
+-- the first payload of a queue, unpacked, is itself
+unpacked_payloads-queued : {A : Type 0} → (p : Payload A) → is_queued p ≡ true → unpacked_payloads p ≡ p ∷ []
+unpacked_payloads-queued (Call call) h = refl
+unpacked_payloads-queued (Wrapped old) h = refl
+unpacked_payloads-queued End h = refl
+unpacked_payloads-queued (Head head) h = refl
+unpacked_payloads-queued (Part part) h = refl
+unpacked_payloads-queued (Pack pack) h = absurd cc
+unpacked_payloads-queued (Snap snap) h = refl
 
--- the first message, unpacked, and what is left behind it
-units-made : {A : Type 0} → (first : Payload A) (queue : List (Payload A)) (run : List (OneCall A)) → is_queued first ≡ true →
+-- the first message, unpacked, and the rest after it
+unpacked_payloads-made : {A : Type 0} → (first : Payload A) (queue : List (Payload A)) (run : List (OneCall A)) → is_queued first ≡ true →
     calls_as run ++ drop (length run) (first ∷ queue) ≡ first ∷ queue →
-    units (made_of first run) ++ drop (max 1 (length run)) (first ∷ queue) ≡ first ∷ queue
-units-made first queue [] h e = ap (λ q. q ++ queue) (units-queued first h)
-units-made first queue (c ∷ []) h e = ap (λ q. q ++ queue) (units-queued first h)
-units-made first queue (c ∷ d ∷ run) h e =
+    unpacked_payloads (first_packed_payload first run) ++ drop (max 1 (length run)) (first ∷ queue) ≡ first ∷ queue
+unpacked_payloads-made first queue [] h e = ap (λ q. q ++ queue) (unpacked_payloads-queued first h)
+unpacked_payloads-made first queue (c ∷ []) h e = ap (λ q. q ++ queue) (unpacked_payloads-queued first h)
+unpacked_payloads-made first queue (c ∷ d ∷ run) h e =
     let n : suc (suc (length run)) ≡ max 1 (suc (suc (length run))) = omega arith in
-    subst (λ n. units (made_of first (c ∷ d ∷ run)) ++ drop n (first ∷ queue) ≡ first ∷ queue) n e
+    subst (λ n. unpacked_payloads (first_packed_payload first (c ∷ d ∷ run)) ++ drop n (first ∷ queue) ≡ first ∷ queue) n e
 
-units-first : {A : Type 0} → (first : Payload A) (queue : List (Payload A)) → is_queued first ≡ true →
-    units (made_of first (front_run (first ∷ queue))) ++ behind (first ∷ queue) ≡ first ∷ queue
-units-first first queue h = units-made first queue (front_run (first ∷ queue)) h (run-front most_pack (most_pack_bytes - 2) (first ∷ queue))
+unpacked_payloads-first : {A : Type 0} → (first : Payload A) (queue : List (Payload A)) → is_queued first ≡ true →
+    unpacked_payloads (first_packed_payload first (first_run (first ∷ queue))) ++ behind (first ∷ queue) ≡ first ∷ queue
+unpacked_payloads-first first queue h = unpacked_payloads-made first queue (first_run (first ∷ queue)) h (run-front max_pack_calls (max_pack_bytes - 2) (first ∷ queue))
 
--- what is dropped from a list leaves what holds of each
+-- dropping elements of a list keeps a fact about each
 each-drop : {X : Type 0} → (P : X → Type 0) (n : ℕ) (xs : List X) → AllByRecursion P xs → AllByRecursion P (drop n xs)
 each-drop P zero xs h = h
 each-drop P (suc n) [] h = h
 each-drop P (suc n) (x ∷ xs) h = each-drop P n xs h.1
 
--- what holds of each payload of a queue holds of each that is left
-pub left_behind-each : {A : Type 0} → (P : Payload A → Type 0) (count : ℕ) (queue : List (Payload A)) → AllByRecursion P queue →
-    AllByRecursion P (left_behind count queue)
-left_behind-each P zero queue h = h
-left_behind-each P (suc more) queue h = left_behind-each P more (behind queue) (each-drop P (max 1 (length (front_run queue))) queue h)
+-- a fact about each payload of a queue holds of each that is left
+pub unpacked_rest-each : {A : Type 0} → (P : Payload A → Type 0) (count : ℕ) (queue : List (Payload A)) → AllByRecursion P queue →
+    AllByRecursion P (unpacked_rest count queue)
+unpacked_rest-each P zero queue h = h
+unpacked_rest-each P (suc more) queue h = unpacked_rest-each P more (behind queue) (each-drop P (max 1 (length (first_run queue))) queue h)
 
-behind-nil : {A : Type 0} → (count : ℕ) → left_behind {A = A} count [] ≡ []
+behind-nil : {A : Type 0} → (count : ℕ) → unpacked_rest {A = A} count [] ≡ []
 behind-nil zero = refl
 behind-nil (suc more) = behind-nil more
 
--- the messages, unpacked, and then what is left: the queue
-pub units-packed : {A : Type 0} → (count : ℕ) (queue : List (Payload A)) → AreQueued queue →
-    flat_map units (packed count queue) ++ left_behind count queue ≡ queue
-units-packed zero queue h = refl
-units-packed (suc more) [] h = behind-nil more
-units-packed {A} (suc more) (first ∷ queue) h =
+-- the messages, unpacked, and then the rest are the queue
+pub unpacked_payloads-packed_payloads : {A : Type 0} → (count : ℕ) (queue : List (Payload A)) → AreQueued queue →
+    flat_map unpacked_payloads (packed_payloads count queue) ++ unpacked_rest count queue ≡ queue
+unpacked_payloads-packed_payloads zero queue h = refl
+unpacked_payloads-packed_payloads (suc more) [] h = behind-nil more
+unpacked_payloads-packed_payloads {A} (suc more) (first ∷ queue) h =
     let rest = behind (first ∷ queue) in
-    let made = units (made_of first (front_run (first ∷ queue))) in
-    let e = units-packed more rest (each-drop (λ (p : Payload A). is_queued p ≡ true) (max 1 (length (front_run (first ∷ queue)))) (first ∷ queue) h) in
-    append_assoc made (flat_map units (packed more rest)) (left_behind more rest) ∙ (ap (λ q. made ++ q) e ∙ units-first first queue h.0)
+    let made = unpacked_payloads (first_packed_payload first (first_run (first ∷ queue))) in
+    let e = unpacked_payloads-packed_payloads more rest (each-drop (λ (p : Payload A). is_queued p ≡ true) (max 1 (length (first_run (first ∷ queue)))) (first ∷ queue) h) in
+    append_assoc made (flat_map unpacked_payloads (packed_payloads more rest)) (unpacked_rest more rest) ∙ (ap (λ q. made ++ q) e ∙ unpacked_payloads-first first queue h.0)
 
 -- Limits
 
@@ -176,41 +176,41 @@ run-fits (suc more) bytes (Part part ∷ queue) h = tt
 run-fits (suc more) bytes (Pack pack ∷ queue) h = tt
 run-fits (suc more) bytes (Snap snap ∷ queue) h = tt
 
-made-fits : {A : Type 0} → (first : Payload A) (run : List (OneCall A)) → PayloadFits first → AllByRecursion CallFits run → length run ≤ most_pack →
-    pack_bytes run ≤ most_pack_bytes → PayloadFits (made_of first run)
+made-fits : {A : Type 0} → (first : Payload A) (run : List (OneCall A)) → PayloadFits first → AllByRecursion CallFits run → length run ≤ max_pack_calls →
+    pack_bytes run ≤ max_pack_bytes → PayloadFits (first_packed_payload first run)
 made-fits first [] f each few short = f
 made-fits first (c ∷ []) f each few short = f
 made-fits first (c ∷ d ∷ run) f each few short = record { some = omega arith; few = few; each = each; short = short }
 
--- where each payload of a queue keeps its limits, each message does
-pub packed-fits : {A : Type 0} → (count : ℕ) (queue : List (Payload A)) → AllByRecursion PayloadFits queue → AllByRecursion PayloadFits (packed count queue)
-packed-fits zero queue h = tt
-packed-fits (suc more) [] h = tt
-packed-fits (suc more) (first ∷ queue) h =
-    let run = front_run (first ∷ queue) in
-    let is = (front_run-longest (first ∷ queue)).fits in
-    let each = run-fits most_pack (most_pack_bytes - 2) (first ∷ queue) h in
+-- if each payload of a queue keeps its limits, each message does
+pub packed_payloads-fits : {A : Type 0} → (count : ℕ) (queue : List (Payload A)) → AllByRecursion PayloadFits queue → AllByRecursion PayloadFits (packed_payloads count queue)
+packed_payloads-fits zero queue h = tt
+packed_payloads-fits (suc more) [] h = tt
+packed_payloads-fits (suc more) (first ∷ queue) h =
+    let run = first_run (first ∷ queue) in
+    let is = (first_run-longest (first ∷ queue)).fits in
+    let each = run-fits max_pack_calls (max_pack_bytes - 2) (first ∷ queue) h in
     let rest = each-drop PayloadFits (max 1 (length run)) (first ∷ queue) h in
-    (made-fits first run h.0 each is.few is.short, packed-fits more (behind (first ∷ queue)) rest)
+    (made-fits first run h.0 each is.few is.short, packed_payloads-fits more (behind (first ∷ queue)) rest)
 
 -- Users
 
-user-made : {A : Type 0} → (first : Payload A) (run : List (OneCall A)) → is_user first ≡ true → is_user (made_of first run) ≡ true
+user-made : {A : Type 0} → (first : Payload A) (run : List (OneCall A)) → is_user first ≡ true → is_user (first_packed_payload first run) ≡ true
 user-made first [] h = h
 user-made first (c ∷ []) h = h
 user-made first (c ∷ d ∷ run) h = refl
 
--- of users' payloads users' messages are made
-pub packed-users : {A : Type 0} → (count : ℕ) (queue : List (Payload A)) → AllByRecursion (λ (p : Payload A). is_user p ≡ true) queue →
-    AllByRecursion (λ (p : Payload A). is_user p ≡ true) (packed count queue)
-packed-users zero queue h = tt
-packed-users (suc more) [] h = tt
-packed-users {A} (suc more) (first ∷ queue) h =
-    let run = front_run (first ∷ queue) in
+-- user payloads make user messages
+pub packed_payloads-users : {A : Type 0} → (count : ℕ) (queue : List (Payload A)) → AllByRecursion (λ (p : Payload A). is_user p ≡ true) queue →
+    AllByRecursion (λ (p : Payload A). is_user p ≡ true) (packed_payloads count queue)
+packed_payloads-users zero queue h = tt
+packed_payloads-users (suc more) [] h = tt
+packed_payloads-users {A} (suc more) (first ∷ queue) h =
+    let run = first_run (first ∷ queue) in
     let rest = each-drop (λ (p : Payload A). is_user p ≡ true) (max 1 (length run)) (first ∷ queue) h in
-    (user-made first run h.0, packed-users more (behind (first ∷ queue)) rest)
+    (user-made first run h.0, packed_payloads-users more (behind (first ∷ queue)) rest)
 
--- a queue's payload is a user's
+-- a payload of a queue is a user payload
 pub user-queued : {A : Type 0} → (p : Payload A) → is_queued p ≡ true → is_user p ≡ true
 user-queued (Call call) h = refl
 user-queued (Wrapped old) h = absurd cc
@@ -220,7 +220,7 @@ user-queued (Part part) h = refl
 user-queued (Pack pack) h = refl
 user-queued (Snap snap) h = refl
 
--- of no payloads nothing is packed
-pub packed_none : {A : Type 0} → (n : ℕ) → packed {A = A} n [] ≡ []
+-- no payloads make no messages
+pub packed_none : {A : Type 0} → (n : ℕ) → packed_payloads {A = A} n [] ≡ []
 packed_none zero = refl
 packed_none (suc n) = refl

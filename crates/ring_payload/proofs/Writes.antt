@@ -1,2 +1,2 @@
--- How bytes are written one after another, passed on to frames.
-pub use Rattle.ring_layout.proofs.Writes.{and_then}
+-- Writing bytes one after another, re-exported for frames.
+pub use Rattle.ring_codec.proofs.Writes.{and_then}

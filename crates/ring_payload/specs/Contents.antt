@@ -1,26 +1,29 @@
--- How messages of an old ring are spelled, and what they may carry: a tag, and what it stands for. Payloads, docs/FORMATS.md.
+-- How a Wrapped, a message of an old ring, is encoded, and the contents that it may have: a tag and the body after
+-- it.
+-- Formats: Payloads
 use Rattle.std.proofs.Common.{◌≡◌, ℕ, ◌≤◌, Bool, List, [], ◌∷◌, Option, refl, arith, inl, inr}
 use Rattle.std.specs.Prelude.{nat_le, ◌&&◌, ◌==◌}
 use Rattle.std.proofs.lemmas.Bool.{leb-true, le-leb, eqb-true, and_parts, cases_Bool}
 use Rattle.byteorder.specs.Endian.{big_bytes}
-use Rattle.ring_layout.specs.Base.{max_number, IsProc, RingId}
-use Rattle.ring_layout.specs.Reading.{IsFormat, such_at, made_at, ◌⊕◌}
-use Rattle.ring_layout.specs.Formats.{Format, word8, ◌&◌, tested_format}
-use Rattle.ring_layout.specs.Cases.{Case, case, told_at, IsMade, cases_format}
-use Rattle.ring_layout.specs.Processors.{proc, proc_spelling}
-use Rattle.ring_layout.specs.Rings.{ring, ring_spelling, RingFits}
+use Rattle.ring_codec.specs.Base.{max_number, IsProc, RingId}
+use Rattle.ring_codec.specs.Reading.{IsFormat, such_at, made_at, ◌⊕◌}
+use Rattle.ring_codec.specs.Formats.{Format, u64_field, ◌&◌, tested_fields_format}
+use Rattle.ring_codec.specs.Cases.{Case, case, tagged_cases_at, IsMade, cases_format}
+use Rattle.ring_codec.specs.Processors.{proc, proc_encoding}
+use Rattle.ring_codec.specs.Rings.{ring, ring_encoding, RingFits}
 use Rattle.ring_payload.specs.declared.content.Content.{Content}
 use Rattle.ring_payload.specs.declared.content.Content.TheVariants as contents
 use Rattle.ring_payload.specs.declared.content.Wrapped.{Wrapped}
 use Rattle.ring_payload.specs.Limits.{call_tag, head_tag, part_tag, pack_tag, trimmed_tag, snap_tag}
-use Rattle.ring_payload.specs.Calls.{call, call_spelling, CallFits}
+use Rattle.ring_payload.specs.Calls.{call, call_encoding, CallFits}
 use Rattle.ring_payload.specs.Heads.{whole_head, trimmed_head, tag_of_head, head_body, HeadFits, is_whole, is_trimmed, positive}
-use Rattle.ring_payload.specs.Packs.{pack, pack_spelling, PackFits}
-use Rattle.ring_payload.specs.Parts.{part, part_spelling, PartFits}
-use Rattle.ring_payload.specs.Snaps.{snap, snap_spelling, SnapFits}
+use Rattle.ring_payload.specs.Packs.{pack, pack_encoding, PackFits}
+use Rattle.ring_payload.specs.Parts.{part, part_encoding, PartFits}
+use Rattle.ring_payload.specs.Snaps.{snap, snap_encoding, SnapFits}
 
--- ---- what may be sent once more: calls, alone or packed, heads, parts and pieces of snapshots; a tag, and what it stands for
+-- ---- contents: a tag and the body after it
 
+-- the tag of a content; a head has one of two
 abbrev pub content_tag : {A : Type 0} → Content A → ℕ
 content_tag (contents.Call x) = call_tag
 content_tag (contents.Head x) = tag_of_head x
@@ -28,18 +31,19 @@ content_tag (contents.Part x) = part_tag
 content_tag (contents.Pack x) = pack_tag
 content_tag (contents.Snap x) = snap_tag
 
--- what stands behind the tag
+-- the body after the tag
 abbrev pub content_body : {A : Type 0} → Content A → List ℕ
-content_body (contents.Call x) = call_spelling x
+content_body (contents.Call x) = call_encoding x
 content_body (contents.Head x) = head_body x
-content_body (contents.Part x) = part_spelling x
-content_body (contents.Pack x) = pack_spelling x
-content_body (contents.Snap x) = snap_spelling x
+content_body (contents.Part x) = part_encoding x
+content_body (contents.Pack x) = pack_encoding x
+content_body (contents.Snap x) = snap_encoding x
 
-abbrev pub content_spelling : {A : Type 0} → Content A → List ℕ
-content_spelling c = content_tag c ∷ content_body c
+-- the encoding of a content: its tag and its body
+abbrev pub content_encoding : {A : Type 0} → Content A → List ℕ
+content_encoding c = content_tag c ∷ content_body c
 
--- the limits of each
+-- the limits of a content
 abbrev pub ContentFits : {A : Type 0} → Content A → Type 0
 ContentFits (contents.Call x) = CallFits x
 ContentFits (contents.Head x) = HeadFits x
@@ -47,6 +51,7 @@ ContentFits (contents.Part x) = PartFits x
 ContentFits (contents.Pack x) = PackFits x
 ContentFits (contents.Snap x) = SnapFits x
 
+-- the cases of contents, by their tags
 abbrev content_cases : {A : Type 0} → List (Case (Content A))
 content_cases =
     case call_tag call contents.Call ∷
@@ -56,8 +61,9 @@ content_cases =
     case trimmed_tag trimmed_head contents.Head ∷
     case snap_tag snap contents.Snap ∷ []
 
+-- reads a content from the front
 unfoldable pub content_at : {A : Type 0} → List ℕ → Option (Content A × List ℕ)
-content_at bytes = told_at content_cases bytes
+content_at bytes = tagged_cases_at content_cases bytes
 
 content_made : {A : Type 0} (c : Content A) → ContentFits c → IsMade content_cases (content_tag c) c
 content_made (contents.Call x) f = (x, f, refl)
@@ -69,7 +75,8 @@ content_made (contents.Part x) f = (x, f, refl)
 content_made (contents.Pack x) f = (x, f, refl)
 content_made (contents.Snap x) f = (x, f, refl)
 
-pub content_format : {A : Type 0} → IsFormat {A = Content A} content_spelling ContentFits content_at
+-- a content is read exactly
+pub content_format : {A : Type 0} → IsFormat {A = Content A} content_encoding ContentFits content_at
 unfolding content_at
 content_format {A} = cases_format (content_cases {A = A}) content_tag content_body ContentFits (record {
   each = (
@@ -82,15 +89,18 @@ content_format {A} = cases_format (content_cases {A = A}) content_tag content_bo
   made = content_made;
 })
 
+-- the format of contents
 abbrev pub content : {A : Type 0} → Format (Content A)
-content = record { spelling = content_spelling; Fits = ContentFits; at = content_at; exact = content_format }
+content = record { encoding = content_encoding; Fits = ContentFits; at = content_at; exact = content_format }
 
--- ---- a message of an old ring: that ring in 9 bytes, its number there in 8, its sender in one, and what it carried
+-- ---- a Wrapped: the old ring in 9 bytes, the number there in 8, the sender in one, and the content
 
-abbrev pub wrapped_spelling : {A : Type 0} → Wrapped A → List ℕ
-wrapped_spelling w = ring_spelling w.ring ⊕ big_bytes 8 w.number ⊕ proc_spelling w.sender ⊕ content_spelling w.payload
+-- the encoding of a Wrapped
+abbrev pub wrapped_encoding : {A : Type 0} → Wrapped A → List ℕ
+wrapped_encoding w = ring_encoding w.ring ⊕ big_bytes 8 w.number ⊕ proc_encoding w.sender ⊕ content_encoding w.payload
 
--- its limits, but that the old ring's number is below that of the ring it is sent on: that is a limit of the message
+-- the limits of a Wrapped alone; that its old ring's number is below that of its message's ring is a limit of the
+-- message
 pub record WrappedFits {A : Type 0} (w : Wrapped A) : Type 0 where
   pub ring : RingFits w.ring
   pub ring_counted : 1 ≤ w.ring.seq
@@ -99,23 +109,27 @@ pub record WrappedFits {A : Type 0} (w : Wrapped A) : Type 0 where
   pub sender : IsProc w.sender
   pub payload : ContentFits w.payload
 
--- the limits beyond those of each field
+-- whether the fields together keep their limits
 abbrev pub wrapped_test : {A : Type 0} → Wrapped A → Bool
 wrapped_test w = nat_le 1 w.ring.seq && (nat_le 1 w.number && nat_le w.number max_number)
 
+-- the fields of a Wrapped, in order
 abbrev wrapped_fields : {A : Type 0} → Format (RingId × (ℕ × (ℕ × Content A)))
-wrapped_fields = ring & word8 & proc & content
+wrapped_fields = ring & u64_field & proc & content
 
-abbrev told : {A : Type 0} → RingId × (ℕ × (ℕ × Content A)) → Wrapped A
-told p = record { ring = p.0; number = p.1.0; sender = p.1.1.0; payload = p.1.1.1 }
+-- the Wrapped with these fields
+abbrev from_fields : {A : Type 0} → RingId × (ℕ × (ℕ × Content A)) → Wrapped A
+from_fields p = record { ring = p.0; number = p.1.0; sender = p.1.1.0; payload = p.1.1.1 }
 
+-- reads a Wrapped from the front
 unfoldable pub wrapped_at : {A : Type 0} → List ℕ → Option (Wrapped A × List ℕ)
-wrapped_at {A} bytes = such_at wrapped_test (made_at told (wrapped_fields {A = A}).at) bytes
+wrapped_at {A} bytes = such_at wrapped_test (made_at from_fields (wrapped_fields {A = A}).at) bytes
 
-pub wrapped_format : {A : Type 0} → IsFormat {A = Wrapped A} wrapped_spelling WrappedFits wrapped_at
+-- a Wrapped is read exactly
+pub wrapped_format : {A : Type 0} → IsFormat {A = Wrapped A} wrapped_encoding WrappedFits wrapped_at
 unfolding wrapped_at
-wrapped_format {A} = tested_format (wrapped_fields {A = A}) told wrapped_test wrapped_spelling WrappedFits (record {
-  spelled = λ p. refl;
+wrapped_format {A} = tested_fields_format (wrapped_fields {A = A}) from_fields wrapped_test wrapped_encoding WrappedFits (record {
+  encoded = λ p. refl;
   fits = λ p f passed.
       let a = and_parts _ _ passed in
       let b = and_parts _ _ a.1 in
@@ -131,5 +145,6 @@ wrapped_format {A} = tested_format (wrapped_fields {A = A}) told wrapped_test wr
   passes = λ w f. rw (le-leb _ _ f.ring_counted, le-leb _ _ f.number_counted, le-leb _ _ f.number) refl;
 })
 
+-- the format of a Wrapped
 abbrev pub wrapped : {A : Type 0} → Format (Wrapped A)
-wrapped = record { spelling = wrapped_spelling; Fits = WrappedFits; at = wrapped_at; exact = wrapped_format }
+wrapped = record { encoding = wrapped_encoding; Fits = WrappedFits; at = wrapped_at; exact = wrapped_format }

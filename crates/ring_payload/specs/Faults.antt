@@ -1,2 +1,2 @@
--- Refusals, passed on to frames.
-pub use Rattle.ring_layout.specs.Faults.{BadFrame, Memory}
+-- Refusals, re-exported for frames.
+pub use Rattle.ring_codec.specs.Faults.{BadFrame, Memory}

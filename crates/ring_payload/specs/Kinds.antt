@@ -1,6 +1,6 @@
--- What stands above payloads sees of them: which are the users', which end a member's recovery, which hold a message of
--- an old ring, the messages that one packs, and the calls that one appends to a log. Rings and logs speak of payloads
--- through these words alone: Recovery and The replicated log of docs/PROTOCOL.md.
+-- The view of payloads that rings and logs use: which payloads are users', which are Ends, which can be wrapped, the
+-- messages in a pack, and the calls that a payload appends to a log.
+-- Rules: Recovery 4 to 6
 use Rattle.std.specs.Prelude.{Bool, true, false, List, [], ◌∷◌, map, Option, Some, None}
 use Rattle.ring_payload.specs.declared.call.Call.{Call as OneCall}
 use Rattle.ring_payload.specs.declared.content.Content.{Content}
@@ -10,7 +10,7 @@ use Rattle.ring_payload.specs.declared.content.Content.TheVariants.{Snap as Snap
 use Rattle.ring_payload.specs.declared.content.Payload.{Payload}
 use Rattle.ring_payload.specs.declared.content.Payload.TheVariants.{Call, Wrapped, End, Head, Part, Pack, Snap}
 
--- what clients and the log hand over, and what a visit packs of it; Wrapped and End serve recovery alone
+-- whether it is a user payload: one that clients or the log send, or a pack; Wrapped and End serve recovery alone
 abbrev pub is_user : {A : Type 0} → Payload A → Bool
 is_user (Call call) = true
 is_user (Wrapped old) = false
@@ -30,7 +30,7 @@ is_end (Part part) = false
 is_end (Pack pack) = false
 is_end (Snap snap) = false
 
--- what a wrapped message held, as the payload that it was
+-- the content of a Wrapped, as a payload
 abbrev pub payload_of : {A : Type 0} → Content A → Payload A
 payload_of (CallContent call) = Call call
 payload_of (HeadContent head) = Head head
@@ -38,7 +38,7 @@ payload_of (PartContent part) = Part part
 payload_of (PackContent pack) = Pack pack
 payload_of (SnapContent snap) = Snap snap
 
--- a payload as what a wrapped message may hold: a user's one can be wrapped, and no other
+-- a payload as the content of a Wrapped, if it is a user payload
 abbrev pub content_of : {A : Type 0} → Payload A → Option (Content A)
 content_of (Call call) = Some (CallContent call)
 content_of (Wrapped old) = None
@@ -48,17 +48,17 @@ content_of (Part part) = Some (PartContent part)
 content_of (Pack pack) = Some (PackContent pack)
 content_of (Snap snap) = Some (SnapContent snap)
 
--- the messages that a payload packs, in order: what was handed over before calls were packed
-abbrev pub units : {A : Type 0} → Payload A → List (Payload A)
-units (Pack pack) = map (λ (c : OneCall _). Call c) pack.calls
-units (Call call) = Call call ∷ []
-units (Wrapped old) = Wrapped old ∷ []
-units End = End ∷ []
-units (Head head) = Head head ∷ []
-units (Part part) = Part part ∷ []
-units (Snap snap) = Snap snap ∷ []
+-- the payloads that one stands for, in order: a Call for each call of a pack, else the payload alone
+abbrev pub unpacked_payloads : {A : Type 0} → Payload A → List (Payload A)
+unpacked_payloads (Pack pack) = map (λ (c : OneCall _). Call c) pack.calls
+unpacked_payloads (Call call) = Call call ∷ []
+unpacked_payloads (Wrapped old) = Wrapped old ∷ []
+unpacked_payloads End = End ∷ []
+unpacked_payloads (Head head) = Head head ∷ []
+unpacked_payloads (Part part) = Part part ∷ []
+unpacked_payloads (Snap snap) = Snap snap ∷ []
 
--- the calls that a payload appends to a log, in order; the parts of the exchange make up a log in another way
+-- the calls that a payload appends to a log, in order; the parts of an exchange make up a log in another way
 abbrev pub calls_of : {A : Type 0} → Payload A → List (OneCall A)
 calls_of (Call call) = call ∷ []
 calls_of (Pack pack) = pack.calls

@@ -11,6 +11,6 @@ pub mod SameCalls
 pub mod Snaps
 pub mod Versions
 pub mod Packing
-pub mod Layouts
+pub mod Codecs
 pub mod Faults
 pub mod Base

@@ -1,4 +1,5 @@
--- The numbers of the grammar on one page: tags, kinds, versions, limits. Payloads and Frames of docs/FORMATS.md say what each is of.
+-- The numbers of the grammar: tags, kinds, versions, limits.
+-- Formats: Payloads; Frames
 use Rattle.std.specs.Prelude.{ℕ}
 
 -- ---- the tags of payloads
@@ -11,23 +12,23 @@ call_tag = 1
 abbrev pub wrapped_tag : ℕ
 wrapped_tag = 2
 
--- its sender has wrapped all
+-- an End: its sender has wrapped all
 abbrev pub end_tag : ℕ
 end_tag = 3
 
--- a head of a log that is whole
+-- a head of a whole log
 abbrev pub head_tag : ℕ
 head_tag = 4
 
--- calls from a place of a log on
+-- a part: calls from a place of a log on
 abbrev pub part_tag : ℕ
 part_tag = 5
 
--- packed calls
+-- a pack of calls
 abbrev pub pack_tag : ℕ
 pack_tag = 6
 
--- a head of a log that is trimmed
+-- a head of a trimmed log
 abbrev pub trimmed_tag : ℕ
 trimmed_tag = 7
 
@@ -45,7 +46,7 @@ message_kind = 1
 abbrev pub token_kind : ℕ
 token_kind = 2
 
--- a join, by which processors agree on who is to form a ring
+-- a join
 abbrev pub join_kind : ℕ
 join_kind = 3
 
@@ -55,48 +56,48 @@ commit_kind = 4
 
 -- ---- the versions of frames
 
--- of every frame that has no other
+-- the version of every frame that needs no later one
 abbrev pub first_version : ℕ
 first_version = 1
 
--- of a frame with packed calls
+-- the version of a frame with a pack of calls
 abbrev pub pack_version : ℕ
 pack_version = 2
 
--- of a frame of a trimmed log
+-- the version of a frame with a piece of a snapshot or the head of a trimmed log
 abbrev pub trim_version : ℕ
 trim_version = 3
 
 -- ---- limits
 
--- an operation has at most so many bytes
-abbrev pub most_operation : ℕ
-most_operation = 1024
+-- the most bytes of an operation
+abbrev pub max_operation : ℕ
+max_operation = 1024
 
--- a part has at most so many calls
-abbrev pub most_part : ℕ
-most_part = 7
+-- the most calls of a part
+abbrev pub max_part_calls : ℕ
+max_part_calls = 7
 
--- a pack has at least so many calls
-abbrev pub least_pack : ℕ
-least_pack = 2
+-- the fewest calls of a pack
+abbrev pub min_pack_calls : ℕ
+min_pack_calls = 2
 
--- and at most so many
-abbrev pub most_pack : ℕ
-most_pack = 16
+-- the most calls of a pack
+abbrev pub max_pack_calls : ℕ
+max_pack_calls = 16
 
--- a pack as a whole payload, its tag and its count among them, has at most so many bytes
-abbrev pub most_pack_bytes : ℕ
-most_pack_bytes = 7276
+-- the most bytes of a pack as a whole payload, its tag and count included
+abbrev pub max_pack_bytes : ℕ
+max_pack_bytes = 7276
 
--- a snapshot has at most so many bytes
-abbrev pub most_snapshot : ℕ
-most_snapshot = 16777216
+-- the most bytes of a snapshot
+abbrev pub max_snapshot : ℕ
+max_snapshot = 16777216
 
--- each piece of a snapshot but the last has so many bytes
-abbrev pub whole_piece : ℕ
-whole_piece = 7000
+-- the bytes of each piece of a snapshot but the last
+abbrev pub max_piece_bytes : ℕ
+max_piece_bytes = 7000
 
--- a token asks for at most so many numbers
-abbrev pub most_requests : ℕ
-most_requests = 32
+-- the most numbers that a token asks for
+abbrev pub max_requests : ℕ
+max_requests = 32

@@ -1,4 +1,5 @@
--- How packed calls are spelled: the count, and the calls. Payloads, docs/FORMATS.md.
+-- How packs of calls are encoded: the count, and the calls.
+-- Formats: Payloads
 use Rattle.std.proofs.Common.{◌≡◌, ℕ, ◌+◌, ◌≤◌, Bool, true, List, [], ◌∷◌, length, Option, refl, arith, ap}
 use Rattle.std.specs.Prelude.{nat_le, ◌&&◌}
 use Rattle.std.specs.List.{flat_map, AllByRecursion}
@@ -6,46 +7,48 @@ use Rattle.std.proofs.lemmas.Bool.{leb-true, le-leb}
 use Rattle.std.proofs.lemmas.Bool.Decides.{nat_tests}
 use Rattle.std.proofs.lemmas.List.{length-append}
 use Rattle.std.proofs.lemmas.List.Concat.{flat_map-cons}
-use Rattle.ring_layout.specs.Reading.{IsFormat, made_at}
-use Rattle.ring_layout.specs.Formats.{Format, byte, followed, times, such, told_format}
+use Rattle.ring_codec.specs.Reading.{IsFormat, made_at}
+use Rattle.ring_codec.specs.Formats.{Format, byte, followed, times, such, fields_format}
 use Rattle.ring_payload.specs.declared.call.Call.{Call}
 use Rattle.ring_payload.specs.declared.calls.Pack.{Pack}
-use Rattle.ring_payload.specs.Calls.{call, call_bytes, call_spelling, CallFits}
-use Rattle.ring_payload.specs.Limits.{least_pack, most_pack, most_pack_bytes}
+use Rattle.ring_payload.specs.Calls.{call, call_bytes, call_encoding, CallFits}
+use Rattle.ring_payload.specs.Limits.{min_pack_calls, max_pack_calls, max_pack_bytes}
 
--- how many bytes calls take, one behind another
+-- the length of the calls' encodings, one after the other
 abbrev pub calls_bytes : {A : Type 0} → List (Call A) → ℕ
 calls_bytes [] = 0
 calls_bytes (c ∷ cs) = call_bytes c + calls_bytes cs
 
--- how many bytes calls take as a pack: the tag, the count, and the calls
+-- the length of the calls' encoding as a pack: the tag, the count, and the calls
 abbrev pub pack_bytes : {A : Type 0} → List (Call A) → ℕ
 pack_bytes cs = 2 + calls_bytes cs
 
--- packed calls: how many in one byte, and the calls
-abbrev pub pack_spelling : {A : Type 0} → Pack A → List ℕ
-pack_spelling p = length p.calls ∷ flat_map call_spelling p.calls
+-- the encoding of a pack: its count in one byte, then its calls
+abbrev pub pack_encoding : {A : Type 0} → Pack A → List ℕ
+pack_encoding p = length p.calls ∷ flat_map call_encoding p.calls
 
 -- the limits of a pack: 2 to 16 calls, each within its own limits, and at most 7,276 bytes as a whole payload
 pub record PackFits {A : Type 0} (p : Pack A) : Type 0 where
-  pub some : least_pack ≤ length p.calls
-  pub few : length p.calls ≤ most_pack
+  pub some : min_pack_calls ≤ length p.calls
+  pub few : length p.calls ≤ max_pack_calls
   pub each : AllByRecursion CallFits p.calls
-  pub short : pack_bytes p.calls ≤ most_pack_bytes
+  pub short : pack_bytes p.calls ≤ max_pack_bytes
 
-pub length-calls : {A : Type 0} (cs : List (Call A)) → length (flat_map call_spelling cs) ≡ calls_bytes cs
+-- the calls' encodings have the length that `calls_bytes` gives
+pub length-calls : {A : Type 0} (cs : List (Call A)) → length (flat_map call_encoding cs) ≡ calls_bytes cs
 length-calls [] = refl
 length-calls (c ∷ cs) =
-    let e = ap length (flat_map-cons call_spelling c cs) in
-    let l = length-append (call_spelling c) (flat_map call_spelling cs) in
+    let e = ap length (flat_map-cons call_encoding c cs) in
+    let l = length-append (call_encoding c) (flat_map call_encoding cs) in
     omega (arith, e, l, length-calls cs)
 
--- how many calls may be in a pack, the test and what it says
+-- whether the number of calls of a pack is allowed, as a test
 abbrev is_count : ℕ → Bool
-is_count n = nat_le least_pack n && nat_le n most_pack
+is_count n = nat_le min_pack_calls n && nat_le n max_pack_calls
 
+-- the number of calls of a pack is allowed: 2 to 16
 abbrev IsCount : ℕ → Type 0
-IsCount n = (least_pack ≤ n) × (n ≤ most_pack)
+IsCount n = (min_pack_calls ≤ n) × (n ≤ max_pack_calls)
 
 is_count-true : (n : ℕ) → is_count n ≡ true → IsCount n
 is_count-true n h = grind (arith, nat_tests)
@@ -53,26 +56,31 @@ is_count-true n h = grind (arith, nat_tests)
 true-is_count : (n : ℕ) → IsCount n → is_count n ≡ true
 true-is_count n h = grind (arith, nat_tests)
 
--- the test of the limit of bytes
-abbrev pub is_short : {A : Type 0} → List (Call A) → Bool
-is_short cs = nat_le (pack_bytes cs) most_pack_bytes
+-- whether a pack keeps the limit of bytes
+abbrev pub fits_pack_limit : {A : Type 0} → List (Call A) → Bool
+fits_pack_limit cs = nat_le (pack_bytes cs) max_pack_bytes
 
+-- the format of a count and that many calls
 abbrev calls : {A : Type 0} → Format (ℕ × List (Call A))
 calls = followed (such is_count byte) (λ n. times n call)
 
+-- the fields of a pack: its count and its calls, within the limit of bytes
 abbrev pack_fields : {A : Type 0} → Format (ℕ × List (Call A))
-pack_fields = such (λ p. is_short p.1) calls
+pack_fields = such (λ p. fits_pack_limit p.1) calls
 
-abbrev told : {A : Type 0} → ℕ × List (Call A) → Pack A
-told p = record { calls = p.1 }
+-- the pack with these fields
+abbrev from_fields : {A : Type 0} → ℕ × List (Call A) → Pack A
+from_fields p = record { calls = p.1 }
 
+-- reads a pack from the front
 unfoldable pub pack_at : {A : Type 0} → List ℕ → Option (Pack A × List ℕ)
-pack_at {A} bytes = made_at told (pack_fields {A = A}).at bytes
+pack_at {A} bytes = made_at from_fields (pack_fields {A = A}).at bytes
 
-pub pack_format : {A : Type 0} → IsFormat {A = Pack A} pack_spelling PackFits pack_at
+-- a pack is read exactly
+pub pack_format : {A : Type 0} → IsFormat {A = Pack A} pack_encoding PackFits pack_at
 unfolding pack_at
-pack_format {A} = told_format (pack_fields {A = A}) told pack_spelling PackFits (record {
-  spelled = λ p f. rw f.0.1.0 refl;
+pack_format {A} = fields_format (pack_fields {A = A}) from_fields pack_encoding PackFits (record {
+  encoded = λ p f. rw f.0.1.0 refl;
   fits = λ p f.
       let count = is_count-true p.0 f.0.0.1 in
       record { some = omega (arith, count, f.0.1.0); few = omega (arith, count, f.0.1.0); each = f.0.1.1; short = leb-true _ _ f.1 };
@@ -83,8 +91,10 @@ pack_format {A} = told_format (pack_fields {A = A}) told pack_spelling PackFits 
   );
 })
 
+-- the format of packs
 abbrev pub pack : {A : Type 0} → Format (Pack A)
-pack = record { spelling = pack_spelling; Fits = PackFits; at = pack_at; exact = pack_format }
+pack = record { encoding = pack_encoding; Fits = PackFits; at = pack_at; exact = pack_format }
 
-pub length-pack : {A : Type 0} (p : Pack A) → PackFits p → length (flat_map call_spelling p.calls) ≤ 7274
+-- the calls of a pack have at most 7,274 bytes
+pub length-pack : {A : Type 0} (p : Pack A) → PackFits p → length (flat_map call_encoding p.calls) ≤ 7274
 length-pack p f = omega (arith, length-calls p.calls, f.short)

@@ -1,4 +1,5 @@
--- How parts of a log are spelled: the first place, the count, and the calls. Payloads, docs/FORMATS.md.
+-- How parts of a log are encoded: the first place, the count, and the calls.
+-- Formats: Payloads
 use Rattle.std.proofs.Common.{◌≡◌, ℕ, ◌*◌, ◌≤◌, Bool, true, List, [], ◌∷◌, length, Option, refl, arith, ap}
 use Rattle.std.specs.Prelude.{nat_le, ◌&&◌}
 use Rattle.std.specs.List.{flat_map, AllByRecursion}
@@ -7,32 +8,33 @@ use Rattle.std.proofs.lemmas.Bool.Decides.{nat_tests}
 use Rattle.std.proofs.lemmas.List.{length-append}
 use Rattle.std.proofs.lemmas.List.Concat.{flat_map-cons}
 use Rattle.byteorder.specs.Endian.{big_bytes}
-use Rattle.ring_layout.specs.Base.{max_number}
-use Rattle.ring_layout.specs.Reading.{IsFormat, made_at, ◌⊕◌}
-use Rattle.ring_layout.specs.Formats.{Format, byte, followed, times, such, told_format, ◌&◌}
-use Rattle.ring_layout.specs.Rings.{number}
+use Rattle.ring_codec.specs.Base.{max_number}
+use Rattle.ring_codec.specs.Reading.{IsFormat, made_at, ◌⊕◌}
+use Rattle.ring_codec.specs.Formats.{Format, byte, followed, times, such, fields_format, ◌&◌}
+use Rattle.ring_codec.specs.Rings.{number}
 use Rattle.ring_payload.specs.declared.call.Call.{Call}
 use Rattle.ring_payload.specs.declared.calls.Part.{Part}
-use Rattle.ring_payload.specs.Limits.{most_part}
-use Rattle.ring_payload.specs.Calls.{call, call_spelling, CallFits}
+use Rattle.ring_payload.specs.Limits.{max_part_calls}
+use Rattle.ring_payload.specs.Calls.{call, call_encoding, CallFits}
 
--- a part: its first place in 8 bytes, how many calls in one, and the calls
-abbrev pub part_spelling : {A : Type 0} → Part A → List ℕ
-part_spelling p = big_bytes 8 p.first ⊕ length p.calls ∷ flat_map call_spelling p.calls
+-- the encoding of a part: its first place in 8 bytes, its count in one, then its calls
+abbrev pub part_encoding : {A : Type 0} → Part A → List ℕ
+part_encoding p = big_bytes 8 p.first ⊕ length p.calls ∷ flat_map call_encoding p.calls
 
--- the limits of a part: 1 to 7 calls, each within its own limits
+-- the limits of a part: a first place of at most `max_number`, and 1 to 7 calls, each within its own limits
 pub record PartFits {A : Type 0} (p : Part A) : Type 0 where
   pub first : p.first ≤ max_number
   pub some : 1 ≤ length p.calls
-  pub few : length p.calls ≤ most_part
+  pub few : length p.calls ≤ max_part_calls
   pub each : AllByRecursion CallFits p.calls
 
--- how many calls may be in a part, the test and what it says
+-- whether the number of calls of a part is allowed, as a test
 abbrev is_count : ℕ → Bool
-is_count n = nat_le 1 n && nat_le n most_part
+is_count n = nat_le 1 n && nat_le n max_part_calls
 
+-- the number of calls of a part is allowed: 1 to 7
 abbrev IsCount : ℕ → Type 0
-IsCount n = (1 ≤ n) × (n ≤ most_part)
+IsCount n = (1 ≤ n) × (n ≤ max_part_calls)
 
 is_count-true : (n : ℕ) → is_count n ≡ true → IsCount n
 is_count-true n h = grind (arith, nat_tests)
@@ -40,22 +42,27 @@ is_count-true n h = grind (arith, nat_tests)
 true-is_count : (n : ℕ) → IsCount n → is_count n ≡ true
 true-is_count n h = grind (arith, nat_tests)
 
+-- the format of a count and that many calls
 abbrev calls : {A : Type 0} → Format (ℕ × List (Call A))
 calls = followed (such is_count byte) (λ n. times n call)
 
+-- the fields of a part: its first place, its count and its calls
 abbrev part_fields : {A : Type 0} → Format (ℕ × (ℕ × List (Call A)))
 part_fields = number & calls
 
-abbrev told : {A : Type 0} → ℕ × (ℕ × List (Call A)) → Part A
-told p = record { first = p.0; calls = p.1.1 }
+-- the part with these fields
+abbrev from_fields : {A : Type 0} → ℕ × (ℕ × List (Call A)) → Part A
+from_fields p = record { first = p.0; calls = p.1.1 }
 
+-- reads a part from the front
 unfoldable pub part_at : {A : Type 0} → List ℕ → Option (Part A × List ℕ)
-part_at {A} bytes = made_at told (part_fields {A = A}).at bytes
+part_at {A} bytes = made_at from_fields (part_fields {A = A}).at bytes
 
-pub part_format : {A : Type 0} → IsFormat {A = Part A} part_spelling PartFits part_at
+-- a part is read exactly
+pub part_format : {A : Type 0} → IsFormat {A = Part A} part_encoding PartFits part_at
 unfolding part_at
-part_format {A} = told_format (part_fields {A = A}) told part_spelling PartFits (record {
-  spelled = λ p f. rw f.1.1.0 refl;
+part_format {A} = fields_format (part_fields {A = A}) from_fields part_encoding PartFits (record {
+  encoded = λ p f. rw f.1.1.0 refl;
   fits = λ p f.
       let count = is_count-true p.1.0 f.1.0.1 in
       record { first = leb-true _ _ f.0.1; some = omega (arith, count, f.1.1.0); few = omega (arith, count, f.1.1.0); each = f.1.1.1 };
@@ -69,16 +76,18 @@ part_format {A} = told_format (part_fields {A = A}) told part_spelling PartFits 
   );
 })
 
+-- the format of parts
 abbrev pub part : {A : Type 0} → Format (Part A)
-part = record { spelling = part_spelling; Fits = PartFits; at = part_at; exact = part_format }
+part = record { encoding = part_encoding; Fits = PartFits; at = part_at; exact = part_format }
 
--- seven calls of the greatest length
-length-calls : {A : Type 0} (cs : List (Call A)) → AllByRecursion CallFits cs → length (flat_map call_spelling cs) ≤ 1038 * length cs
+-- calls have at most 1,038 bytes each
+length-calls : {A : Type 0} (cs : List (Call A)) → AllByRecursion CallFits cs → length (flat_map call_encoding cs) ≤ 1038 * length cs
 length-calls [] f = omega arith
 length-calls (c ∷ cs) f =
-    let e = ap length (flat_map-cons call_spelling c cs) in
-    let l = length-append (call_spelling c) (flat_map call_spelling cs) in
+    let e = ap length (flat_map-cons call_encoding c cs) in
+    let l = length-append (call_encoding c) (flat_map call_encoding cs) in
     omega (arith, e, l, length-calls cs f.1, f.0.op)
 
-pub length-part : {A : Type 0} (p : Part A) → PartFits p → length (flat_map call_spelling p.calls) ≤ 7266
+-- the calls of a part have at most 7,266 bytes
+pub length-part : {A : Type 0} (p : Part A) → PartFits p → length (flat_map call_encoding p.calls) ≤ 7266
 length-part p f = omega (arith, length-calls p.calls f.each, f.few)

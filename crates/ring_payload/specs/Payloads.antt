@@ -1,21 +1,22 @@
--- How payloads are spelled: a tag, and what it stands for. Payloads, docs/FORMATS.md.
+-- How payloads are encoded: a tag and the body after it.
+-- Formats: Payloads
 use Rattle.std.proofs.Common.{◌≡◌, ℕ, List, [], ◌∷◌, Option, refl, inl, inr}
 use Rattle.std.specs.Prelude.{◌==◌}
 use Rattle.std.proofs.lemmas.Bool.{eqb-true, cases_Bool}
-use Rattle.ring_layout.specs.Reading.{IsFormat}
-use Rattle.ring_layout.specs.Formats.{Format, empty}
-use Rattle.ring_layout.specs.Cases.{Case, case, told_at, IsMade, cases_format}
+use Rattle.ring_codec.specs.Reading.{IsFormat}
+use Rattle.ring_codec.specs.Formats.{Format, empty}
+use Rattle.ring_codec.specs.Cases.{Case, case, tagged_cases_at, IsMade, cases_format}
 use Rattle.ring_payload.specs.declared.content.Payload.{Payload}
 use Rattle.ring_payload.specs.declared.content.Payload.TheVariants as payloads
 use Rattle.ring_payload.specs.Limits.{call_tag, wrapped_tag, end_tag, head_tag, part_tag, pack_tag, trimmed_tag, snap_tag}
-use Rattle.ring_payload.specs.Calls.{call, call_spelling, CallFits}
+use Rattle.ring_payload.specs.Calls.{call, call_encoding, CallFits}
 use Rattle.ring_payload.specs.Heads.{whole_head, trimmed_head, tag_of_head, head_body, HeadFits, is_whole, is_trimmed, positive}
-use Rattle.ring_payload.specs.Packs.{pack, pack_spelling, PackFits}
-use Rattle.ring_payload.specs.Parts.{part, part_spelling, PartFits}
-use Rattle.ring_payload.specs.Snaps.{snap, snap_spelling, SnapFits}
-use Rattle.ring_payload.specs.Contents.{wrapped, wrapped_spelling, WrappedFits}
+use Rattle.ring_payload.specs.Packs.{pack, pack_encoding, PackFits}
+use Rattle.ring_payload.specs.Parts.{part, part_encoding, PartFits}
+use Rattle.ring_payload.specs.Snaps.{snap, snap_encoding, SnapFits}
+use Rattle.ring_payload.specs.Contents.{wrapped, wrapped_encoding, WrappedFits}
 
--- a payload's tag: a head has one of two
+-- the tag of a payload; a head has one of two
 abbrev pub payload_tag : {A : Type 0} → Payload A → ℕ
 payload_tag (payloads.Call x) = call_tag
 payload_tag (payloads.Wrapped x) = wrapped_tag
@@ -25,21 +26,21 @@ payload_tag (payloads.Part x) = part_tag
 payload_tag (payloads.Pack x) = pack_tag
 payload_tag (payloads.Snap x) = snap_tag
 
--- what stands behind the tag: nothing where it is an End
+-- the body after the tag; an End has none
 abbrev pub payload_body : {A : Type 0} → Payload A → List ℕ
-payload_body (payloads.Call x) = call_spelling x
-payload_body (payloads.Wrapped x) = wrapped_spelling x
+payload_body (payloads.Call x) = call_encoding x
+payload_body (payloads.Wrapped x) = wrapped_encoding x
 payload_body payloads.End = []
 payload_body (payloads.Head x) = head_body x
-payload_body (payloads.Part x) = part_spelling x
-payload_body (payloads.Pack x) = pack_spelling x
-payload_body (payloads.Snap x) = snap_spelling x
+payload_body (payloads.Part x) = part_encoding x
+payload_body (payloads.Pack x) = pack_encoding x
+payload_body (payloads.Snap x) = snap_encoding x
 
--- a payload: its tag, and what stands behind it
-abbrev pub payload_spelling : {A : Type 0} → Payload A → List ℕ
-payload_spelling p = payload_tag p ∷ payload_body p
+-- the encoding of a payload: its tag and its body
+abbrev pub payload_encoding : {A : Type 0} → Payload A → List ℕ
+payload_encoding p = payload_tag p ∷ payload_body p
 
--- the limits that a payload alone decides; that a Wrapped is of an older ring than its message is a limit of the message
+-- the limits of a payload alone; that a Wrapped is of an older ring than its message is a limit of the message
 abbrev pub PayloadFits : {A : Type 0} → Payload A → Type 0
 PayloadFits (payloads.Call x) = CallFits x
 PayloadFits (payloads.Wrapped x) = WrappedFits x
@@ -49,6 +50,7 @@ PayloadFits (payloads.Part x) = PartFits x
 PayloadFits (payloads.Pack x) = PackFits x
 PayloadFits (payloads.Snap x) = SnapFits x
 
+-- the cases of payloads, by their tags
 abbrev payload_cases : {A : Type 0} → List (Case (Payload A))
 payload_cases =
     case call_tag call payloads.Call ∷
@@ -60,8 +62,9 @@ payload_cases =
     case trimmed_tag trimmed_head payloads.Head ∷
     case snap_tag snap payloads.Snap ∷ []
 
+-- reads a payload from the front
 unfoldable pub payload_at : {A : Type 0} → List ℕ → Option (Payload A × List ℕ)
-payload_at bytes = told_at payload_cases bytes
+payload_at bytes = tagged_cases_at payload_cases bytes
 
 payload_made : {A : Type 0} (p : Payload A) → PayloadFits p → IsMade payload_cases (payload_tag p) p
 payload_made (payloads.Call x) f = (x, f, refl)
@@ -75,7 +78,8 @@ payload_made (payloads.Part x) f = (x, f, refl)
 payload_made (payloads.Pack x) f = (x, f, refl)
 payload_made (payloads.Snap x) f = (x, f, refl)
 
-pub payload_format : {A : Type 0} → IsFormat {A = Payload A} payload_spelling PayloadFits payload_at
+-- a payload is read exactly
+pub payload_format : {A : Type 0} → IsFormat {A = Payload A} payload_encoding PayloadFits payload_at
 unfolding payload_at
 payload_format {A} = cases_format (payload_cases {A = A}) payload_tag payload_body PayloadFits (record {
   each = (
@@ -94,5 +98,6 @@ payload_format {A} = cases_format (payload_cases {A = A}) payload_tag payload_bo
   made = payload_made;
 })
 
+-- the format of payloads
 abbrev pub payload : {A : Type 0} → Format (Payload A)
-payload = record { spelling = payload_spelling; Fits = PayloadFits; at = payload_at; exact = payload_format }
+payload = record { encoding = payload_encoding; Fits = PayloadFits; at = payload_at; exact = payload_format }

@@ -1,56 +1,62 @@
--- How pieces of snapshots are spelled: the length that the snapshot is of, its bytes in all, how many stand before the
--- piece, how many are in it, and these. Payloads, docs/FORMATS.md.
+-- How pieces of snapshots are encoded: the number of places that the snapshot stands for, its length, the offset of
+-- the piece, the number of its bytes, and these.
+-- Formats: Payloads
 use Rattle.std.proofs.Common.{◌≡◌, ℕ, ◌-◌, ◌%◌, ◌<◌, ◌≤◌, Bool, true, List, length, Option, refl, arith, eq-eqb}
 use Rattle.std.specs.Prelude.{nat_le, nat_lt, ◌&&◌, ◌==◌, min}
 use Rattle.std.proofs.lemmas.Bool.{leb-true, le-leb, ltb-true, lt-ltb, eqb-true, and_parts}
 use Rattle.byteorder.specs.Endian.{big_bytes}
-use Rattle.ring_layout.specs.Base.{max_number}
-use Rattle.ring_layout.specs.Reading.{IsFormat, made_at, ◌⊕◌}
-use Rattle.ring_layout.specs.Formats.{Format, word2, word4, word8, text, ◌&◌, followed, such, told_format}
+use Rattle.ring_codec.specs.Base.{max_number}
+use Rattle.ring_codec.specs.Reading.{IsFormat, made_at, ◌⊕◌}
+use Rattle.ring_codec.specs.Formats.{Format, u16_field, u32_field, u64_field, text, ◌&◌, followed, such, fields_format}
 use Rattle.ring_payload.specs.declared.snap.Snap.{Snap}
-use Rattle.ring_payload.specs.Limits.{most_snapshot, whole_piece}
+use Rattle.ring_payload.specs.Limits.{max_snapshot, max_piece_bytes}
 
--- how many bytes the piece has that begins at this offset: all that are left, but no more than a whole piece
+-- the length of the piece at this offset: all bytes that are left, at most a whole piece
 abbrev pub piece_length : ℕ → ℕ → ℕ
-piece_length total offset = min whole_piece (total - offset)
+piece_length total offset = min max_piece_bytes (total - offset)
 
--- a piece: the length that it is of in 8 bytes, the snapshot's bytes in all in 4, its offset in 4, how many bytes it has in 2, and these
-abbrev pub snap_spelling : {A : Type 0} → Snap A → List ℕ
-snap_spelling s = big_bytes 8 s.at ⊕ big_bytes 4 s.total ⊕ big_bytes 4 s.offset ⊕ big_bytes 2 (length s.bytes) ⊕ s.bytes
+-- the encoding of a piece: places in 8 bytes, the snapshot's length in 4, the offset in 4, the count in 2, and the
+-- bytes
+abbrev pub snap_encoding : {A : Type 0} → Snap A → List ℕ
+snap_encoding s = big_bytes 8 s.at ⊕ big_bytes 4 s.total ⊕ big_bytes 4 s.offset ⊕ big_bytes 2 (length s.bytes) ⊕ s.bytes
 
--- the limits of a piece: it begins at a multiple of 7,000 within the snapshot, and has the bytes of a piece that begins there
+-- the limits of a piece: it begins at a multiple of 7,000 within the snapshot, and has the length of a piece there
 pub record SnapFits {A : Type 0} (s : Snap A) : Type 0 where
   pub at_counted : 1 ≤ s.at
   pub at : s.at ≤ max_number
   pub total_counted : 1 ≤ s.total
-  pub total : s.total ≤ most_snapshot
+  pub total : s.total ≤ max_snapshot
   pub offset : s.offset < s.total
-  pub whole : s.offset % whole_piece ≡ 0
+  pub whole : s.offset % max_piece_bytes ≡ 0
   pub bytes : length s.bytes ≡ piece_length s.total s.offset
 
--- the limits of the four numbers before the bytes
+-- whether the four numbers before the bytes keep the limits
 abbrev pub is_piece : ℕ → ℕ → ℕ → ℕ → Bool
 is_piece at total offset count =
-    nat_le 1 at && (nat_le at max_number && (nat_le 1 total && (nat_le total most_snapshot &&
-    (nat_lt offset total && ((offset % whole_piece == 0) && (count == piece_length total offset))))))
+    nat_le 1 at && (nat_le at max_number && (nat_le 1 total && (nat_le total max_snapshot &&
+    (nat_lt offset total && ((offset % max_piece_bytes == 0) && (count == piece_length total offset))))))
 
--- the four numbers before the bytes: the length that the snapshot is of, its bytes in all, the offset, how many bytes follow
+-- the four numbers before the bytes: places, the snapshot's length, the offset, the count
 abbrev Numbers : Type 0
 Numbers = ℕ × (ℕ × (ℕ × ℕ))
 
+-- the format of these numbers within their limits
 abbrev piece_numbers : Format Numbers
-piece_numbers = such (λ p. is_piece p.0 p.1.0 p.1.1.0 p.1.1.1) (word8 & word4 & word4 & word2)
+piece_numbers = such (λ p. is_piece p.0 p.1.0 p.1.1.0 p.1.1.1) (u64_field & u32_field & u32_field & u16_field)
 
+-- the fields of a piece: the four numbers and the bytes
 abbrev snap_fields : Format (Numbers × List ℕ)
 snap_fields = followed piece_numbers (λ p. text p.1.1.1)
 
-abbrev told : {A : Type 0} → Numbers × List ℕ → Snap A
-told p = record { at = p.0.0; total = p.0.1.0; offset = p.0.1.1.0; bytes = p.1 }
+-- the piece with these fields
+abbrev from_fields : {A : Type 0} → Numbers × List ℕ → Snap A
+from_fields p = record { at = p.0.0; total = p.0.1.0; offset = p.0.1.1.0; bytes = p.1 }
 
+-- reads a piece from the front
 unfoldable pub snap_at : {A : Type 0} → List ℕ → Option (Snap A × List ℕ)
-snap_at bytes = made_at told snap_fields.at bytes
+snap_at bytes = made_at from_fields snap_fields.at bytes
 
-piece_fits : {A : Type 0} (p : Numbers × List ℕ) → snap_fields.Fits p → SnapFits {A = A} (told p)
+piece_fits : {A : Type 0} (p : Numbers × List ℕ) → snap_fields.Fits p → SnapFits {A = A} (from_fields p)
 piece_fits p f =
     let a = and_parts _ _ f.0.1 in
     let b = and_parts _ _ a.1 in
@@ -73,22 +79,24 @@ is_piece_fits s f =
     let count = eq-eqb (length s.bytes) (piece_length s.total s.offset) f.bytes in
     rw (le-leb _ _ f.at_counted, le-leb _ _ f.at, le-leb _ _ f.total_counted, le-leb _ _ f.total, lt-ltb _ _ f.offset, eq-eqb _ _ f.whole, count) refl
 
--- no piece has more bytes than a whole one
-pub snap_short : {A : Type 0} (s : Snap A) → SnapFits s → length s.bytes ≤ whole_piece
+-- no piece has more bytes than a whole piece
+pub snap_short : {A : Type 0} (s : Snap A) → SnapFits s → length s.bytes ≤ max_piece_bytes
 snap_short s f = omega (arith, f.bytes)
 
-pub snap_format : {A : Type 0} → IsFormat {A = Snap A} snap_spelling SnapFits snap_at
+-- a piece is read exactly
+pub snap_format : {A : Type 0} → IsFormat {A = Snap A} snap_encoding SnapFits snap_at
 unfolding snap_at
-snap_format {A} = told_format snap_fields told snap_spelling SnapFits (record {
-  spelled = λ p f. rw f.1 refl;
+snap_format {A} = fields_format snap_fields from_fields snap_encoding SnapFits (record {
+  encoded = λ p f. rw f.1 refl;
   fits = piece_fits;
   back = λ s f.
-      let short : length s.bytes ≤ whole_piece = snap_short s f in (
+      let short : length s.bytes ≤ max_piece_bytes = snap_short s f in (
         ((s.at, (s.total, (s.offset, length s.bytes))), s.bytes),
         (((omega (arith, f.at), (omega (arith, f.total), (omega (arith, f.total, f.offset), omega (arith, short)))), is_piece_fits s f), refl),
         refl,
       );
 })
 
+-- the format of pieces
 abbrev pub snap : {A : Type 0} → Format (Snap A)
-snap = record { spelling = snap_spelling; Fits = SnapFits; at = snap_at; exact = snap_format }
+snap = record { encoding = snap_encoding; Fits = SnapFits; at = snap_at; exact = snap_format }

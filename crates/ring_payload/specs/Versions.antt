@@ -1,4 +1,6 @@
--- Which version a frame has by what it carries: 2 where calls are packed, 3 where a log is trimmed, else 1. Frames, docs/FORMATS.md.
+-- The version of a frame by its payload: 2 for a pack of calls, 3 for a piece of a snapshot or the head of a trimmed
+-- log, else 1.
+-- Formats: Frames
 use Rattle.std.specs.Prelude.{ℕ, ◌==◌, if◌then◌else◌}
 use Rattle.ring_payload.specs.declared.content.Content.{Content}
 use Rattle.ring_payload.specs.declared.content.Content.TheVariants as contents
@@ -7,11 +9,11 @@ use Rattle.ring_payload.specs.declared.content.Payload.TheVariants as payloads
 use Rattle.ring_payload.specs.declared.head.Head.{Head}
 use Rattle.ring_payload.specs.Limits.{first_version, pack_version, trim_version}
 
--- a head's version: that of a trimmed log where its trimmed length is above 0, else the first
+-- the version for a head: that of a trimmed log if its trimmed length is above 0, else the first
 abbrev pub head_version : Head → ℕ
 head_version h = if h.trimmed == 0 then first_version else trim_version
 
--- the version of what a message of an old ring carried
+-- the version for the content of a Wrapped
 abbrev pub content_version : {A : Type 0} → Content A → ℕ
 content_version (contents.Call x) = first_version
 content_version (contents.Head x) = head_version x
@@ -19,7 +21,7 @@ content_version (contents.Part x) = first_version
 content_version (contents.Pack x) = pack_version
 content_version (contents.Snap x) = trim_version
 
--- a message of an old ring has the version of what it carries
+-- the version for a payload; a Wrapped has that of its content
 abbrev pub payload_version : {A : Type 0} → Payload A → ℕ
 payload_version (payloads.Call x) = first_version
 payload_version (payloads.Wrapped x) = content_version x.payload

@@ -1,30 +1,39 @@
-//! A client's calls.
+//! Clients' calls.
+//! Formats: Numbers and parts
 
 ghost use Rattle.std.specs.Prelude.{◌≡◌, ℕ, ◌+◌, ◌^◌, ◌<◌, ◌≤◌, List, [], ◌∷◌, ◌++◌, length};
-ghost use Rattle.ring_layout.specs.Reading.{Appends, Gives};
+ghost use Rattle.ring_codec.specs.Reading.{Appends, IsReadResult};
 
-use crate::operation::{CallOperation, MOST_OPERATION};
+use crate::operation::{CallOperation, MAX_OPERATION};
 use bytes::BytesMut;
-use ring_layout::{Decode, Encode, Fault, Reader};
+use ring_codec::{Decode, Encode, Fault, Reader};
 use std::alloc::{Allocator, Global};
 
-/// A client's call: its number among the client's calls, counted from 1, and its operation.
+/// `Call`: a client's request: the client, the call's number and the operation.
+/// Rules: Sessions 1
+/// Formats: Numbers and parts
 #[derive(Clone, Drop)]
 pub struct Call<A: Allocator + Copy = Global> {
+    /// The client's number, 0 to 2^32 - 1.
     pub client: u32,
+    /// The call's number among the calls of this client, counted from 1.
     pub number: u64,
+    /// The operation for the replicated object, 0 to 1,024 bytes.
     pub op: CallOperation<A>,
 }
 
 impl<A: Allocator + Copy> Call<A> {
     ghost use Rattle.ring_payload.specs.Calls.{call_bytes, IsNewCall};
 
-    /// The call of an operation. Refused, in this order: `OpTooLong` over 1,024 bytes, `NumberGap` for
-    /// number 0, `Memory`.
+    /// Returns the call with these fields. `number` is at least 1, and `op`, of which the call has a copy, has at most
+    /// 1,024 bytes.
+    /// Errors, the first that holds: `OpTooLong` if `op` has more than 1,024 bytes; `NumberGap` if `number` is 0;
+    /// `Memory`.
+    /// Rules: Sessions 1; Refusals 4
     pub fn new(alloc: A, client: u32, number: u64, op: &[u8]) -> Result<Call<A>, Fault>
         ensures { IsNewCall client number op.now result }
     {
-        if op.len() > MOST_OPERATION {
+        if op.len() > MAX_OPERATION {
             return Err(Fault::OpTooLong);
         }
         if number == 0 {
@@ -37,7 +46,8 @@ impl<A: Allocator + Copy> Call<A> {
         })
     }
 
-    /// How many bytes it takes.
+    /// Returns the length of the call's encoding in bytes: 14 and the length of its operation, so 14 to 1,038.
+    /// Formats: Numbers and parts
     pub fn bytes(&self) -> usize
         ensures { result ≡ call_bytes self.now }
     {
@@ -46,9 +56,9 @@ impl<A: Allocator + Copy> Call<A> {
 }
 
 impl<A: Allocator + Copy> Encode for Call<A> {
-    ghost use Rattle.ring_payload.specs.Calls.{call_spelling, CallFits, call_at, call_format};
+    ghost use Rattle.ring_payload.specs.Calls.{call_encoding, CallFits, call_at, call_format};
 
-    ghost spelling = { call_spelling };
+    ghost encoding = { call_encoding };
 
     ghost most = { 1038 };
 

@@ -1,16 +1,19 @@
-//! Several calls, the parts of a log, and packed calls.
+//! Lists of calls, parts of a log, and packs of calls.
+//! Rules: Token and window 9
+//! Formats: Payloads
 
 ghost use Rattle.std.specs.Prelude.{◌≡◌, ℕ, ◌+◌, ◌^◌, ◌<◌, ◌≤◌, List, [], ◌∷◌, ◌++◌, length};
-ghost use Rattle.ring_layout.specs.Reading.{Appends, Gives};
-ghost use Rattle.ring_payload.specs.Packs.{is_short as is_short_pack};
+ghost use Rattle.ring_codec.specs.Reading.{Appends, IsReadResult};
+ghost use Rattle.ring_payload.specs.Packs.{fits_pack_limit as is_short_pack};
 
 use crate::call::Call;
 use bytes::BytesMut;
-use ring_layout::{Decode, Encode, Fault, MAX, Reader, read_many, size_many, write_many};
+use ring_codec::{Decode, Encode, Fault, MAX, Reader, read_many, size_many, write_many};
 use std::alloc::{AllocError, Allocator, Global};
 use std::marker::Model;
 
-/// A list of calls. Contracts see the list.
+/// A list of calls, owned. Contracts see the list.
+/// Formats: Payloads
 #[derive(Drop)]
 pub struct Calls<A: Allocator + Copy = Global> {
     calls: Vec<Call<A>, A>,
@@ -26,21 +29,21 @@ impl<A: Allocator + Copy> Model for Calls<A> {
 }
 
 impl<A: Allocator + Copy> Calls<A> {
-    /// These calls, as a list.
+    /// Returns the list of these calls, in their order. It takes the vector over, so it takes no memory.
     pub fn from_vec(calls: Vec<Call<A>, A>) -> Calls<A>
         ensures { result ≡ calls.items }
     {
         Calls { calls }
     }
 
-    /// The calls, owned.
+    /// Returns the calls as an owned vector, in their order.
     pub fn into_vec(self) -> Vec<Call<A>, A>
         ensures { result.items ≡ self }
     {
         self.calls
     }
 
-    /// The calls, in their order.
+    /// Returns the calls, in their order.
     pub fn as_slice(&self) -> &[Call<A>]
         ensures { result.now ≡ self.now }
     {
@@ -58,20 +61,25 @@ impl<A: Allocator + Copy> Clone for Calls<A> {
     }
 }
 
-/// A part of a log has at most so many calls.
-pub const MOST_PART_CALLS: u8 = 7;
+/// The most calls of a [`Part`]. The least is 1.
+/// Rules: Limits 1
+pub const MAX_PART_CALLS: u8 = 7;
 
-/// A part of a log: the place of its first call, counted from 0, and one to seven calls.
+/// `Part`: a part of a log: one to seven calls at consecutive places.
+/// Rules: The replicated log 2
+/// Formats: Payloads
 #[derive(Clone, Drop)]
 pub struct Part<A: Allocator + Copy = Global> {
+    /// The place of the first call in the log, counted from 0, at most `MAX`.
     pub first: u64,
+    /// The calls, 1 to 7, in the order of their places.
     pub calls: Calls<A>,
 }
 
 impl<A: Allocator + Copy> Encode for Part<A> {
-    ghost use Rattle.ring_payload.specs.Parts.{part_spelling, PartFits, part_at, part_format};
+    ghost use Rattle.ring_payload.specs.Parts.{part_encoding, PartFits, part_at, part_format};
 
-    ghost spelling = { part_spelling };
+    ghost encoding = { part_encoding };
 
     ghost most = { 7275 };
 
@@ -101,7 +109,7 @@ impl<A: Allocator + Copy> Decode<A> for Part<A> {
             return Err(Fault::BadFrame);
         }
         let count: u8 = Decode::read(alloc, from)?;
-        if count < 1 || count > MOST_PART_CALLS {
+        if count < 1 || count > MAX_PART_CALLS {
             return Err(Fault::BadFrame);
         }
         let calls = read_many(alloc, count as usize, from)?;
@@ -112,23 +120,28 @@ impl<A: Allocator + Copy> Decode<A> for Part<A> {
     }
 }
 
-/// Calls that go out as one message: two to sixteen, at most 7,276 bytes as a whole payload.
+/// `Pack`: a batch of calls in one message: 2 to 16 calls, at most 7,276 bytes as a whole payload.
+/// Rules: Token and window 9
+/// Formats: Payloads
 #[derive(Clone, Drop)]
 pub struct Pack<A: Allocator + Copy = Global> {
+    /// The calls, 2 to 16, in the order in which their sender queued them.
     pub calls: Calls<A>,
 }
 
-/// A pack has at most so many calls.
-pub const MOST_PACK_CALLS: u8 = 16;
+/// The most calls of a [`Pack`]. The least is 2.
+/// Rules: Token and window 9
+pub const MAX_PACK_CALLS: u8 = 16;
 
-/// A pack as a whole payload has at most so many bytes.
-pub const MOST_PACK_BYTES: usize = 7276;
+/// The most bytes of a [`Pack`] as a whole payload, its tag and count included.
+/// Rules: Token and window 9
+pub const MAX_PACK_BYTES: usize = 7276;
 
-/// Whether the calls as a pack keep the limit of its bytes.
-fn is_short<A: Allocator + Copy>(calls: &[Call<A>]) -> bool
+/// Returns whether a pack of these calls has at most `MAX_PACK_BYTES` bytes.
+fn fits_pack_limit<A: Allocator + Copy>(calls: &[Call<A>]) -> bool
     ensures { result ≡ is_short_pack calls.now }
 {
-    let mut left = MOST_PACK_BYTES - 2;
+    let mut left = MAX_PACK_BYTES - 2;
     for call in calls {
         let bytes = call.bytes();
         if bytes > left {
@@ -140,9 +153,9 @@ fn is_short<A: Allocator + Copy>(calls: &[Call<A>]) -> bool
 }
 
 impl<A: Allocator + Copy> Encode for Pack<A> {
-    ghost use Rattle.ring_payload.specs.Packs.{pack_spelling, PackFits, pack_at, pack_format};
+    ghost use Rattle.ring_payload.specs.Packs.{pack_encoding, PackFits, pack_at, pack_format};
 
-    ghost spelling = { pack_spelling };
+    ghost encoding = { pack_encoding };
 
     ghost most = { 7275 };
 
@@ -167,11 +180,11 @@ impl<A: Allocator + Copy> Decode<A> for Pack<A> {
     #[tactic(auto, unfolding(crate::specs::Packs::pack_at))]
     fn read(alloc: A, from: &mut Reader<'_>) -> Result<Pack<A>, Fault> {
         let count: u8 = Decode::read(alloc, from)?;
-        if count < 2 || count > MOST_PACK_CALLS {
+        if count < 2 || count > MAX_PACK_CALLS {
             return Err(Fault::BadFrame);
         }
         let calls = read_many(alloc, count as usize, from)?;
-        if !is_short(calls.as_slice()) {
+        if !fits_pack_limit(calls.as_slice()) {
             return Err(Fault::BadFrame);
         }
         Ok(Pack {

@@ -1,7 +1,9 @@
-//! Payloads, and what of them may be sent once more on a later ring.
+//! Payloads, and the payloads that may be sent again on a later ring.
+//! Rules: Recovery 4
+//! Formats: Payloads; Frames
 
 ghost use Rattle.std.specs.Prelude.{◌≡◌, ℕ, ◌+◌, ◌^◌, ◌<◌, ◌≤◌, List, [], ◌∷◌, ◌++◌, length};
-ghost use Rattle.ring_layout.specs.Reading.{Appends, Gives};
+ghost use Rattle.ring_codec.specs.Reading.{Appends, IsReadResult};
 
 use crate::call::Call;
 use crate::calls::{Pack, Part};
@@ -10,45 +12,65 @@ use crate::snap::Snap;
 use crate::tags;
 use crate::versions::{FIRST_VERSION, PACK_VERSION, TRIM_VERSION};
 use bytes::BytesMut;
-use ring_layout::{Decode, Encode, Fault, MAX, Proc, Reader, RingId};
+use ring_codec::{Decode, Encode, Fault, MAX, Proc, Reader, RingId};
 use std::alloc::{Allocator, Global};
 
-/// What is sent once more on a later ring.
+/// The payload inside a Wrapped: any user payload, that is, any payload but a Wrapped and an End.
+/// Rules: Recovery 4
+/// Formats: Payloads
 #[derive(Clone, Drop)]
 pub enum Content<A: Allocator + Copy = Global> {
+    /// One call of a client.
     Call(Call<A>),
+    /// A member's summary of its log.
     Head(Head),
+    /// A part of a log.
     Part(Part<A>),
+    /// A batch of calls.
     Pack(Pack<A>),
+    /// A chunk of a snapshot.
     Snap(Snap<A>),
 }
 
-/// A message of an old ring: its ring, its number and its sender there, and what it carried.
+/// `Wrapped`: a message of an old ring that recovery sends again on the new ring.
+/// Rules: Recovery 4
+/// Formats: Payloads
 #[derive(Clone, Drop)]
 pub struct Wrapped<A: Allocator + Copy = Global> {
+    /// The old ring, of number at least 1. In a message it is below the number of the message's ring.
     pub ring: RingId,
+    /// The message's number in the old ring, 1 to `MAX`.
     pub number: u64,
+    /// The member of the old ring that sent the message there.
     pub sender: Proc,
+    /// The payload that the message has in the old ring.
     pub payload: Content<A>,
 }
 
-/// What a message carries.
+/// The payload of a message.
+/// Formats: Payloads
 #[derive(Clone, Drop)]
 pub enum Payload<A: Allocator + Copy = Global> {
+    /// One call of a client, to be appended to the log.
     Call(Call<A>),
+    /// A message of an old ring, sent again in recovery.
     Wrapped(Wrapped<A>),
-    /// The sender has sent again all that it had to send of its old ring.
+    /// The statement that its sender has sent again all messages of its old ring that it had to send.
     End,
+    /// A member's summary of its log, with which it begins an exchange.
     Head(Head),
+    /// A part of the owner's log, sent in an exchange.
     Part(Part<A>),
+    /// A batch of calls, to be appended to the log in order.
     Pack(Pack<A>),
+    /// A chunk of the owner's snapshot, sent in an exchange.
     Snap(Snap<A>),
 }
 
 impl<A: Allocator + Copy> Encode for Content<A> {
-    ghost use Rattle.ring_payload.specs.Contents.{content_spelling, ContentFits, content_at, content_format};
+    ghost use Rattle.ring_payload.specs.Contents.{content_encoding, ContentFits, content_at, content_format};
 
-    ghost spelling = { content_spelling };
+    ghost encoding = { content_encoding };
 
     ghost most = { 7276 };
 
@@ -110,7 +132,7 @@ impl<A: Allocator + Copy> Decode<A> for Content<A> {
 impl<A: Allocator + Copy> Content<A> {
     ghost use Rattle.ring_payload.specs.Versions.{content_version};
 
-    /// The version of a frame that carries it wrapped.
+    /// Returns the version of a frame that carries it in a Wrapped.
     fn version(&self) -> u8
         ensures { result ≡ content_version self.now }
     {
@@ -126,8 +148,10 @@ impl<A: Allocator + Copy> Content<A> {
 impl<A: Allocator + Copy> Payload<A> {
     ghost use Rattle.ring_payload.specs.Versions.{payload_version};
 
-    /// The version of a frame that carries it: 2 where calls are packed, 3 where a log is trimmed, else 1. A message
-    /// of an old ring has the version of what it carries.
+    /// Returns the version of a frame that carries this payload, 1 to 3.
+    /// It is 2 for a Pack, 3 for a Snap or for a Head with a trimmed length above 0, and else 1. A Wrapped has the
+    /// version of its content.
+    /// Formats: Frames
     pub fn version(&self) -> u8
         ensures { result ≡ payload_version self.now }
     {
@@ -144,7 +168,7 @@ impl<A: Allocator + Copy> Payload<A> {
 impl<A: Allocator + Copy> Wrapped<A> {
     ghost use Rattle.ring_payload.specs.Contents.{wrapped_test};
 
-    /// Whether the limits beyond those of each field are kept.
+    /// Returns whether the fields keep the limits of their format.
     fn is_valid(&self) -> bool
         ensures { result ≡ wrapped_test self.now }
     {
@@ -153,9 +177,9 @@ impl<A: Allocator + Copy> Wrapped<A> {
 }
 
 impl<A: Allocator + Copy> Encode for Wrapped<A> {
-    ghost use Rattle.ring_payload.specs.Contents.{wrapped_spelling, WrappedFits, wrapped_at, wrapped_format};
+    ghost use Rattle.ring_payload.specs.Contents.{wrapped_encoding, WrappedFits, wrapped_at, wrapped_format};
 
-    ghost spelling = { wrapped_spelling };
+    ghost encoding = { wrapped_encoding };
 
     ghost most = { 7294 };
 
@@ -194,9 +218,9 @@ impl<A: Allocator + Copy> Decode<A> for Wrapped<A> {
 }
 
 impl<A: Allocator + Copy> Encode for Payload<A> {
-    ghost use Rattle.ring_payload.specs.Payloads.{payload_spelling, PayloadFits, payload_at, payload_format};
+    ghost use Rattle.ring_payload.specs.Payloads.{payload_encoding, PayloadFits, payload_at, payload_format};
 
-    ghost spelling = { payload_spelling };
+    ghost encoding = { payload_encoding };
 
     ghost most = { 7295 };
 

@@ -1,21 +1,28 @@
-//! Heads of logs.
+//! Heads of logs: a member's summary of its log, with which an exchange begins.
+//! Formats: Payloads
 
 ghost use Rattle.std.specs.Prelude.{◌≡◌, ℕ, ◌+◌, ◌^◌, ◌<◌, ◌≤◌, List, [], ◌∷◌, ◌++◌, length};
-ghost use Rattle.ring_layout.specs.Reading.{Appends, Gives};
+ghost use Rattle.ring_codec.specs.Reading.{Appends, IsReadResult};
 
 use crate::tags;
 use crate::versions::{FIRST_VERSION, TRIM_VERSION};
 use bytes::BytesMut;
-use ring_layout::{Decode, Encode, Fault, MAX, Reader, RingId};
+use ring_codec::{Decode, Encode, Fault, MAX, Reader, RingId};
 use std::alloc::Allocator;
 
-/// What a member tells of its log: its last primary ring, none if it never had one, the log's length, its
-/// committed length, and how many of the committed places it has dropped.
+/// `Head`: a member's summary of its log. `trimmed` <= `committed` <= `length` <= `MAX`. All three are 0 for a member
+/// without a last primary. They count places from the beginning of the log, dropped places included.
+/// Rules: The replicated log 1 and 2
+/// Formats: Payloads
 #[derive(Clone, Copy, Debug, PartialEq, Eq)]
 pub struct Head {
+    /// The member's last primary: the newest primary ring that it has adopted, `None` if it never adopted one.
     pub last: Option<RingId>,
+    /// The length of the log in places, dropped places included.
     pub length: u64,
+    /// The number of committed places, which are always the first ones.
     pub committed: u64,
+    /// The number of first places that the member has dropped, 0 if none.
     pub trimmed: u64,
 }
 
@@ -23,7 +30,6 @@ impl Head {
     ghost use Rattle.ring_payload.specs.Heads.{tag_of_head, head_test, whole_at, trimmed_at};
     ghost use Rattle.ring_payload.specs.Versions.{head_version};
 
-    /// The tag that it has.
     fn tag(&self) -> u8
         ensures { result ≡ tag_of_head self.now }
     {
@@ -34,7 +40,8 @@ impl Head {
         }
     }
 
-    /// The version of a frame that carries it.
+    /// Returns the version of a frame that carries this Head: 1, or 3 with a trimmed length above 0.
+    /// Formats: Frames
     pub(crate) fn version(&self) -> u8
         ensures { result ≡ head_version self.now }
     {
@@ -45,7 +52,7 @@ impl Head {
         }
     }
 
-    /// Whether the limits beyond those of each field are kept.
+    /// Returns whether the fields keep the limits of their format.
     fn is_valid(&self) -> bool
         ensures { result ≡ head_test self.now }
     {
@@ -55,13 +62,15 @@ impl Head {
             && (self.last.is_some() || self.length == 0)
     }
 
-    /// The head of a whole log at the front, behind its tag.
+    /// Decodes the body of the Head of a log without dropped places, after its tag 4, and moves `from` past it.
+    /// Errors: `BadFrame` if no such body is there. How much is then left to read is unspecified.
+    /// Formats: Payloads
     #[tactic(auto, unfolding(crate::specs::Heads::whole_at))]
     pub(crate) fn read_whole<A: Allocator + Copy>(
         alloc: A,
         from: &mut Reader<'_>,
     ) -> Result<Head, Fault>
-        ensures { Gives result from.new (whole_at from.old) }
+        ensures { IsReadResult result from.new (whole_at from.old) }
     {
         let head = Head {
             last: Decode::read(alloc, from)?,
@@ -75,13 +84,15 @@ impl Head {
         Ok(head)
     }
 
-    /// The head of a trimmed log at the front, behind its tag.
+    /// Decodes the body of the Head of a log with dropped places, after its tag 7, and moves `from` past it.
+    /// Errors: `BadFrame` if no such body is there. How much is then left to read is unspecified.
+    /// Formats: Payloads
     #[tactic(auto, unfolding(crate::specs::Heads::trimmed_at))]
     pub(crate) fn read_trimmed<A: Allocator + Copy>(
         alloc: A,
         from: &mut Reader<'_>,
     ) -> Result<Head, Fault>
-        ensures { Gives result from.new (trimmed_at from.old) }
+        ensures { IsReadResult result from.new (trimmed_at from.old) }
     {
         let head = Head {
             last: Decode::read(alloc, from)?,
@@ -96,11 +107,11 @@ impl Head {
     }
 }
 
-/// A head is spelled with its tag, which says whether a trimmed length stands there.
+/// Encoded with its tag, which says whether a trimmed length follows.
 impl Encode for Head {
-    ghost use Rattle.ring_payload.specs.Heads.{head_spelling, HeadFits, head_at, head_format};
+    ghost use Rattle.ring_payload.specs.Heads.{head_encoding, HeadFits, head_at, head_format};
 
-    ghost spelling = { head_spelling };
+    ghost encoding = { head_encoding };
 
     ghost most = { 34 };
 

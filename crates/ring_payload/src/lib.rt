@@ -1,6 +1,7 @@
-//! What messages carry: calls, alone or packed, the heads and parts of logs, snapshots in pieces, and what is sent once
-//! more on a later ring.
-//! A type has a public field for each entry of its layout, counts and lengths apart.
+//! The payloads of messages: calls, alone or in packs, heads and parts of logs, pieces of snapshots, and messages of
+//! an old ring that are sent again.
+//! A type has a public field for each entry of its layout, except counts and lengths.
+//! Formats: Payloads
 #![tactic(auto)]
 
 mod call;
@@ -15,14 +16,14 @@ mod tags;
 mod versions;
 
 pub use call::Call;
-pub use calls::{Calls, MOST_PACK_BYTES, MOST_PACK_CALLS, MOST_PART_CALLS, Pack, Part};
+pub use calls::{Calls, MAX_PACK_BYTES, MAX_PACK_CALLS, MAX_PART_CALLS, Pack, Part};
 pub use content::{Content, Payload, Wrapped};
 pub use head::Head;
-pub use operation::{CallOperation, MOST_OPERATION};
+pub use operation::{CallOperation, MAX_OPERATION};
 pub use piece::Piece;
-pub use ring_layout::{
-    Decode, Encode, Fault, MAX, PROCESSORS, Past, Proc, ProcSet, Reader, RingId, WINDOW, Wire,
-    Words, past_of, read_in_place, read_sized, write_many, write_sized,
+pub use ring_codec::{
+    Decode, Encode, EncodedNumbers, Fault, Ghost, MAX, PROCESSORS, Proc, ProcSet, Reader, RingId,
+    WINDOW_SIZE, Wire, ghost_of, read_in_place, read_sized, write_many, write_sized,
 };
-pub use snap::{MOST_SNAPSHOT, Snap, WHOLE_PIECE};
+pub use snap::{MAX_PIECE_BYTES, MAX_SNAPSHOT, Snap};
 pub use versions::FIRST_VERSION;

@@ -1,19 +1,23 @@
-//! Operations: the bytes that a call hands to the replicated object.
+//! Operations: the bytes that a call passes to the replicated object.
+//! Formats: Numbers and parts
 
 ghost use Rattle.std.specs.Prelude.{◌≡◌, ℕ, ◌+◌, ◌^◌, ◌<◌, ◌≤◌, List, [], ◌∷◌, ◌++◌, length, IfOk, IfErr};
-ghost use Rattle.ring_layout.specs.Reading.{Appends, Gives};
-ghost use Rattle.ring_layout.specs.Faults.{Memory};
+ghost use Rattle.ring_codec.specs.Reading.{Appends, IsReadResult};
+ghost use Rattle.ring_codec.specs.Faults.{Memory};
 
 use bytes::BytesMut;
-use ring_layout::{Decode, Encode, Fault, Reader};
+use ring_codec::{Decode, Encode, Fault, Reader};
 use std::alloc::{AllocError, Allocator, Global};
 use std::marker::Model;
 use std::sync::ArcSlice;
 
-/// An operation has at most so many bytes.
-pub const MOST_OPERATION: usize = 1024;
+/// The most bytes of an operation. An operation may have none.
+/// Rules: Limits 1
+pub const MAX_OPERATION: usize = 1024;
 
-/// An operation, on the heap. Its copies share its bytes: to copy it takes no memory. Contracts see its bytes.
+/// An operation of a call, on the heap. Its copies share its bytes, so copying takes no memory. Contracts see the
+/// bytes.
+/// Rules: Sessions 1
 #[derive(Drop)]
 pub struct CallOperation<A: Allocator + Copy = Global> {
     bytes: ArcSlice<u8, A>,
@@ -29,7 +33,8 @@ impl<A: Allocator + Copy> Model for CallOperation<A> {
 }
 
 impl<A: Allocator + Copy> CallOperation<A> {
-    /// The operation of these bytes, or `Memory`.
+    /// Returns an operation with a copy of these bytes. An operation that is to be encoded has at most 1,024 bytes.
+    /// Errors: `Memory`.
     pub fn from_slice(alloc: A, bytes: &[u8]) -> Result<CallOperation<A>, Fault>
         ensures ok { IfOk result (λ op. op ≡ bytes.now) }
         ensures refused { IfErr result (λ fault. fault ≡ Memory) }
@@ -39,7 +44,7 @@ impl<A: Allocator + Copy> CallOperation<A> {
         })
     }
 
-    /// Its bytes.
+    /// Returns the bytes of the operation.
     pub fn as_slice(&self) -> &[u8]
         ensures { result.now ≡ self.now }
     {
@@ -58,9 +63,9 @@ impl<A: Allocator + Copy> Clone for CallOperation<A> {
 }
 
 impl<A: Allocator + Copy> Encode for CallOperation<A> {
-    ghost use Rattle.ring_payload.specs.Operations.{op_spelling, OpFits, op_at, op_format};
+    ghost use Rattle.ring_payload.specs.Operations.{op_encoding, OpFits, op_at, op_format};
 
-    ghost spelling = { op_spelling };
+    ghost encoding = { op_encoding };
 
     ghost most = { 1026 };
 
@@ -85,7 +90,7 @@ impl<A: Allocator + Copy> Decode<A> for CallOperation<A> {
     #[tactic(auto, unfolding(crate::specs::Operations::op_at))]
     fn read(alloc: A, from: &mut Reader<'_>) -> Result<CallOperation<A>, Fault> {
         let len: u16 = Decode::read(alloc, from)?;
-        if len as usize > MOST_OPERATION {
+        if len as usize > MAX_OPERATION {
             return Err(Fault::BadFrame);
         }
         let bytes = from.take(len as usize)?;

@@ -1,15 +1,17 @@
 //! The bytes of a piece of a snapshot.
+//! Formats: Payloads
 
 ghost use Rattle.std.specs.Prelude.{◌≡◌, ℕ, ◌≤◌, List, length, IfOk, IfErr};
-ghost use Rattle.ring_layout.specs.Reading.{Appends};
-ghost use Rattle.ring_layout.specs.Faults.{Memory};
+ghost use Rattle.ring_codec.specs.Reading.{Appends};
+ghost use Rattle.ring_codec.specs.Faults.{Memory};
 
 use bytes::BytesMut;
-use ring_layout::Fault;
+use ring_codec::Fault;
 use std::alloc::{AllocError, Allocator, Global};
 use std::marker::Model;
 
-/// The bytes of a piece, on the heap. Contracts see them.
+/// The bytes of a [`Snap`](crate::Snap), on the heap. Contracts see the bytes.
+/// Formats: Payloads
 #[derive(Drop)]
 pub struct Piece<A: Allocator + Copy = Global> {
     bytes: Vec<u8, A>,
@@ -22,7 +24,8 @@ impl<A: Allocator + Copy> Model for Piece<A> {
 }
 
 impl<A: Allocator + Copy> Piece<A> {
-    /// The piece of these bytes, or `Memory`.
+    /// Returns a piece with a copy of these bytes. A piece that is to be encoded has 1 to 7,000 bytes.
+    /// Errors: `Memory`.
     pub fn from_slice(alloc: A, bytes: &[u8]) -> Result<Piece<A>, Fault>
         ensures ok { IfOk result (λ piece. piece ≡ bytes.now) }
         ensures refused { IfErr result (λ fault. fault ≡ Memory) }
@@ -32,14 +35,16 @@ impl<A: Allocator + Copy> Piece<A> {
         })
     }
 
-    /// Its bytes.
+    /// Returns the bytes of the piece.
     pub fn as_slice(&self) -> &[u8]
         ensures { result.now ≡ self.now }
     {
         self.bytes.as_slice()
     }
 
-    /// Appends its bytes. There is room.
+    /// Appends the bytes of the piece to `out`, without their number.
+    /// That `out` has room for them is the caller's condition.
+    /// Formats: Payloads
     pub(crate) fn write<B: Allocator + Copy>(&self, out: &mut BytesMut<B>)
         requires { length self.now ≤ out.old.spare }
         ensures { Appends out.old out.new self.now }

@@ -1,4 +1,4 @@
-//! Whether two payloads are one.
+//! Equality of payloads.
 
 ghost use Rattle.std.specs.Prelude.{◌≡◌, ◌↔◌, ◌<◌, take, length, IsTrue};
 
@@ -7,11 +7,12 @@ use crate::calls::{Pack, Part};
 use crate::content::{Content, Payload, Wrapped};
 use crate::head::Head;
 use crate::snap::Snap;
-use ring_layout::RingId;
+use ring_codec::RingId;
 use std::alloc::Allocator;
 
 impl<A: Allocator + Copy> Payload<A> {
-    /// Whether it is this one.
+    /// Returns whether the two payloads are of one kind and equal in every field. So they have the same encoding.
+    /// Formats: Payloads
     pub fn is_same(&self, other: &Payload<A>) -> bool
         ensures { IsTrue result ↔ (self.now ≡ other.now) }
     {

@@ -1,48 +1,55 @@
 //! Snapshots of the sessions, in pieces.
+//! Formats: Payloads
 
 ghost use Rattle.std.specs.Prelude.{◌≡◌, ℕ, ◌+◌, ◌^◌, ◌<◌, ◌≤◌, List, [], ◌∷◌, ◌++◌, length};
-ghost use Rattle.ring_layout.specs.Reading.{Appends, Gives};
+ghost use Rattle.ring_codec.specs.Reading.{Appends, IsReadResult};
 ghost use Rattle.ring_payload.specs.Snaps.{is_piece as is_piece_of};
 
 use crate::piece::Piece;
 use bytes::BytesMut;
-use ring_layout::{Decode, Encode, Fault, MAX, Reader};
+use ring_codec::{Decode, Encode, Fault, MAX, Reader};
 use std::alloc::{Allocator, Global};
 
-/// A snapshot has at most so many bytes.
-pub const MOST_SNAPSHOT: u32 = 16_777_216;
+/// The most bytes of a snapshot that is sent in Snaps.
+/// Rules: Limits 1
+pub const MAX_SNAPSHOT: u32 = 16_777_216;
 
-/// Each piece of a snapshot but the last has so many bytes.
-pub const WHOLE_PIECE: u32 = 7000;
+/// The length in bytes of each piece of a snapshot but the last, which may be shorter.
+/// Rules: Limits 1
+pub const MAX_PIECE_BYTES: u32 = 7000;
 
-/// A piece of a snapshot of the sessions: the length of the log that the snapshot is of, counted from 1, how many
-/// bytes the whole snapshot has, how many stand before this piece, a multiple of 7,000, and the bytes of the piece:
-/// 7,000, or all that are left.
+/// `Snap`: a chunk of a snapshot of the sessions.
+/// Rules: The replicated log 2
+/// Formats: Payloads
 #[derive(Clone, Drop)]
 pub struct Snap<A: Allocator + Copy = Global> {
+    /// The number of first places of the log that the snapshot replaces, 1 to `MAX`.
     pub at: u64,
+    /// The length of the whole snapshot in bytes, 1 to 16,777,216.
     pub total: u32,
+    /// The number of the snapshot's bytes before this piece: a multiple of 7,000, below `total`.
     pub offset: u32,
+    /// The bytes of the piece: 7,000, or the rest of the snapshot where fewer are left.
     pub bytes: Piece<A>,
 }
 
-/// Whether a piece may lie there, and has so many bytes.
+/// Returns whether a piece may have these fields and `count` bytes.
 fn is_piece(at: u64, total: u32, offset: u32, count: u16) -> bool
     ensures { result ≡ is_piece_of at total offset count }
 {
     at >= 1
         && at <= MAX
         && total >= 1
-        && total <= MOST_SNAPSHOT
+        && total <= MAX_SNAPSHOT
         && offset < total
-        && offset % WHOLE_PIECE == 0
-        && u32::from(count) == WHOLE_PIECE.min(total - offset)
+        && offset % MAX_PIECE_BYTES == 0
+        && u32::from(count) == MAX_PIECE_BYTES.min(total - offset)
 }
 
 impl<A: Allocator + Copy> Encode for Snap<A> {
-    ghost use Rattle.ring_payload.specs.Snaps.{snap_spelling, SnapFits, snap_at, snap_format};
+    ghost use Rattle.ring_payload.specs.Snaps.{snap_encoding, SnapFits, snap_at, snap_format};
 
-    ghost spelling = { snap_spelling };
+    ghost encoding = { snap_encoding };
 
     ghost most = { 7018 };
 

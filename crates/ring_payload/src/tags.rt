@@ -1,18 +1,27 @@
-//! The tags that say what a payload is.
+//! The tags of payloads.
+//! Formats: Payloads
 
-/// A call.
+/// The tag of a Call: one call of a client.
+/// Formats: Payloads
 pub const CALL: u8 = 1;
-/// A message of an old ring, sent once more.
+/// The tag of a Wrapped: a message of an old ring, sent again.
+/// Formats: Payloads
 pub const WRAPPED: u8 = 2;
-/// The end of what the sender had to send again of its old ring.
+/// The tag of an End: its sender has sent again all messages of its old ring that it had to send.
+/// Formats: Payloads
 pub const END: u8 = 3;
-/// A head of a log that is whole.
+/// The tag of a Head with a trimmed length of 0.
+/// Formats: Payloads
 pub const HEAD: u8 = 4;
-/// A part of a log.
+/// The tag of a Part: consecutive places of a log.
+/// Formats: Payloads
 pub const PART: u8 = 5;
-/// Calls that go out as one message.
+/// The tag of a Pack: a batch of calls.
+/// Formats: Payloads
 pub const PACK: u8 = 6;
-/// A head of a log that is trimmed.
+/// The tag of a Head with a trimmed length above 0.
+/// Formats: Payloads
 pub const TRIMMED_HEAD: u8 = 7;
-/// A piece of a snapshot.
+/// The tag of a Snap: a chunk of a snapshot.
+/// Formats: Payloads
 pub const SNAP: u8 = 8;

@@ -1,8 +1,13 @@
 //! The versions of frames.
+//! Formats: Frames
 
-/// Of every frame that has no other.
+/// The version of every frame that needs no later version.
+/// Formats: Frames
 pub const FIRST_VERSION: u8 = 1;
-/// Of a frame with packed calls.
+/// The version of a frame whose payload is a Pack, or a Wrapped that holds one.
+/// Formats: Frames
 pub const PACK_VERSION: u8 = 2;
-/// Of a frame of a trimmed log.
+/// The version of a frame whose payload is a Snap, or a Head with a trimmed length above 0, or a Wrapped that holds one
+/// of these.
+/// Formats: Frames
 pub const TRIM_VERSION: u8 = 3;

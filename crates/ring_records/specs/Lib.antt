@@ -1,3 +1,3 @@
 pub mod Records
-pub mod Asking
-pub mod Told
+pub mod RecordRequests
+pub mod NodeRecords

@@ -1,20 +1,27 @@
-//! Records: a kind, a length and bytes. How the next one is read, what it asks of a node, and how each thing that a node tells
-//! is spelled in one.
+//! Records, by which another program drives a node: a kind, a length and bytes. This crate reads a record, decodes the
+//! request in it, and writes the records of a node's outputs.
+//!
+//! Rules: Nodes that records drive 1 to 3 and 7
+//! Formats: Records
 #![tactic(auto)]
 
-mod fate;
+mod encoding;
 mod kinds;
+mod membership;
+mod node_records;
 mod reading;
 mod request;
-mod spelling;
-mod told;
+mod timed_end;
+mod token_outcome;
 mod writing;
 
-pub use fate::TokenFate;
-pub use reading::{MOST_BYTES, read_record};
-pub use request::{RecordRequest, operation_in, record_asks};
-pub use spelling::spell_frame;
-pub use told::{
-    write_all_committed, write_answers, write_end, write_refusal, write_restored, write_standing,
-    write_ticket,
+pub use encoding::encode_frame_record;
+pub use membership::Membership;
+pub use node_records::{
+    write_all_committed, write_answers, write_end, write_members, write_refusal, write_restored,
+    write_status_record, write_ticket,
 };
+pub use reading::{MAX_RECORD_BYTES, read_record};
+pub use request::{RecordRequest, operation_in, record_request};
+pub use timed_end::TimedEnd;
+pub use token_outcome::TokenOutcome;

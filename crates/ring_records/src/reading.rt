@@ -1,4 +1,5 @@
-//! Reading records.
+//! Reading records from an input.
+//! Formats: Records
 
 ghost use Rattle.std.specs.Prelude.{◌≡◌, ◌<◌, ◌⊎◌, true, false, OnOk, OnErr, IfOk, IfErr, length, take};
 ghost use Rattle.std.specs.Io.{ReadsAtMost};
@@ -11,14 +12,16 @@ use ring_base::Fault;
 use std::alloc::Allocator;
 use std::io::{ErrorKind, Read};
 
-/// A record has at most so many bytes.
-pub const MOST_BYTES: usize = 65535;
+/// The most bytes of a record after its kind and its length.
+/// Rules: Limits 1
+pub const MAX_RECORD_BYTES: usize = 65535;
 
-/// Takes the next record of the input: its kind, and its bytes, which are put in place of those that stood in `bytes`.
-/// `None` at the end of the input. Refused, and then less than a record is taken:
+/// Takes the next record of the input. Returns its kind, or `None` at the end of the input. The bytes of the record
+/// replace the content of `bytes`. Whether the record asks for anything isn't checked.
 ///
-/// - `BadFrame` where the input ends or fails within a record. That it does isn't promised: no contract tells a read that fails;
-/// - `Memory` where there is none for the record's bytes.
+/// Errors: `BadFrame` if the input ends within a record, or fails; `Memory` for the record's bytes. Less than a record
+/// has then been taken. No contract says that `BadFrame` comes, since no contract covers a failing read.
+/// Formats: Records
 pub fn read_record<A: Allocator, R: Read>(
     input: &mut R,
     bytes: &mut Vec<u8, A>,
@@ -35,7 +38,7 @@ pub fn read_record<A: Allocator, R: Read>(
     Ok(Some(kind))
 }
 
-/// Takes the next two bytes of the input, which are a length. `BadFrame` where it ends or fails before.
+/// Takes two bytes, a length. `BadFrame` if the input ends or fails before.
 fn read_length<R: Read>(input: &mut R) -> Result<u16, Fault>
     ensures bytes { IfOk result (λ length. Consumes (R.remaining input.old) (R.remaining input.new) (big_bytes 2 length)) }
     ensures refused { IfErr result (λ fault. fault ≡ BadFrame) }
@@ -50,8 +53,7 @@ fn read_length<R: Read>(input: &mut R) -> Result<u16, Fault>
     Ok(256 * u16::from(high) + u16::from(low))
 }
 
-/// Takes so many bytes of the input, and puts them in place of those that stood in `bytes`. `BadFrame` where it ends or
-/// fails before, or `Memory`.
+/// Takes `count` bytes, which replace the content of `bytes`. `BadFrame` if the input ends or fails before; else `Memory`.
 fn read_bytes<A: Allocator, R: Read>(
     input: &mut R,
     count: u16,
@@ -71,7 +73,7 @@ fn read_bytes<A: Allocator, R: Read>(
     }
 }
 
-/// Takes as many bytes of the input as there is room for, and answers whether it could: otherwise the input ends or fails before.
+/// Fills `room` from the input. False if the input ends or fails before.
 fn fill<R: Read>(input: &mut R, room: &mut [u8]) -> bool
     ensures whole { result ≡ true → Consumes (R.remaining input.old) (R.remaining input.new) room.new }
     ensures part { result ≡ false → TakesFewer (length room.new) (R.remaining input.old) (R.remaining input.new) }
@@ -87,7 +89,7 @@ fn fill<R: Read>(input: &mut R, room: &mut [u8]) -> bool
     true
 }
 
-/// Takes the next byte of the input. `None` at its end, `BadFrame` where it fails.
+/// Takes one byte. `None` at the end of the input; `BadFrame` if it fails.
 fn next_byte<R: Read>(input: &mut R) -> Result<Option<u8>, Fault>
     ensures next { IfOk result (λ byte. IsNextByte (R.remaining input.old) (R.remaining input.new) byte) }
     ensures refused { IfErr result (λ fault. fault ≡ BadFrame) }
@@ -101,8 +103,8 @@ fn next_byte<R: Read>(input: &mut R) -> Result<Option<u8>, Fault>
     }
 }
 
-/// Takes some bytes of the input, puts them at the front of the room, and answers how many they are: none only at its end, or where
-/// there is no room. A read that is interrupted is tried again. `BadFrame` where it fails.
+/// Takes some bytes into the beginning of `room`. Returns their number, 0 only at the end of the input or for an empty
+/// `room`. Tries an interrupted read again. `BadFrame` if the input fails.
 fn read_some<R: Read>(input: &mut R, room: &mut [u8]) -> Result<usize, Fault>
     ensures bound { ReadsAtMost result room.new }
     ensures taken { IfOk result (λ count. Consumes (R.remaining input.old) (R.remaining input.new) (take count room.new)) }

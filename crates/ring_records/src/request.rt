@@ -1,50 +1,61 @@
-//! What a record asks of a node.
+//! The request that a record makes of a node.
+//! Rules: Nodes that records drive 2
+//! Formats: Records
 
 ghost use Rattle.std.specs.Prelude.{◌≡◌, ◌≤◌, drop, length, IfSome, IfNone};
-ghost use Rattle.ring_records.specs.Asking.{Asks, kind_number};
+ghost use Rattle.ring_records.specs.RecordRequests.{IsRequest, kind_number};
 ghost use Rattle.ring_records.specs.declared.request.RecordRequest.{RecordRequest as OneRequest};
 
 use crate::kinds;
 use byteorder::{BigEndian, ByteOrder};
 use ring_base::Kind;
 
-/// The bytes of a call's record before its operation: the client and the number.
+/// The length of a call's record before its operation: the client and the number.
 const CALL_HEAD: usize = 12;
 
-/// What a record asks of a node.
+/// The request that a record makes of a node.
+/// Rules: Nodes that records drive 2
+/// Formats: Records
 #[derive(Clone, Copy, Debug, PartialEq, Eq)]
 pub enum RecordRequest {
-    /// To hear the frame that the record's bytes are. Where they are none, they are noise.
+    /// The frame that the record's bytes encode arrived. Bytes that don't encode a frame are noise.
     Frame,
-    /// To hear that this timeout came.
+    /// The timeout of this kind came.
     Timeout(Kind),
-    /// To submit the client's call of this number. Its operation is what the bytes have behind the two.
+    /// Submit the call of this client with this number. The operation is the rest of the bytes: [`operation_in`].
     Call { client: u32, number: u64 },
-    /// To stop.
+    /// Stop the node, for good.
     Stop,
-    /// To tell where it stands.
-    Standing,
+    /// Report the status of the node. Nothing changes.
+    Status,
+    /// The time is now this number of milliseconds.
+    Time(u64),
 }
 
-/// What the record of this kind and these bytes asks for. `None` where it asks for nothing.
-pub fn record_asks(kind: u8, bytes: &[u8]) -> Option<RecordRequest>
-    ensures asks { IfSome result (λ asked. Asks kind bytes.now asked) }
-    ensures nothing { IfNone result ((asked : OneRequest) → ¬ Asks kind bytes.now asked) }
+/// Decodes the request of a record of this kind with these bytes.
+/// Returns `None` if the kind is unknown, or if a record of this kind never has such bytes. A frame's bytes, the number
+/// of a call and the length of its operation aren't checked.
+/// Rules: Nodes that records drive 2
+/// Formats: Records
+pub fn record_request(kind: u8, bytes: &[u8]) -> Option<RecordRequest>
+    ensures asks { IfSome result (λ asked. IsRequest kind bytes.now asked) }
+    ensures nothing { IfNone result ((asked : OneRequest) → ¬ IsRequest kind bytes.now asked) }
 {
     match kind {
         kinds::FRAME => Some(RecordRequest::Frame),
         kinds::TIMEOUT => timeout_of(bytes),
         kinds::CALL => call_of(bytes),
         kinds::STOP if bytes.is_empty() => Some(RecordRequest::Stop),
-        kinds::STANDING if bytes.is_empty() => Some(RecordRequest::Standing),
+        kinds::STATUS if bytes.is_empty() => Some(RecordRequest::Status),
+        kinds::TIME if bytes.len() == 8 => Some(RecordRequest::Time(BigEndian::read_u64(bytes))),
         _ => None,
     }
 }
 
-/// The timeout that the one byte is the number of.
+/// Decodes the number of a timeout, one byte.
 fn timeout_of(bytes: &[u8]) -> Option<RecordRequest>
-    ensures asks { IfSome result (λ asked. Asks 84 bytes.now asked) }
-    ensures nothing { IfNone result ((asked : OneRequest) → ¬ Asks 84 bytes.now asked) }
+    ensures asks { IfSome result (λ asked. IsRequest 84 bytes.now asked) }
+    ensures nothing { IfNone result ((asked : OneRequest) → ¬ IsRequest 84 bytes.now asked) }
 {
     if bytes.len() != 1 {
         return None;
@@ -58,10 +69,10 @@ fn timeout_of(bytes: &[u8]) -> Option<RecordRequest>
     }
 }
 
-/// The call whose client and number stand at the front.
+/// Decodes the client and the number of a call.
 fn call_of(bytes: &[u8]) -> Option<RecordRequest>
-    ensures asks { IfSome result (λ asked. Asks 67 bytes.now asked) }
-    ensures nothing { IfNone result ((asked : OneRequest) → ¬ Asks 67 bytes.now asked) }
+    ensures asks { IfSome result (λ asked. IsRequest 67 bytes.now asked) }
+    ensures nothing { IfNone result ((asked : OneRequest) → ¬ IsRequest 67 bytes.now asked) }
 {
     if bytes.len() < CALL_HEAD {
         return None;
@@ -71,7 +82,9 @@ fn call_of(bytes: &[u8]) -> Option<RecordRequest>
     Some(RecordRequest::Call { client, number })
 }
 
-/// The operation in the bytes of a call's record.
+/// Returns the operation in the bytes of a call's record: all bytes after the first 12.
+/// That there are at least 12 bytes is the caller's condition.
+/// Formats: Records
 pub fn operation_in(bytes: &[u8]) -> &[u8]
     requires { 12 ≤ length bytes.now }
     ensures { result.now ≡ drop 12 bytes.now }

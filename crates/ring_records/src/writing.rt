@@ -1,4 +1,5 @@
-//! Writing records.
+//! Writing one record.
+//! Formats: Records
 
 ghost use Rattle.std.specs.Prelude.{◌++◌, OnOk};
 ghost use Rattle.std.specs.Io.KnownBytes.{Appends};
@@ -7,7 +8,11 @@ ghost use Rattle.ring_records.specs.Records.{record_of};
 use byteorder::{BigEndian, ByteOrder};
 use std::io::{self, ErrorKind, Write};
 
-/// Writes a record of this kind, whose bytes are `first` and then `rest`. More than 65,535 bytes are an error.
+/// Writes a record: the kind, the length in 2 bytes, big-endian, then the bytes `first` and `rest`.
+///
+/// Errors: `InvalidInput` if `first` and `rest` have more than 65,535 bytes together; nothing is then written.
+/// Otherwise the writer's; its content is then unspecified.
+/// Formats: Records
 pub(crate) fn write_record<W: Write>(
     out: &mut W,
     kind: u8,

@@ -1,4 +1,5 @@
--- A node keeps the messages of all rings in one list, and a window those of one ring: what recovery asks of the old ring and of the new is the same of both.
+-- A node keeps the messages of all rings in one list, a window those of one ring. Recovery's questions about the old
+-- and the new ring have the same answers for both.
 use Rattle.std.proofs.Common.{◌≡◌, ℕ, ◌+◌, ◌-◌, Bool, List, [], ◌∷◌, filter, filter_map, Option, Some, None, ap, ◌∙◌}
 use Rattle.std.specs.Prelude.{not, ◌&&◌, nat_le, nat_lt, if◌then◌else◌}
 use Rattle.std.specs.List.{list_all}
@@ -12,9 +13,9 @@ use Rattle.ring_window.proofs.OfRing.{highest_of_ring, front_of_ring, is_new_of_
 use Rattle.ring_recover.specs.Plans.{Plan, safe, low, gap, known_above_safe}
 use Rattle.ring_recover.specs.Wrapping.{is_wrapped, left_to_wrap, inner_if_new}
 use Rattle.ring_recover.specs.Installing.{in_front}
-use Rattle.ring_recover.specs.Deliveries.{is_complete, sent_by_mate, regular_part, transitional_part, past_gap_part, delivery, finish}
+use Rattle.ring_recover.specs.Deliveries.{is_complete, is_from_transitional_member_if_there, regular_part, transitional_part, past_gap_part, delivery, finish}
 
--- What is handed on
+-- Wrapping
 
 pub left_of_ring : {A : Type 0} (p : Plan) (fresh held : List (Message A)) → left_to_wrap p fresh (of_ring p.old held) ≡ left_to_wrap p fresh held
 left_of_ring {A} p fresh held =
@@ -24,7 +25,7 @@ left_of_ring {A} p fresh held =
     ∙ ap (λ n. filter (λ (x : Message A). not (is_wrapped fresh p.old x.number)) (filter_map (found held p.old) (numbers_from (low p + 1)
     (n - low p)))) (highest_of_ring held p.old)
 
--- what a message of the new ring gives to the old window
+-- the inner message that a message of the new ring adds to the old window
 pub inner_of_ring : {A : Type 0} (old : RingId) (mark : ℕ) (held : List (Message A)) (w : WrappedMessage A)
     → inner_if_new old mark (of_ring old held) w ≡ inner_if_new old mark held w
 inner_of_ring {A} old mark held w =
@@ -36,7 +37,7 @@ inner_of_ring {A} old mark held w =
           payload_of w.payload;
     } ∷ [] else []) (is_new_of_ring held mark old w.number)
 
--- What is delivered
+-- Deliveries
 
 pub complete_of_ring : {A : Type 0} (p : Plan) (held : List (Message A)) → is_complete p (of_ring p.old held) ≡ is_complete p held
 complete_of_ring p held =
@@ -45,7 +46,7 @@ complete_of_ring p held =
 
 past_gap_of_ring : {A : Type 0} (p : Plan) (held : List (Message A)) → past_gap_part p (of_ring p.old held) ≡ past_gap_part p held
 past_gap_of_ring {A} p held = ap (λ (f : ℕ → Option (Message A)). filter
-    (λ n. sent_by_mate p (f n)) (filter (nat_lt (gap p)) (known_above_safe p))) (all_found held p.old)
+    (λ n. is_from_transitional_member_if_there p (f n)) (filter (nat_lt (gap p)) (known_above_safe p))) (all_found held p.old)
 
 pub finish_of_ring : {A : Type 0} (p : Plan) (held : List (Message A)) → finish p (of_ring p.old held) ≡ finish p held
 finish_of_ring p held =

@@ -1,2 +1,2 @@
--- What a commit token reports, passed on to the ring core.
+-- Lemmas about the reports of commit tokens, re-exported for the ring core.
 pub use Rattle.ring_commit.proofs.Reporting.{none_behind-at, own_stands}

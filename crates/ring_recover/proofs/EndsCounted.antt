@@ -1,4 +1,5 @@
--- One more of a new ring's messages is counted: whose Ends there are, the last of them, and whether there is a users' message.
+-- One more of a new ring's messages is counted: the members whose Ends are seen, the last End, and whether there is a
+-- user message.
 use Rattle.std.proofs.Common.{◌≡◌, ℕ, suc, ◌+◌, ◌<◌, ◌≤◌, max, Bool, true, false, List, [], ◌∷◌, ◌++◌, map, refl, ap, ◌∙◌, sym, inl, inr, arith, length-append}
 use Rattle.std.specs.Prelude.{◌||◌, ◌&&◌, ◌==◌, nat_le, ◌↔◌, ◌⊎◌, Contains}
 use Rattle.std.specs.Cmp.{both_ways}
@@ -16,13 +17,13 @@ use Rattle.ring_window.specs.Payloads.{is_user, is_end, Payload}
 use Rattle.ring_window.specs.PayloadVariants.{Call, Wrapped, End, Head, Part, Pack, Snap}
 use Rattle.ring_window.specs.Messages.{Message}
 use Rattle.ring_recover.specs.Installing.{ends, has_end_of, has_user, all_ended, is_covered, is_ready_by}
-use Rattle.ring_recover.specs.Ending.{IsCounted}
+use Rattle.ring_recover.specs.Ending.{HasEndCounts}
 
 greatest-append : (xs ys : List ℕ) → greatest (xs ++ ys) ≡ max (greatest xs) (greatest ys)
 greatest-append [] ys = omega arith
 greatest-append (x ∷ xs) ys = omega (arith, greatest-append xs ys)
 
--- who is added is among them from then on
+-- a member that is added is in the set from then on
 inserted : (old new s i : ℕ) → IsProc i → ((j : ℕ) → IsMember new j ↔ (IsMember old j ⊎ (j ≡ s))) → has new i ≡ (has old i || (s == i))
 inserted old new s i p f =
     both_ways (has new i) (has old i || (s == i))
@@ -46,8 +47,8 @@ module _ {A : Type 0} (xs : List (Message A)) (x : Message A) where
   user_more : has_user (xs ++ x ∷ []) ≡ (has_user xs || is_user x.payload)
   user_more = list_any-append (λ (y : Message A). is_user y.payload) xs (x ∷ []) ∙ ap (λ b. has_user xs || b) (or-false (is_user x.payload))
 
-  pub counted_end : (upto ended last : ℕ) (user : Bool) (more : ℕ) → IsCounted xs upto ended last user → is_end x.payload ≡ true → is_user x.payload ≡ false
-      → ((j : ℕ) → IsMember more j ↔ (IsMember ended j ⊎ (j ≡ x.sender))) → IsCounted (xs ++ x ∷ []) (upto + 1) more (max last x.number) user
+  pub counted_end : (upto ended last : ℕ) (user : Bool) (more : ℕ) → HasEndCounts xs upto ended last user → is_end x.payload ≡ true → is_user x.payload ≡ false
+      → ((j : ℕ) → IsMember more j ↔ (IsMember ended j ⊎ (j ≡ x.sender))) → HasEndCounts (xs ++ x ∷ []) (upto + 1) more (max last x.number) user
   counted_end upto ended last user more c h not_user f =
       let e = ends_this h in
       record {
@@ -66,9 +67,9 @@ module _ {A : Type 0} (xs : List (Message A)) (x : Message A) where
         user_is = c.user_is ∙ sym (user_more ∙ ap (λ b. has_user xs || b) not_user ∙ or-false (has_user xs));
       }
 
-  -- any other is counted as it is a user's or not
-  pub counted_other : (upto ended last : ℕ) (user more : Bool) → IsCounted xs upto ended last user → is_end x.payload ≡ false
-      → more ≡ (user || is_user x.payload) → IsCounted (xs ++ x ∷ []) (upto + 1) ended last more
+  -- any other message is counted by whether it is a user's
+  pub counted_other : (upto ended last : ℕ) (user more : Bool) → HasEndCounts xs upto ended last user → is_end x.payload ≡ false
+      → more ≡ (user || is_user x.payload) → HasEndCounts (xs ++ x ∷ []) (upto + 1) ended last more
   counted_other upto ended last user more c h m =
       let e = ends_other h in
       record {
@@ -78,7 +79,7 @@ module _ {A : Type 0} (xs : List (Message A)) (x : Message A) where
         user_is = m ∙ ap (λ b. b || is_user x.payload) c.user_is ∙ sym user_more;
       }
 
--- an End is no user's
+-- an End is not a user message
 pub end_no_user : {A : Type 0} (p : Payload A) → is_end p ≡ true → is_user p ≡ false
 end_no_user (Call call) h = absurd cc
 end_no_user (Wrapped old) h = refl
@@ -88,8 +89,8 @@ end_no_user (Part part) h = absurd cc
 end_no_user (Pack pack) h = absurd cc
 end_no_user (Snap snap) h = absurd cc
 
--- of all members the Ends are there just where each is among those who ended
-pub ended_all : {A : Type 0} (xs : List (Message A)) (upto ended last : ℕ) (user : Bool) (members : ℕ) → IsCounted xs upto ended last user
+-- the Ends of all members are seen exactly where each member is in the set of those that ended
+pub ended_all : {A : Type 0} (xs : List (Message A)) (upto ended last : ℕ) (user : Bool) (members : ℕ) → HasEndCounts xs upto ended last user
     → list_all (has ended) (elements members) ≡ all_ended xs members
 ended_all xs upto ended last user members c = same (elements members) (λ i h. c.members i ((elements_members members i).0 h).0)
   where
@@ -97,9 +98,9 @@ ended_all xs upto ended last user members c = same (elements members) (λ i h. c
     same [] h = refl
     same (i ∷ is) h = rw (h i (0, omega arith, refl), same is (λ j k. h j (suc k.0, omega (arith, k.1), k.2))) refl
 
--- so the three tests say when the ring may be installed
+-- so the three counts decide whether the ring may be installed
 pub ready_is : {A : Type 0} (xs : List (Message A)) (upto ended last : ℕ) (user : Bool) (members mark : ℕ) (all covered : Bool)
-    → IsCounted xs upto ended last user
+    → HasEndCounts xs upto ended last user
     → list_all (has ended) (elements members) ≡ all → nat_le last mark ≡ covered → is_ready_by xs members mark ≡ (all && (covered || user))
 ready_is xs upto ended last user members mark all covered c a b =
     let e = sym (ended_all xs upto ended last user members c) ∙ a in
@@ -107,15 +108,15 @@ ready_is xs upto ended last user members mark all covered c a b =
     let u : has_user xs ≡ user = sym c.user_is in
     rw (e, f, u) refl
 
--- so it is at each of the tests
-pub ready_then : {A : Type 0} (xs : List (Message A)) (upto ended last : ℕ) (user : Bool) (members mark : ℕ) → IsCounted xs upto ended last user
+-- the same for each of the tests
+pub ready_then : {A : Type 0} (xs : List (Message A)) (upto ended last : ℕ) (user : Bool) (members mark : ℕ) → HasEndCounts xs upto ended last user
     → list_all (has ended) (elements members) ≡ true → last ≤ mark → true ≡ is_ready_by xs members mark
 ready_then xs upto ended last user members mark c a b = sym (ready_is xs upto ended last user members mark true true c a (le-leb last mark b))
 
-pub ready_else : {A : Type 0} (xs : List (Message A)) (upto ended last : ℕ) (user : Bool) (members mark : ℕ) → IsCounted xs upto ended last user
+pub ready_else : {A : Type 0} (xs : List (Message A)) (upto ended last : ℕ) (user : Bool) (members mark : ℕ) → HasEndCounts xs upto ended last user
     → list_all (has ended) (elements members) ≡ true → mark < last → user ≡ is_ready_by xs members mark
 ready_else xs upto ended last user members mark c a b = sym (ready_is xs upto ended last user members mark true false c a (lt-leb last mark b))
 
-pub ready_not : {A : Type 0} (xs : List (Message A)) (upto ended last : ℕ) (user : Bool) (members mark : ℕ) → IsCounted xs upto ended last user
+pub ready_not : {A : Type 0} (xs : List (Message A)) (upto ended last : ℕ) (user : Bool) (members mark : ℕ) → HasEndCounts xs upto ended last user
     → list_all (has ended) (elements members) ≡ false → false ≡ is_ready_by xs members mark
 ready_not xs upto ended last user members mark c a = sym (ready_is xs upto ended last user members mark false (nat_le last mark) c a refl)

@@ -1,4 +1,4 @@
--- Two members that come from one old ring make one plan, and then deliver the same.
+-- Two members that come from one old ring make the same plan, and then deliver the same messages.
 use Rattle.std.proofs.Common.{◌≡◌, ℕ, true, ◌&&◌, List, [], ◌∷◌, ◌++◌, filter, filter_map, length, Option, Some}
 use Rattle.std.proofs.Common.{None, slice_get, refl, sym, ap, subst, ◌∙◌, leb}
 use Rattle.std.specs.List.{list_all, AllByRecursion}
@@ -15,11 +15,11 @@ use Rattle.ring_commit.specs.Reports.{is_sound}
 use Rattle.ring_window.specs.Payloads.{is_user}
 use Rattle.ring_window.proofs.Finding.{holds-found}
 use Rattle.ring_recover.specs.Plans.{Plan, plan_of, plan_if_sound, plan_from, safe, gap, known_above_safe}
-use Rattle.ring_recover.specs.Deliveries.{is_complete, is_from_mate, transitional_part, past_gap_part, finish, rests, SameText}
+use Rattle.ring_recover.specs.Deliveries.{is_complete, is_from_transitional_member, transitional_part, past_gap_part, finish, rests, SameText}
 
 -- One plan
 
--- a plan is that of its own old ring
+-- a plan is for the member's own old ring
 plan_is : (k : CommitToken) (o : Option CommitEntry) (p : Plan) → plan_if_sound k o ≡ Some p → p ≡ plan_of p.old k.members k.entries
 plan_is k None p e = absurd (let q : ⊥ = cc in q)
 plan_is k (Some own) p e =
@@ -47,7 +47,7 @@ plan_of_old k i j p q e f same = plan_from_is k i p e ∙ ap (λ (r : RingId). p
 abbrev Both : {A : Type 0} → RingId → List (Message A) → List (Message A) → ℕ → Type 0
 Both ring a b n = found a ring n ≡ found b ring n
 
--- where both hold it and have the same text, they find the same
+-- where both hold a number and have the same text, they find the same message
 found_same : {A : Type 0} → (ring : RingId) (a b : List (Message A)) → SameText ring a b → (n : ℕ)
     → holds a ring n ≡ true → holds b ring n ≡ true → found a ring n ≡ found b ring n
 found_same {A} ring a b same n h k =
@@ -63,11 +63,11 @@ each_found ring a b same (n ∷ ns) h k =
     let q = and_parts (holds b ring n) (list_all (holds b ring) ns) k in
     (found_same ring a b same n p.0 q.0, each_found ring a b same ns p.1 q.1)
 
--- so the same senders come from the old ring, and the same messages stand there
-mates_same : {A : Type 0} → (p : Plan) (a b : List (Message A)) (ns : List ℕ) → AllByRecursion (Both p.old a b) ns
-    → filter (is_from_mate p a) ns ≡ filter (is_from_mate p b) ns
-mates_same p a b [] h = refl
-mates_same p a b (n ∷ ns) h = rw (h.0, mates_same p a b ns h.1) refl
+-- so the same senders come from the old ring, and both find the same messages
+transitional_members_same : {A : Type 0} → (p : Plan) (a b : List (Message A)) (ns : List ℕ) → AllByRecursion (Both p.old a b) ns
+    → filter (is_from_transitional_member p a) ns ≡ filter (is_from_transitional_member p b) ns
+transitional_members_same p a b [] h = refl
+transitional_members_same p a b (n ∷ ns) h = rw (h.0, transitional_members_same p a b ns h.1) refl
 
 messages_same : {A : Type 0} → (ring : RingId) (a b : List (Message A)) (ns : List ℕ)
     → AllByRecursion (Both ring a b) ns → filter_map (found a ring) ns ≡ filter_map (found b ring) ns
@@ -83,7 +83,7 @@ both_known p a b same h k =
 
 past_gap_same : {A : Type 0} → (p : Plan) (a b : List (Message A)) → SameText p.old a b → is_complete p a ≡ true
     → is_complete p b ≡ true → past_gap_part p a ≡ past_gap_part p b
-past_gap_same p a b same h k = mates_same p a b _ (each-filter (Both p.old a b) (nat_lt (gap p)) (known_above_safe p) (both_known p a b same h k))
+past_gap_same p a b same h k = transitional_members_same p a b _ (each-filter (Both p.old a b) (nat_lt (gap p)) (known_above_safe p) (both_known p a b same h k))
 
 pub same_parts : {A : Type 0} → (p : Plan) (a b : List (Message A)) → SameText p.old a b → is_complete p a ≡ true
     → is_complete p b ≡ true → finish p a ≡ finish p b
@@ -93,7 +93,7 @@ pub same_rests : {A : Type 0} → (p : Plan) (a b : List (Message A)) → SameTe
     → is_complete p b ≡ true → rests p a ≡ rests p b
 same_rests {A} p a b same h k =
     let ks = both_known p a b same h k in
-    let later = each-filter (Both p.old a b) (is_from_mate p a) _ (each-filter (Both p.old a b) (nat_lt (gap p)) (known_above_safe p) ks) in
+    let later = each-filter (Both p.old a b) (is_from_transitional_member p a) _ (each-filter (Both p.old a b) (nat_lt (gap p)) (known_above_safe p) ks) in
     let all = each-append (Both p.old a b) (transitional_part p) (past_gap_part p a)
     (each-filter (Both p.old a b) (λ n. nat_lt n (gap p)) (known_above_safe p) ks) later in
     ap (λ (xs : List (Message A)). filter (λ (x : Message A). is_user x.payload) xs)

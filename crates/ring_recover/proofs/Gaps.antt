@@ -1,4 +1,4 @@
--- The gap by the bits of what is known: the first bit that is clear stands for it, or none is and it lies beyond.
+-- The gap from the bits of the known numbers: it is the number of the first clear bit, or lies past the last one.
 use Rattle.std.proofs.Common.{◌≡◌, ℕ, zero, suc, ◌+◌, ◌-◌, ◌<◌, ◌≤◌, Bool, true, false, List, [], ◌∷◌, map, filter, refl, ap, ◌∙◌, sym, inl, inr, arith}
 use Rattle.std.specs.Prelude.{◌&&◌, nat_lt, nat_le}
 use Rattle.std.specs.Cmp.{both_ways}
@@ -10,10 +10,10 @@ use Rattle.ring_window.specs.Messages.{Message}
 use Rattle.ring_window.specs.Bits.{is_set, IsFirstClear}
 use Rattle.ring_recover.specs.Chosen.{chosen}
 use Rattle.ring_recover.specs.Plans.{Plan, safe, low, least, least_mark, gap, is_reported, is_known}
-use Rattle.ring_recover.specs.Deliveries.{is_from_mate, regular_part, transitional_part, past_gap_part}
+use Rattle.ring_recover.specs.Deliveries.{is_from_transitional_member, regular_part, transitional_part, past_gap_part}
 use Rattle.ring_recover.proofs.NumbersPassing.{chosen_by, both_on, first_of_row}
 
--- How far a test passes
+-- How long a test holds
 
 prefix_passes : (p : ℕ → Bool) (first count i : ℕ) → i < prefix_len p (numbers_from first count) → p (first + i) ≡ true
 prefix_passes p first zero i l = absurd (omega arith)
@@ -41,7 +41,7 @@ prefix_reaches p first (suc count) (suc m) l h =
     ∙ h (suc i) (omega arith))) in
     omega arith
 
--- All up to the least front is known
+-- All numbers up to the least front are known
 
 least_first : (x : ℕ) (xs : List ℕ) → least (x ∷ xs) ≤ x
 least_first x [] = omega arith
@@ -122,19 +122,19 @@ module _ (p : Plan) (known : List ℕ) (k : ℕ) (sound : safe p ≤ low p) (is 
         | inr l ↦ lt-ltb k j (omega arith)
       ])
 
-  -- the part below the gap, and the part past it
+  -- the part below the gap and the part past it
   pub transitional_is : (words : List ℕ) → ((j : ℕ) → j < 256 → is_set words j ≡ (nat_lt j k && is_set known j)) → chosen (safe p) words ≡ transitional_part p
   transitional_is words h =
       chosen_by (λ n. nat_lt n (gap p) && is_known p n) (safe p) words (λ j l. h j l ∙ rw (gap_bit j l, is j l) refl)
       ∙ sym (both_on (λ n. nat_lt n (gap p)) (is_known p) (numbers_from (safe p + 1) window_size))
 
   pub past_gap_is : {A : Type 0} (held : List (Message A)) (words : List ℕ) → ((j : ℕ) → j < 256
-      → is_set words j ≡ (nat_lt k j && (is_set known j && is_from_mate p held (safe p + 1 + j)))) → chosen (safe p) words ≡ past_gap_part p held
+      → is_set words j ≡ (nat_lt k j && (is_set known j && is_from_transitional_member p held (safe p + 1 + j)))) → chosen (safe p) words ≡ past_gap_part p held
   past_gap_is held words h =
-      chosen_by (λ n. is_from_mate p held n && (nat_lt (gap p) n && is_known p n)) (safe p) words (λ j l. h j l
-      ∙ rw (past_gap_bit j l, is j l) (turned (nat_lt (gap p) (safe p + 1 + j)) (is_known p (safe p + 1 + j)) (is_from_mate p held (safe p + 1 + j))))
-      ∙ sym (both_on (is_from_mate p held) (λ n. nat_lt (gap p) n && is_known p n) (numbers_from (safe p + 1) window_size))
-      ∙ sym (ap (filter (is_from_mate p held)) (both_on (nat_lt (gap p)) (is_known p) (numbers_from (safe p + 1) window_size)))
+      chosen_by (λ n. is_from_transitional_member p held n && (nat_lt (gap p) n && is_known p n)) (safe p) words (λ j l. h j l
+      ∙ rw (past_gap_bit j l, is j l) (turned (nat_lt (gap p) (safe p + 1 + j)) (is_known p (safe p + 1 + j)) (is_from_transitional_member p held (safe p + 1 + j))))
+      ∙ sym (both_on (is_from_transitional_member p held) (λ n. nat_lt (gap p) n && is_known p n) (numbers_from (safe p + 1) window_size))
+      ∙ sym (ap (filter (is_from_transitional_member p held)) (both_on (nat_lt (gap p)) (is_known p) (numbers_from (safe p + 1) window_size)))
 
 -- the part up to the greatest safe mark
 pub regular_is : (p : Plan) (words : List ℕ) → ((j : ℕ) → j < 256 → is_set words j ≡ nat_lt j (safe p - least_mark p))

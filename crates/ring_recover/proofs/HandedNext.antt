@@ -1,4 +1,5 @@
--- What is handed on next, number by number; and, of what a node in Recovery would send, what is left once the first of it is seen.
+-- The next number to wrap, number by number; and what is left of the payloads of a node in Recovery once the first of
+-- them is seen.
 use Rattle.std.proofs.Common.{◌≡◌, ℕ, suc, ◌+◌, ◌-◌, ◌<◌, ◌≤◌, Bool, true, false, List, [], ◌∷◌, filter, filter_map}
 use Rattle.std.proofs.Common.{Option, Some, None, refl, ap, ◌∙◌, sym, inl, inr, arith}
 use Rattle.std.specs.Prelude.{not, ◌&&◌, ◌==◌}
@@ -11,13 +12,13 @@ use Rattle.ring_window.specs.Payloads.{is_user}
 use Rattle.ring_window.specs.Messages.{Message}
 use Rattle.ring_window.specs.Bits.{is_set}
 use Rattle.ring_window.specs.Held.{is_numbered, found, highest}
-use Rattle.ring_window.specs.Windows.{Windowed, kept}
+use Rattle.ring_window.specs.Windows.{WindowHistory, kept}
 use Rattle.ring_recover.specs.Plans.{low}
 use Rattle.ring_recover.specs.Wrapping.{is_wrapped}
-use Rattle.ring_recover.specs.Recovering.{Recovering, first_number, next_to_wrap, is_users, IsPlanKept}
+use Rattle.ring_recover.specs.RecoveryState.{RecoveryState, first_number, next_to_wrap, is_users, IsPlanKept}
 use Rattle.ring_recover.proofs.MessagesInFront.{kept_found}
 
--- what is found of a number has it
+-- the message found under a number has that number
 pub found_number : {A : Type 0} (held : List (Message A)) (ring : RingId) (n : ℕ) (x : Message A) → found held ring n ≡ Some x → x.number ≡ n
 found_number [] ring n x e = absurd cc
 found_number {A} (y ∷ held) ring n x e =
@@ -27,23 +28,23 @@ found_number {A} (y ∷ held) ring n x e =
       | inr h ↦ found_number held ring n x (sym (cond-false (is_numbered ring n y) (Some y) (found held ring n) h) ∙ e)
     ]
 
--- those of messages that are users' and that none wraps
-abbrev pub left_of : {A : Type 0} → Recovering A → List (Message A) → List (Message A)
+-- the user messages that none wraps
+abbrev pub left_of : {A : Type 0} → RecoveryState A → List (Message A) → List (Message A)
 left_of r xs = filter (λ (x : Message _). is_user x.payload) (filter (λ (x : Message _). not (is_wrapped r.seen r.plan.old x.number)) xs)
 
--- a number is handed on where a user's message of it is held, and none wraps it
-abbrev pub is_left : {A : Type 0} → Recovering A → List (Message A) → ℕ → Bool
+-- a number is wrapped where a user message of it is held, and no message wraps it yet
+abbrev pub is_left : {A : Type 0} → RecoveryState A → List (Message A) → ℕ → Bool
 is_left r held n = is_users (found held r.plan.old n) && not (is_wrapped r.seen r.plan.old n)
 
--- the messages of a row of numbers
-abbrev pub row : {A : Type 0} → Recovering A → List (Message A) → ℕ → ℕ → List (Message A)
+-- the messages of consecutive numbers
+abbrev pub row : {A : Type 0} → RecoveryState A → List (Message A) → ℕ → ℕ → List (Message A)
 row r held first count = filter_map (found held r.plan.old) (numbers_from first count)
 
--- the first of a row that is handed on
-abbrev pub next_from : {A : Type 0} → Recovering A → List (Message A) → ℕ → ℕ → Option ℕ
+-- the first of consecutive numbers that is wrapped
+abbrev pub next_from : {A : Type 0} → RecoveryState A → List (Message A) → ℕ → ℕ → Option ℕ
 next_from r held first count = first_number (left_of r (row r held first count))
 
-module _ {A : Type 0} (r : Recovering A) where
+module _ {A : Type 0} (r : RecoveryState A) where
   left_yes : (x : Message A) (xs : List (Message A)) → is_user x.payload ≡ true → not (is_wrapped r.seen r.plan.old x.number) ≡ true
       → left_of r (x ∷ xs) ≡ x ∷ left_of r xs
   left_yes x xs user new =
@@ -106,7 +107,7 @@ module _ {A : Type 0} (r : Recovering A) where
     pub next_is : next_to_wrap r held ≡ next_from r held (low r.plan + 1) (highest held r.plan.old - low r.plan)
     next_is = refl
 
-    -- one number on
+    -- one number further
     pub search_on : (before top : ℕ) → before < top → is_left r held (before + 1) ≡ false
         → next_from r held (before + 1) (top - before) ≡ next_from r held (before + 1 + 1) (top - (before + 1))
     search_on before top l h =
@@ -122,12 +123,12 @@ module _ {A : Type 0} (r : Recovering A) where
     pub search_over : (before top : ℕ) → top ≤ before → next_from r held (before + 1) (top - before) ≡ None
     search_over before top l = (let n : top - before ≡ 0 = omega arith in ap (next_from r held (before + 1)) n)
 
--- whether a number is left, by the window and the bits
-pub left_here : {A : Type 0} (r : Recovering A) (old : RingId) (mates least_one high front : ℕ) (known wrapped : List ℕ) (ended : Bool)
-    (w : Windowed A) (before : ℕ) (users was : Bool) → IsPlanKept r old mates least_one high front known wrapped ended
+-- whether a number is left to wrap, from the window and the bits
+pub left_here : {A : Type 0} (r : RecoveryState A) (old : RingId) (transitional_members least_one high front : ℕ) (known wrapped : List ℕ) (ended : Bool)
+    (w : WindowHistory A) (before : ℕ) (users was : Bool) → IsPlanKept r old transitional_members least_one high front known wrapped ended
     → w.ring ≡ r.plan.old → w.mark ≤ high → front ≤ before → before < high + 256 → users ≡ is_users (kept w (before + 1)) → was ≡ is_set wrapped (before - high)
     → is_left r w.held (before + 1) ≡ (users && not was)
-left_here r old mates least_one high front known wrapped ended w before users was k ring mark low near u s =
+left_here r old transitional_members least_one high front known wrapped ended w before users was k ring mark low near u s =
     let sound = k.sound in
     let n : high + 1 + (before - high) ≡ before + 1 = omega arith in
     let there : kept w (before + 1) ≡ found w.held r.plan.old (before + 1) = kept_found w (before + 1) (omega arith)

@@ -1,4 +1,4 @@
--- A new ring's messages in the front, as the front rises.
+-- The messages of a new ring in the front, as the front rises.
 use Rattle.std.proofs.Common.{◌≡◌, ℕ, zero, suc, ◌+◌, ◌-◌, ◌<◌, ◌≤◌, true, false, List, [], ◌∷◌, ◌++◌, filter_map}
 use Rattle.std.proofs.Common.{length, Option, Some, None, refl, ap, ◌∙◌, sym, subst, inl, inr, arith, length-append}
 use Rattle.std.specs.List.{cons_option}
@@ -6,7 +6,7 @@ use Rattle.std.specs.Prelude.{nat_lt, ◌==◌, ◌||◌}
 use Rattle.std.proofs.lemmas.Bool.{cases_Bool, cond-true, cond-false, lt-ltb, and_parts, eqb-true, true≢false}
 use Rattle.std.proofs.lemmas.List.{append-nil}
 use Rattle.std.proofs.lemmas.List.Elements.{filter_map-append}
-use Rattle.ring_base.specs.Fronts.{IsFront, front_length, front_shorter, front_whole}
+use Rattle.ring_base.specs.Prefixes.{IsListPrefix, prefix_length, prefix_shorter, prefix_whole}
 use Rattle.ring_base.specs.Numbers.{numbers_from}
 use Rattle.ring_base.specs.Passing.{length-numbers_from}
 use Rattle.ring_base.specs.Rings.{same_ring}
@@ -15,7 +15,7 @@ use Rattle.ring_base.proofs.Cases.{or-true}
 use Rattle.ring_base.proofs.ListPlaces.{numbers-append}
 use Rattle.ring_window.specs.Messages.{Message}
 use Rattle.ring_window.specs.Held.{is_numbered, found, holds, front_of}
-use Rattle.ring_window.specs.Windows.{Windowed, kept}
+use Rattle.ring_window.specs.Windows.{WindowHistory, kept}
 use Rattle.ring_window.proofs.HeldFront.{front_is, front_grows}
 use Rattle.ring_window.proofs.Finding.{holds-found}
 use Rattle.ring_recover.specs.Installing.{in_front}
@@ -48,7 +48,7 @@ module _ {A : Type 0} (held : List (Message A)) (ring : RingId) where
   pub up_to_few : (k : ℕ) → length (up_to held ring k) ≤ k
   up_to_few k = omega (arith, few_in (numbers_from 1 k), length-numbers_from 1 k)
 
-  -- up to the front each number has its message
+  -- each number up to the front has its message
   pub up_to_all : (k : ℕ) → k ≤ front_of held ring → length (up_to held ring k) ≡ k
   up_to_all zero l = refl
   up_to_all (suc k) l =
@@ -57,27 +57,27 @@ module _ {A : Type 0} (held : List (Message A)) (ring : RingId) where
       ap (λ n. length (up_to held ring n)) e ∙ ap length (up_to_some k x.0 x.1)
       ∙ omega (arith, length-append (up_to held ring k) (x.0 ∷ []), up_to_all k (omega arith))
 
-  pub up_to_front : (k : ℕ) → k ≤ front_of held ring → IsFront (up_to held ring k) (in_front held ring)
+  pub up_to_front : (k : ℕ) → k ≤ front_of held ring → IsListPrefix (up_to held ring k) (in_front held ring)
   up_to_front k l =
       let e : k + (front_of held ring - k) ≡ front_of held ring = omega arith in
       (filter_map (found held ring) (numbers_from (1 + k) (front_of held ring - k)), sym (parts k (front_of held ring - k)) ∙ ap (up_to held ring) e)
 
-  pub front_short : (xs : List (Message A)) → IsFront xs (in_front held ring) → length xs ≤ front_of held ring
-  front_short xs f = omega (arith, front_length xs (in_front held ring) f, up_to_all (front_of held ring) (omega arith))
+  pub front_short : (xs : List (Message A)) → IsListPrefix xs (in_front held ring) → length xs ≤ front_of held ring
+  front_short xs f = omega (arith, prefix_length xs (in_front held ring) f, up_to_all (front_of held ring) (omega arith))
 
-  -- a front of the messages in the front is those up to a number
-  pub front_up_to : (xs : List (Message A)) → IsFront xs (in_front held ring) → xs ≡ up_to held ring (length xs)
+  -- a prefix of the messages in the front is those up to some number
+  pub front_up_to : (xs : List (Message A)) → IsListPrefix xs (in_front held ring) → xs ≡ up_to held ring (length xs)
   front_up_to xs f =
       let l = front_short xs f in
       let n = up_to_all (length xs) l in
-      front_whole xs (up_to held ring (length xs)) (front_shorter xs (up_to held ring (length xs)) (in_front held ring) f (up_to_front
+      prefix_whole xs (up_to held ring (length xs)) (prefix_shorter xs (up_to held ring (length xs)) (in_front held ring) f (up_to_front
       (length xs) l) (omega arith)) (omega arith)
 
--- what a window still has of a number above its mark
-pub kept_found : {A : Type 0} (w : Windowed A) (n : ℕ) → w.mark < n → kept w n ≡ found w.held w.ring n
+-- the message of a number above its mark that a window still keeps
+pub kept_found : {A : Type 0} (w : WindowHistory A) (n : ℕ) → w.mark < n → kept w n ≡ found w.held w.ring n
 kept_found w n l = cond-true (nat_lt w.mark n) (found w.held w.ring n) None (lt-ltb w.mark n l)
 
--- Once a message is held whose number was not, those in the front before are a front of those in it now
+-- Once a message of a new number is held, the messages that were in the front are a prefix of those in it now
 
 found_more : {A : Type 0} (x : Message A) (held : List (Message A)) (ring : RingId) (n : ℕ) → holds held ring x.number ≡ false
     → holds held ring n ≡ true → found (x ∷ held) ring n ≡ found held ring n
@@ -104,7 +104,7 @@ module _ {A : Type 0} (x : Message A) (held : List (Message A)) (ring : RingId) 
       ∙ sym (up_to_some held ring k y.0 y.1)
       ∙ sym (ap (up_to held ring) e)
 
-  pub front_with : IsFront (in_front held ring) (in_front (x ∷ held) ring)
+  pub front_with : IsListPrefix (in_front held ring) (in_front (x ∷ held) ring)
   front_with =
       let l = front_grows held (x ∷ held) ring (λ n h. holds_more x held ring n h) in
-      subst (λ ys. IsFront ys (in_front (x ∷ held) ring)) (same_up_to (front_of held ring) (omega arith)) (up_to_front (x ∷ held) ring (front_of held ring) l)
+      subst (λ ys. IsListPrefix ys (in_front (x ∷ held) ring)) (same_up_to (front_of held ring) (omega arith)) (up_to_front (x ∷ held) ring (front_of held ring) l)

@@ -1,4 +1,4 @@
--- Numbers in a row that pass a test, and bits that tell which of them do.
+-- Consecutive numbers that pass a test, and bits that say which of them do.
 use Rattle.std.proofs.Common.{◌≡◌, ◌≢◌, ℕ, zero, suc, ◌+◌, ◌-◌, ◌<◌, ◌≤◌, min, Bool, true, false, List, [], ◌∷◌, filter}
 use Rattle.std.proofs.Common.{length, refl, ap, ◌∙◌, sym, inl, inr, arith}
 use Rattle.std.specs.Prelude.{◌&&◌, nat_lt}
@@ -10,7 +10,7 @@ use Rattle.ring_window.specs.Bits.{is_set}
 use Rattle.ring_window.proofs.WordBits.{clear_past}
 use Rattle.ring_recover.specs.Chosen.{is_chosen, chosen, chosen_from, IsFirstSet}
 
--- numbers that don't pass are left out
+-- a number that doesn't pass is left out
 pub passed_over : (p : ℕ → Bool) (first count k : ℕ) → k ≤ count → ((i : ℕ) → i < k → p (first + i) ≡ false)
     → filter p (numbers_from first count) ≡ filter p (numbers_from (first + k) (count - k))
 passed_over p first count zero l h = (let a : first ≡ first + 0 = omega arith in let b : count ≡ count - 0 = omega arith in ap
@@ -24,7 +24,7 @@ passed_over p first (suc count) (suc k) l h =
     ∙ passed_over p (suc first) count k (omega arith) (λ i x. (let e : suc first + i ≡ first + suc i = omega arith in ap p e ∙ h (suc i) (omega arith)))
     ∙ ap (λ n. filter p (numbers_from n (count - k))) a ∙ ap (λ n. filter p (numbers_from (first + suc k) n)) b
 
--- two tests that agree on a row leave the same
+-- two tests that agree on consecutive numbers leave the same numbers
 pub same_on : (p q : ℕ → Bool) (first count : ℕ) → ((i : ℕ) → i < count → p (first + i) ≡ q (first + i))
     → filter p (numbers_from first count) ≡ filter q (numbers_from first count)
 same_on p q first zero h = refl
@@ -35,7 +35,7 @@ same_on p q first (suc count) h =
     ∙ sym (ap q e))) in
     rw (here, rest) refl
 
--- a test of what passes another is a test of both
+-- filtering by two tests is filtering by both at once
 pub both_on : (p q : ℕ → Bool) (xs : List ℕ) → filter p (filter q xs) ≡ filter (λ n. p n && q n) xs
 both_on p q [] = refl
 both_on p q (x ∷ xs) =
@@ -46,11 +46,11 @@ both_on p q (x ∷ xs) =
 
 -- ---- bits
 
--- the bit of a number of the row
+-- the bit of one of the numbers
 pub chosen_at : (after j : ℕ) (words : List ℕ) → is_chosen after words (after + 1 + j) ≡ is_set words j
 chosen_at after j words = (let e : after + 1 + j - (after + 1) ≡ j = omega arith in ap (is_set words) e)
 
--- what the bits say is what a test says
+-- the bits agree with the test
 pub chosen_by : (p : ℕ → Bool) (after : ℕ) (words : List ℕ) → ((j : ℕ) → j < 256 → is_set words j ≡ p (after + 1 + j))
     → chosen after words ≡ filter p (numbers_from (after + 1) window_size)
 chosen_by p after words h = same_on (is_chosen after words) p (after + 1) window_size (λ i l. chosen_at after i words ∙ h i l)
@@ -70,7 +70,7 @@ skipped after words from k f =
     ∙ f.clear (from + i) (omega arith) (omega (arith, f.later))))
     ∙ ap (λ n. filter p (numbers_from n (window_size - from - (k - from)))) a ∙ ap (λ n. filter p (numbers_from (after + 1 + k) n)) b
 
--- none is left
+-- no number is left
 pub chosen_none : (after : ℕ) (words : List ℕ) (from k : ℕ) → IsFirstSet words from k → k ≡ 256 → chosen_from after words from ≡ []
 chosen_none after words from k f e = skipped after words from k f ∙ ap (chosen_from after words) e
 
@@ -87,7 +87,7 @@ chosen_next after words from k f some =
     (numbers_from (suc (after + 1 + k)) (window_size - (k + 1)))) (chosen_at after k words ∙ f.set some)
     ∙ ap (λ c. (after + 1 + k) ∷ filter p (numbers_from c (window_size - (k + 1)))) m
 
--- ---- all of them pass a test, or one does not
+-- ---- all of them pass a test, or one doesn't
 
 pub chosen_pass : (p : ℕ → Bool) (after : ℕ) (words : List ℕ) → ((j : ℕ) → j < 256 → is_set words j ≡ true → p (after + 1 + j) ≡ true)
     → list_all p (chosen after words) ≡ true
@@ -125,7 +125,7 @@ chosen_each p after words h j l c = row p (is_chosen after words) (after + 1) wi
         (λ (xs : List ℕ). list_all p xs ≡ true → list_all p rest ≡ true) (λ d k. (and_parts (p first) (list_all p rest) k).1) (λ d k. k) h in
         ap p e ∙ row p q (suc first) count all i (omega arith) (sym (ap q e) ∙ c)
 
--- as many as there are, from the first on
+-- the count of numbers, from the first on
 pub first_of_row : (first d count : ℕ) → filter (λ n. nat_lt n (first + d)) (numbers_from first count) ≡ numbers_from first (min count d)
 first_of_row first d zero = (let e : 0 ≡ min 0 d = omega arith in ap (numbers_from first) e)
 first_of_row first zero (suc count) =
@@ -141,13 +141,13 @@ first_of_row first (suc d) (suc count) =
     ∙ ap (λ xs. first ∷ xs) (first_of_row (suc first) d count)
     ∙ ap (numbers_from first) m
 
--- past the last bit none is set
+-- no bit past the last is set
 pub set_inside : (words : List ℕ) (j : ℕ) → length words ≡ 4 → is_set words j ≡ true → j < 256
 set_inside words j n h = elim (cases_lt j 256) [ inl l ↦ l | inr g ↦ absurd (true≢false (sym h ∙ clear_past words j n g)) ]
 
--- ---- a bit more
+-- ---- one more bit
 
--- the bits of those so far that pass a test; P says of which tests we speak
+-- the bits of the numbers so far that pass a test; P says which tests are meant
 pub such_more : (P : (ℕ → Bool) → Type 0) (old new : List ℕ) (k : ℕ) → ((t : ℕ → Bool) → P t → is_set new k ≡ t k) → ((i : ℕ) → i ≢ k
     → is_set new i ≡ is_set old i)
     → ((t : ℕ → Bool) → P t → (i : ℕ) → i < k → is_set old i ≡ t i) → (t : ℕ → Bool) → P t → (i : ℕ) → i < k + 1 → is_set new i ≡ t i

@@ -13,20 +13,20 @@ use Rattle.ring_commit.specs.Tokens.{CommitEntry}
 use Rattle.ring_window.specs.Messages.{Message}
 use Rattle.ring_window.specs.Bits.{is_set}
 use Rattle.ring_window.specs.Held.{found, holds, highest, front_of}
-use Rattle.ring_window.specs.Windows.{Windowed, kept}
+use Rattle.ring_window.specs.Windows.{WindowHistory, kept}
 use Rattle.ring_window.proofs.HeldFront.{highest_covers}
 use Rattle.ring_window.proofs.Windows.{found_none}
 use Rattle.ring_commit.specs.Reports.{safe_of, none_behind, is_sound}
 use Rattle.ring_recover.specs.Chosen.{chosen}
 use Rattle.ring_recover.specs.Plans.{Plan, plan_of, plan_if_sound, plan_from, least, low, safe, is_known, known_above_safe}
 use Rattle.ring_recover.specs.Wrapping.{is_wrap_of, is_wrapped}
-use Rattle.ring_recover.specs.Recovering.{Recovering, with_seen, old_of, IsPlanKept, is_from}
-use Rattle.ring_recover.specs.Deliveries.{is_complete, sent_by_mate, is_from_mate}
+use Rattle.ring_recover.specs.RecoveryState.{RecoveryState, with_seen, old_of, IsPlanKept, is_from}
+use Rattle.ring_recover.specs.Deliveries.{is_complete, is_from_transitional_member_if_there, is_from_transitional_member}
 use Rattle.ring_recover.proofs.NumbersPassing.{chosen_by, chosen_each}
 
 -- From a commit token
 
--- what a member's entry gives
+-- the plan that a member's entry gives
 sound_is : (k : CommitToken) (o : Option CommitEntry) (old : RingId) → option_map (λ (e : CommitEntry). e.old) o ≡ Some old
     → plan_if_sound k o ≡ (if is_sound old k.entries then Some (plan_of old k.members k.entries) else None)
 sound_is k None old e = absurd (let q : ⊥ = cc in q)
@@ -44,7 +44,7 @@ planned me k old h =
           (λ (x : CommitEntry). x.old) o) None e) ∙ h in let r : ⊥ = cc in r)
     ]
 
--- where none is behind a mark, the least front is not, if there is one
+-- where no front is below a mark, the least front isn't, if there is one
 least_behind : (mark : ℕ) (e : CommitEntry) (reports : List CommitEntry) → none_behind mark (e ∷ reports) ≡ true
     → mark ≤ least (map (λ (x : CommitEntry). x.front) (e ∷ reports))
 least_behind mark e [] h = leb-true mark e.front (and_parts (nat_le mark e.front) true h).0
@@ -59,7 +59,7 @@ pub safe_low : (reports : List CommitEntry) → none_behind (safe_of reports) re
 safe_low [] h = omega arith
 safe_low (e ∷ reports) h = least_behind (safe_of (e ∷ reports)) e reports h
 
--- What is kept
+-- The fields that the code keeps
 
 or_swap : (a b : Bool) → (a || b) ≡ (b || a)
 or_swap true true = refl
@@ -67,15 +67,15 @@ or_swap true false = refl
 or_swap false true = refl
 or_swap false false = refl
 
-module _ {A : Type 0} (r : Recovering A) (x : Message A) (old : RingId) (mates least_one high front : ℕ) (known wrapped more : List ℕ) (ended now : Bool) where
-  pub kept_seen : IsPlanKept r old mates least_one high front known wrapped ended
+module _ {A : Type 0} (r : RecoveryState A) (x : Message A) (old : RingId) (transitional_members least_one high front : ℕ) (known wrapped more : List ℕ) (ended now : Bool) where
+  pub kept_seen : IsPlanKept r old transitional_members least_one high front known wrapped ended
       → ((j : ℕ) → j < 256 → is_set more j ≡ (is_set wrapped j || is_wrap_of old (high + 1 + j) x.payload))
       → now ≡ (ended || (is_end x.payload && (x.sender == r.me)))
-      → IsPlanKept (with_seen r x) old mates least_one high front known more now
+      → IsPlanKept (with_seen r x) old transitional_members least_one high front known more now
   kept_seen k w e =
       record {
         old_is = k.old_is;
-        mates_is = k.mates_is;
+        transitional_members_is = k.transitional_members_is;
         least_is = k.least_is;
         safe_is = k.safe_is;
         low_is = k.low_is;
@@ -89,17 +89,17 @@ module _ {A : Type 0} (r : Recovering A) (x : Message A) (old : RingId) (mates l
             e ∙ or_swap ended (is_end x.payload && (x.sender == r.me)) ∙ ap (λ b. (is_end x.payload && (x.sender == r.me)) || b) k.ended_is;
       }
 
--- what is known above the greatest safe mark
-pub kept_known : {A : Type 0} (r : Recovering A) (old : RingId) (mates least_one high front : ℕ) (known wrapped : List ℕ) (ended : Bool)
-    → IsPlanKept r old mates least_one high front known wrapped ended
+-- the known numbers above the greatest safe mark
+pub kept_known : {A : Type 0} (r : RecoveryState A) (old : RingId) (transitional_members least_one high front : ℕ) (known wrapped : List ℕ) (ended : Bool)
+    → IsPlanKept r old transitional_members least_one high front known wrapped ended
     → chosen high known ≡ known_above_safe r.plan
-kept_known r old mates least_one high front known wrapped ended k =
+kept_known r old transitional_members least_one high front known wrapped ended k =
     ap (λ n. chosen n known) k.safe_is ∙ chosen_by (is_known r.plan) (safe r.plan) known (λ j l. k.known_is j l
     ∙ ap (λ n. is_known r.plan (n + 1 + j)) k.safe_is)
 
--- What the window of the old ring holds
+-- The messages in the old ring's window
 
-sent_by : {A : Type 0} (p : Plan) (o : Option (Message A)) → is_from p.mates o ≡ sent_by_mate p o
+sent_by : {A : Type 0} (p : Plan) (o : Option (Message A)) → is_from p.transitional_members o ≡ is_from_transitional_member_if_there p o
 sent_by p None = refl
 sent_by p (Some x) = refl
 
@@ -110,7 +110,7 @@ pub held_beyond : {A : Type 0} (held : List (Message A)) (ring : RingId) (after 
     → false ≡ holds held ring (after + 1 + offset)
 held_beyond held ring after offset l = sym (not_held held ring (after + 1 + offset) (omega arith))
 
-pub from_beyond : {A : Type 0} (senders : ℕ) (w : Windowed A) (after offset : ℕ) → highest w.held w.ring ≤ after + offset
+pub from_beyond : {A : Type 0} (senders : ℕ) (w : WindowHistory A) (after offset : ℕ) → highest w.held w.ring ≤ after + offset
     → false ≡ is_from senders (kept w (after + 1 + offset))
 from_beyond senders w after offset l =
     let n = after + 1 + offset in
@@ -128,20 +128,20 @@ not_all p after words j l s f = elim (cases_Bool (list_all p (chosen after words
   | inr t ↦ sym t
 ]
 
-module _ {A : Type 0} (r : Recovering A) (old : RingId) (mates least_one high front : ℕ) (known wrapped : List ℕ) (ended : Bool)
-    (k : IsPlanKept r old mates least_one high front known wrapped ended) where
+module _ {A : Type 0} (r : RecoveryState A) (old : RingId) (transitional_members least_one high front : ℕ) (known wrapped : List ℕ) (ended : Bool)
+    (k : IsPlanKept r old transitional_members least_one high front known wrapped ended) where
   pub kept_bits : (j : ℕ) → j < 256 → is_set known j ≡ is_known r.plan (safe r.plan + 1 + j)
   kept_bits j l = k.known_is j l ∙ ap (λ n. is_known r.plan (n + 1 + j)) k.safe_is
 
   pub kept_sound : safe r.plan ≤ low r.plan
   kept_sound = (let a = k.sound in let b = k.safe_is in let c = k.low_is in omega arith)
 
-  module _ (w : Windowed A) (ring : w.ring ≡ r.plan.old) where
+  module _ (w : WindowHistory A) (ring : w.ring ≡ r.plan.old) where
     pub complete_front : high ≤ front_of w.held w.ring → list_all (holds w.held w.ring) (chosen high known) ≡ is_complete r.plan w.held
     complete_front l =
         let all : list_all (holds w.held w.ring) (chosen high known) ≡ list_all (holds w.held r.plan.old) (known_above_safe r.plan) =
         ap (λ (o : RingId). list_all (holds w.held o) (chosen high known)) ring
-        ∙ ap (list_all (holds w.held r.plan.old)) (kept_known r old mates least_one high front known wrapped ended k) in
+        ∙ ap (list_all (holds w.held r.plan.old)) (kept_known r old transitional_members least_one high front known wrapped ended k) in
         let reached : nat_le (safe r.plan) (front_of w.held r.plan.old) ≡ true = le-leb (safe r.plan) (front_of w.held r.plan.old) (let a = ap
         (front_of w.held) ring in let b = k.safe_is in omega arith) in
         all ∙ sym (ap (λ b. b && list_all (holds w.held r.plan.old) (known_above_safe r.plan)) reached)
@@ -152,19 +152,19 @@ module _ {A : Type 0} (r : Recovering A) (old : RingId) (mates least_one high fr
         (front_of w.held) ring in let b = k.safe_is in omega arith) in
         sym (ap (λ b. b && list_all (holds w.held r.plan.old) (known_above_safe r.plan)) behind)
 
-    -- once all that is known is held, nothing known is above the highest
+    -- once all known numbers are held, no known number is above the highest held one
     pub known_reached : is_complete r.plan w.held ≡ true → (j : ℕ) → j < 256 → is_set known j ≡ true → nat_lt j (highest w.held w.ring - high) ≡ true
     known_reached c j l s =
         let all = (and_parts (nat_le (safe r.plan) (front_of w.held r.plan.old)) (list_all (holds w.held r.plan.old) (known_above_safe r.plan)) c).1 in
         let some : holds w.held r.plan.old (high + 1 + j) ≡ true = chosen_each (holds w.held r.plan.old) high known (ap (list_all
-        (holds w.held r.plan.old)) (kept_known r old mates least_one high front known wrapped ended k) ∙ all) j l s in
+        (holds w.held r.plan.old)) (kept_known r old transitional_members least_one high front known wrapped ended k) ∙ all) j l s in
         let top : high + 1 + j ≤ highest w.held r.plan.old = highest_covers w.held r.plan.old (high + 1 + j) some in
         lt-ltb j (highest w.held w.ring - high) (let a = ap (highest w.held) ring in omega arith)
 
-    -- a message past the mark is of a mate where one of these sent it
-    pub from_mate : w.mark ≤ high → (j : ℕ) → is_from mates (kept w (high + 1 + j)) ≡ is_from_mate r.plan w.held (high + 1 + j)
+    -- a message past the mark was sent by a transitional member where one of these sent it
+    pub from_mate : w.mark ≤ high → (j : ℕ) → is_from transitional_members (kept w (high + 1 + j)) ≡ is_from_transitional_member r.plan w.held (high + 1 + j)
     from_mate m j =
-        ap (is_from mates) (cond-true (nat_lt w.mark (high + 1 + j)) (found w.held w.ring (high + 1 + j)) None (lt-ltb w.mark (high + 1 + j)
+        ap (is_from transitional_members) (cond-true (nat_lt w.mark (high + 1 + j)) (found w.held w.ring (high + 1 + j)) None (lt-ltb w.mark (high + 1 + j)
         (omega arith)) ∙ ap (λ (o : RingId). found w.held o (high + 1 + j)) ring)
-        ∙ ap (λ (n : ℕ). is_from n (found w.held r.plan.old (high + 1 + j))) k.mates_is
+        ∙ ap (λ (n : ℕ). is_from n (found w.held r.plan.old (high + 1 + j))) k.transitional_members_is
         ∙ sent_by r.plan (found w.held r.plan.old (high + 1 + j))

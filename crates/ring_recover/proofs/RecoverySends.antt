@@ -1,4 +1,5 @@
--- What a node in Recovery sends of its old ring: the first of it is what `to_wrap` names, and once a message that wraps that is seen, the others are left.
+-- The payloads of a node in Recovery: the first wraps the number that `to_wrap` returns, and once that Wrapped is
+-- seen, the others are left.
 use Rattle.std.proofs.Common.{◌≡◌, ◌≢◌, ℕ, zero, suc, ◌+◌, ◌-◌, ◌<◌, ◌≤◌, Bool, true, false, List, [], ◌∷◌, ◌++◌}
 use Rattle.std.proofs.Common.{filter, filter_map, Option, Some, None, refl, ap, ◌∙◌, sym, subst, inl, inr, arith}
 use mathlib.Core.Path.{fun_ext}
@@ -15,7 +16,7 @@ use Rattle.ring_window.specs.Messages.{Message}
 use Rattle.ring_window.specs.Held.{is_numbered, found, of_ring, highest}
 use Rattle.ring_recover.specs.Plans.{Plan, low}
 use Rattle.ring_recover.specs.Wrapping.{is_wrap_of, is_wrapped, wrap, wrap_content, above_low, has_own_end, wraps_and_end}
-use Rattle.ring_recover.specs.Recovering.{Recovering, with_seen, first_number, next_to_wrap, is_users}
+use Rattle.ring_recover.specs.RecoveryState.{RecoveryState, with_seen, first_number, next_to_wrap, is_users}
 use Rattle.ring_recover.proofs.HandedNext.{found_number, is_left, row, next_from, next_hit, next_skip}
 
 -- a message of the new ring that wraps one of the old
@@ -46,12 +47,12 @@ no_user_none x other = by_kind x.payload other
     by_kind (Pack pack) h = absurd cc
     by_kind (Snap snap) h = absurd cc
 
--- those of a row that none wraps, as they are sent
-abbrev pub sends_of : {A : Type 0} → Recovering A → List (Message A) → List (Payload A)
+-- the messages of consecutive numbers that none wraps, as they are sent
+abbrev pub sends_of : {A : Type 0} → RecoveryState A → List (Message A) → List (Payload A)
 sends_of r xs = filter_map wrap (filter (λ (x : Message _). not (is_wrapped r.seen r.plan.old x.number)) xs)
 
-module _ {A : Type 0} (r : Recovering A) where
-  -- what is wrapped, and what is no user's, is not sent
+module _ {A : Type 0} (r : RecoveryState A) where
+  -- a message that is wrapped already, or that is no user message, isn't sent
   not_sent : (x : Message A) (xs : List (Message A)) → (is_user x.payload && not (is_wrapped r.seen r.plan.old x.number)) ≡ false
       → sends_of r (x ∷ xs) ≡ sends_of r xs
   not_sent x xs h =
@@ -71,22 +72,22 @@ module _ {A : Type 0} (r : Recovering A) where
       ap (filter_map wrap) (cond-true (not (is_wrapped r.seen r.plan.old x.number)) (x ∷ rest) rest new)
       ∙ ap (λ (o : Option (Payload A)). cons_option o (filter_map wrap rest)) w
 
--- what is next, as a message of the old ring and as it is sent; and what is sent once that was seen
-pub record IsHanded {A : Type 0} (r : Recovering A) (m : Message A) (held xs : List (Message A)) (n : ℕ) : Type 0 where
+-- the next message of the old ring, and its Wrapped; and the payloads that are left once that was seen
+pub record IsHanded {A : Type 0} (r : RecoveryState A) (m : Message A) (held xs : List (Message A)) (n : ℕ) : Type 0 where
   pub message : Message A
   pub payload : Payload A
   pub is_found : found held r.plan.old n ≡ Some message
   pub is_wrap : wrap message ≡ Some payload
   pub then_others : sends_of r xs ≡ payload ∷ sends_of (with_seen r m) xs
 
-module _ {A : Type 0} (r : Recovering A) (held : List (Message A)) (m : Message A) (n : ℕ) (wraps : Wraps m r.plan.old n) where
+module _ {A : Type 0} (r : RecoveryState A) (held : List (Message A)) (m : Message A) (n : ℕ) (wraps : Wraps m r.plan.old n) where
   seen_this : not (is_wrapped (m ∷ r.seen) r.plan.old n) ≡ false
   seen_this = ap (λ b. not (b || is_wrapped r.seen r.plan.old n)) (wraps n ∙ eq-eqb n n refl)
 
   seen_other : (k : ℕ) → k ≢ n → is_wrapped (m ∷ r.seen) r.plan.old k ≡ is_wrapped r.seen r.plan.old k
   seen_other k other = ap (λ b. b || is_wrapped r.seen r.plan.old k) (wraps k ∙ ne_eqb n k (λ e. other (sym e)))
 
-  -- past it nothing changes
+  -- for numbers past it nothing changes
   same_by : (o : Option (Message A)) (first : ℕ) (rest : List (Message A)) → found held r.plan.old first ≡ o → first ≢ n
       → sends_of (with_seen r m) rest ≡ sends_of r rest
       → sends_of (with_seen r m) (cons_option o rest) ≡ sends_of r (cons_option o rest)
@@ -169,11 +170,12 @@ module _ {A : Type 0} (r : Recovering A) (held : List (Message A)) (m : Message 
             (omega (arith, i.0), later_by (found held r.plan.old first) first (row r held (suc first) count) refl f (λ e. omega (arith, i.0)) i.1)
       ]
 
-  -- what `to_wrap` gives is the first of what is sent; once a message that wraps it is seen, the others are
+  -- the number that `to_wrap` returns is that of the first payload; once a Wrapped of it is seen, the other payloads
+  -- are left
   pub handed : next_to_wrap r held ≡ Some n → IsHanded r m held (above_low r.plan held) n
   handed h = (handed_row (low r.plan + 1) (highest held r.plan.old - low r.plan) h).1
 
-module _ {A : Type 0} (r : Recovering A) (held : List (Message A)) where
+module _ {A : Type 0} (r : RecoveryState A) (held : List (Message A)) where
   none_by : (o : Option (Message A)) (first : ℕ) (rest : List (Message A)) → found held r.plan.old first ≡ o
       → (is_users o && not (is_wrapped r.seen r.plan.old first)) ≡ false
       → sends_of r rest ≡ [] → sends_of r (cons_option o rest) ≡ []
@@ -190,15 +192,15 @@ module _ {A : Type 0} (r : Recovering A) (held : List (Message A)) where
             (next_skip r held first count f) ∙ h))
       ]
 
-  -- where it gives none, nothing is left to be wrapped
+  -- where `to_wrap` returns none, nothing is left to wrap
   pub handed_none : next_to_wrap r held ≡ None → sends_of r (above_low r.plan held) ≡ []
   handed_none h = none_row (low r.plan + 1) (highest held r.plan.old - low r.plan) h
 
--- All that a node in Recovery would send, as what is kept of Recovery tells it
-abbrev pub offered : {A : Type 0} → Recovering A → List (Message A) → List (Payload A)
+-- The payloads of a node in Recovery, from the state that it keeps
+abbrev pub offered : {A : Type 0} → RecoveryState A → List (Message A) → List (Payload A)
 offered r held = sends_of r (above_low r.plan held) ++ (if has_own_end r.me r.seen then [] else End ∷ [])
 
--- it is what the definition says, where all messages of the new ring were seen
+-- they are those of the definition, where all messages of the new ring were seen
 pub offered_all : {A : Type 0} (me : ℕ) (p : Plan) (running : RingId) (held : List (Message A)) → offered (record {
   me = me;
   plan = p;
@@ -207,7 +209,7 @@ pub offered_all : {A : Type 0} (me : ℕ) (p : Plan) (running : RingId) (held : 
 }) held ≡ wraps_and_end me p running held
 offered_all me p running held = refl
 
--- what is found is of the ring
+-- a message that is found is of the ring
 found_ring : {A : Type 0} (held : List (Message A)) (ring : RingId) (n : ℕ) (x : Message A) → found held ring n ≡ Some x → same_ring x.ring ring ≡ true
 found_ring [] ring n x e = absurd cc
 found_ring {A} (y ∷ held) ring n x e =
@@ -217,7 +219,7 @@ found_ring {A} (y ∷ held) ring n x e =
       | inr h ↦ found_ring held ring n x (sym (cond-false (is_numbered ring n y) (Some y) (found held ring n) h) ∙ e)
     ]
 
--- what wraps a message says its ring and number, and is no End
+-- a Wrapped carries the ring and number of its message, and is no End
 module _ {A : Type 0} (x : Message A) where
   pub wrap_says : (q p : Payload A) → wrap_content x (content_of q) ≡ Some p → (old : RingId) (k : ℕ)
       → (is_wrap_of old k p ≡ (same_ring x.ring old && (x.number == k))) × (is_end p ≡ false)
@@ -229,8 +231,8 @@ module _ {A : Type 0} (x : Message A) where
   wrap_says (Pack pack) p h old k = (let s = same_Some _ p h in (sym (ap (is_wrap_of old k) s), sym (ap is_end s)))
   wrap_says (Snap snap) p h old k = (let s = same_Some _ p h in (sym (ap (is_wrap_of old k) s), sym (ap is_end s)))
 
-module _ {A : Type 0} (r : Recovering A) (held : List (Message A)) where
-  -- first the message of the number that `to_wrap` names, and once it is seen wrapped, the others
+module _ {A : Type 0} (r : RecoveryState A) (held : List (Message A)) where
+  -- first the message of the number that `to_wrap` returns, and once it is seen wrapped, the others
   pub offered_next : (n : ℕ) (x m : Message A) (p : Payload A) → next_to_wrap r held ≡ Some n → found held r.plan.old n ≡ Some x → wrap x ≡ Some p
       → m.payload ≡ p
       → offered r held ≡ p ∷ offered (with_seen r m) held
@@ -249,17 +251,17 @@ module _ {A : Type 0} (r : Recovering A) (held : List (Message A)) where
       ap (λ (ps : List (Payload A)). ps ++ (if has_own_end r.me r.seen then [] else End ∷ [])) (i.then_others ∙ ap (λ (q : Payload A). q ∷ others) payload)
       ∙ ap (λ b. p ∷ (others ++ (if b then [] else End ∷ []))) (sym ended)
 
-  -- where nothing is left to be wrapped, one End
+  -- where nothing is left to wrap, one End
   pub offered_end : next_to_wrap r held ≡ None → has_own_end r.me r.seen ≡ false → offered r held ≡ End ∷ []
   offered_end none not_yet = ap (λ (ps : List (Payload A)). ps ++ (if has_own_end r.me r.seen then [] else End ∷ [])) (handed_none r held none)
       ∙ cond-false (has_own_end r.me r.seen) [] (End ∷ []) not_yet
 
-  -- and nothing once that is seen
+  -- and nothing once that End is seen
   pub offered_none : next_to_wrap r held ≡ None → has_own_end r.me r.seen ≡ true → offered r held ≡ []
   offered_none none ended = ap (λ (ps : List (Payload A)). ps ++ (if has_own_end r.me r.seen then [] else End ∷ [])) (handed_none r held none)
       ∙ cond-true (has_own_end r.me r.seen) [] (End ∷ []) ended
 
-  -- an End that is seen wraps nothing
+  -- an End wraps nothing
   pub next_after_end : (m : Message A) → m.payload ≡ End → next_to_wrap (with_seen r m) held ≡ next_to_wrap r held
   next_after_end m e =
       ap (λ (t : ℕ → Bool). first_number (filter (λ (x : Message A). is_user x.payload) (filter (λ (x : Message A). not (t x.number)) (above_low r.plan held))))

@@ -1,4 +1,4 @@
--- What a window holds, and its bits, passed on to the ring core.
+-- Lemmas about what a window holds, and about its bits, re-exported for the ring core.
 pub use Rattle.ring_window.proofs.HeldFront.{front_is, highest_covers, front_only, front_grows}
 pub use Rattle.ring_window.proofs.Finding.{holds-found, found-holds, holds-more}
 pub use Rattle.ring_window.proofs.Bits.{held_bit}

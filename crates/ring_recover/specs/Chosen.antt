@@ -1,25 +1,26 @@
--- Numbers as bits: of the 256 after a number, those whose bit is set.
+-- Sets of numbers as bits: of the 256 numbers after a given one, those whose bit is set.
 use Rattle.std.specs.Prelude.{◌≡◌, ℕ, ◌+◌, ◌-◌, ◌^◌, ◌<◌, ◌≤◌, ◌≢◌, Bool, true, false, List, filter}
 use Rattle.ring_base.specs.Numbers.{window_size, numbers_from}
 use Rattle.ring_window.specs.Bits.{is_set}
 
--- four words of 64 bits, the least bit of the first for the number after + 1
+-- the bit of n is set; there are four words of 64 bits, and the least bit of the first is that of the number after +
+-- 1
 abbrev pub is_chosen : ℕ → List ℕ → ℕ → Bool
 is_chosen after words n = is_set words (n - (after + 1))
 
--- those from an offset on, ascending
+-- the numbers of the set from an offset on, ascending
 abbrev pub chosen_from : ℕ → List ℕ → ℕ → List ℕ
 chosen_from after words offset = filter (is_chosen after words) (numbers_from (after + 1 + offset) (window_size - offset))
 
--- the numbers, ascending
+-- the numbers of the set, ascending
 abbrev pub chosen : ℕ → List ℕ → List ℕ
 chosen after words = filter (is_chosen after words) (numbers_from (after + 1) window_size)
 
--- each can be told as a word of 64 bits
+-- each number of the set fits a word of 64 bits
 abbrev pub AreWords : ℕ → List ℕ → Type 0
 AreWords after words = (j : ℕ) → is_set words j ≡ true → after + 1 + j < 2 ^ 64
 
--- from an offset on, the first whose bit is set, 256 where there is none
+-- k is the least offset from `from` on whose bit is set, 256 where there is none
 pub record IsFirstSet (words : List ℕ) (from k : ℕ) : Type 0 where
   pub later : from ≤ k
   pub inside : k ≤ window_size

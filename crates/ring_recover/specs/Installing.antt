@@ -1,5 +1,6 @@
--- When recovery is over, Recovery, rule 7 of docs/PROTOCOL.md: every member's End is in the front, and either the safe
--- mark covers the last End or the front holds what a member sent after installing.
+-- When recovery is over: every member's End is in the front, and either the safe mark covers the last End or a user
+-- message is in the front.
+-- Rules: Recovery 7
 use Rattle.std.specs.Prelude.{ℕ, Bool, ◌&&◌, ◌||◌, ◌==◌, nat_le, List, map, filter, filter_map}
 use Rattle.std.specs.List.{list_any, list_all}
 use Rattle.ring_base.specs.Numbers.{numbers_from, greatest}
@@ -17,11 +18,11 @@ in_front held ring = filter_map (found held ring) (numbers_from 1 (front_of held
 abbrev pub ends : {A : Type 0} → List (Message A) → List (Message A)
 ends xs = filter (λ (x : Message _). is_end x.payload) xs
 
--- a processor's End is among them
+-- an End of processor i is among them
 abbrev pub has_end_of : {A : Type 0} → List (Message A) → ℕ → Bool
 has_end_of xs i = list_any (λ (x : Message _). x.sender == i) (ends xs)
 
--- every member's End
+-- an End of every member is among them
 abbrev pub all_ended : {A : Type 0} → List (Message A) → ℕ → Bool
 all_ended xs members = list_all (has_end_of xs) (elements members)
 
@@ -29,14 +30,15 @@ all_ended xs members = list_all (has_end_of xs) (elements members)
 abbrev pub is_covered : {A : Type 0} → List (Message A) → ℕ → Bool
 is_covered xs mark = nat_le (greatest (map (λ (x : Message _). x.number) (ends xs))) mark
 
--- a users' message is among them
+-- a user message is among them
 abbrev pub has_user : {A : Type 0} → List (Message A) → Bool
 has_user xs = list_any (λ (x : Message _). is_user x.payload) xs
 
--- by the messages in the front: every member's End is there, and the mark covers the last, or a users' message is there, too
+-- the ring may be installed, by the messages in the front: every member's End is among them, and the mark covers the
+-- last End or a user message is among them
 abbrev pub is_ready_by : {A : Type 0} → List (Message A) → ℕ → ℕ → Bool
 is_ready_by xs members mark = all_ended xs members && (is_covered xs mark || has_user xs)
 
--- the ring of these members may be installed
+-- a node with these messages and this safe mark may install the ring of these members
 abbrev pub is_ready : {A : Type 0} → List (Message A) → RingId → ℕ → ℕ → Bool
 is_ready held ring members mark = is_ready_by (in_front held ring) members mark

@@ -1,7 +1,7 @@
 pub mod Chosen
 pub mod Plans
 pub mod Wrapping
-pub mod Recovering
+pub mod RecoveryState
 pub mod Installing
 pub mod Ending
 pub mod Deliveries

@@ -1,15 +1,21 @@
-//! What a change of the ring delivers of the old one.
+//! The old ring's messages that a node delivers when a new ring is installed.
+//! Rules: Recovery 8 and 9
 
 use crate::numbers::Numbers;
 
-/// The numbers of the old ring that are still delivered, each list ascending.
+/// The numbers of the old ring's messages that a node still delivers at installation, in three lists.
+/// Each list is ascending and has at most 256 numbers. No number is in two of them.
+/// Rules: Recovery 8 and 9
 #[derive(Drop)]
 pub struct Delivery {
-    /// Those safe in the old regular configuration: above the least safe mark that a member from the old ring
-    /// reported, up to the greatest.
+    /// The numbers above the least safe mark that a transitional member reported, up to the greatest. They are safe in
+    /// the old regular configuration.
     pub regular: Numbers,
-    /// Those above, up to the first number that no member from the old ring holds.
+    /// The numbers above the greatest reported safe mark and below the gap. They are delivered in the transitional
+    /// configuration.
+    /// The gap is the least number, from 1 on, that no transitional member reported as held.
     pub transitional: Numbers,
-    /// Those past that number, of senders that come from the old ring too.
+    /// The numbers above the gap whose messages a transitional member sent. They are delivered in the transitional
+    /// configuration too.
     pub past_gap: Numbers,
 }

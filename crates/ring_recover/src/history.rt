@@ -1,26 +1,26 @@
-//! What a node saw, as contracts see it.
+//! The messages that a node saw, as a ghost list that only contracts read.
 
 ghost use Rattle.std.specs.Prelude.{◌≡◌, [], ◌∷◌, ◌++◌};
 
-use ring_base::{Past, past_of};
+use ring_base::{Ghost, ghost_of};
 
-/// Nothing.
-pub(crate) fn nothing_seen<M>() -> Past<[M; 0]>
+/// Returns the empty list.
+pub(crate) fn nothing_seen<M>() -> Ghost<[M; 0]>
     ensures { result.value ≡ [] }
 {
-    past_of(&())
+    ghost_of(&())
 }
 
-/// One message more, as the first.
-pub(crate) fn one_before<M>(past: &Past<[M; 0]>, message: &M) -> Past<[M; 0]>
-    ensures { result.value ≡ message.now ∷ past.now.value }
+/// Returns the list with a message added at its head.
+pub(crate) fn one_before<M>(history: &Ghost<[M; 0]>, message: &M) -> Ghost<[M; 0]>
+    ensures { result.value ≡ message.now ∷ history.now.value }
 {
-    past_of(&(past, message))
+    ghost_of(&(history, message))
 }
 
-/// One message more, as the last.
-pub(crate) fn one_after<M>(past: &Past<[M; 0]>, message: &M) -> Past<[M; 0]>
-    ensures { result.value ≡ past.now.value ++ message.now ∷ [] }
+/// Returns the list with a message added at its end.
+pub(crate) fn one_after<M>(history: &Ghost<[M; 0]>, message: &M) -> Ghost<[M; 0]>
+    ensures { result.value ≡ history.now.value ++ message.now ∷ [] }
 {
-    past_of(&(past, message))
+    ghost_of(&(history, message))
 }

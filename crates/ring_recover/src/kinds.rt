@@ -1,4 +1,5 @@
-//! Whose messages they are.
+//! Distinguishes the payloads of users from the payloads of recovery.
+//! Rules: Recovery 4
 
 ghost use Rattle.std.specs.Prelude.{◌≡◌};
 ghost use Rattle.ring_window.specs.Payloads.{is_user, is_end};
@@ -6,7 +7,9 @@ ghost use Rattle.ring_window.specs.Payloads.{is_user, is_end};
 use ring_window::Payload;
 use std::alloc::Allocator;
 
-/// Whether the payload is a user's: what clients and the log hand over, and not what recovery sends for itself.
+/// Returns whether the payload is a user's: a Call, a Pack, a Head, a Part or a Snap.
+/// Wrapped and End belong to recovery.
+/// Rules: Recovery 4
 pub fn is_user<A: Allocator + Copy>(payload: &Payload<A>) -> bool
     ensures { result ≡ is_user payload.now }
 {
@@ -20,7 +23,8 @@ pub fn is_user<A: Allocator + Copy>(payload: &Payload<A>) -> bool
     }
 }
 
-/// Whether the payload is an End.
+/// Returns whether the payload is an End, by which a member says that it has wrapped all that it had to wrap.
+/// Rules: Recovery 4
 pub(crate) fn is_end<A: Allocator + Copy>(payload: &Payload<A>) -> bool
     ensures { result ≡ is_end payload.now }
 {

@@ -1,5 +1,7 @@
-//! Recovery: what members that come from one old ring still hand each other of it, when the new ring may be
-//! installed, and what each of them delivers before it.
+//! Recovery: which messages of their old ring the transitional members pass on to each other, when the new ring may
+//! be installed, and what each of them delivers of the old one at installation.
+//! Transitional members are the members of a new ring that come from one old ring.
+//! Rules: Recovery 1, 2, 4 to 9 and 11
 #![tactic(auto)]
 
 mod delivery;
@@ -18,7 +20,7 @@ pub use delivery::Delivery;
 pub use ends::Ends;
 pub use kinds::is_user;
 pub use laws::{finish_law, plan_law};
-pub use numbers::{Numbers, NumbersLeft};
+pub use numbers::{NumberIterator, Numbers};
 pub use plan::{Plan, Plans};
 pub use ring_commit::Configuration;
 pub use ring_window::{bits_law, front_law};

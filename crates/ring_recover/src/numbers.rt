@@ -1,4 +1,4 @@
-//! Numbers of a window, in place.
+//! Sets of numbers of a window, stored as bits.
 
 ghost use Rattle.std.specs.Prelude.{◌≡◌, ℕ, ◌+◌, ◌-◌, ◌^◌, ◌<◌, ◌≤◌, true};
 ghost use Rattle.std.specs.Iterator.{YieldsFirst, item_count};
@@ -8,7 +8,8 @@ ghost use Rattle.ring_recover.specs.Chosen.{chosen, AreWords};
 use crate::offsets::{COUNT, Offsets};
 use std::marker::Model;
 
-/// Some of the 256 numbers after a number. Contracts see them as an ascending list.
+/// A set of some of the 256 numbers after a given number, perhaps empty. Contracts see it as an ascending list.
+/// Rules: Recovery 8
 #[derive(Drop)]
 pub struct Numbers {
     after: u64,
@@ -27,7 +28,7 @@ impl Model for Numbers {
 }
 
 impl Numbers {
-    /// Those at these offsets from the next number on.
+    /// Creates the set of the numbers `after` + 1 + j, for the offsets j of `offsets`.
     pub(crate) fn new(after: u64, offsets: Offsets) -> Numbers
         requires { AreWords after offsets.words }
         ensures { result ≡ chosen after offsets.words }
@@ -35,11 +36,12 @@ impl Numbers {
         Numbers { after, offsets }
     }
 
-    /// The numbers, ascending.
-    pub fn iter(&self) -> NumbersLeft
+    /// Returns an iterator over the numbers of the set, in ascending order, each once.
+    /// Rules: Recovery 8
+    pub fn iter(&self) -> NumberIterator
         ensures { result ≡ self.now }
     {
-        NumbersLeft {
+        NumberIterator {
             after: self.after,
             offsets: self.offsets,
             offset: 0,
@@ -47,15 +49,16 @@ impl Numbers {
     }
 }
 
-/// Gives numbers in ascending order. Contracts see the list of those that are left.
+/// An iterator over the numbers of a `Numbers`, in ascending order. Contracts see the list of the numbers not yet
+/// yielded.
 #[derive(Drop)]
-pub struct NumbersLeft {
+pub struct NumberIterator {
     after: u64,
     offsets: Offsets,
     offset: usize,
 }
 
-impl Model for NumbersLeft {
+impl Model for NumberIterator {
     ghost use Rattle.std.specs.Prelude.{ℕ, List, ◌≤◌};
     ghost use Rattle.ring_base.specs.Numbers.{window_size};
     ghost use Rattle.ring_recover.specs.Chosen.{chosen_from, AreWords};
@@ -67,7 +70,7 @@ impl Model for NumbersLeft {
     ghost invariant = { λ n. (n.offset ≤ window_size) × AreWords n.after n.offsets.words };
 }
 
-impl Iterator for NumbersLeft {
+impl Iterator for NumberIterator {
     type Item = u64;
 
     ghost next_gives = { YieldsFirst (λ numbers. numbers) };

@@ -1,31 +1,32 @@
-//! A bit for each of 256 numbers in a row.
+//! A bit for each of 256 consecutive numbers.
 
 ghost use Rattle.std.specs.Prelude.{◌≡◌, ◌≢◌, ℕ, ◌<◌, ◌≤◌, Bool, true, false};
 ghost use Rattle.ring_window.specs.Bits.{is_set, IsFirstClear};
 ghost use Rattle.ring_recover.specs.Chosen.{IsFirstSet};
 ghost use Rattle.ring_base.specs.Numbers.{window_size};
 
-use ring_base::WINDOW;
+use ring_base::WINDOW_SIZE;
 
-/// How many bits there are: one for each number of a window.
-pub(crate) const COUNT: usize = WINDOW as usize;
+/// The number of bits, 256: one for each number of a window.
+pub(crate) const COUNT: usize = WINDOW_SIZE as usize;
 
-/// Some of the offsets 0 to 255, in place.
+/// A set of offsets from 0 to 255, stored as bits.
 #[derive(Clone, Copy)]
 pub(crate) struct Offsets {
+    /// The bits: offset j is in the set where bit j mod 64 of word j / 64 is 1.
     pub words: [u64; 4],
 }
 
 impl Offsets {
-    /// None.
+    /// Returns the empty set.
     pub(crate) fn new() -> Offsets
         ensures { (j : ℕ) → is_set result.words j ≡ false }
     {
         Offsets { words: [0; 4] }
     }
 
-    /// Those that pass a test.
-    pub(crate) fn such<F: Fn(usize) -> bool>(test: F) -> Offsets
+    /// Returns the set of those offsets from 0 to 255 for which the test is true.
+    pub(crate) fn from_test<F: Fn(usize) -> bool>(test: F) -> Offsets
         requires { F.IsAlwaysCallable test }
         ensures { (t : ℕ → Bool) → ((j : ℕ) (r : Bool) → j < window_size → F.post test j r → r ≡ t j) → (j : ℕ) → j < window_size → is_set result.words j ≡ t j }
     {
@@ -38,7 +39,7 @@ impl Offsets {
         offsets
     }
 
-    /// Whether it is one of them.
+    /// Returns whether an offset is in the set; false for 256 and above.
     pub(crate) fn has(&self, offset: usize) -> bool
         ensures { result ≡ is_set self.now.words offset }
     {
@@ -48,7 +49,7 @@ impl Offsets {
         }
     }
 
-    /// Adds one.
+    /// Adds an offset, which is below 256.
     pub(crate) fn insert(&mut self, offset: usize)
         requires { offset < window_size }
         ensures this { is_set self.new.words offset ≡ true }
@@ -57,7 +58,7 @@ impl Offsets {
         self.words[offset / 64] |= 1 << (offset % 64);
     }
 
-    /// The first that is not among them, 256 where all are.
+    /// Returns the least offset that isn't in the set, or 256 where all 256 are.
     pub(crate) fn first_clear(&self) -> usize
         ensures first { IsFirstClear self.now.words 0 result }
         ensures inside { result ≤ window_size }
@@ -70,7 +71,7 @@ impl Offsets {
         COUNT
     }
 
-    /// From an offset on, the first that is among them, 256 where none is.
+    /// Returns the least offset of the set that is at least `from`, or 256 where there is none. `from` is at most 256.
     pub(crate) fn first_from(&self, from: usize) -> usize
         requires { from ≤ window_size }
         ensures { IsFirstSet self.now.words from result }

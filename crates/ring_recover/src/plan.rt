@@ -1,4 +1,6 @@
-//! The plan of those that come from one old ring, and what of it is done.
+//! A node's plan in Recovery: what the transitional members reported of their old ring, and which of these messages
+//! the node saw wrapped.
+//! Rules: Recovery 1, 2, 4, 5, 8, 9 and 11
 
 ghost use Rattle.std.specs.Prelude.{◌≡◌, ℕ, ◌+◌, ◌≤◌, ◌<◌, true, ◌&&◌, ◌||◌, ◌==◌, nat_lt};
 ghost use Rattle.std.specs.List.{list_all};
@@ -10,7 +12,7 @@ ghost use Rattle.ring_recover.specs.Chosen.{chosen};
 ghost use Rattle.ring_recover.specs.Plans.{plan_from, safe, low};
 ghost use Rattle.ring_recover.specs.Wrapping.{is_wrap_of, is_wrapped, has_own_end};
 ghost use Rattle.ring_recover.specs.Deliveries.{is_complete, regular_part, transitional_part, past_gap_part, finish};
-ghost use Rattle.ring_recover.specs.Recovering.{begun, with_seen, next_to_wrap, old_of, is_users, is_from};
+ghost use Rattle.ring_recover.specs.RecoveryState.{recovery_opening, with_seen, next_to_wrap, old_of, is_users, is_from};
 ghost use Rattle.ring_base.specs.Numbers.{window_size};
 
 use crate::delivery::Delivery;
@@ -19,15 +21,17 @@ use crate::kinds::{is_end, is_user};
 use crate::numbers::Numbers;
 use crate::offsets::{COUNT, Offsets};
 use crate::reports::{
-    greatest_mark, known_after, least_front, least_mark, mates_among, none_behind, reports_of,
+    greatest_mark, known_after, least_front, least_mark, none_behind, reports_of,
+    transitional_members_among,
 };
-use ring_base::{Past, Proc, ProcSet, RingId, WINDOW, past_of};
+use ring_base::{Ghost, Proc, ProcSet, RingId, WINDOW_SIZE, ghost_of};
 use ring_commit::CommitToken;
 use ring_window::{Message, Payload, Window};
 use std::alloc::{AllocError, Allocator, Global};
 use std::marker::Model;
 
-/// What the members that come from one old ring make of a commit token, as contracts see it. No value of it is made.
+/// The old ring, its transitional members and their reports, for contracts alone. No value of this type is made.
+/// Rules: Recovery 1
 pub struct Plans {}
 
 impl Model for Plans {
@@ -36,45 +40,51 @@ impl Model for Plans {
 
     ghost Value = { OnePlan };
 
-    ghost view = { λ _. record { old = record { seq = 0; rep = 0 }; mates = 0; reports = [] } };
+    ghost view = { λ _. record { old = record { seq = 0; rep = 0 }; transitional_members = 0; reports = [] } };
 }
 
-/// What the members that come from one old ring make of a full commit token, and what a node saw of the new ring
-/// since. Contracts see a `Recovering`: the plan, and each message of the new ring that was held.
+/// A node's plan in Recovery: the transitional members' reports out of a full commit token, and what the node saw of
+/// the new ring since.
+/// Contracts see a `RecoveryState`: the plan, and each message of the new ring that the node held.
+/// Rules: Recovery 1, 4, 5 and 11
 #[derive(Drop)]
 pub struct Plan<A: Allocator + Copy = Global> {
     me: Proc,
     old_ring: RingId,
-    mates: ProcSet,
-    /// The least safe mark that one of them reported, the greatest, and the least front.
+    transitional_members: ProcSet,
+    /// The least safe mark that a transitional member reported (`least`), the greatest (`safe`), and the least front
+    /// (`low`).
     least: u64,
     safe: u64,
     low: u64,
-    /// Of the 256 numbers after the greatest safe mark: those that one of them holds, and those seen wrapped.
+    /// Of the 256 numbers after `safe`: those that a transitional member holds, and those seen wrapped.
     known: Offsets,
     wrapped: Offsets,
-    /// Whether the own End was seen.
+    /// Whether the node's own End was seen.
     ended: bool,
-    plan: Past<Plans>,
-    seen: Past<[Message<A>; 0]>,
+    plan: Ghost<Plans>,
+    seen: Ghost<[Message<A>; 0]>,
 }
 
 impl<A: Allocator + Copy> Model for Plan<A> {
-    ghost use Rattle.ring_recover.specs.Recovering.{Recovering as OneRecovering, IsPlanKept};
+    ghost use Rattle.ring_recover.specs.RecoveryState.{RecoveryState as OneRecovering, IsPlanKept};
 
     ghost Value = { OneRecovering A };
 
     ghost view = { λ p. record { me = p.me; plan = p.plan.value; seen = p.seen.value } };
 
-    ghost invariant = { λ p. IsPlanKept (record { me = p.me; plan = p.plan.value; seen = p.seen.value }) p.old_ring p.mates
+    ghost invariant = { λ p. IsPlanKept (record { me = p.me; plan = p.plan.value; seen = p.seen.value }) p.old_ring p.transitional_members
         p.least p.safe p.low p.known.words p.wrapped.words p.ended };
 }
 
 impl<A: Allocator + Copy> Plan<A> {
-    /// The plan of a member and those that come from its old ring. There is none where it is no member, a member
-    /// has no entry yet, or one of those from the old ring reports a front below the greatest safe mark.
+    /// Returns the plan that processor `me` makes of a full commit token, before it sees anything of the new ring.
+    /// The old ring is the one that the processor's own entry names.
+    /// Returns `None` where `me` isn't a member of the token's ring, where a member has no entry yet, or where a
+    /// transitional member reports a front below the greatest safe mark.
+    /// Rules: Recovery 1 and 2
     pub fn from_commit(me: Proc, token: &CommitToken) -> Option<Plan<A>>
-        ensures { result ≡ option_map (begun me) (plan_from me token.now) }
+        ensures { result ≡ option_map (recovery_opening me) (plan_from me token.now) }
     {
         let old = old_of(me, token)?;
         let entries = token.entries.as_slice();
@@ -84,11 +94,11 @@ impl<A: Allocator + Copy> Plan<A> {
         if !none_behind(safe, reports) {
             return None;
         }
-        let plan = past_of(&(&old, token));
+        let plan = ghost_of(&(&old, token));
         Some(Plan {
             me,
             old_ring: old,
-            mates: mates_among(&old, token.members, entries),
+            transitional_members: transitional_members_among(&old, token.members, entries),
             least: least_mark(reports),
             safe,
             low: least_front(reports),
@@ -100,21 +110,26 @@ impl<A: Allocator + Copy> Plan<A> {
         })
     }
 
-    /// The old ring.
+    /// Returns the old ring: the one that this node's own entry names as its last installed ring.
+    /// Rules: Recovery 1
     pub fn old_ring(&self) -> RingId
         ensures { result ≡ self.now.plan.old }
     {
         self.old_ring
     }
 
-    /// The members that come from it.
-    pub fn mates(&self) -> ProcSet
-        ensures { result ≡ self.now.plan.mates }
+    /// Returns the transitional members: the members whose entries name the same old ring, this node included (T of the
+    /// rules).
+    /// Rules: Recovery 1
+    pub fn transitional_members(&self) -> ProcSet
+        ensures { result ≡ self.now.plan.transitional_members }
     {
-        self.mates
+        self.transitional_members
     }
 
-    /// The greatest safe mark that one of them reported: up to it each of them holds all.
+    /// Returns the greatest safe mark that a transitional member reported (S of the rules).
+    /// Each transitional member holds every number of the old ring up to it. It is at most `low`.
+    /// Rules: Recovery 1
     pub fn safe(&self) -> u64
         ensures value { result ≡ safe self.now.plan }
         ensures sound { safe self.now.plan ≤ low self.now.plan }
@@ -122,19 +137,22 @@ impl<A: Allocator + Copy> Plan<A> {
         self.safe
     }
 
-    /// The least front that one of them reported: nothing up to it is wrapped.
+    /// Returns the least front that a transitional member reported.
+    /// Each transitional member holds every number of the old ring up to it, so none of these is wrapped.
+    /// Rules: Recovery 1 and 4
     pub fn low(&self) -> u64
         ensures { result ≡ low self.now.plan }
     {
         self.low
     }
 
-    /// Notes a message of the new ring, as the node holds it: what it wraps need not be wrapped again, and the own
-    /// End goes out once.
-    pub fn see(&mut self, message: &Message<A>)
+    /// Records a message of the new ring. Call it as soon as the node holds the message.
+    /// A number that the message wraps isn't wrapped again. After the node's own End no other End is sent.
+    /// Rules: Recovery 5 and 11
+    pub fn observe_message(&mut self, message: &Message<A>)
         ensures { self.new ≡ with_seen self.old message.now }
     {
-        note_wrap(
+        mark_wrapped(
             &mut self.wrapped,
             &self.old_ring,
             self.safe,
@@ -146,14 +164,18 @@ impl<A: Allocator + Copy> Plan<A> {
         self.seen = one_before(&self.seen, message);
     }
 
-    /// Whether the own End was seen on the new ring, so that none goes out any more.
+    /// Returns whether a recorded message of the new ring is an End of this node's own. Such a node sends no other End.
+    /// Rules: Recovery 4 and 11
     pub fn has_ended(&self) -> bool
         ensures { result ≡ has_own_end self.now.me self.now.seen }
     {
         self.ended
     }
 
-    /// Whether this number of the old ring, one of the 256 after the greatest safe mark, was seen wrapped on the new ring.
+    /// Returns whether a recorded message of the new ring wraps this number of the old ring. Such a number isn't
+    /// wrapped again.
+    /// The number is one of the 256 after the greatest reported safe mark.
+    /// Rules: Recovery 5 and 11
     pub fn has_wrapped(&self, number: u64) -> bool
         requires low { safe self.now.plan < number }
         requires high { number ≤ safe self.now.plan + window_size }
@@ -162,9 +184,13 @@ impl<A: Allocator + Copy> Plan<A> {
         self.wrapped.has((number - self.safe - 1) as usize)
     }
 
-    /// The number of the message that is to be wrapped next: the first users' message above the least front that
-    /// the old ring's window holds, and that was not seen wrapped on the new ring. The ring core wraps as many at once as a
-    /// visit may send: `first_left` of `ring_srp_state`.
+    /// Returns the number of the message to wrap next, or `None` where nothing is left to wrap.
+    /// It is the least number above the least reported front whose message is a user's, is held by the old ring's
+    /// window and hasn't been seen wrapped.
+    /// `window` is the window of the old ring. Its safe mark is at most the greatest reported one, and it holds no
+    /// number more than 256 above that.
+    /// The ring core wraps as many messages as a visit may send: `first_recovery_messages` of `ring_srp_state`.
+    /// Rules: Recovery 4 and 11
     pub fn to_wrap(&self, window: &Window<A>) -> Option<u64>
         requires ring { window.now.ring ≡ self.now.plan.old }
         requires mark { window.now.mark ≤ safe self.now.plan }
@@ -180,8 +206,12 @@ impl<A: Allocator + Copy> Plan<A> {
         None
     }
 
-    /// What the change of the ring still delivers of the old one, once the old ring's window holds all that one of
-    /// those from it holds. Numbers up to its safe mark count as held.
+    /// Returns the numbers of the old ring that the node still delivers at installation.
+    /// Returns `None` while the old ring's window lacks a number that a transitional member reported as held. Numbers
+    /// up to the window's safe mark count as held.
+    /// `window` is the window of the old ring. Its safe mark is at most the greatest one that a transitional member
+    /// reported.
+    /// Rules: Recovery 8 and 9
     pub fn finish(&self, window: &Window<A>) -> Option<Delivery>
         requires ring { window.now.ring ≡ self.now.plan.old }
         requires mark { window.now.mark ≤ safe self.now.plan }
@@ -197,7 +227,6 @@ impl<A: Allocator + Copy> Plan<A> {
         })
     }
 
-    /// Whether the old ring's window holds all that one of those from it holds.
     fn is_complete(&self, window: &Window<A>) -> bool
         requires ring { window.now.ring ≡ self.now.plan.old }
         ensures { result ≡ is_complete self.now.plan window.now.held }
@@ -205,15 +234,15 @@ impl<A: Allocator + Copy> Plan<A> {
         self.safe <= window.front() && are_held(&self.known, self.safe, window)
     }
 
-    /// Safe in the old regular configuration: above the least safe mark, up to the greatest.
+    /// The numbers safe in the old regular configuration: above the least reported safe mark, up to the greatest.
     fn regular(&self) -> Numbers
         ensures { result ≡ regular_part self.now.plan }
     {
         let count = self.safe.saturating_sub(self.least);
-        Numbers::new(self.least, Offsets::such(|j| (j as u64) < count))
+        Numbers::new(self.least, Offsets::from_test(|j| (j as u64) < count))
     }
 
-    /// Above these, below the gap.
+    /// The numbers above these and below the gap.
     fn transitional(&self, window: &Window<A>) -> Numbers
         requires ring { window.now.ring ≡ self.now.plan.old }
         requires complete { is_complete self.now.plan window.now.held ≡ true }
@@ -222,11 +251,11 @@ impl<A: Allocator + Copy> Plan<A> {
         let known = self.known;
         let gap = known.first_clear();
         let reach = window.highest().saturating_sub(self.safe);
-        let below = Offsets::such(|j| is_below(&known, reach, gap, j));
+        let below = Offsets::from_test(|j| is_below(&known, reach, gap, j));
         Numbers::new(self.safe, below)
     }
 
-    /// Past the gap, what those from the old ring sent.
+    /// The numbers past the gap whose messages a transitional member sent.
     fn past_gap(&self, window: &Window<A>) -> Numbers
         requires ring { window.now.ring ≡ self.now.plan.old }
         requires mark { window.now.mark ≤ safe self.now.plan }
@@ -236,9 +265,17 @@ impl<A: Allocator + Copy> Plan<A> {
         let known = self.known;
         let gap = known.first_clear();
         let reach = window.highest().saturating_sub(self.safe);
-        let (safe, mates) = (self.safe, self.mates);
-        let past = Offsets::such(|j| is_past(&known, reach, gap, mates, window, safe, j));
-        Numbers::new(safe, past)
+        let (safe, transitional_members) = (self.safe, self.transitional_members);
+        let history = Offsets::from_test(|j| is_past(
+            &known,
+            reach,
+            gap,
+            transitional_members,
+            window,
+            safe,
+            j,
+        ));
+        Numbers::new(safe, history)
     }
 }
 
@@ -249,7 +286,7 @@ impl<A: Allocator + Copy> Clone for Plan<A> {
         Ok(Plan {
             me: self.me,
             old_ring: self.old_ring,
-            mates: self.mates,
+            transitional_members: self.transitional_members,
             least: self.least,
             safe: self.safe,
             low: self.low,
@@ -262,7 +299,7 @@ impl<A: Allocator + Copy> Clone for Plan<A> {
     }
 }
 
-/// The old ring of a member whose entry and all others' are there.
+/// Returns the processor's old ring, where it is a member and each member has an entry.
 fn old_of(me: Proc, token: &CommitToken) -> Option<RingId>
     ensures { result ≡ old_of me token.now }
 {
@@ -274,8 +311,8 @@ fn old_of(me: Proc, token: &CommitToken) -> Option<RingId>
     Some(own.old)
 }
 
-/// Notes that a payload wraps a number of the old ring.
-fn note_wrap<A: Allocator + Copy>(
+/// Records the number of the old ring that a payload wraps, if it is a Wrapped of that ring.
+fn mark_wrapped<A: Allocator + Copy>(
     wrapped: &mut Offsets,
     old: &RingId,
     after: u64,
@@ -286,7 +323,7 @@ fn note_wrap<A: Allocator + Copy>(
     match payload {
         Payload::Wrapped(message) => {
             if message.ring == *old {
-                note(wrapped, after, message.number);
+                mark_offset(wrapped, after, message.number);
             }
         }
         Payload::Call(_)
@@ -298,16 +335,16 @@ fn note_wrap<A: Allocator + Copy>(
     }
 }
 
-/// Adds a number to those at their offsets after another, where it is one of the 256 after it.
-fn note(offsets: &mut Offsets, after: u64, number: u64)
+/// Adds the offset of a number to a set, where the number is one of the 256 after `after`.
+fn mark_offset(offsets: &mut Offsets, after: u64, number: u64)
     ensures { (j : ℕ) → j < window_size → is_set offsets.new.words j ≡ (is_set offsets.old.words j || (number == after + 1 + j)) }
 {
-    if after < number && number - after <= WINDOW {
+    if after < number && number - after <= WINDOW_SIZE {
         offsets.insert((number - after - 1) as usize);
     }
 }
 
-/// Whether the window still has the number's message, and it is a user's.
+/// Returns whether the window still keeps the number's message and it is a user's.
 fn has_users<A: Allocator + Copy>(window: &Window<A>, number: u64) -> bool
     ensures { result ≡ is_users (kept window.now number) }
 {
@@ -317,7 +354,7 @@ fn has_users<A: Allocator + Copy>(window: &Window<A>, number: u64) -> bool
     }
 }
 
-/// Whether the window holds the number at each of these offsets after another.
+/// Returns whether the window holds the number `after + 1 + offset` for each of these offsets.
 fn are_held<A: Allocator + Copy>(offsets: &Offsets, after: u64, window: &Window<A>) -> bool
     ensures { result ≡ list_all (holds window.now.held window.now.ring) (chosen after offsets.now.words) }
 {
@@ -329,7 +366,6 @@ fn are_held<A: Allocator + Copy>(offsets: &Offsets, after: u64, window: &Window<
     true
 }
 
-/// Whether the window holds the number at an offset after another.
 fn is_held<A: Allocator + Copy>(window: &Window<A>, after: u64, offset: usize) -> bool
     ensures { result ≡ holds window.now.held window.now.ring (after + 1 + offset) }
 {
@@ -338,14 +374,14 @@ fn is_held<A: Allocator + Copy>(window: &Window<A>, after: u64, offset: usize) -
     offset < reach && window.holds(after + 1 + offset)
 }
 
-/// Whether an offset is known and below the gap, within reach.
+/// Returns whether an offset is known, below the gap and below `reach`.
 fn is_below(known: &Offsets, reach: u64, gap: usize, offset: usize) -> bool
     ensures { result ≡ (nat_lt offset reach && (nat_lt offset gap && is_set known.now.words offset)) }
 {
     (offset as u64) < reach && offset < gap && known.has(offset)
 }
 
-/// Whether an offset is known and past the gap, within reach, and one of these sent its message.
+/// Returns whether an offset is known, past the gap and below `reach`, and one of the senders sent its message.
 fn is_past<A: Allocator + Copy>(
     known: &Offsets,
     reach: u64,
@@ -364,7 +400,7 @@ fn is_past<A: Allocator + Copy>(
         && is_from(senders, window, after, offset)
 }
 
-/// Whether the window still has the message at an offset after a number, and one of these sent it.
+/// Returns whether the window still keeps the message at an offset after a number, and one of the senders sent it.
 fn is_from<A: Allocator + Copy>(
     senders: ProcSet,
     window: &Window<A>,

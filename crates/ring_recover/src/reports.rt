@@ -1,4 +1,5 @@
-//! What the reports of one old ring say together.
+//! What the reports of the members of one old ring say together.
+//! Rules: Recovery 1
 
 ghost use Rattle.std.specs.Prelude.{◌≡◌, ℕ, ◌+◌, ◌<◌, ◌≤◌, true, map, length};
 ghost use Rattle.std.specs.List.{list_any};
@@ -6,14 +7,14 @@ ghost use Rattle.ring_base.specs.Processors.{elements};
 ghost use Rattle.ring_window.specs.Bits.{is_set};
 ghost use Rattle.ring_commit.specs.Tokens.{CommitEntry as OneEntry};
 ghost use Rattle.ring_commit.specs.Reports.{reports_of, safe_of, none_behind};
-ghost use Rattle.ring_recover.specs.Plans.{is_reported, least, mates_among};
+ghost use Rattle.ring_recover.specs.Plans.{is_reported, least, transitional_members_among};
 ghost use Rattle.ring_base.specs.Numbers.{window_size};
 
 use crate::offsets::Offsets;
-use ring_base::{ProcSet, RingId, WINDOW};
+use ring_base::{ProcSet, RingId, WINDOW_SIZE};
 use ring_commit::{CommitEntry, Entries};
 
-/// The reports of those that come from an old ring.
+/// Returns the entries that name the old ring, in the order of `entries`, which are at most 16.
 pub(crate) fn reports_of(old: &RingId, entries: &[CommitEntry]) -> Entries
     requires { length entries.now ≤ 16 }
     ensures { result ≡ reports_of old.now entries.now }
@@ -27,7 +28,7 @@ pub(crate) fn reports_of(old: &RingId, entries: &[CommitEntry]) -> Entries
     reports
 }
 
-/// The greatest safe mark that was reported.
+/// Returns the greatest reported safe mark, 0 where there is no report.
 pub(crate) fn greatest_mark(reports: &[CommitEntry]) -> u64
     ensures { result ≡ safe_of reports.now }
 {
@@ -38,14 +39,14 @@ pub(crate) fn greatest_mark(reports: &[CommitEntry]) -> u64
     greatest
 }
 
-/// Whether no front is below a safe mark.
+/// Returns whether every reported front is at least `safe`; true where there is no report.
 pub(crate) fn none_behind(safe: u64, reports: &[CommitEntry]) -> bool
     ensures { result ≡ none_behind safe reports.now }
 {
     reports.iter().all(|report| safe <= report.front)
 }
 
-/// The least safe mark that was reported, 0 where there is no report.
+/// Returns the least reported safe mark, 0 where there is no report.
 pub(crate) fn least_mark(reports: &[CommitEntry]) -> u64
     ensures { result ≡ least (map (λ (e : OneEntry). e.mark) reports.now) }
 {
@@ -61,7 +62,7 @@ pub(crate) fn least_mark(reports: &[CommitEntry]) -> u64
     }
 }
 
-/// The least front that was reported, 0 where there is no report.
+/// Returns the least reported front, 0 where there is no report.
 pub(crate) fn least_front(reports: &[CommitEntry]) -> u64
     ensures { result ≡ least (map (λ (e : OneEntry). e.front) reports.now) }
 {
@@ -77,15 +78,16 @@ pub(crate) fn least_front(reports: &[CommitEntry]) -> u64
     }
 }
 
-/// Which of the 256 numbers after the greatest safe mark were reported.
+/// Returns which of the 256 numbers after the greatest safe mark some member reported as held. Offset j is the number
+/// `safe` + 1 + j.
 pub(crate) fn known_after(safe: u64, reports: &[CommitEntry]) -> Offsets
     requires { none_behind safe reports.now ≡ true }
     ensures { (j : ℕ) → j < window_size → is_set result.words j ≡ list_any (is_reported (safe + 1 + j)) reports.now }
 {
-    Offsets::such(|j| is_any_holding(safe, j, reports))
+    Offsets::from_test(|j| is_any_holding(safe, j, reports))
 }
 
-/// Whether one reports to hold the number at an offset after a safe mark that no front is below.
+/// Returns whether some report holds the number `safe + 1 + offset`. No reported front is below `safe`.
 fn is_any_holding(safe: u64, offset: usize, reports: &[CommitEntry]) -> bool
     ensures { none_behind safe reports.now ≡ true → result ≡ list_any (is_reported (safe + 1 + offset)) reports.now }
 {
@@ -97,28 +99,33 @@ fn is_any_holding(safe: u64, offset: usize, reports: &[CommitEntry]) -> bool
     false
 }
 
-/// Whether it reports to hold the number at an offset after a safe mark that its front is not below.
+/// Returns whether the report holds the number `safe + 1 + offset`. Its front is at least `safe`.
 fn is_holding(safe: u64, offset: usize, report: &CommitEntry) -> bool
     ensures { safe ≤ report.now.front → result ≡ is_reported (safe + 1 + offset) report.now }
 {
     let ahead = report.front.saturating_sub(safe);
     let offset = offset as u64;
-    offset < ahead || (offset - ahead < WINDOW && report.is_held((offset - ahead) as usize))
+    offset < ahead || (offset - ahead < WINDOW_SIZE && report.is_held((offset - ahead) as usize))
 }
 
-/// Of these processors and their entries, those that come from an old ring.
-pub(crate) fn mates_among(old: &RingId, members: ProcSet, entries: &[CommitEntry]) -> ProcSet
-    ensures { result ≡ mates_among old.now (elements members) entries.now }
+/// Returns those of the members whose entry names the old ring. The entries are those of the first members, in
+/// ascending order.
+pub(crate) fn transitional_members_among(
+    old: &RingId,
+    members: ProcSet,
+    entries: &[CommitEntry],
+) -> ProcSet
+    ensures { result ≡ transitional_members_among old.now (elements members) entries.now }
 {
-    let mut mates = ProcSet::new();
+    let mut transitional_members = ProcSet::new();
     let mut left = members.iter();
     for entry in entries {
         let Some(member) = left.next() else {
-            return mates;
+            return transitional_members;
         };
         if entry.old == *old {
-            mates.insert(member);
+            transitional_members.insert(member);
         }
     }
-    mates
+    transitional_members
 }

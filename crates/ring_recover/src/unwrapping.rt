@@ -1,4 +1,5 @@
-//! What a wrapped message gives to the old ring's window.
+//! Adds the inner message of a Wrapped to the old ring's window.
+//! Rules: Recovery 6 and 11
 
 ghost use Rattle.std.specs.Prelude.{◌≡◌, ◌&&◌, ◌++◌, IfOk, IfErr, OnOk, OnErr};
 ghost use Rattle.ring_base.specs.Rings.{same_ring};
@@ -11,8 +12,11 @@ use ring_base::Fault;
 use ring_window::{Content, Message, Payload, Window, Wrapped};
 use std::alloc::Allocator;
 
-/// Holds the inner message, and answers true, where it is of the window's ring and new there. The copy of what
-/// it carries may be refused `Memory`: then nothing changes.
+/// Adds the inner message of a Wrapped to the old ring's window, if its ring is the window's and its number is new
+/// there.
+/// Returns whether it was added: false for another ring and for a number that isn't new, and then nothing has changed.
+/// Errors: `Memory` where a copy of the payload finds no memory; the window is unchanged.
+/// Rules: Recovery 6 and 11
 pub fn unwrap<A: Allocator + Copy>(
     wrapped: &Wrapped<A>,
     window: &mut Window<A>,
@@ -38,7 +42,7 @@ pub fn unwrap<A: Allocator + Copy>(
     Ok(window.take(message))
 }
 
-/// What was wrapped, as the payload that it was.
+/// Returns a copy of the wrapped payload as an ordinary payload.
 fn payload_of<A: Allocator + Copy>(content: &Content<A>) -> Result<Payload<A>, Fault>
     ensures ok { IfOk result (λ payload. payload ≡ payload_of content.now) }
     ensures refused { IfErr result (λ fault. fault ≡ Memory) }

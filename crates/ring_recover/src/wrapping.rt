@@ -1,4 +1,5 @@
-//! How a message of the old ring goes out on the new one.
+//! Wraps a message of the old ring as a payload of the new one.
+//! Rules: Recovery 4 and 11
 
 ghost use Rattle.std.specs.Prelude.{◌≡◌, IfOk, IfErr};
 ghost use Rattle.ring_base.specs.declared.fault.Fault.TheVariants.{Memory};
@@ -9,8 +10,10 @@ use ring_base::Fault;
 use ring_window::{Content, Message, Payload, Wrapped};
 use std::alloc::Allocator;
 
-/// A users' message of the old ring as a payload of the new one, and nothing for any other. The copy of what it
-/// carries may be refused `Memory`.
+/// Returns the Wrapped that carries a user message of the old ring, with its ring, number, sender and payload. Returns
+/// `None` for an End or a Wrapped, which are never wrapped.
+/// Errors: `Memory` where a copy of the payload finds no memory.
+/// Rules: Recovery 4 and 11
 pub fn wrap<A: Allocator + Copy>(message: &Message<A>) -> Result<Option<Payload<A>>, Fault>
     ensures ok { IfOk result (λ wrapped. wrapped ≡ wrap message.now) }
     ensures refused { IfErr result (λ fault. fault ≡ Memory) }
@@ -26,7 +29,7 @@ pub fn wrap<A: Allocator + Copy>(message: &Message<A>) -> Result<Option<Payload<
     }
 }
 
-/// A users' payload as what a wrapped message may hold.
+/// Returns a copy of a user payload in the form that a Wrapped holds, or `None` for any other payload.
 fn content_of<A: Allocator + Copy>(payload: &Payload<A>) -> Result<Option<Content<A>>, Fault>
     ensures ok { IfOk result (λ content. content ≡ content_of payload.now) }
     ensures refused { IfErr result (λ fault. fault ≡ Memory) }

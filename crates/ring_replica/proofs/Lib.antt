@@ -1,22 +1,25 @@
--- SessionsOn: The sessions and the snapshot stay as they were, by what a node knew of its log and what it knows later, where it restored nothing between.
--- SteadyLives: A life that goes on by outputs: what its node knows of its log at each of them, by what it knew before them.
--- Nodes: What is due by a node, and a step of it, by its replica.
--- FirstDues: A node that has dropped nothing sends no snapshot: what is due by it doesn't hang on the bytes that it holds.
--- TablesOn: The sessions, the calls that a step does and how many took effect, by what the node knew before the step and knows after it.
--- Replicas: What the code keeps of a replica, as it opens, gives a ticket and ends a step, and what it tells.
--- ReplicaSteps: What a step makes of what the code keeps of a replica, and what it gives: where the course goes on, and where it stops.
--- ReplicaEnds: What the end of a step makes of what the code keeps of a replica: places are dropped, or none are.
--- RestingReplicas: A step of which the core tells nothing: it changes nothing of a replica of which no places are to be dropped, and gives nothing.
--- StayMarks: The safe mark that a node's newest stay has, and the one of its core: a step tells none that is lower.
--- Courses: What is true of courses, passed on to the node.
-pub mod SessionsOn
-pub mod SteadyLives
+-- SessionsUnchanged: As long as a node restores nothing, the sessions after its committed places don't change, and neither does
+--   the snapshot of the dropped ones.
+-- SteadyEpochs: A life extended by outputs: the known log at each of them, from the known log before them.
+-- Nodes: The due payloads and the step of a node, by its replica.
+-- FirstDueSends: A node that has dropped nothing sends no snapshot, so its due payloads don't depend on the bytes that it stores.
+-- SessionTableSteps: In a step the sessions, the calls done and the number of calls that took effect continue from before, or
+--   from a restored snapshot.
+-- Replicas: The stored values of a replica at the opening, after a ticket and at the end of a step; and what the replica reports.
+-- ReplicaSteps: The effect of a step on the stored values, and its result: whether the replication continues or stops.
+-- ReplicaStepEnds: The end of a step, in terms of the stored values: places are dropped, or none are; and what the replica
+--   reports afterwards.
+-- IdleReplicas: A core's step without outputs changes nothing of a replica without places due to be dropped, and has no result.
+-- EpochMarks: The safe mark of a node's newest epoch and that of its core: no step reports a lower one.
+-- Replications: Lemmas on replications, re-exported to the node.
+pub mod SessionsUnchanged
+pub mod SteadyEpochs
 pub mod Nodes
-pub mod FirstDues
-pub mod TablesOn
+pub mod FirstDueSends
+pub mod SessionTableSteps
 pub mod Replicas
 pub mod ReplicaSteps
-pub mod ReplicaEnds
-pub mod RestingReplicas
-pub mod StayMarks
-pub mod Courses
+pub mod ReplicaStepEnds
+pub mod IdleReplicas
+pub mod EpochMarks
+pub mod Replications

@@ -1,4 +1,4 @@
--- What is due by a node, and a step of it, by its replica.
+-- The due payloads and the step of a node, by its replica.
 use Rattle.std.proofs.Common.{◌≡◌, ℕ, ◌+◌, Bool, true, false, not, ◌&&◌, List, [], ◌∷◌, ◌++◌, length, map, Option, Some, None, is_none, inl, refl}
 use Rattle.std.proofs.Common.{ap, sym, ◌∙◌, if◌then◌else◌}
 use Rattle.std.specs.List.{filter}
@@ -13,30 +13,30 @@ use Rattle.ring_object.specs.Operations.{Sequential}
 use Rattle.ring_payload.specs.declared.call.Call.{Call as OneCall}
 use Rattle.ring_payload.specs.declared.content.Payload.{Payload}
 use Rattle.ring_payload.specs.declared.content.Payload.TheVariants.{Call}
-use Rattle.ring_core.specs.Frames.{Message}
-use Rattle.ring_core.specs.Joining.{is_operational}
-use Rattle.ring_core.specs.State.{Core, Stepped}
-use Rattle.ring_core.specs.declared.out.Out.{Out}
-use Rattle.ring_core.specs.declared.out.Out.TheVariants.{Send, Agreed, Safe, Trans, Rest, Regular}
-use Rattle.ring_log.specs.Exchanges.{Exchange, opened, is_whole}
-use Rattle.ring_log.specs.Kept.{Kept, IsKnown, kept_of, log_kept, is_kept_sound}
+use Rattle.ring_core_spec.specs.Frames.{Message}
+use Rattle.ring_core_spec.specs.Joining.{is_operational}
+use Rattle.ring_core_spec.specs.State.{Core, StepResult}
+use Rattle.ring_core_spec.specs.declared.out.Out.{Out}
+use Rattle.ring_core_spec.specs.declared.out.Out.TheVariants.{Send, Agreed, Safe, Trans, Rest, Regular}
+use Rattle.ring_log.specs.Exchanges.{Exchange, exchange_opening, is_exchange_complete}
+use Rattle.ring_log.specs.KnownLog.{KnownLog, IsKnownLog, known_log_of, retained_log, is_known_log_sound}
 use Rattle.ring_log.specs.Logs.{committed_calls}
-use Rattle.ring_log.specs.Stays.{Stay, hands, trims}
-use Rattle.ring_log.specs.Lives.{after_all}
-use Rattle.ring_session.specs.Tickets.{Asked, place_of, unanswered, answers_after}
-use Rattle.ring_session.specs.declared.answered.Answered.{Answered}
+use Rattle.ring_log.specs.Epochs.{Epoch, epochs_with_sends, epochs_with_trim}
+use Rattle.ring_log.specs.EpochHistories.{after_all}
+use Rattle.ring_session.specs.Tickets.{TicketCall, place_of, unanswered, answers_after}
+use Rattle.ring_session.specs.declared.answered.TicketAnswer.{TicketAnswer}
 use Rattle.ring_session.specs.declared.pending.Pending.{Pending}
-use Rattle.ring_session.specs.Pendings.{pending_from, stands_in}
-use Rattle.ring_course.specs.NodeRules.{lived, lived_through, Node, node_kept, node_pending, is_stopped, is_closed, is_restored, snapshot_kept}
-use Rattle.ring_course.specs.NodeRules.{runs, runs_some, calls_due, due_when_stated, places_past, due_when_whole, owner_told, due_in_stay}
-use Rattle.ring_course.specs.NodeRules.{due_at_agreed, due_at, due_by, handed_over, walked, NodeStepped, send_of, drops, newly, table_since}
-use Rattle.ring_course.specs.NodeRules.{settled, after_core, submitted, submit_fault}
-use Rattle.ring_course.specs.Courses.{Moment, bytes_at, is_running, calls_left, dues_when_whole, dues_in_stay, dues_heard, dues_at, dues_by}
-use Rattle.ring_course.specs.Courses.{handed_if, rises_at, rises, IsSteady}
-use Rattle.ring_replica.specs.Replicas.{replica_of, running_of, moment_of, is_running_some, submit_refusal, replica_given, replica_settled}
-use Rattle.ring_replica.specs.Replicas.{replica_step, node_by, node_given}
-use Rattle.ring_course.proofs.KnownOn.{known-self}
-use Rattle.ring_replica.proofs.SteadyLives.{KnowsOn, knows-trans, steady-known, steady-lived, sound-through, bytes-same}
+use Rattle.ring_session.specs.Pendings.{pending_from, contains_call}
+use Rattle.ring_replication.specs.NodeSpec.{epochs_after_event, epochs_after, Node, node_known_log, node_pending, is_stopped, is_closed, is_restored, snapshot_kept}
+use Rattle.ring_replication.specs.NodeSpec.{runs, runs_some, calls_due, due_when_heads_complete, places_past, due_when_complete, owner_due_on_heads, due_in_epoch}
+use Rattle.ring_replication.specs.NodeSpec.{due_at_agreed, due_at, due_by, handed_over, node_after_outputs, NodeStepResult, send_of, drops, newly_committed, table_since}
+use Rattle.ring_replication.specs.NodeSpec.{settled, after_core, submitted, submit_fault}
+use Rattle.ring_replication.specs.Replications.{StepContext, bytes_at, is_running, calls_to_resend, due_sends_when_complete, due_sends_in_epoch, due_sends_on_message, due_sends_at, due_sends_by}
+use Rattle.ring_replication.specs.Replications.{handed_if, rises_at, rises, HasSoundEpochs}
+use Rattle.ring_replica.specs.Replicas.{replica_of, running_of, moment_of, is_running_some, submit_refusal, replica_with_ticket, replica_settled}
+use Rattle.ring_replica.specs.Replicas.{replica_step, node_by, node_with_ticket}
+use Rattle.ring_replication.proofs.IsKnownLogExtended.{known-self}
+use Rattle.ring_replica.proofs.SteadyEpochs.{KnowsOn, knows-trans, steady-known, steady-epochs_after_event, sound-through, bytes-same}
 
 -- the same ring runs
 runs-is : {A : Type 0} (c : Core A) (ring : RingId) → runs c ring ≡ is_running (running_of c) ring
@@ -46,106 +46,106 @@ runs-is c ring = by (is_operational c.state)
     by true = refl
     by false = refl
 
--- the calls that wait are those of the tickets without an answer
-calls-step : {A : Type 0} (places : List (OneCall A)) (t : Asked A) (i : ℕ) (b : Bool) (ts : List (Asked A)) (ps : List (Pending A))
-    → map (λ (u : Asked A). Call u.call) (filter (λ (u : Asked A). not (stands_in places u.call)) ts) ≡ calls_left ps places
-    → map (λ (u : Asked A). Call u.call) (filter (λ (u : Asked A). not (stands_in places u.call)) (if b then t ∷ ts else ts))
-    ≡ calls_left (if b then record { ticket = i; call = t.call } ∷ ps else ps) places
+-- the pending calls are those of the unanswered tickets
+calls-step : {A : Type 0} (places : List (OneCall A)) (t : TicketCall A) (i : ℕ) (b : Bool) (ts : List (TicketCall A)) (ps : List (Pending A))
+    → map (λ (u : TicketCall A). Call u.call) (filter (λ (u : TicketCall A). not (contains_call places u.call)) ts) ≡ calls_to_resend ps places
+    → map (λ (u : TicketCall A). Call u.call) (filter (λ (u : TicketCall A). not (contains_call places u.call)) (if b then t ∷ ts else ts))
+    ≡ calls_to_resend (if b then record { ticket = i; call = t.call } ∷ ps else ps) places
 calls-step places t i false ts ps e = e
-calls-step {A} places t i true ts ps e = by (not (stands_in places t.call)) e
+calls-step {A} places t i true ts ps e = by (not (contains_call places t.call)) e
   where
     by : (b : Bool)
-        → map (λ (u : Asked A). Call u.call) (filter (λ (u : Asked A). not (stands_in places u.call)) ts) ≡ calls_left ps places
-        → map (λ (u : Asked A). Call u.call) (if b then t ∷ filter (λ (u : Asked A). not (stands_in places u.call))
-        ts else filter (λ (u : Asked A). not (stands_in places u.call)) ts)
+        → map (λ (u : TicketCall A). Call u.call) (filter (λ (u : TicketCall A). not (contains_call places u.call)) ts) ≡ calls_to_resend ps places
+        → map (λ (u : TicketCall A). Call u.call) (if b then t ∷ filter (λ (u : TicketCall A). not (contains_call places u.call))
+        ts else filter (λ (u : TicketCall A). not (contains_call places u.call)) ts)
         ≡ map (λ (p : Pending A). Call p.call) (if b then record { ticket = i; call = t.call } ∷ filter
-        (λ (p : Pending A). not (stands_in places p.call)) ps else filter
-        (λ (p : Pending A). not (stands_in places p.call)) ps)
+        (λ (p : Pending A). not (contains_call places p.call)) ps else filter
+        (λ (p : Pending A). not (contains_call places p.call)) ps)
     by true e = ap (λ w. Call t.call ∷ w) e
     by false e = e
 
-calls-from : {A : Type 0} (done places : List (OneCall A)) (i : ℕ) (ts : List (Asked A))
-    → map (λ (u : Asked A). Call u.call) (filter (λ (u : Asked A). not (stands_in places u.call)) (unanswered done ts))
-    ≡ calls_left (pending_from done i ts) places
+calls-from : {A : Type 0} (done places : List (OneCall A)) (i : ℕ) (ts : List (TicketCall A))
+    → map (λ (u : TicketCall A). Call u.call) (filter (λ (u : TicketCall A). not (contains_call places u.call)) (unanswered done ts))
+    ≡ calls_to_resend (pending_from done i ts) places
 calls-from done places i [] = refl
 calls-from done places i (t ∷ ts) =
     calls-step places t i (is_none (place_of done t)) (unanswered done ts)
     (pending_from done (i + 1) ts) (calls-from done places (i + 1) ts)
 
 module _ {O A : Type 0} (object : Sequential O) (n : Node A) (core : Core A) where
-  abbrev m : Moment A
+  abbrev m : StepContext A
   m = moment_of object (running_of core) (replica_of n)
 
-  calls-due : (places : List (OneCall A)) → calls_due (node_pending n) places ≡ calls_left m.pending places
+  calls-due : (places : List (OneCall A)) → calls_due (node_pending n) places ≡ calls_to_resend m.pending places
   calls-due places = calls-from n.done places 0 n.tickets
 
-  whole-due : (life : List (Stay A)) (old new : Exchange A) → due_when_whole n life old new ≡ dues_when_whole m life old new
-  whole-due life old new =
-      ap (λ l. if is_whole new && not (is_whole old) then l else []) (calls-due (places_past (node_kept n).committed (log_kept (kept_of n.group life))))
+  whole-due : (epochs : List (Epoch A)) (old new : Exchange A) → due_when_complete n epochs old new ≡ due_sends_when_complete m epochs old new
+  whole-due epochs old new =
+      ap (λ l. if is_exchange_complete new && not (is_exchange_complete old) then l else []) (calls-due (places_past (node_known_log n).committed (retained_log (known_log_of n.group epochs))))
 
-  stay-due : (s : Stay A) (before : List (Stay A)) (x : Message A) (life : List (Stay A))
-      → snapshot_kept object (kept_of n.group before) ≡ bytes_at m (kept_of n.group before)
-      → due_in_stay object n s before x life ≡ dues_in_stay m s before x life
-  stay-due s before x life same =
-      let old = after_all (opened s.members) s.heard in
-      let new = after_all (opened s.members) (s.heard ++ x ∷ []) in
-      let k = kept_of n.group before in
-      ap (λ l. if is_primary n.group s.members then owner_told object n k old new ++ l else []) (whole-due life old new)
-      ∙ ap (λ bs. if is_primary n.group s.members then due_when_stated n.core.me bs (log_kept k) old new ++ dues_when_whole m life old new else []) same
+  epoch-due : (s : Epoch A) (before : List (Epoch A)) (x : Message A) (epochs : List (Epoch A))
+      → snapshot_kept object (known_log_of n.group before) ≡ bytes_at m (known_log_of n.group before)
+      → due_in_epoch object n s before x epochs ≡ due_sends_in_epoch m s before x epochs
+  epoch-due s before x epochs same =
+      let old = after_all (exchange_opening s.members) s.heard in
+      let new = after_all (exchange_opening s.members) (s.heard ++ x ∷ []) in
+      let k = known_log_of n.group before in
+      ap (λ l. if is_primary n.group s.members then owner_due_on_heads object n k old new ++ l else []) (whole-due epochs old new)
+      ∙ ap (λ bs. if is_primary n.group s.members then due_when_heads_complete n.core.me bs (retained_log k) old new ++ due_sends_when_complete m epochs old new else []) same
 
-  agreed-due : (ring : RingId) (life : List (Stay A)) (x : Message A) (after : List (Stay A))
-      → snapshot_kept object (kept_of n.group life) ≡ bytes_at m (kept_of n.group life)
-      → due_at_agreed object n core ring life x after ≡ dues_heard m (is_running (running_of core) ring) life x after
+  agreed-due : (ring : RingId) (epochs : List (Epoch A)) (x : Message A) (after : List (Epoch A))
+      → snapshot_kept object (known_log_of n.group epochs) ≡ bytes_at m (known_log_of n.group epochs)
+      → due_at_agreed object n core ring epochs x after ≡ due_sends_on_message m (is_running (running_of core) ring) epochs x after
   agreed-due ring [] x after same = refl
   agreed-due ring (s ∷ older) x after same =
-      ap (λ b. if b then due_in_stay object n s (s ∷ older) x after else []) (runs-is core ring)
-      ∙ ap (λ l. if is_running (running_of core) ring then l else []) (stay-due s (s ∷ older) x after same)
+      ap (λ b. if b then due_in_epoch object n s (s ∷ older) x after else []) (runs-is core ring)
+      ∙ ap (λ l. if is_running (running_of core) ring then l else []) (epoch-due s (s ∷ older) x after same)
 
-  out-due : (life : List (Stay A)) (o : Out A) → snapshot_kept object (kept_of n.group life) ≡ bytes_at m (kept_of n.group life)
-      → due_at object n core life o ≡ dues_at m life o
-  out-due life (Agreed ring k x) same = agreed-due ring life x (lived life (Agreed ring k x)) same
-  out-due life (Regular ring set) same = refl
-  out-due life (Send to frame) same = refl
-  out-due life (Safe ring upto) same = refl
-  out-due life (Trans old new set) same = refl
-  out-due life (Rest ring k x) same = refl
+  out-due : (epochs : List (Epoch A)) (o : Out A) → snapshot_kept object (known_log_of n.group epochs) ≡ bytes_at m (known_log_of n.group epochs)
+      → due_at object n core epochs o ≡ due_sends_at m epochs o
+  out-due epochs (Agreed ring k x) same = agreed-due ring epochs x (epochs_after_event epochs (Agreed ring k x)) same
+  out-due epochs (Regular ring set) same = refl
+  out-due epochs (Send to frame) same = refl
+  out-due epochs (Safe ring upto) same = refl
+  out-due epochs (Trans old new set) same = refl
+  out-due epochs (Rest ring k x) same = refl
 
-  dues-from : (life : List (Stay A)) (outs : List (Out A)) → IsKnown (node_kept n) → IsSteady n.group life → KnowsOn (node_kept n) (kept_of n.group life)
-      → is_kept_sound n.group (lived_through life outs) ≡ true → rises life outs ≡ true → due_by object n core life outs ≡ dues_by m life outs
-  dues-from life [] known steady on t r = refl
-  dues-from life (o ∷ outs) known steady on t r =
-      let risen = and_parts (rises_at life o) (rises (lived life o) outs) r in
-      let more = steady-lived n.group life o steady (sound-through n.group (lived life o) outs t) risen.0 in
-      ap (λ l. l ++ due_by object n core (lived life o) outs) (out-due life o (bytes-same object m (node_kept n) (kept_of n.group life) refl refl known on))
-      ∙ ap (λ l. dues_at m life o ++ l)
-      (dues-from (lived life o) outs known more.steady (knows-trans (node_kept n) (kept_of n.group life) (kept_of n.group (lived life o)) on more.knows) t
+  due_sends-from : (epochs : List (Epoch A)) (outs : List (Out A)) → IsKnownLog (node_known_log n) → HasSoundEpochs n.group epochs → KnowsOn (node_known_log n) (known_log_of n.group epochs)
+      → is_known_log_sound n.group (epochs_after epochs outs) ≡ true → rises epochs outs ≡ true → due_by object n core epochs outs ≡ due_sends_by m epochs outs
+  due_sends-from epochs [] known steady on t r = refl
+  due_sends-from epochs (o ∷ outs) known steady on t r =
+      let risen = and_parts (rises_at epochs o) (rises (epochs_after_event epochs o) outs) r in
+      let more = steady-epochs_after_event n.group epochs o steady (sound-through n.group (epochs_after_event epochs o) outs t) risen.0 in
+      ap (λ l. l ++ due_by object n core (epochs_after_event epochs o) outs) (out-due epochs o (bytes-same object m (node_known_log n) (known_log_of n.group epochs) refl refl known on))
+      ∙ ap (λ l. due_sends_at m epochs o ++ l)
+      (due_sends-from (epochs_after_event epochs o) outs known more.steady (knows-trans (node_known_log n) (known_log_of n.group epochs) (known_log_of n.group (epochs_after_event epochs o)) on more.knows) t
       risen.1)
 
-  pub dues-are : (outs : List (Out A)) → IsSteady n.group n.life → is_kept_sound n.group (lived_through n.life outs) ≡ true → rises n.life outs ≡ true
-      → due_by object n core n.life outs ≡ dues_by m n.life outs
-  dues-are outs steady t r = dues-from n.life outs (steady-known steady) steady (inl (known-self (node_kept n))) t r
+  pub due_sends-are : (outs : List (Out A)) → HasSoundEpochs n.group n.epochs → is_known_log_sound n.group (epochs_after n.epochs outs) ≡ true → rises n.epochs outs ≡ true
+      → due_by object n core n.epochs outs ≡ due_sends_by m n.epochs outs
+  due_sends-are outs steady t r = due_sends-from n.epochs outs (steady-known steady) steady (inl (known-self (node_known_log n))) t r
 
-module _ {O A : Type 0} (object : Sequential O) (n : Node A) (s : Stepped A) where
-  abbrev life : List (Stay A)
-  life = lived_through n.life s.outs
+module _ {O A : Type 0} (object : Sequential O) (n : Node A) (s : StepResult A) where
+  abbrev epochs : List (Epoch A)
+  epochs = epochs_after n.epochs s.outs
 
-  abbrev k : Kept A
-  k = kept_of n.group life
+  abbrev k : KnownLog A
+  k = known_log_of n.group epochs
 
   step-by : (b : Bool) (due : List (Payload A))
-      → settled object b n (walked n s.core life due) s.outs k ≡ node_by n s.core (replica_settled object b (replica_of n) s.outs life due k)
+      → settled object b n (node_after_outputs n s.core epochs due) s.outs k ≡ node_by n s.core (replica_settled object b (replica_of n) s.outs epochs due k)
   step-by false due = refl
-  step-by true due = by (drops object (is_closed n.group (hands due life)) k)
+  step-by true due = by (drops object (is_closed n.group (epochs_with_sends due epochs)) k)
     where
       more : List (OneCall A)
-      more = newly (node_kept n) k
+      more = newly_committed (node_known_log n) k
 
-      answers : List (Answered A)
-      answers = answers_after object (table_since object (node_kept n) k) n.tickets n.done more
+      answers : List (TicketAnswer A)
+      answers = answers_after object (table_since object (node_known_log n) k) n.tickets n.done more
 
-      done : List (Stay A) → List (OneCall A) → NodeStepped A
+      done : List (Epoch A) → List (OneCall A) → NodeStepResult A
       done l gone = record {
-        node = record n { core = handed_over s.core due; life = l; done = n.done ++ more; answers = n.answers ++ answers };
+        node = record n { core = handed_over s.core due; epochs = l; done = n.done ++ more; answers = n.answers ++ answers };
         sends = filter_map send_of s.outs;
         answers = answers;
         committed = more;
@@ -153,27 +153,27 @@ module _ {O A : Type 0} (object : Sequential O) (n : Node A) (s : Stepped A) whe
       }
 
       by : (b : Bool)
-          → (if b then done (trims k.committed (hands due life)) (committed_calls (log_kept k)) else done (hands due life) [])
-          ≡ done (if b then trims k.committed (hands due life) else hands due life) (if b then committed_calls (log_kept k) else [])
+          → (if b then done (epochs_with_trim k.committed (epochs_with_sends due epochs)) (committed_calls (retained_log k)) else done (epochs_with_sends due epochs) [])
+          ≡ done (if b then epochs_with_trim k.committed (epochs_with_sends due epochs) else epochs_with_sends due epochs) (if b then committed_calls (retained_log k) else [])
       by true = refl
       by false = refl
 
-  pub step-is : IsSteady n.group n.life → rises n.life s.outs ≡ true
+  pub step-is : HasSoundEpochs n.group n.epochs → rises n.epochs s.outs ≡ true
       → after_core object n s ≡ node_by n s.core (replica_step object (running_of s.core) (replica_of n) s.outs)
   step-is steady r =
-      by (is_kept_sound n.group life) refl
-      ∙ step-by (is_kept_sound n.group life && is_restored object k) (dues_by (moment_of object (running_of s.core) (replica_of n)) n.life s.outs)
+      by (is_known_log_sound n.group epochs) refl
+      ∙ step-by (is_known_log_sound n.group epochs && is_restored object k) (due_sends_by (moment_of object (running_of s.core) (replica_of n)) n.epochs s.outs)
     where
-      own : Bool → List (Payload A) → NodeStepped A
-      own b due = settled object (b && is_restored object k) n (walked n s.core life due) s.outs k
+      own : Bool → List (Payload A) → NodeStepResult A
+      own b due = settled object (b && is_restored object k) n (node_after_outputs n s.core epochs due) s.outs k
 
-      by : (b : Bool) → is_kept_sound n.group life ≡ b
-          → own (is_kept_sound n.group life) (due_by object n s.core n.life s.outs)
-          ≡ own (is_kept_sound n.group life) (dues_by (moment_of object (running_of s.core) (replica_of n)) n.life s.outs)
+      by : (b : Bool) → is_known_log_sound n.group epochs ≡ b
+          → own (is_known_log_sound n.group epochs) (due_by object n s.core n.epochs s.outs)
+          ≡ own (is_known_log_sound n.group epochs) (due_sends_by (moment_of object (running_of s.core) (replica_of n)) n.epochs s.outs)
       by false f =
-          ap (λ b. own b (due_by object n s.core n.life s.outs)) f
-          ∙ sym (ap (λ b. own b (dues_by (moment_of object (running_of s.core) (replica_of n)) n.life s.outs)) f)
-      by true t = ap (own (is_kept_sound n.group life)) (dues-are object n s.core s.outs steady t r)
+          ap (λ b. own b (due_by object n s.core n.epochs s.outs)) f
+          ∙ sym (ap (λ b. own b (due_sends_by (moment_of object (running_of s.core) (replica_of n)) n.epochs s.outs)) f)
+      by true t = ap (own (is_known_log_sound n.group epochs)) (due_sends-are object n s.core s.outs steady t r)
 
 pub refused-is : {A : Type 0} (n : Node A) → is_stopped n.core.state ≡ false → submit_fault n ≡ submit_refusal (replica_of n)
 refused-is n e = cond-false (is_stopped n.core.state) (Some StoppedFault)
@@ -183,10 +183,10 @@ adopted-is : {A : Type 0} (c : Core A) (last : Option RingId) → runs_some c la
 adopted-is c None = refl
 adopted-is c (Some ring) = runs-is c ring
 
-pub given-is : {A : Type 0} (n : Node A) (c : OneCall A) → submitted n c ≡ node_given n c (replica_given (running_of n.core) (replica_of n) c)
+pub given-is : {A : Type 0} (n : Node A) (c : OneCall A) → submitted n c ≡ node_with_ticket n c (replica_with_ticket (running_of n.core) (replica_of n) c)
 given-is {A} n c =
     ap (λ b. record n {
       core = handed_over n.core (handed_if b c);
-      life = hands (handed_if b c) n.life;
+      epochs = epochs_with_sends (handed_if b c) n.epochs;
       tickets = n.tickets ++ record { call = c; since = length n.done } ∷ [];
-    }) (adopted-is n.core (node_kept n).last)
+    }) (adopted-is n.core (node_known_log n).last)

@@ -1,2 +1,2 @@
--- A node's inputs, passed on to the node.
-pub use Rattle.ring_course.specs.InputVariants.{Frame, Stop}
+-- A node's inputs, re-exported to the node.
+pub use Rattle.ring_replication.specs.InputVariants.{Frame, Stop}

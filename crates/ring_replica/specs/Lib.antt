@@ -1,6 +1,6 @@
 pub mod Replicas
 pub mod Marks
-pub mod Courses
+pub mod Replications
 pub mod Sessions
-pub mod NodeRules
+pub mod NodeSpec
 pub mod InputVariants

@@ -1,15 +1,16 @@
--- How the newest stay of a node stands to its core: Outputs, rule 9, and The replicated log, rule 1, of docs/PROTOCOL.md.
+-- The relation between a node's newest epoch and its core.
+-- Rules: Outputs 9; The replicated log 1
 use Rattle.std.specs.Prelude.{◌≡◌, ◌≤◌, false, List, ◌∷◌}
-use Rattle.ring_core.specs.State.{Core}
-use Rattle.ring_core.specs.Views.{mark}
-use Rattle.ring_core.specs.Giving.{may_install}
-use Rattle.ring_log.specs.Stays.{Stay}
+use Rattle.ring_core_spec.specs.State.{Core}
+use Rattle.ring_core_spec.specs.Views.{mark}
+use Rattle.ring_core_spec.specs.Giving.{may_install}
+use Rattle.ring_log.specs.Epochs.{Epoch}
 
--- it is in the ring installed last, its mark is at most the core's there, and no installation is due
-pub record IsMarked {A : Type 0} (core : Core A) (life : List (Stay A)) : Type 0 where
-  pub stay : Stay A
-  pub older : List (Stay A)
-  pub parts : life ≡ stay ∷ older
-  pub ring : stay.ring ≡ core.installed.ring
-  pub marked : stay.mark ≤ mark core core.installed.ring
+-- the newest epoch is in the ring installed last, its mark is at most the core's there, and no installation is due
+pub record IsMarked {A : Type 0} (core : Core A) (epochs : List (Epoch A)) : Type 0 where
+  pub epoch : Epoch A
+  pub older : List (Epoch A)
+  pub parts : epochs ≡ epoch ∷ older
+  pub ring : epoch.ring ≡ core.installed.ring
+  pub marked : epoch.mark ≤ mark core core.installed.ring
   pub ready : may_install core ≡ false

@@ -1,7 +1,8 @@
--- A replica: all of a node but its core; what a step of the core, a submit and a stop make of it. The replicated log, rules 8 to 15 and 18 of docs/PROTOCOL.md.
+-- A replica: all of a node except its core; and the effect on it of a step of the core, a submit and a stop.
+-- Rules: The replicated log 8 to 15, 18 and 20
 use Rattle.std.specs.Prelude.{◌≡◌, ℕ, ◌-◌, ◌<◌, ◌≤◌, ◌⊎◌, max, Bool, true, false, nat_le, nat_lt, ◌&&◌, if◌then◌else◌, List, [], ◌∷◌, ◌++◌, length}
 use Rattle.std.specs.Prelude.{drop, filter_map, unwrap_or, is_some, is_none, ◌||◌, Option, Some, None}
-use Rattle.ring_base.specs.Fronts.{IsFront}
+use Rattle.ring_base.specs.Prefixes.{IsListPrefix}
 use Rattle.ring_base.specs.Group.{Group}
 use Rattle.ring_base.specs.Numbers.{max_number}
 use Rattle.ring_base.specs.declared.fault.Fault.{Fault}
@@ -12,96 +13,96 @@ use Rattle.ring_payload.specs.declared.call.Call.{Call as OneCall}
 use Rattle.ring_payload.specs.declared.content.Payload.{Payload}
 use Rattle.ring_session.specs.Table.{Table}
 use Rattle.ring_session.specs.declared.answer.Answer.{Answer}
-use Rattle.ring_core.specs.Joining.{is_operational}
-use Rattle.ring_core.specs.State.{Core, Sent}
-use Rattle.ring_core.specs.declared.out.Out.{Out}
-use Rattle.ring_payload.specs.Limits.{most_snapshot}
+use Rattle.ring_core_spec.specs.Joining.{is_operational}
+use Rattle.ring_core_spec.specs.State.{Core, OutgoingFrame}
+use Rattle.ring_core_spec.specs.declared.out.Out.{Out}
+use Rattle.ring_payload.specs.Limits.{max_snapshot}
 use Rattle.ring_session.specs.Snapshots.{table_snapshot, restored_table}
-use Rattle.ring_log.specs.Logs.{Log, committed_calls, is_ripe}
-use Rattle.ring_log.specs.Stays.{Stay, born, hands, trims}
-use Rattle.ring_log.specs.Kept.{Kept, IsKnown, kept_of, kept_length, log_kept, is_kept_sound}
-use Rattle.ring_session.specs.declared.answered.Answered.{Answered}
+use Rattle.ring_log.specs.Logs.{Log, committed_calls, is_due_to_trim}
+use Rattle.ring_log.specs.Epochs.{Epoch, epochs_opening, epochs_with_sends, epochs_with_trim}
+use Rattle.ring_log.specs.KnownLog.{KnownLog, IsKnownLog, known_log_of, known_log_length, retained_log, is_known_log_sound}
+use Rattle.ring_session.specs.declared.answered.TicketAnswer.{TicketAnswer}
 use Rattle.ring_session.specs.Pendings.{Tickets, AreTickets, pending_from}
-use Rattle.ring_session.specs.Tickets.{Asked, unanswered, answers_after, kept_answers, answer_to}
-use Rattle.ring_course.specs.Courses.{Holding, Course, Moment, is_running, handed_if, dues_by}
-use Rattle.ring_course.specs.NodeRules.{lived_through, Node, node_stopped, is_closed, table_or, table_at, effects_at, snapshot_kept, is_restored}
-use Rattle.ring_course.specs.NodeRules.{send_of, handed_over, NodeStepped, quiet, drops, newly, table_since}
+use Rattle.ring_session.specs.Tickets.{TicketCall, unanswered, answers_after, kept_answers, answer_to}
+use Rattle.ring_replication.specs.Replications.{HeldLog, Replication, StepContext, is_running, handed_if, due_sends_by}
+use Rattle.ring_replication.specs.NodeSpec.{epochs_after, Node, node_stopped, is_closed, table_or, table_at, effects_at, snapshot_kept, is_restored}
+use Rattle.ring_replication.specs.NodeSpec.{send_of, handed_over, NodeStepResult, empty_step, drops, newly_committed, table_since}
 
--- all of a node but its core, as contracts see it
+-- a replica, as contracts see it
 pub record Replica (A : Type 0) : Type 0 where
   pub group : Group
   pub me : ℕ
-  -- its life up to the last step that is done, and up to the step that is being done
-  pub life : List (Stay A)
-  pub ahead : List (Stay A)
+  -- its life up to the last finished step, and up to the unfinished step
+  pub epochs : List (Epoch A)
+  pub epochs_in_step : List (Epoch A)
   -- all tickets ever given, in order
-  pub tickets : List (Asked A)
-  -- the committed calls that it did on its sessions, and all answers that it gave, in order, up to the last step that is done
+  pub tickets : List (TicketCall A)
+  -- the committed calls that it applied to its sessions, and all answers that it gave, in order, up to the last finished step
   pub done : List (OneCall A)
-  pub answers : List (Answered A)
-  -- the calls that the step that is being done commits, and those of the places that it drops
+  pub answers : List (TicketAnswer A)
+  -- the calls that the unfinished step commits, and those of the places that it drops
   pub doing : List (OneCall A)
   pub leaving : List (OneCall A)
   pub stopped : Bool
 
--- what of it only contracts see
-pub record Tale (A : Type 0) : Type 0 where
-  pub life : List (Stay A)
-  pub tickets : List (Asked A)
+-- the part of a replica that only contracts see
+pub record ReplicaGhostState (A : Type 0) : Type 0 where
+  pub epochs : List (Epoch A)
+  pub tickets : List (TicketCall A)
   pub done : List (OneCall A)
-  pub answers : List (Answered A)
+  pub answers : List (TicketAnswer A)
 
--- of processor me, at the opening
-abbrev pub tale_opening : {A : Type 0} → ℕ → Tale A
-tale_opening me = record { life = born me; tickets = []; done = []; answers = [] }
+-- the ghost state of processor `me` at the opening
+abbrev pub ghost_state_opening : {A : Type 0} → ℕ → ReplicaGhostState A
+ghost_state_opening me = record { epochs = epochs_opening me; tickets = []; done = []; answers = [] }
 
--- a step is done, by which these calls were done and these answers given
-abbrev pub tale_done : {A : Type 0} → Tale A → List (Stay A) → List (OneCall A) → List (Answered A) → Tale A
-tale_done tale life more answers = record tale { life = life; done = tale.done ++ more; answers = tale.answers ++ answers }
+-- the ghost state after a finished step, which did these calls and gave these answers
+abbrev pub ghost_state_after_step : {A : Type 0} → ReplicaGhostState A → List (Epoch A) → List (OneCall A) → List (TicketAnswer A) → ReplicaGhostState A
+ghost_state_after_step ghost_state epochs more answers = record ghost_state { epochs = epochs; done = ghost_state.done ++ more; answers = ghost_state.answers ++ answers }
 
--- a call was given a ticket
-abbrev pub tale_given : {A : Type 0} → Tale A → OneCall A → Bool → Tale A
-tale_given tale c runs =
-    record tale { life = hands (handed_if runs c) tale.life; tickets = tale.tickets ++ record { call = c; since = length tale.done } ∷ [] }
+-- the ghost state after a call was given a ticket
+abbrev pub ghost_state_after_ticket : {A : Type 0} → ReplicaGhostState A → OneCall A → Bool → ReplicaGhostState A
+ghost_state_after_ticket ghost_state c runs =
+    record ghost_state { epochs = epochs_with_sends (handed_if runs c) ghost_state.epochs; tickets = ghost_state.tickets ++ record { call = c; since = length ghost_state.done } ∷ [] }
 
--- processor me of the group, at the opening
+-- processor `me` of the group at the opening
 abbrev pub replica_opening : {A : Type 0} → Group → ℕ → Replica A
 replica_opening group me =
-    record { group = group; me = me; life = born me; ahead = born me; tickets = []; done = []; answers = []; doing = []; leaving = []; stopped = false }
+    record { group = group; me = me; epochs = epochs_opening me; epochs_in_step = epochs_opening me; tickets = []; done = []; answers = []; doing = []; leaving = []; stopped = false }
 
--- all steps are done
-pub record IsDone {A : Type 0} (r : Replica A) : Type 0 where
-  pub life : r.ahead ≡ r.life
+-- all steps are finished
+pub record IsBetweenSteps {A : Type 0} (r : Replica A) : Type 0 where
+  pub epochs : r.epochs_in_step ≡ r.epochs
   pub doing : r.doing ≡ []
   pub leaving : r.leaving ≡ []
 
--- what it knows of its log
-abbrev pub replica_kept : {A : Type 0} → Replica A → Kept A
-replica_kept r = kept_of r.group r.life
+-- the known log of a replica
+abbrev pub replica_known_log : {A : Type 0} → Replica A → KnownLog A
+replica_known_log r = known_log_of r.group r.epochs
 
--- how many places its log has, dropped ones included
+-- the number of places of its log, dropped ones included
 abbrev pub replica_length : {A : Type 0} → Replica A → ℕ
-replica_length r = kept_length (replica_kept r)
+replica_length r = known_log_length (replica_known_log r)
 
--- how many of these it has dropped
+-- the number of dropped places
 abbrev pub replica_trimmed : {A : Type 0} → Replica A → ℕ
-replica_trimmed r = (replica_kept r).trimmed
+replica_trimmed r = (replica_known_log r).trimmed
 
--- the committed places that it hasn't dropped
+-- the committed places that aren't dropped
 abbrev pub replica_committed : {A : Type 0} → Replica A → List (OneCall A)
-replica_committed r = committed_calls (log_kept (replica_kept r))
+replica_committed r = committed_calls (retained_log (replica_known_log r))
 
--- it stopped for good, and is what it was before the step that was being done
+-- the replica stopped for good, as it was before the unfinished step
 abbrev pub replica_stopped : {A : Type 0} → Replica A → Replica A
-replica_stopped r = record r { ahead = r.life; doing = []; leaving = []; stopped = true }
+replica_stopped r = record r { epochs_in_step = r.epochs; doing = []; leaving = []; stopped = true }
 
--- the answer to a ticket, if it is among the last 64
+-- the answer to a ticket, if it is one of the last 64 answered
 abbrev pub replica_reply : {A : Type 0} → Replica A → ℕ → Option Answer
 replica_reply r ticket = answer_to ticket (kept_answers r.answers)
 
 -- A submit
 
--- why a submit is refused, memory apart: it has stopped, 64 tickets are without an answer, or 2^62 were given
+-- the fault of a refused submit, apart from `Memory`: the replica has stopped, 64 tickets are unanswered, or 2^62 were given
 abbrev pub submit_refusal : {A : Type 0} → Replica A → Option Fault
 submit_refusal r =
     if r.stopped then Some Stopped
@@ -109,120 +110,121 @@ submit_refusal r =
     else if nat_le max_number (length r.tickets) then Some PendingFull
     else None
 
--- there is such a ring, and it is the one that runs
+-- there is such a ring, and it is the running one
 abbrev pub is_running_some : Option RingId → Option RingId → Bool
 is_running_some running None = false
 is_running_some running (Some ring) = is_running running ring
 
--- the running ring is the newest that was adopted
+-- the running ring is the newest adopted one
 abbrev pub has_adopted_running : {A : Type 0} → Option RingId → Replica A → Bool
-has_adopted_running running r = is_running_some running (replica_kept r).last
+has_adopted_running running r = is_running_some running (replica_known_log r).last
 
--- where that is so, a submitted call is handed to the core at once; else it waits
+-- due at a submit: the call, if the running ring is adopted; else it stays pending
 abbrev pub due_by_call : {A : Type 0} → Option RingId → Replica A → OneCall A → List (Payload A)
 due_by_call running r c = handed_if (has_adopted_running running r) c
 
--- the next ticket is the call's
-abbrev pub replica_given : {A : Type 0} → Option RingId → Replica A → OneCall A → Replica A
-replica_given running r c =
-    let life = hands (due_by_call running r c) r.life in
-    record r { life = life; ahead = life; tickets = r.tickets ++ record { call = c; since = length r.done } ∷ [] }
+-- the replica after a submit: the call has the next ticket
+abbrev pub replica_with_ticket : {A : Type 0} → Option RingId → Replica A → OneCall A → Replica A
+replica_with_ticket running r c =
+    let epochs = epochs_with_sends (due_by_call running r c) r.epochs in
+    record r { epochs = epochs; epochs_in_step = epochs; tickets = r.tickets ++ record { call = c; since = length r.done } ∷ [] }
 
 -- A step
 
--- how many places the snapshot stands for that a node restored, by what it knew before and what it knows now: none where it restored none
-abbrev pub restored_since : {A : Type 0} → Kept A → Kept A → Option ℕ
+-- the number of places of the snapshot that was restored between two known logs; none if none was restored
+abbrev pub restored_since : {A : Type 0} → KnownLog A → KnownLog A → Option ℕ
 restored_since old now = if nat_lt old.from now.from then Some now.from else None
 
--- what a step of the core makes of it, with the frames sent, what is to be handed to the core, the answers given, and how many places were restored
-pub record ReplicaStepped (A : Type 0) : Type 0 where
+-- the result of a core's step: the replica, the frames sent, the payloads to be handed to the core, the answers, and the number
+-- of places restored
+pub record ReplicaStepResult (A : Type 0) : Type 0 where
   pub replica : Replica A
-  pub sends : List (Sent A)
+  pub sends : List (OutgoingFrame A)
   pub due : List (Payload A)
-  pub answers : List (Answered A)
+  pub answers : List (TicketAnswer A)
   pub restored : Option ℕ
 
--- a step that leaves it as it is and gives nothing
-abbrev pub replica_still : {A : Type 0} → Replica A → ReplicaStepped A
+-- the result of a step that changes nothing and has no output
+abbrev pub replica_still : {A : Type 0} → Replica A → ReplicaStepResult A
 replica_still r = record { replica = r; sends = []; due = []; answers = []; restored = None }
 
 module _ {O : Type 0} (object : Sequential O) where
-  -- what is due in a step is made of this: what it is before the step, and the ring that runs once the core has stepped
-  abbrev pub moment_of : {A : Type 0} → Option RingId → Replica A → Moment A
+  -- the context of a step: the replica before it, and the running ring after the core's step
+  abbrev pub moment_of : {A : Type 0} → Option RingId → Replica A → StepContext A
   moment_of running r =
       record {
         group = r.group;
         me = r.me;
         running = running;
         pending = pending_from r.done 0 r.tickets;
-        committed = (replica_kept r).committed;
-        trimmed = (replica_kept r).trimmed;
-        snapshot = snapshot_kept object (replica_kept r);
+        committed = (replica_known_log r).committed;
+        trimmed = (replica_known_log r).trimmed;
+        snapshot = snapshot_kept object (replica_known_log r);
       }
 
-  -- a life at the end of a step: the committed places are dropped, where they are to be
-  abbrev pub life_ended : {A : Type 0} → Bool → Kept A → List (Stay A) → List (Stay A)
-  life_ended closed k life = if drops object closed k then trims k.committed life else life
+  -- a life at the end of a step: the committed places are dropped if they are due
+  abbrev pub life_ended : {A : Type 0} → Bool → KnownLog A → List (Epoch A) → List (Epoch A)
+  life_ended closed k epochs = if drops object closed k then epochs_with_trim k.committed epochs else epochs
 
-  -- the calls of the places that are dropped then
-  abbrev pub leaving_at : {A : Type 0} → Bool → Kept A → List (OneCall A)
-  leaving_at closed k = if drops object closed k then committed_calls (log_kept k) else []
+  -- the calls of the places dropped then
+  abbrev pub leaving_at : {A : Type 0} → Bool → KnownLog A → List (OneCall A)
+  leaving_at closed k = if drops object closed k then committed_calls (retained_log k) else []
 
-  -- a step is being done in which its life goes on so, with what is due handed over, and these calls are done
-  abbrev pub replica_doing : {A : Type 0} → Replica A → List (Stay A) → Kept A → List (Payload A) → List (OneCall A) → Replica A
-  replica_doing r life k due more =
-      let closed = is_closed r.group (hands due life) in
-      record r { ahead = life_ended closed k (hands due life); doing = more; leaving = leaving_at closed k }
+  -- a replica with an unfinished step, which extends its life so, hands over the due payloads and does these calls
+  abbrev pub replica_doing : {A : Type 0} → Replica A → List (Epoch A) → KnownLog A → List (Payload A) → List (OneCall A) → Replica A
+  replica_doing r epochs k due more =
+      let closed = is_closed r.group (epochs_with_sends due epochs) in
+      record r { epochs_in_step = life_ended closed k (epochs_with_sends due epochs); doing = more; leaving = leaving_at closed k }
 
-  -- the same, with all that the step gives
-  abbrev pub replica_moved : {A : Type 0} → Replica A → List (Out A) → List (Stay A) → List (Payload A) → Kept A → ReplicaStepped A
-  replica_moved r outs life due k =
+  -- the result of such a step
+  abbrev pub replica_moved : {A : Type 0} → Replica A → List (Out A) → List (Epoch A) → List (Payload A) → KnownLog A → ReplicaStepResult A
+  replica_moved r outs epochs due k =
       record {
-        replica = replica_doing r life k due (newly (replica_kept r) k);
+        replica = replica_doing r epochs k due (newly_committed (replica_known_log r) k);
         sends = filter_map send_of outs;
         due = due;
-        answers = answers_after object (table_since object (replica_kept r) k) r.tickets r.done (newly (replica_kept r) k);
-        restored = restored_since (replica_kept r) k;
+        answers = answers_after object (table_since object (replica_known_log r) k) r.tickets r.done (newly_committed (replica_known_log r) k);
+        restored = restored_since (replica_known_log r) k;
       }
 
-  -- the same where the step may be; else it has stopped, and nothing is given
-  abbrev pub replica_settled : {A : Type 0} → Bool → Replica A → List (Out A) → List (Stay A) → List (Payload A) → Kept A → ReplicaStepped A
-  replica_settled false r outs life due k = record { replica = replica_stopped r; sends = []; due = []; answers = []; restored = None }
-  replica_settled true r outs life due k = replica_moved r outs life due k
+  -- the result of the step, if the known log after it is sound; else the replica is stopped, without outputs
+  abbrev pub replica_settled : {A : Type 0} → Bool → Replica A → List (Out A) → List (Epoch A) → List (Payload A) → KnownLog A → ReplicaStepResult A
+  replica_settled false r outs epochs due k = record { replica = replica_stopped r; sends = []; due = []; answers = []; restored = None }
+  replica_settled true r outs epochs due k = replica_moved r outs epochs due k
 
-  -- the core, of which this ring runs then, took a step with these outputs
-  abbrev pub replica_step : {A : Type 0} → Option RingId → Replica A → List (Out A) → ReplicaStepped A
+  -- the result of a core's step with these outputs, after which this ring runs
+  abbrev pub replica_step : {A : Type 0} → Option RingId → Replica A → List (Out A) → ReplicaStepResult A
   replica_step running r outs =
-      let life = lived_through r.life outs in
-      let k = kept_of r.group life in
-      replica_settled (is_kept_sound r.group life && is_restored object k) r outs life (dues_by (moment_of running r) r.life outs) k
+      let epochs = epochs_after r.epochs outs in
+      let k = known_log_of r.group epochs in
+      replica_settled (is_known_log_sound r.group epochs && is_restored object k) r outs epochs (due_sends_by (moment_of running r) r.epochs outs) k
 
-  -- a step of which the core tells nothing leaves it as it is and gives nothing, whichever ring runs
-  abbrev pub Rests : {A : Type 0} → Replica A → Type 0
-  Rests r = (running : Option RingId) → replica_step running r [] ≡ replica_still r
+  -- a core's step without outputs changes nothing and has no result, whichever ring runs
+  abbrev pub IsStepIdle : {A : Type 0} → Replica A → Type 0
+  IsStepIdle r = (running : Option RingId) → replica_step running r [] ≡ replica_still r
 
--- the step is done, by which these answers were given
-abbrev pub replica_done : {A : Type 0} → Replica A → List (Answered A) → Replica A
-replica_done r answers = record r { life = r.ahead; done = r.done ++ r.doing; answers = r.answers ++ answers; doing = []; leaving = [] }
+-- the replica after the step is finished, with the answers that it gave
+abbrev pub replica_done : {A : Type 0} → Replica A → List (TicketAnswer A) → Replica A
+replica_done r answers = record r { epochs = r.epochs_in_step; done = r.done ++ r.doing; answers = r.answers ++ answers; doing = []; leaving = [] }
 
--- a step from its beginning to its end
-abbrev pub replica_ended : {A : Type 0} → ReplicaStepped A → Replica A
+-- the replica after a whole step
+abbrev pub replica_ended : {A : Type 0} → ReplicaStepResult A → Replica A
 replica_ended s = replica_done s.replica s.answers
 
--- Of a node
+-- Of a node and its replica
 
 -- the ring in which a core is Operational, if it is
 abbrev pub running_of : {A : Type 0} → Core A → Option RingId
 running_of c = if is_operational c.state then Some c.installed.ring else None
 
--- what a node that runs has beside its core
+-- the replica of a node
 abbrev pub replica_of : {A : Type 0} → Node A → Replica A
 replica_of n =
     record {
       group = n.group;
       me = n.core.me;
-      life = n.life;
-      ahead = n.life;
+      epochs = n.epochs;
+      epochs_in_step = n.epochs;
       tickets = n.tickets;
       done = n.done;
       answers = n.answers;
@@ -231,119 +233,121 @@ replica_of n =
       stopped = false;
     }
 
--- a node by what a step made of its replica: what is due is handed to its core; where the replica stopped, it stops, and gives nothing
-abbrev pub node_unless : {A : Type 0} → Bool → Node A → Core A → ReplicaStepped A → NodeStepped A
-node_unless true n core r = quiet (node_stopped n)
+-- the step of a node, given its core after the step and the result of its replica's step. The due payloads are handed to the
+-- core. If the replica stopped, the node stops without outputs.
+abbrev pub node_unless : {A : Type 0} → Bool → Node A → Core A → ReplicaStepResult A → NodeStepResult A
+node_unless true n core r = empty_step (node_stopped n)
 node_unless false n core r =
     record {
-      node = record n { core = handed_over core r.due; life = r.replica.ahead; done = n.done ++ r.replica.doing; answers = n.answers ++ r.answers };
+      node = record n { core = handed_over core r.due; epochs = r.replica.epochs_in_step; done = n.done ++ r.replica.doing; answers = n.answers ++ r.answers };
       sends = r.sends;
       answers = r.answers;
       committed = r.replica.doing;
       dropped = r.replica.leaving;
     }
 
--- the same, of the replica that tells whether it stopped
-abbrev pub node_by : {A : Type 0} → Node A → Core A → ReplicaStepped A → NodeStepped A
+-- the step of a node, by whether its replica stopped
+abbrev pub node_by : {A : Type 0} → Node A → Core A → ReplicaStepResult A → NodeStepResult A
 node_by n core r = node_unless r.replica.stopped n core r
 
--- and by what a submit made of it
-abbrev pub node_given : {A : Type 0} → Node A → OneCall A → Replica A → Node A
-node_given n c r = record n { core = handed_over n.core (due_by_call (running_of n.core) (replica_of n) c); life = r.life; tickets = r.tickets }
+-- a node after a submit, given its replica after it
+abbrev pub node_with_ticket : {A : Type 0} → Node A → OneCall A → Replica A → Node A
+node_with_ticket n c r = record n { core = handed_over n.core (due_by_call (running_of n.core) (replica_of n) c); epochs = r.epochs; tickets = r.tickets }
 
--- What the code keeps
+-- The values that the code stores
 
--- the life up to the step that is being done; once it stopped, that up to the last step that is done
-abbrev pub ahead_of : {A : Type 0} → Course A → Bool → Tale A → List (Stay A)
-ahead_of course true tale = tale.life
-ahead_of course false tale = course.life
+-- the life up to the unfinished step; of a stopped replica, up to the last finished one
+abbrev pub ahead_of : {A : Type 0} → Replication A → Bool → ReplicaGhostState A → List (Epoch A)
+ahead_of replication true ghost_state = ghost_state.epochs
+ahead_of replication false ghost_state = replication.epochs
 
--- the log in which the places stand that are committed now, those that this step drops included
-abbrev pub ahead_log : {A : Type 0} → Holding A → Option (Log A) → Log A
-ahead_log held leaving = unwrap_or leaving held.log
+-- the log that has the places committed now, those that this step drops included
+abbrev pub current_log : {A : Type 0} → HeldLog A → Option (Log A) → Log A
+current_log held leaving = unwrap_or leaving held.log
 
--- the log in which the places stand that were committed at the end of the last step
-abbrev pub behind_log : {A : Type 0} → Holding A → Option (Log A) → Log A
-behind_log held leaving = unwrap_or held.before (ahead_log held leaving)
+-- the log that has the places committed at the end of the last finished step
+abbrev pub log_before_step : {A : Type 0} → HeldLog A → Option (Log A) → Log A
+log_before_step held leaving = unwrap_or held.before (current_log held leaving)
 
--- the calls of a log's committed places past so many, and past those that are dropped
-abbrev pub more_in : {A : Type 0} → ℕ → Log A → List (OneCall A)
-more_in first log = drop (max first log.trimmed - log.trimmed) (committed_calls log)
+-- the calls of a log's committed places after the first `first` and after the dropped ones
+abbrev pub newly_committed_calls : {A : Type 0} → ℕ → Log A → List (OneCall A)
+newly_committed_calls first log = drop (max first log.trimmed - log.trimmed) (committed_calls log)
 
--- where a snapshot was restored in this step, its bytes are one
-abbrev pub is_table_held : {O A : Type 0} → Sequential O → Holding A → Bool
+-- the bytes restored in this step, if any, are a snapshot
+abbrev pub is_table_held : {O A : Type 0} → Sequential O → HeldLog A → Bool
 is_table_held object held = is_none held.before || is_some (restored_table object.restored held.snapshot)
 
--- the sessions then: those restored, or, where none were, these
-abbrev pub table_held : {O A : Type 0} → Sequential O → Holding A → Table O → Table O
+-- the session table: the one restored in this step, if any, else the one given
+abbrev pub table_held : {O A : Type 0} → Sequential O → HeldLog A → Table O → Table O
 table_held object held table = if is_some held.before then table_or object (restored_table object.restored held.snapshot) else table
 
--- the bytes that stand for the committed places of a log with these sessions, if they are to be dropped
-abbrev pub snapshot_if_ripe : {O A : Type 0} → Sequential O → Bool → Log A → Table O → Option (List ℕ)
-snapshot_if_ripe object closed log table =
+-- the snapshot of a log's committed places, given the session table after them, if they are due to be dropped
+abbrev pub snapshot_if_due : {O A : Type 0} → Sequential O → Bool → Log A → Table O → Option (List ℕ)
+snapshot_if_due object closed log table =
     let bytes = table_snapshot object.snapshot_of table in
-    if closed && is_ripe log && nat_le (length bytes) most_snapshot then Some bytes else None
+    if closed && is_due_to_trim log && nat_le (length bytes) max_snapshot then Some bytes else None
 
--- the calls that the step that is being done commits; none once it stopped
-abbrev pub doing_of : {A : Type 0} → Course A → Option (Log A) → ℕ → Bool → List (OneCall A)
-doing_of course leaving first true = []
-doing_of course leaving first false = more_in first (ahead_log course.held leaving)
+-- the calls that the unfinished step commits; none of a stopped replica
+abbrev pub doing_of : {A : Type 0} → Replication A → Option (Log A) → ℕ → Bool → List (OneCall A)
+doing_of replication leaving first true = []
+doing_of replication leaving first false = newly_committed_calls first (current_log replication.held leaving)
 
--- the calls of the log of the places that leave, if there is one
+-- the calls of the log of the places to be dropped, if there is one
 abbrev pub calls_leaving : {A : Type 0} → Option (Log A) → List (OneCall A)
 calls_leaving None = []
 calls_leaving (Some log) = log.calls
 
--- the calls of the places that the step that is being done drops; none once it stopped
+-- the calls of the places that the unfinished step drops; none of a stopped replica
 abbrev pub leaving_of : {A : Type 0} → Option (Log A) → Bool → List (OneCall A)
 leaving_of leaving true = []
 leaving_of leaving false = calls_leaving leaving
 
--- the replica by what is kept of it: its course, the log of the places that leave, how many places were committed at the end of its last
--- step, whether it stopped, and its story
-abbrev pub told_replica : {A : Type 0} → Course A → Option (Log A) → ℕ → Bool → Tale A → Replica A
-told_replica course leaving first stopped tale =
+-- the replica, given its stored values: its replication, the log of the places to be dropped, the committed length at the end of
+-- its last step, whether it stopped, and its ghost state
+abbrev pub replica_view : {A : Type 0} → Replication A → Option (Log A) → ℕ → Bool → ReplicaGhostState A → Replica A
+replica_view replication leaving first stopped ghost_state =
     record {
-      group = course.group;
-      me = course.me;
-      life = tale.life;
-      ahead = ahead_of course stopped tale;
-      tickets = tale.tickets;
-      done = tale.done;
-      answers = tale.answers;
-      doing = doing_of course leaving first stopped;
+      group = replication.group;
+      me = replication.me;
+      epochs = ghost_state.epochs;
+      epochs_in_step = ahead_of replication stopped ghost_state;
+      tickets = ghost_state.tickets;
+      done = ghost_state.done;
+      answers = ghost_state.answers;
+      doing = doing_of replication leaving first stopped;
       leaving = leaving_of leaving stopped;
       stopped = stopped;
     }
 
--- while it runs: its course is sound, the sessions are those after all that is committed by it, the snapshot that is held is that of the places dropped, and
--- what was restored is one
-pub record Runs {O A : Type 0} (object : Sequential O) (course : Course A) (table : Table O) : Type 0 where
-  pub fine : course.fine ≡ true
-  pub applied : table ≡ table_at object (kept_of course.group course.life) (kept_of course.group course.life).committed
-  pub snapshot : 1 ≤ (kept_of course.group course.life).trimmed → course.held.snapshot ≡ snapshot_kept object (kept_of course.group course.life)
-  pub restored : is_restored object (kept_of course.group course.life) ≡ true
+-- the facts of a running replica: its life is sound, the sessions are those after all committed places, the stored snapshot is
+-- that of the dropped places, and the restored bytes are a snapshot
+pub record IsRunningReplica {O A : Type 0} (object : Sequential O) (replication : Replication A) (table : Table O) : Type 0 where
+  pub consistent : replication.consistent ≡ true
+  pub applied : table ≡ table_at object (known_log_of replication.group replication.epochs) (known_log_of replication.group replication.epochs).committed
+  pub snapshot : 1 ≤ (known_log_of replication.group replication.epochs).trimmed → replication.held.snapshot ≡ snapshot_kept object (known_log_of replication.group replication.epochs)
+  pub restored : is_restored object (known_log_of replication.group replication.epochs) ≡ true
 
--- nothing was restored since the last step and nothing leaves, or more places are dropped now than at that step's end
-abbrev pub IsIdle : {A : Type 0} → Kept A → Kept A → Holding A → Option (Log A) → Type 0
+-- nothing was restored since the last step and no places are to be dropped, or more places are dropped now than at the end of
+-- that step
+abbrev pub IsIdle : {A : Type 0} → KnownLog A → KnownLog A → HeldLog A → Option (Log A) → Type 0
 IsIdle k now held leaving = ((held.before ≡ None) × (leaving ≡ None)) ⊎ (k.trimmed < now.trimmed)
 
--- what it tells, stopped or not, is that of its life: how many places its log has, how many of them are committed and how many dropped
-pub record IsReplica {O A : Type 0} (object : Sequential O) (course : Course A) (table : Table O)
-    (tickets : Tickets A) (leaving : Option (Log A)) (places first gone : ℕ) (stopped : Bool) (tale : Tale A) : Type 0 where
-  pub logged : places ≡ kept_length (kept_of course.group tale.life)
-  pub committed : first ≡ (kept_of course.group tale.life).committed
-  pub trimmed : gone ≡ (kept_of course.group tale.life).trimmed
-  pub known : IsKnown (kept_of course.group tale.life)
-  pub front : IsFront (committed_calls (log_kept (kept_of course.group tale.life))) (committed_calls (behind_log course.held leaving))
-  pub answers : AreTickets tale.tickets tale.done tale.answers tickets
-  -- between steps nothing is restored or dropped that isn't told
-  pub idle : stopped ≡ false → IsIdle (kept_of course.group tale.life) (kept_of course.group course.life) course.held leaving
-  pub runs : stopped ≡ false → Runs object course table
+-- a replica reports its life, stopped or not: its log's length, committed length and trimmed length
+pub record IsReplica {O A : Type 0} (object : Sequential O) (replication : Replication A) (table : Table O)
+    (tickets : Tickets A) (leaving : Option (Log A)) (places first gone : ℕ) (stopped : Bool) (ghost_state : ReplicaGhostState A) : Type 0 where
+  pub logged : places ≡ known_log_length (known_log_of replication.group ghost_state.epochs)
+  pub committed : first ≡ (known_log_of replication.group ghost_state.epochs).committed
+  pub trimmed : gone ≡ (known_log_of replication.group ghost_state.epochs).trimmed
+  pub known : IsKnownLog (known_log_of replication.group ghost_state.epochs)
+  pub front : IsListPrefix (committed_calls (retained_log (known_log_of replication.group ghost_state.epochs))) (committed_calls (log_before_step replication.held leaving))
+  pub answers : AreTickets ghost_state.tickets ghost_state.done ghost_state.answers tickets
+  -- between steps no restore and no drop is left unreported
+  pub idle : stopped ≡ false → IsIdle (known_log_of replication.group ghost_state.epochs) (known_log_of replication.group replication.epochs) replication.held leaving
+  pub runs : stopped ≡ false → IsRunningReplica object replication table
 
--- beside it, how many of the committed places took effect, by the story and by the course
-pub record IsCounted {O A : Type 0} (object : Sequential O) (course : Course A) (table : Table O)
-    (tickets : Tickets A) (leaving : Option (Log A)) (places first gone effects reached : ℕ) (stopped : Bool) (tale : Tale A) : Type 0 where
-  pub kept : IsReplica object course table tickets leaving places first gone stopped tale
-  pub order : effects ≡ effects_at object (kept_of course.group tale.life) (kept_of course.group tale.life).committed
-  pub ahead : stopped ≡ false → reached ≡ effects_at object (kept_of course.group course.life) (kept_of course.group course.life).committed
+-- a replica also stores the number of committed calls that took effect: by its ghost state, and by its replication
+pub record IsCounted {O A : Type 0} (object : Sequential O) (replication : Replication A) (table : Table O)
+    (tickets : Tickets A) (leaving : Option (Log A)) (places first gone effects effects_in_step : ℕ) (stopped : Bool) (ghost_state : ReplicaGhostState A) : Type 0 where
+  pub kept : IsReplica object replication table tickets leaving places first gone stopped ghost_state
+  pub order : effects ≡ effects_at object (known_log_of replication.group ghost_state.epochs) (known_log_of replication.group ghost_state.epochs).committed
+  pub epochs_in_step : stopped ≡ false → effects_in_step ≡ effects_at object (known_log_of replication.group replication.epochs) (known_log_of replication.group replication.epochs).committed

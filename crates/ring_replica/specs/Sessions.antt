@@ -1,4 +1,4 @@
--- Words of sessions and their tickets, passed on to the node.
+-- Definitions of sessions and their tickets, re-exported to the node.
 pub use Rattle.ring_session.specs.Pendings.{pending_from}
-pub use Rattle.ring_session.specs.declared.answered.Answered.{Answered}
+pub use Rattle.ring_session.specs.declared.answered.TicketAnswer.{TicketAnswer}
 pub use Rattle.ring_session.specs.Tickets.{unanswered}

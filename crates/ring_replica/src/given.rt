@@ -1,32 +1,35 @@
-//! What a step gives.
+//! The output of a replica's step.
+//! Rules: The replicated log 14 and 18
 
 ghost use Rattle.std.specs.Prelude.{◌≡◌, [], None};
 
 use ring_payload::{Call, Payload};
-use ring_session::Answered;
+use ring_session::TicketAnswer;
 use std::alloc::{Allocator, Global};
 
-/// What a step of the core gives by a node's replica: what is to be handed to the core, in its order, the answers, by the order
-/// of their places, then of their tickets, the calls newly committed, and how many places were restored.
+/// The output of a replica's step: what the node does next for its core, its clients and its log's readers.
+/// Rules: The replicated log 14 and 18
 #[derive(Drop)]
-pub struct Given<A: Allocator + Copy + Drop = Global> {
+pub struct ReplicaOutput<A: Allocator + Copy + Drop = Global> {
+    /// The payloads to be handed to the core, in this order.
     pub due: Vec<Payload<A>, A>,
-    pub answers: Vec<Answered<A>, A>,
-    /// The calls newly committed, in order.
+    /// The answers to tickets, in the order of the calls' places, then of the tickets.
+    pub answers: Vec<TicketAnswer<A>, A>,
+    /// The calls of the places newly committed, in order, but for those that a snapshot brought.
     pub committed: Vec<Call<A>, A>,
-    /// How many places the snapshot stands for that the step restored, if it restored one.
+    /// The number of places of the snapshot that the step restored; `None` if it restored none.
     pub restored: Option<u64>,
 }
 
-impl<A: Allocator + Copy + Drop> Given<A> {
-    /// Nothing.
-    pub(crate) fn new(alloc: A) -> Given<A>
+impl<A: Allocator + Copy + Drop> ReplicaOutput<A> {
+    /// Creates an empty output. It takes no memory.
+    pub(crate) fn new(alloc: A) -> ReplicaOutput<A>
         ensures due { result.due.items ≡ [] }
         ensures answers { result.answers.items ≡ [] }
         ensures committed { result.committed.items ≡ [] }
         ensures restored { result.restored ≡ None }
     {
-        Given {
+        ReplicaOutput {
             due: Vec::new(alloc),
             answers: Vec::new(alloc),
             committed: Vec::new(alloc),

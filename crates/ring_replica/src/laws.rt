@@ -3,24 +3,27 @@
 ghost use Rattle.std.specs.Prelude.{◌≡◌, ℕ, false, true};
 ghost use Rattle.ring_base.specs.Group.{Group};
 ghost use Rattle.ring_payload.specs.declared.call.Call.{Call as OneCall};
-ghost use Rattle.ring_core.specs.State.{Stepped};
-ghost use Rattle.ring_course.specs.NodeRules.{Node, node_opening, node_committed, node_length, node_trimmed, node_reply, is_stopped, after_core};
-ghost use Rattle.ring_course.specs.NodeRules.{submit_fault, submitted};
+ghost use Rattle.ring_core_spec.specs.State.{StepResult};
+ghost use Rattle.ring_replication.specs.NodeSpec.{Node, node_opening, node_committed, node_length, node_trimmed, node_reply, is_stopped, after_core};
+ghost use Rattle.ring_replication.specs.NodeSpec.{submit_fault, submitted};
 ghost use Rattle.ring_replica.specs.Replicas.{replica_opening, replica_of, replica_committed, replica_length, replica_trimmed, replica_reply};
-ghost use Rattle.ring_replica.specs.Replicas.{submit_refusal, replica_given, replica_step, running_of, node_by, node_given};
-ghost use Rattle.ring_course.specs.Courses.{rises, IsSteady};
+ghost use Rattle.ring_replica.specs.Replicas.{submit_refusal, replica_with_ticket, replica_step, running_of, node_by, node_with_ticket};
+ghost use Rattle.ring_replication.specs.Replications.{rises, HasSoundEpochs};
 
 use ring_object::Object;
 
-/// A node is its core and its replica: at the opening; after a step of its core by which no safe mark falls, if its life is
-/// steady, where what the replica makes of the outputs is due is handed to the core; after a submit; and in what it tells. So
-/// what is proved of a node's step holds of its replica's.
+/// States that a node is its core and its replica, for every node and every object. So facts proved of a node's step hold of its
+/// replica's.
+/// This is so at the opening, after a submit, and in the node's reports. It is so after a step of its core, if the due payloads
+/// of the replica are handed to the core. That step must lower no safe mark, and the life must be sound (`HasSoundEpochs`): no
+/// base lacked committed places, and only these were dropped.
+/// Rules: The replicated log 1, 13 and 18
 pub fn replica_law<O: Object>()
     ensures opening { (group : Group) (me : ℕ) → replica_of (node_opening {A = O.Alloc} group me) ≡ replica_opening group me }
-    ensures step { (n : Node O.Alloc) (s : Stepped O.Alloc) → IsSteady n.group n.life → rises n.life s.outs ≡ true →
+    ensures step { (n : Node O.Alloc) (s : StepResult O.Alloc) → HasSoundEpochs n.group n.epochs → rises n.epochs s.outs ≡ true →
         after_core O.sequential n s ≡ node_by n s.core (replica_step O.sequential (running_of s.core) (replica_of n) s.outs) }
     ensures refused { (n : Node O.Alloc) → is_stopped n.core.state ≡ false → submit_fault n ≡ submit_refusal (replica_of n) }
-    ensures given { (n : Node O.Alloc) (c : OneCall O.Alloc) → submitted n c ≡ node_given n c (replica_given (running_of n.core) (replica_of n) c) }
+    ensures given { (n : Node O.Alloc) (c : OneCall O.Alloc) → submitted n c ≡ node_with_ticket n c (replica_with_ticket (running_of n.core) (replica_of n) c) }
     ensures length { (n : Node O.Alloc) → replica_length (replica_of n) ≡ node_length n }
     ensures trimmed { (n : Node O.Alloc) → replica_trimmed (replica_of n) ≡ node_trimmed n }
     ensures committed { (n : Node O.Alloc) → replica_committed (replica_of n) ≡ node_committed n }

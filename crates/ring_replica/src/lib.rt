@@ -1,16 +1,18 @@
-//! The replica of a node: all of it but its ring core. It has a course go through what the core gave in a step, does what is
-//! committed by it, keeps the calls of clients that wait for their answers, and says what the core is handed next.
+//! The replica of a node: all of the node except its ring core.
+//! It lets its `Replication` follow the outputs of the core's step, applies the calls that become committed, keeps the calls of
+//! clients that wait for answers, and returns the payloads to be handed to the core next.
+//! Rules: The replicated log 8 to 15, 18 and 20
 #![tactic(auto)]
 
 mod given;
+mod history;
 mod laws;
 mod mark_laws;
 mod replica;
-mod story;
 
-pub use given::Given;
+pub use given::ReplicaOutput;
 pub use laws::replica_law;
 pub use mark_laws::marks_law;
 pub use replica::Replica;
-pub use ring_course::{Course, Holding, Input};
-pub use ring_session::{Answer, Answered, Ticket, copy_of};
+pub use ring_replication::{HeldLog, Input, Replication};
+pub use ring_session::{Answer, Ticket, TicketAnswer, copy_of};

@@ -1,28 +1,32 @@
 //! Laws of safe marks.
+//! Rules: Outputs 4 and 9
 
 ghost use Rattle.std.specs.Prelude.{◌≡◌, ℕ, List, true, false};
 ghost use Rattle.ring_payload.specs.declared.content.Payload.{Payload};
-ghost use Rattle.ring_core.specs.declared.input.Input.{Input};
-ghost use Rattle.ring_core.specs.State.{Core, opening};
-ghost use Rattle.ring_core.specs.Giving.{may_install};
-ghost use Rattle.ring_core.specs.Stepping.{ring_step};
-ghost use Rattle.ring_log.specs.Stays.{Stay, born, hands};
-ghost use Rattle.ring_course.specs.NodeRules.{lived_through, is_stopped, handed_over};
-ghost use Rattle.ring_course.specs.Courses.{rises};
+ghost use Rattle.ring_core_spec.specs.declared.input.Input.{Input};
+ghost use Rattle.ring_core_spec.specs.State.{Core, opening};
+ghost use Rattle.ring_core_spec.specs.Giving.{may_install};
+ghost use Rattle.ring_core_spec.specs.Stepping.{ring_step};
+ghost use Rattle.ring_log.specs.Epochs.{Epoch, epochs_opening, epochs_with_sends};
+ghost use Rattle.ring_replication.specs.NodeSpec.{epochs_after, is_stopped, handed_over};
+ghost use Rattle.ring_replication.specs.Replications.{rises};
 ghost use Rattle.ring_replica.specs.Marks.{IsMarked};
 
 use std::alloc::Allocator;
 
-/// A core and its node's life go on together: from the opening, by each step of the core, and as payloads are handed over,
-/// the newest stay is in the installed ring, and its mark is at most the core's. So no safe mark that a step tells is below
-/// the one before. A core stays the same processor's, none stops by a step, and what is handed over changes neither its state nor its ring.
+/// States that a core and its node's life stay in step: the newest epoch is in the installed ring, and its mark is at most the
+/// core's.
+/// This holds at the opening, after each step of the core, and after payloads are handed over. So no safe mark that a step
+/// reports is below the one before. A core's processor never changes, no step stops a core, and payloads handed over change
+/// neither its state nor its ring.
+/// Rules: Outputs 4 and 9; The replicated log 1
 pub fn marks_law<A: Allocator + Copy>()
-    ensures opening { (total me : ℕ) → IsMarked {A = A} (opening total me) (born me) }
-    ensures rises { (c : Core A) (life : List (Stay A)) (input : Input A) → IsMarked c life → rises life (ring_step c input).outs ≡ true }
-    ensures step { (c : Core A) (life : List (Stay A)) (input : Input A) →
-        IsMarked c life → IsMarked (ring_step c input).core (lived_through life (ring_step c input).outs) }
-    ensures handed { (c : Core A) (life : List (Stay A)) (payloads : List (Payload A)) →
-        IsMarked c life → IsMarked (handed_over c payloads) (hands payloads life) }
+    ensures opening { (total me : ℕ) → IsMarked {A = A} (opening total me) (epochs_opening me) }
+    ensures rises { (c : Core A) (epochs : List (Epoch A)) (input : Input A) → IsMarked c epochs → rises epochs (ring_step c input).outs ≡ true }
+    ensures step { (c : Core A) (epochs : List (Epoch A)) (input : Input A) →
+        IsMarked c epochs → IsMarked (ring_step c input).core (epochs_after epochs (ring_step c input).outs) }
+    ensures handed { (c : Core A) (epochs : List (Epoch A)) (payloads : List (Payload A)) →
+        IsMarked c epochs → IsMarked (handed_over c payloads) (epochs_with_sends payloads epochs) }
     ensures going { (c : Core A) (input : Input A) → is_stopped c.state ≡ false → is_stopped (ring_step c input).core.state ≡ false }
     ensures me { (c : Core A) (input : Input A) → (ring_step c input).core.me ≡ c.me }
     ensures me_handed { (c : Core A) (payloads : List (Payload A)) → (handed_over c payloads).me ≡ c.me }

@@ -1,4 +1,5 @@
-//! All of a node but its core.
+//! The replica: its step in two parts, and its reports.
+//! Rules: The replicated log 8 to 15, 18 and 20
 
 ghost use Rattle.std.specs.Prelude.{◌≡◌, ◌+◌, ◌-◌, ◌^◌, [], true, false, fold, min, is_some, option_map, if◌then◌else◌, length, not, IfOk, IfErr};
 ghost use Rattle.std.specs.Prelude.{IfSome, OnOk, OnErr, Some, None};
@@ -6,66 +7,68 @@ ghost use Rattle.ring_base.specs.declared.fault.Fault.TheVariants.{Memory};
 ghost use Rattle.ring_session.specs.Table.{table_next};
 ghost use Rattle.ring_session.specs.Pendings.{answers_behind, pending_from};
 ghost use Rattle.ring_session.specs.TicketEffects.{done_after, table_effects};
-ghost use Rattle.ring_log.specs.Kept.{log_kept};
-ghost use Rattle.ring_log.specs.Logs.{committed_log, is_ripe};
-ghost use Rattle.ring_course.specs.NodeRules.{effects_at, is_closed};
-ghost use Rattle.ring_course.specs.Courses.{rises, course_trimmed, IsSteady};
-ghost use Rattle.ring_replica.specs.Replicas.{IsDone, replica_opening, replica_kept, replica_length, replica_trimmed, replica_committed};
-ghost use Rattle.ring_replica.specs.Replicas.{replica_stopped, replica_reply, submit_refusal, is_running_some, has_adopted_running, replica_given};
-ghost use Rattle.ring_replica.specs.Replicas.{calls_leaving, more_in, ahead_log, behind_log, is_table_held, table_held, snapshot_if_ripe};
-ghost use Rattle.ring_replica.specs.Replicas.{replica_step, replica_done, Rests};
+ghost use Rattle.ring_log.specs.KnownLog.{retained_log};
+ghost use Rattle.ring_log.specs.Logs.{committed_log, is_due_to_trim};
+ghost use Rattle.ring_replication.specs.NodeSpec.{effects_at, is_closed};
+ghost use Rattle.ring_replication.specs.Replications.{rises, replication_trimmed, HasSoundEpochs};
+ghost use Rattle.ring_replica.specs.Replicas.{IsBetweenSteps, replica_opening, replica_known_log, replica_length, replica_trimmed, replica_committed};
+ghost use Rattle.ring_replica.specs.Replicas.{replica_stopped, replica_reply, submit_refusal, is_running_some, has_adopted_running, replica_with_ticket};
+ghost use Rattle.ring_replica.specs.Replicas.{calls_leaving, newly_committed_calls, current_log, log_before_step, is_table_held, table_held, snapshot_if_due};
+ghost use Rattle.ring_replica.specs.Replicas.{replica_step, replica_done, IsStepIdle};
 
-use crate::given::Given;
-use crate::story::{ReplicaStory, done, given, opened};
-use ring_base::{Fault, Fixed, Past, Proc, RingId, paired};
-use ring_core::Out;
-use ring_course::{Course, Holding};
+use crate::given::ReplicaOutput;
+use crate::history::{ReplicaHistory, done, given, history_opening};
+use ring_base::{Fault, Fixed, Ghost, Proc, RingId, pair_result};
+use ring_core_spec::Out;
 use ring_log::{Log, Snapshot};
 use ring_object::Object;
-use ring_payload::{Call, MOST_SNAPSHOT};
-use ring_session::{Answer, Answered, Pending, Sessions, Ticket, Tickets, answers_of};
+use ring_payload::{Call, MAX_SNAPSHOT};
+use ring_replication::{HeldLog, Replication};
+use ring_session::{Answer, Pending, Sessions, Ticket, TicketAnswer, Tickets, answers_of};
 use std::alloc::{AllocError, Allocator};
 use std::marker::Model;
 use std::mem;
 
-/// All of a node but its core: its log, with where the exchange of its newest ring stands, its tickets, and the
-/// sessions. Contracts see its life, its tickets, the calls that it did and the answers that it gave.
-///
-/// A step has two parts. `step` takes the outputs of the core, and gives what is to be handed to it; once that is handed
-/// over, `finish` makes the step a part of the node's life. Until then the node tells what it was before. All memory is
-/// asked for in the first part, that for dropping committed places included.
+/// All of a node except its core: its replicated log, its tickets, and its sessions with their object.
+/// Contracts see its life, its tickets, the calls that it did and the answers that it gave.
+/// A step has two parts. `step` takes the outputs of the core, and returns the payloads to be handed to it. Once these have been
+/// handed over, `finish` makes the step part of the node's life. Until then the replica reports its state from before the step.
+/// All memory is allocated in the first part, also for dropping committed places.
+/// Rules: The replicated log 1, 12, 14 and 20
 #[derive(Drop)]
 pub struct Replica<O: Object> {
     alloc: O::Alloc,
-    course: Course<O::Alloc>,
+    replication: Replication<O::Alloc>,
     sessions: Sessions<O>,
     tickets: Tickets<O::Alloc>,
-    /// The log of the places that the step that is being done drops, if it drops some.
+    /// The log of the places that the unfinished step drops, if it drops some.
     leaving: Option<Log<O::Alloc>>,
-    /// How many places the log had, and how many of them were committed and dropped, as the last step was done.
+    /// The log's length, committed length and trimmed length at the end of the last finished step.
     places: u64,
     committed: u64,
     trimmed: u64,
-    /// How many of the committed places took effect, as the last step was done, and by the step that is being done.
+    /// The number of committed calls that took effect: at the end of the last finished step, and after the unfinished one.
     effects: u64,
-    reached: u64,
+    effects_in_step: u64,
     stopped: bool,
-    story: Past<ReplicaStory<O::Alloc>>,
+    history: Ghost<ReplicaHistory<O::Alloc>>,
 }
 
 impl<O: Object> Model for Replica<O> {
-    ghost use Rattle.ring_replica.specs.Replicas.{Replica as ToldReplica, IsCounted, told_replica};
+    ghost use Rattle.ring_replica.specs.Replicas.{Replica as ReplicaValue, IsCounted, replica_view};
 
-    ghost Value = { ToldReplica O.Alloc };
+    ghost Value = { ReplicaValue O.Alloc };
 
-    ghost view = { λ r. told_replica r.course r.leaving r.committed r.stopped r.story.value };
+    ghost view = { λ r. replica_view r.replication r.leaving r.committed r.stopped r.history.value };
 
-    ghost invariant = { λ r. IsCounted O.sequential r.course r.sessions r.tickets r.leaving r.places r.committed r.trimmed
-        r.effects r.reached r.stopped r.story.value };
+    ghost invariant = { λ r. IsCounted O.sequential r.replication r.sessions r.tickets r.leaving r.places r.committed r.trimmed
+        r.effects r.effects_in_step r.stopped r.history.value };
 }
 
 impl<O: Object> Replica<O> {
-    /// The replica of a processor at the opening, or `Memory`.
+    /// Creates the replica of processor `me` at the opening: an empty log, no tickets, and the object at its start.
+    /// Errors: `Memory` where an allocation fails.
+    /// Rules: The replicated log 1
     pub fn new(alloc: O::Alloc, fixed: Fixed, me: Proc) -> Result<Replica<O>, Fault>
         ensures ok { IfOk result (λ replica. replica ≡ replica_opening fixed me) }
         ensures refused { IfErr result (λ fault. fault ≡ Memory) }
@@ -74,44 +77,47 @@ impl<O: Object> Replica<O> {
             alloc,
             tickets: Tickets::new(alloc)?,
             sessions: Sessions::new(alloc)?,
-            course: Course::new(alloc, fixed, me),
+            replication: Replication::new(alloc, fixed, me),
             leaving: None,
             places: 0,
             committed: 0,
             trimmed: 0,
             effects: 0,
-            reached: 0,
+            effects_in_step: 0,
             stopped: false,
-            story: opened(me),
+            history: history_opening(me),
         })
     }
 
-    /// A copy of the replica. Its object is what the snapshot of this one's is restored to. Refused with `Memory` alone.
+    /// Returns a copy that is used independently of this replica. Its object is restored from a snapshot of this one's.
+    /// Errors: `Memory` where an allocation fails; this replica is unchanged.
+    /// Rules: Objects 3; Sessions 12
     pub fn copy(&self) -> Result<Replica<O>, Fault>
         ensures ok { IfOk result (λ copy. copy ≡ self.now) }
         ensures refused { IfErr result (λ fault. fault ≡ Memory) }
     {
-        let story = self.story.clone()?;
-        let (tickets, leaving) = copied_tickets(&self.tickets, &self.leaving)?;
-        let (course, sessions) = copied_course(&self.course, &self.sessions)?;
+        let history = self.history.clone()?;
+        let (tickets, leaving) = copy_tickets(&self.tickets, &self.leaving)?;
+        let (replication, sessions) = copy_replication(&self.replication, &self.sessions)?;
         Ok(Replica {
             alloc: self.alloc,
-            story,
+            history,
             leaving,
             tickets,
-            course,
+            replication,
             sessions,
             places: self.places,
             committed: self.committed,
             trimmed: self.trimmed,
             effects: self.effects,
-            reached: self.reached,
+            effects_in_step: self.effects_in_step,
             stopped: self.stopped,
         })
     }
 
-    /// Refuses a submit that is refused whatever the memory: `Stopped` once it has stopped, and else `PendingFull`, where
-    /// 64 tickets have no answer or 2^62 were given.
+    /// Checks whether a ticket may be given now. It changes nothing and takes no memory.
+    /// Errors: `Stopped` once the replica has stopped; else `PendingFull` if 64 tickets are unanswered or 2^62 have been given.
+    /// Rules: The replicated log 13
     pub fn check(&self) -> Result<(), Fault>
         ensures ok { OnOk result (submit_refusal self.now ≡ None) }
         ensures err { IfErr result (λ fault. submit_refusal self.now ≡ Some fault) }
@@ -122,75 +128,84 @@ impl<O: Object> Replica<O> {
         self.tickets.check()
     }
 
-    /// Whether the ring that runs is the newest that it adopted: a call that is submitted then goes out at once.
+    /// Returns whether the node has adopted the running ring. If so, a submitted call is sent at once; otherwise it waits.
+    /// `running` is the ring in which the core is Operational, `None` in every other state. The replica runs and is between two
+    /// steps.
+    /// Rules: The replicated log 10
     pub fn has_adopted(&self, running: &Option<RingId>) -> bool
-        requires done { IsDone self.now }
+        requires done { IsBetweenSteps self.now }
         requires runs { self.now.stopped ≡ false }
         ensures { result ≡ has_adopted_running running.now self.now }
     {
-        is_running(running, self.course.held().log().last_primary())
+        is_running(running, self.replication.held().log().last_primary())
     }
 
-    /// Gives a submitted call the next ticket. It is handed to the core at once where the ring that runs is adopted. It
-    /// takes no memory.
+    /// Gives a submitted call the next ticket, and returns it. Tickets count from 0. It takes no memory.
+    /// `check` has allowed it. The call is to be handed to the core at once if the running ring is adopted; the replica records
+    /// that.
+    /// Rules: The replicated log 10 and 13
     pub fn give(&mut self, running: &Option<RingId>, call: Call<O::Alloc>) -> Ticket
-        requires done { IsDone self.old }
+        requires done { IsBetweenSteps self.old }
         requires open { submit_refusal self.old ≡ None }
         ensures ticket { result ≡ length self.old.tickets }
-        ensures replica { self.new ≡ replica_given running.now self.old call }
+        ensures replica { self.new ≡ replica_with_ticket running.now self.old call }
     {
         let runs = self.has_adopted(running);
-        self.story = given(&self.story, &call, runs);
-        self.course.hand_call(&call, runs);
+        self.history = given(&self.history, &call, runs);
+        self.replication.record_call(&call, runs);
         self.tickets.give(call)
     }
 
-    /// Whether a step of which the core tells nothing changes nothing and gives nothing, so that none has to be done: unless committed
-    /// places wait to be dropped.
-    pub fn rests(&self) -> bool
-        requires done { IsDone self.now }
+    /// Returns whether a core's step without outputs would change nothing here, so that the replica's step needn't be done.
+    /// It is false if committed places are due to be dropped. The replica runs and is between two steps.
+    /// Rules: The replicated log 20
+    pub fn is_step_idle(&self) -> bool
+        requires done { IsBetweenSteps self.now }
         requires runs { self.now.stopped ≡ false }
-        ensures value { result ≡ not (is_ripe (log_kept (replica_kept self.now))) }
-        ensures rests { result ≡ true → Rests O.sequential self.now }
-        ensures steady { IsSteady self.now.group self.now.life }
+        ensures value { result ≡ not (is_due_to_trim (retained_log (replica_known_log self.now))) }
+        ensures is_step_idle { result ≡ true → IsStepIdle O.sequential self.now }
+        ensures steady { HasSoundEpochs self.now.group self.now.epochs }
     {
-        !self.course.held().log().is_ripe()
+        !self.replication.held().log().is_due_to_trim()
     }
 
-    /// Takes the outputs of a step of the core, in which then this ring runs. Where a base drops committed places or brings no
-    /// snapshot, or the log is too long, it has stopped, and nothing is given. Refused with `Memory` alone, and then it has stopped.
+    /// Applies the outputs of a core's step, and returns the replica's output; `finish` ends the step.
+    /// `running` is the ring in which the core is Operational after its step. If a base may not be adopted, its bytes aren't a
+    /// snapshot, or the log is too long, the replica is stopped, and the output is empty.
+    /// Errors: `Memory` where an allocation fails; the replica is stopped, with its log from before the step.
+    /// Rules: The replicated log 8, 9, 12, 14, 18 and 20
     pub fn step(
         &mut self,
         running: &Option<RingId>,
         outs: &[Out<O::Alloc>],
-    ) -> Result<Given<O::Alloc>, Fault>
-        requires done { IsDone self.old }
+    ) -> Result<ReplicaOutput<O::Alloc>, Fault>
+        requires done { IsBetweenSteps self.old }
         requires runs { self.old.stopped ≡ false }
-        requires rises { rises self.old.life outs.now ≡ true }
+        requires rises { rises self.old.epochs outs.now ≡ true }
         ensures ok { OnOk result (self.new ≡ (replica_step O.sequential running.now self.old outs.now).replica) }
         ensures due { IfOk result (λ given. given.due.items ≡ (replica_step O.sequential running.now self.old outs.now).due) }
         ensures answers { IfOk result (λ given. given.answers.items ≡ (replica_step O.sequential running.now self.old outs.now).answers) }
         ensures committed { IfOk result (λ given. given.committed.items ≡ (replica_step O.sequential running.now self.old outs.now).replica.doing) }
         ensures restored { IfOk result (λ given. given.restored ≡ (replica_step O.sequential running.now self.old outs.now).restored) }
-        ensures steady { OnOk result (IsSteady self.old.group self.old.life) }
+        ensures steady { OnOk result (HasSoundEpochs self.old.group self.old.epochs) }
         ensures err { OnErr result (self.new ≡ replica_stopped self.old) }
         ensures refused { IfErr result (λ fault. fault ≡ Memory) }
     {
-        let mut given = Given::new(self.alloc);
+        let mut given = ReplicaOutput::new(self.alloc);
         self.step_into(running, outs, &mut given)?;
         Ok(given)
     }
 
-    /// The same, into what holds nothing yet.
+    /// Does the same as `step`, into an empty output.
     fn step_into(
         &mut self,
         running: &Option<RingId>,
         outs: &[Out<O::Alloc>],
-        given: &mut Given<O::Alloc>,
+        given: &mut ReplicaOutput<O::Alloc>,
     ) -> Result<(), Fault>
-        requires done { IsDone self.old }
+        requires done { IsBetweenSteps self.old }
         requires runs { self.old.stopped ≡ false }
-        requires rises { rises self.old.life outs.now ≡ true }
+        requires rises { rises self.old.epochs outs.now ≡ true }
         requires no_due { given.old.due.items ≡ [] }
         requires no_answers { given.old.answers.items ≡ [] }
         requires none_committed { given.old.committed.items ≡ [] }
@@ -200,139 +215,154 @@ impl<O: Object> Replica<O> {
         ensures answers { OnOk result (given.new.answers.items ≡ (replica_step O.sequential running.now self.old outs.now).answers) }
         ensures committed { OnOk result (given.new.committed.items ≡ (replica_step O.sequential running.now self.old outs.now).replica.doing) }
         ensures restored { OnOk result (given.new.restored ≡ (replica_step O.sequential running.now self.old outs.now).restored) }
-        ensures steady { OnOk result (IsSteady self.old.group self.old.life) }
+        ensures steady { OnOk result (HasSoundEpochs self.old.group self.old.epochs) }
         ensures err { OnErr result (self.new ≡ replica_stopped self.old) }
         ensures refused { IfErr result (λ fault. fault ≡ Memory) }
     {
-        // No effect at run time. The proof takes from it that all is well with the course as the step begins, which `walk` asks for.
-        let is_fine = self.course.is_fine();
-        prove!(is_fine);
+        // No effect at run time: the proof uses it to show that the replication is consistent, as `apply_outputs` requires.
+        let is_consistent = self.replication.is_consistent();
+        prove!(is_consistent);
         self.stopped = true;
-        self.course.walk(
+        self.replication.apply_outputs(
             running,
             self.tickets.pending(),
             self.committed,
             outs,
             &mut given.due,
         )?;
-        if !self.course.is_fine() {
+        if !self.replication.is_consistent() {
             given.due.clear();
             return Ok(());
         }
-        let reached = carry_out(
+        let effects_in_step = apply_committed(
             self.alloc,
-            self.course.held(),
+            self.replication.held(),
             &mut self.sessions,
             self.tickets.pending(),
             self.committed,
             self.effects,
             given,
         )?;
-        let Some(reached) = reached else {
+        let Some(effects_in_step) = effects_in_step else {
             given.due.clear();
             return Ok(());
         };
-        given.restored = self.course.held().restored_places();
-        self.course.hand(&given.due);
-        drop_if_ripe(
+        given.restored = self.replication.held().restored_places();
+        self.replication.record_sends(&given.due);
+        trim_if_due(
             self.alloc,
-            &mut self.course,
+            &mut self.replication,
             &self.sessions,
             &mut self.leaving,
         )?;
-        self.reached = reached;
+        self.effects_in_step = effects_in_step;
         self.stopped = false;
         Ok(())
     }
 
-    /// Ends a step, of which these were the answers, unless it has stopped, and hands out the calls of the places that the step
-    /// dropped, in order. It takes no memory.
-    pub fn finish(&mut self, answers: &[Answered<O::Alloc>]) -> Vec<Call<O::Alloc>, O::Alloc>
+    /// Ends a step that gave these answers, and returns the calls of the places that it dropped, in order. It takes no memory.
+    /// A stopped replica is unchanged.
+    /// Rules: The replicated log 18 and 20
+    pub fn finish(&mut self, answers: &[TicketAnswer<O::Alloc>]) -> Vec<Call<O::Alloc>, O::Alloc>
         ensures replica { self.new ≡ (if self.old.stopped then self.old else replica_done self.old answers.now) }
         ensures dropped { result.items ≡ self.old.leaving }
     {
         if self.stopped {
             return Vec::new(self.alloc);
         }
-        let more = more_in(ahead_log(self.course.held(), &self.leaving), self.committed);
-        self.story = done(&self.story, self.course.life(), more, answers);
+        let more = newly_committed_calls(
+            current_log(self.replication.held(), &self.leaving),
+            self.committed,
+        );
+        self.history = done(&self.history, self.replication.epochs(), more, answers);
         self.tickets.keep(more, answers);
-        let log = self.course.held().log();
+        let log = self.replication.held().log();
         self.places = log.length();
         self.committed = log.committed_length();
         self.trimmed = log.trimmed();
-        self.effects = self.reached;
-        self.course.end_step();
+        self.effects = self.effects_in_step;
+        self.replication.end_step();
         take_leaving(self.alloc, &mut self.leaving)
     }
 
-    /// Stops for good. It takes no memory.
+    /// Stops the replica for good. Its log and its answers stay readable. It takes no memory.
+    /// Rules: Rings and states 12
     pub fn stop(&mut self)
         ensures { self.new ≡ replica_stopped self.old }
     {
         self.stopped = true;
     }
 
-    /// Whether it has stopped.
+    /// Returns whether the replica has stopped for good.
+    /// It stops by `stop`, by `Memory` in a step, and by a step whose base may not be adopted, whose snapshot isn't one, or whose
+    /// log is too long.
+    /// Rules: Rings and states 12; The replicated log 8 and 9; Refusals 6
     pub fn is_stopped(&self) -> bool
         ensures { result ≡ self.now.stopped }
     {
         self.stopped
     }
 
-    /// The answer to a ticket, if it is among the last 64 that were answered.
+    /// Returns the answer to a ticket, if it is one of the last 64 answered here; otherwise `None`. It takes no memory.
+    /// Rules: The replicated log 15
     pub fn reply(&self, ticket: Ticket) -> Option<Answer>
         ensures { result ≡ replica_reply self.now ticket }
     {
         self.tickets.reply(ticket)
     }
 
-    /// The committed places of the log that aren't dropped, in order.
+    /// Returns the calls of the committed places that haven't been dropped, in order, repeats included.
+    /// Rules: The replicated log 18
     pub fn committed(&self) -> &[Call<O::Alloc>]
         ensures { result.now ≡ replica_committed self.now }
     {
-        let log = behind_log(self.course.held(), &self.leaving);
+        let log = log_before_step(self.replication.held(), &self.leaving);
         &log.committed_calls()[..(self.committed - self.trimmed) as usize]
     }
 
-    /// How many places of the log are committed, dropped ones included.
+    /// Returns the number of committed places, dropped ones included. It never falls.
+    /// Rules: The replicated log 12 and 18
     pub fn committed_len(&self) -> u64
-        ensures { result ≡ (replica_kept self.now).committed }
+        ensures { result ≡ (replica_known_log self.now).committed }
     {
         self.committed
     }
 
-    /// How many of its first places the log has dropped.
+    /// Returns the number of committed places that have been dropped: those before the first of `committed`.
+    /// Rules: The replicated log 18 and 20
     pub fn trimmed(&self) -> u64
         ensures { result ≡ replica_trimmed self.now }
     {
         self.trimmed
     }
 
-    /// How many places the log has, committed or not, dropped ones included.
+    /// Returns the number of the log's places, committed or not, dropped ones included.
+    /// Rules: The replicated log 18
     pub fn log_len(&self) -> u64
         ensures { result ≡ replica_length self.now }
     {
         self.places
     }
 
-    /// How many tickets have no answer.
+    /// Returns the number of tickets that haven't been answered, at most 64.
+    /// Rules: The replicated log 13 and 18
     pub fn waiting(&self) -> usize
         ensures { result ≡ length (pending_from self.now.done 0 self.now.tickets) }
     {
         self.tickets.pending().len()
     }
 
-    /// How many calls of all committed places took effect. Of the places that a restored snapshot stands for, that is the sum of its
-    /// clients' last numbers, or the greatest number of 64 bits where that is more.
+    /// Returns the number of committed calls that took effect, at most 2^64 - 1.
+    /// For the places of a restored snapshot, this counts the sum of its clients' last numbers.
+    /// Rules: Sessions 6; The replicated log 18
     pub fn order_len(&self) -> u64
-        ensures { result ≡ effects_at O.sequential (replica_kept self.now) (replica_kept self.now).committed }
+        ensures { result ≡ effects_at O.sequential (replica_known_log self.now) (replica_known_log self.now).committed }
     {
         self.effects
     }
 }
 
-/// Whether this is the ring that runs, if there is one.
+/// Returns whether `last` is the running ring; false if there is no such ring.
 fn is_running(running: &Option<RingId>, last: Option<RingId>) -> bool
     ensures { result ≡ is_running_some running.now last }
 {
@@ -342,27 +372,28 @@ fn is_running(running: &Option<RingId>, last: Option<RingId>) -> bool
     }
 }
 
-/// Copies of the tickets, and of the log of what a step drops.
-fn copied_tickets<A: Allocator + Copy>(
+/// Copies the tickets and the log of the places that a step drops.
+fn copy_tickets<A: Allocator + Copy>(
     tickets: &Tickets<A>,
     leaving: &Option<Log<A>>,
 ) -> Result<(Tickets<A>, Option<Log<A>>), AllocError>
     ensures tickets { IfOk result (λ copies. copies.0 ≡ tickets.now) }
     ensures leaving { IfOk result (λ copies. copies.1 ≡ leaving.now) }
 {
-    paired(tickets.clone()?, leaving.clone())
+    pair_result(tickets.clone()?, leaving.clone())
 }
 
-/// Copies of the course, and of the sessions; or `Memory`.
-fn copied_course<O: Object>(
-    course: &Course<O::Alloc>,
+/// Copies the replication and the sessions.
+/// Errors: `Memory` where an allocation fails.
+fn copy_replication<O: Object>(
+    replication: &Replication<O::Alloc>,
     sessions: &Sessions<O>,
-) -> Result<(Course<O::Alloc>, Sessions<O>), Fault>
-    ensures course { IfOk result (λ copies. copies.0 ≡ course.now) }
+) -> Result<(Replication<O::Alloc>, Sessions<O>), Fault>
+    ensures replication { IfOk result (λ copies. copies.0 ≡ replication.now) }
     ensures sessions { IfOk result (λ copies. copies.1 ≡ sessions.now) }
     ensures refused { IfErr result (λ fault. fault ≡ Memory) }
 {
-    paired(course.clone()?, sessions.copy())
+    pair_result(replication.clone()?, sessions.copy())
 }
 
 /// Takes out the calls of the places that a step drops, if it drops some.
@@ -382,21 +413,21 @@ fn take_leaving<A: Allocator + Copy + Drop>(
     }
 }
 
-/// The calls of a log's committed places past the first so many, and past those that are dropped.
-fn more_in<A: Allocator + Copy>(log: &Log<A>, first: u64) -> &[Call<A>]
-    ensures { result.now ≡ more_in first log.now }
+/// Returns the calls of a log's committed places after the first `first` and after the dropped ones.
+fn newly_committed_calls<A: Allocator + Copy>(log: &Log<A>, first: u64) -> &[Call<A>]
+    ensures { result.now ≡ newly_committed_calls first log.now }
 {
     let calls = log.committed_calls();
     let start = first.max(log.trimmed()) - log.trimmed();
     &calls[calls.len().min(start as usize)..]
 }
 
-/// The log in which the places stand that are committed now, those that the step that is being done drops included.
-fn ahead_log<'a, A: Allocator + Copy + Drop>(
-    held: &'a Holding<A>,
+/// Returns the log that has the places committed now, those that the unfinished step drops included.
+fn current_log<'a, A: Allocator + Copy + Drop>(
+    held: &'a HeldLog<A>,
     leaving: &'a Option<Log<A>>,
 ) -> &'a Log<A>
-    ensures { result.now ≡ ahead_log held.now leaving.now }
+    ensures { result.now ≡ current_log held.now leaving.now }
 {
     match leaving {
         Some(log) => log,
@@ -404,40 +435,41 @@ fn ahead_log<'a, A: Allocator + Copy + Drop>(
     }
 }
 
-/// The log in which the places stand that were committed as the last step was done.
-fn behind_log<'a, A: Allocator + Copy + Drop>(
-    held: &'a Holding<A>,
+/// Returns the log that has the places committed at the end of the last finished step.
+fn log_before_step<'a, A: Allocator + Copy + Drop>(
+    held: &'a HeldLog<A>,
     leaving: &'a Option<Log<A>>,
 ) -> &'a Log<A>
-    ensures { result.now ≡ behind_log held.now leaving.now }
+    ensures { result.now ≡ log_before_step held.now leaving.now }
 {
     match held.before() {
         Some(log) => log,
-        None => ahead_log(held, leaving),
+        None => current_log(held, leaving),
     }
 }
 
-/// Restores the sessions, where the step restored the log, and has them do the calls of the places committed behind so many. Gives
-/// their answers and these calls, and tells how many calls took effect by then. Nothing comes of it where the bytes are no
-/// snapshot. Refused with `Memory` alone.
-fn carry_out<O: Object>(
+/// Restores the sessions if the step restored the log, then applies the calls of the places after the first `committed`.
+/// Their answers and these calls are stored in `given`. Returns the number of calls that took effect by then, or `None` if the
+/// restored bytes aren't a snapshot; `given` is then unchanged.
+/// Errors: `Memory` where an allocation fails.
+fn apply_committed<O: Object>(
     alloc: O::Alloc,
-    held: &Holding<O::Alloc>,
+    held: &HeldLog<O::Alloc>,
     sessions: &mut Sessions<O>,
     pending: &[Pending<O::Alloc>],
     committed: u64,
     effects: u64,
-    given: &mut Given<O::Alloc>,
+    given: &mut ReplicaOutput<O::Alloc>,
 ) -> Result<Option<u64>, Fault>
-    ensures fits { IfOk result (λ reached. is_some reached ≡ is_table_held O.sequential held.now) }
+    ensures fits { IfOk result (λ effects_in_step. is_some effects_in_step ≡ is_table_held O.sequential held.now) }
     ensures table { OnOk result (is_table_held O.sequential held.now ≡ true
-        → sessions.new ≡ fold (table_next O.sequential) (table_held O.sequential held.now sessions.old) (more_in committed held.now.log)) }
+        → sessions.new ≡ fold (table_next O.sequential) (table_held O.sequential held.now sessions.old) (newly_committed_calls committed held.now.log)) }
     ensures answers { OnOk result (is_table_held O.sequential held.now ≡ true → given.new.answers.items
-        ≡ answers_behind O.sequential (table_held O.sequential held.now sessions.old) pending.now [] (more_in committed held.now.log)) }
-    ensures committed { OnOk result (is_table_held O.sequential held.now ≡ true → given.new.committed.items ≡ more_in committed held.now.log) }
-    ensures reached { IfOk result (λ reached. IfSome reached (λ n. n
+        ≡ answers_behind O.sequential (table_held O.sequential held.now sessions.old) pending.now [] (newly_committed_calls committed held.now.log)) }
+    ensures committed { OnOk result (is_table_held O.sequential held.now ≡ true → given.new.committed.items ≡ newly_committed_calls committed held.now.log) }
+    ensures effects_in_step { IfOk result (λ effects_in_step. IfSome effects_in_step (λ n. n
         ≡ min (2 ^ 64 - 1) ((if is_some held.now.before then table_effects (table_held O.sequential held.now sessions.old) else effects)
-        + done_after O.sequential (table_held O.sequential held.now sessions.old) (more_in committed held.now.log)))) }
+        + done_after O.sequential (table_held O.sequential held.now sessions.old) (newly_committed_calls committed held.now.log)))) }
     ensures nothing { OnOk result (is_table_held O.sequential held.now ≡ false → given.new ≡ given.old) }
     ensures due { OnOk result (given.new.due.items ≡ given.old.due.items) }
     ensures refused { IfErr result (λ fault. fault ≡ Memory) }
@@ -448,28 +480,36 @@ fn carry_out<O: Object>(
     }
     given.committed = new_calls(alloc, held.log(), committed)?;
     let effects = effects_in(held, sessions, effects);
-    let (answers, reached) = new_answers(alloc, sessions, pending, held.log(), committed, effects)?;
+    let (answers, effects_in_step) = new_answers(
+        alloc,
+        sessions,
+        pending,
+        held.log(),
+        committed,
+        effects,
+    )?;
     given.answers = answers;
-    Ok(Some(reached))
+    Ok(Some(effects_in_step))
 }
 
-/// Copies of the calls of a log's committed places past the first so many, and past those that are dropped. Refused with `Memory` alone.
+/// Copies the calls of a log's committed places after the first `committed` and after the dropped ones.
+/// Errors: `Memory` where an allocation fails.
 fn new_calls<A: Allocator + Copy + Drop>(
     alloc: A,
     log: &Log<A>,
     committed: u64,
 ) -> Result<Vec<Call<A>, A>, Fault>
-    ensures calls { IfOk result (λ calls. calls.items ≡ more_in committed log.now) }
+    ensures calls { IfOk result (λ calls. calls.items ≡ newly_committed_calls committed log.now) }
     ensures refused { IfErr result (λ fault. fault ≡ Memory) }
 {
-    Ok(more_in(log, committed).to_vec(alloc)?)
+    Ok(newly_committed_calls(log, committed).to_vec(alloc)?)
 }
 
-/// Restores the sessions, where the step restored the log, and tells whether all is well: not where the bytes are no snapshot.
-/// Refused with `Memory` alone.
+/// Restores the sessions if the step restored the log. Returns false if the bytes aren't a snapshot.
+/// Errors: `Memory` where an allocation fails.
 fn restore<O: Object>(
     alloc: O::Alloc,
-    held: &Holding<O::Alloc>,
+    held: &HeldLog<O::Alloc>,
     sessions: &mut Sessions<O>,
 ) -> Result<bool, Fault>
     ensures fits { IfOk result (λ fits. fits ≡ is_table_held O.sequential held.now) }
@@ -489,8 +529,8 @@ fn restore<O: Object>(
     }
 }
 
-/// How many calls took effect by these sessions, which did so many if nothing was restored.
-fn effects_in<O: Object>(held: &Holding<O::Alloc>, sessions: &Sessions<O>, effects: u64) -> u64
+/// Returns the number of calls that took effect: by the sessions if they were restored, else `effects`.
+fn effects_in<O: Object>(held: &HeldLog<O::Alloc>, sessions: &Sessions<O>, effects: u64) -> u64
     ensures { result ≡ (if is_some held.now.before then table_effects sessions.now else effects) }
 {
     if held.is_restored() {
@@ -500,8 +540,10 @@ fn effects_in<O: Object>(held: &Holding<O::Alloc>, sessions: &Sessions<O>, effec
     }
 }
 
-/// The answers that the places committed behind these give to the tickets, once the sessions did their calls, and how many
-/// calls took effect by then, of which so many did before. Refused with `Memory` alone.
+/// Applies the calls of the places after the first `committed` to the sessions.
+/// Returns the answers that they give to the tickets, and the number of calls that took effect by then; `effects` is the number
+/// before.
+/// Errors: `Memory` where an allocation fails.
 fn new_answers<O: Object>(
     alloc: O::Alloc,
     sessions: &mut Sessions<O>,
@@ -509,61 +551,63 @@ fn new_answers<O: Object>(
     log: &Log<O::Alloc>,
     committed: u64,
     effects: u64,
-) -> Result<(Vec<Answered<O::Alloc>, O::Alloc>, u64), Fault>
-    ensures table { OnOk result (sessions.new ≡ fold (table_next O.sequential) sessions.old (more_in committed log.now)) }
-    ensures answers { IfOk result (λ given. given.0.items ≡ answers_behind O.sequential sessions.old pending.now [] (more_in committed log.now)) }
-    ensures effects { IfOk result (λ given. given.1 ≡ min (2 ^ 64 - 1) (effects + done_after O.sequential sessions.old (more_in committed log.now))) }
+) -> Result<(Vec<TicketAnswer<O::Alloc>, O::Alloc>, u64), Fault>
+    ensures table { OnOk result (sessions.new ≡ fold (table_next O.sequential) sessions.old (newly_committed_calls committed log.now)) }
+    ensures answers { IfOk result (λ given. given.0.items ≡ answers_behind O.sequential sessions.old pending.now [] (newly_committed_calls committed log.now)) }
+    ensures effects { IfOk result (λ given. given.1 ≡ min (2 ^ 64 - 1) (effects + done_after O.sequential sessions.old (newly_committed_calls committed log.now))) }
     ensures refused { IfErr result (λ fault. fault ≡ Memory) }
 {
-    let calls = more_in(log, committed);
+    let calls = newly_committed_calls(log, committed);
     let (answers, more) = answers_of(alloc, sessions, pending, calls)?;
     Ok((answers, effects.saturating_add(more)))
 }
 
-/// Drops the committed places, if they are to be dropped; their log stands in `leaving` then, in which none stands yet. Refused with
-/// `Memory` alone, and then none is dropped.
-fn drop_if_ripe<O: Object>(
+/// Drops the committed places if they are due; `leaving`, `None` before, is then their log.
+/// Errors: `Memory` where an allocation fails; nothing is dropped.
+/// Rules: The replicated log 20
+fn trim_if_due<O: Object>(
     alloc: O::Alloc,
-    course: &mut Course<O::Alloc>,
+    replication: &mut Replication<O::Alloc>,
     sessions: &Sessions<O>,
     leaving: &mut Option<Log<O::Alloc>>,
 ) -> Result<(), Fault>
-    requires fine { course.old.fine ≡ true }
+    requires consistent { replication.old.consistent ≡ true }
     requires none { leaving.old ≡ None }
-    ensures dropped { OnOk result (leaving.new ≡ option_map (λ bytes. committed_log course.old.held.log)
-        (snapshot_if_ripe O.sequential (is_closed course.old.group course.old.life) course.old.held.log sessions.now)) }
-    ensures ok { OnOk result (course.new
-        ≡ course_trimmed course.old (snapshot_if_ripe O.sequential (is_closed course.old.group course.old.life) course.old.held.log sessions.now)) }
-    ensures err { OnErr result (course.new ≡ course.old) }
+    ensures dropped { OnOk result (leaving.new ≡ option_map (λ bytes. committed_log replication.old.held.log)
+        (snapshot_if_due O.sequential (is_closed replication.old.group replication.old.epochs) replication.old.held.log sessions.now)) }
+    ensures ok { OnOk result (replication.new
+        ≡ replication_trimmed replication.old (snapshot_if_due O.sequential (is_closed replication.old.group replication.old.epochs) replication.old.held.log sessions.now)) }
+    ensures err { OnErr result (replication.new ≡ replication.old) }
     ensures stays { OnErr result (leaving.new ≡ None) }
     ensures refused { IfErr result (λ fault. fault ≡ Memory) }
 {
-    if !course.held().log().is_ripe() {
+    if !replication.held().log().is_due_to_trim() {
         return Ok(());
     }
-    let closed = course.is_closed();
-    let snapshot = snapshot_if_ripe(alloc, closed, course.held().log(), sessions)?;
-    *leaving = course.trim(snapshot)?;
+    let closed = replication.is_closed();
+    let snapshot = snapshot_if_due(alloc, closed, replication.held().log(), sessions)?;
+    *leaving = replication.trim(snapshot)?;
     Ok(())
 }
 
-/// The snapshot of the sessions, if no exchange is open, so many committed places are kept that they are to be dropped, and it isn't too
-/// long. Refused with `Memory` alone.
-fn snapshot_if_ripe<O: Object>(
+/// Returns the snapshot of the sessions if the committed places are due to be dropped.
+/// They are if no exchange is open, enough of them are kept, and the snapshot isn't too long.
+/// Errors: `Memory` where an allocation fails.
+fn snapshot_if_due<O: Object>(
     alloc: O::Alloc,
     closed: bool,
     log: &Log<O::Alloc>,
     sessions: &Sessions<O>,
 ) -> Result<Option<Snapshot<O::Alloc>>, Fault>
-    ensures snapshot { IfOk result (λ snapshot. snapshot ≡ snapshot_if_ripe O.sequential closed log.now sessions.now) }
+    ensures snapshot { IfOk result (λ snapshot. snapshot ≡ snapshot_if_due O.sequential closed log.now sessions.now) }
     ensures refused { IfErr result (λ fault. fault ≡ Memory) }
 {
-    if !closed || !log.is_ripe() {
+    if !closed || !log.is_due_to_trim() {
         return Ok(None);
     }
     let mut bytes = Vec::new(alloc);
     sessions.snapshot(&mut bytes)?;
-    if bytes.len() > MOST_SNAPSHOT as usize {
+    if bytes.len() > MAX_SNAPSHOT as usize {
         return Ok(None);
     }
     Ok(Some(Snapshot::from_vec(bytes)))

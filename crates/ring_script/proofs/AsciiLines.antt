@@ -1,4 +1,4 @@
--- Whether each byte of a line is below 128, as the library tells it, and of all lines of a text.
+-- Whether each byte of a line is below 128, as the library computes it, and of all lines of a text.
 use Rattle.std.proofs.Common.{◌≡◌, ℕ, zero, suc, ◌≤◌, Bool, true, false, List, [], ◌∷◌, get_or, arith, refl, sym, inl, inr}
 use Rattle.std.specs.Prelude.{IsAscii, ◌&&◌, ◌==◌}
 use Rattle.std.specs.Bool.{MatchBool}

@@ -1,4 +1,4 @@
--- Which nodes a cut keeps together: the group kept for a processor is the only one that it is in.
+-- The nodes that a cut keeps together: the group kept for a processor is the only one that it is in.
 use Rattle.std.proofs.Common.{◌≡◌, ◌⊎◌, ℕ, zero, suc, ◌+◌, ◌-◌, ◌<◌, ◌≤◌, true, List, [], ◌∷◌, length, get_or}
 use Rattle.std.proofs.Common.{replicate, Some, None, refl, ap, sym, ◌∙◌, inl, inr, arith}
 use Rattle.std.specs.Prelude.{◌↔◌, ◌&&◌, ◌==◌, nat_le, if◌then◌else◌, Contains, IfSome, slice_index}
@@ -7,15 +7,15 @@ use Rattle.std.proofs.lemmas.Grind.{common_steps}
 use Rattle.std.proofs.lemmas.List.{get_or-replicate}
 use Rattle.std.proofs.lemmas.Option.{option_and_then_some}
 use Rattle.ring_base.specs.Group.{Group}
-use Rattle.ring_base.specs.Members.{has_member, member_had, nobody_member, only_members, everybody_members, union_members, common_members}
-use Rattle.ring_base.specs.Processors.{IsProc, IsMember, most_processors, has, nobody, only, everybody, union, common}
-use Rattle.ring_script.specs.Cuts.{AreTogether, HasNumber, Names, gathered, group_of, groups_of, together, are_apart}
+use Rattle.ring_base.specs.Members.{has_member, member_had, nobody_member, only_members, everybody_members, union_members, intersection_members}
+use Rattle.ring_base.specs.Processors.{IsProc, IsMember, max_processors, has, nobody, only, everybody, union, intersection}
+use Rattle.ring_script.specs.Cuts.{AreConnected, HasNumber, Names, member_set, group_of, groups_of, union_of_groups, are_apart}
 use Rattle.ring_script.specs.Cuts.{is_cut, placed_from, table_after, table_of, cut_at}
 use Rattle.ring_script.specs.Numbers.{node_of}
 use Rattle.ring_script.specs.Reading.{◌>>=◌}
 use Rattle.ring_script.specs.Words.{pieces}
 
--- ---- what a list contains
+-- ---- the elements of a list
 
 Contains-cons : {X : Type 0} (first : X) (others : List X) (x : X) → Contains others x → Contains (first ∷ others) x
 Contains-cons first others x found = (suc found.0, omega (arith, found.1), found.2)
@@ -30,38 +30,38 @@ Contains-cons_cases {X} first others x found = at_place found.0 found.1 found.2
 -- ---- the nodes of some groups
 
 -- a node of the groups is in one of them
-in_one : (groups : List ℕ) (a : ℕ) → IsMember (together groups) a → AreTogether groups a a
-unfolding together
+in_one : (groups : List ℕ) (a : ℕ) → IsMember (union_of_groups groups) a → AreConnected groups a a
+unfolding union_of_groups
 in_one [] a m = absurd (nobody_member a m)
 in_one (group ∷ groups) a m =
-    elim ((union_members group (together groups) a).0 m) [
+    elim ((union_members group (union_of_groups groups) a).0 m) [
       | inl here ↦ (group, (0, omega arith, refl), here, here)
       | inr later ↦ let one = in_one groups a later in (one.0, Contains-cons group groups one.0 one.1, one.2, one.3)
     ]
 
 -- a node of one of the groups is one of theirs
-in_all : (groups : List ℕ) (a group : ℕ) → Contains groups group → IsMember group a → IsMember (together groups) a
-unfolding together
+in_all : (groups : List ℕ) (a group : ℕ) → Contains groups group → IsMember group a → IsMember (union_of_groups groups) a
+unfolding union_of_groups
 in_all [] a group found m = absurd (omega (arith, found.1))
 in_all (first ∷ groups) a group found m =
     elim (Contains-cons_cases first groups group found) [
-      | inl is ↦ (union_members first (together groups) a).1 (inl (rw is m))
-      | inr later ↦ (union_members first (together groups) a).1 (inr (in_all groups a group later m))
+      | inl is ↦ (union_members first (union_of_groups groups) a).1 (inl (rw is m))
+      | inr later ↦ (union_members first (union_of_groups groups) a).1 (inr (in_all groups a group later m))
     ]
 
 -- where a first group shares no node with the others, its nodes are in none of them
-in_no_other : (group : ℕ) (groups : List ℕ) (a : ℕ) → (common group (together groups) == nobody) ≡ true → IsMember group a → IsMember (together groups) a → ⊥
-in_no_other group groups a apart m n =
-    let none : common group (together groups) ≡ nobody = eqb-true _ _ apart in
-    nobody_member a (rw none at ((common_members group (together groups) a).1 (m, n)))
+in_no_other : (group : ℕ) (groups : List ℕ) (a : ℕ) → (intersection group (union_of_groups groups) == nobody) ≡ true → IsMember group a → IsMember (union_of_groups groups) a → ⊥
+in_no_other group groups a isolation m n =
+    let none : intersection group (union_of_groups groups) ≡ nobody = eqb-true _ _ isolation in
+    nobody_member a (rw none at ((intersection_members group (union_of_groups groups) a).1 (m, n)))
 
 -- no two of the groups have one node
 in_just_one : (groups : List ℕ) (a one other : ℕ) → are_apart groups ≡ true → Contains groups one
     → Contains groups other → IsMember one a → IsMember other a → one ≡ other
 unfolding are_apart
-in_just_one [] a one other apart found there m n = absurd (omega (arith, found.1))
-in_just_one (group ∷ groups) a one other apart found there m n =
-    let parts = and_parts (common group (together groups) == nobody) (are_apart groups) apart in
+in_just_one [] a one other isolation found there m n = absurd (omega (arith, found.1))
+in_just_one (group ∷ groups) a one other isolation found there m n =
+    let parts = and_parts (intersection group (union_of_groups groups) == nobody) (are_apart groups) isolation in
     elim (Contains-cons_cases group groups one found) [
       | inl is ↦ elim (Contains-cons_cases group groups other there) [
         | inl same ↦ sym is ∙ same
@@ -105,21 +105,21 @@ placed_other group table a low le out =
     ]
 
 -- the group of a processor that is in none of those placed stays
-table_after-other : (groups table : List ℕ) (a : ℕ) → 1 ≤ a → a ≤ length table → (IsMember (together groups) a → ⊥)
+table_after-other : (groups table : List ℕ) (a : ℕ) → 1 ≤ a → a ≤ length table → (IsMember (union_of_groups groups) a → ⊥)
     → get_or (table_after table groups) (a - 1) 0 ≡ get_or table (a - 1) 0
-unfolding together table_after
+unfolding union_of_groups table_after
 table_after-other [] table a low le out = refl
 table_after-other (group ∷ groups) table a low le out =
-    table_after-other groups (placed_from 1 group table) a low (rw length-placed_from le) (λ m. out ((union_members group (together groups) a).1 (inr m))) ∙
-    placed_other group table a low le (λ m. out ((union_members group (together groups) a).1 (inl m)))
+    table_after-other groups (placed_from 1 group table) a low (rw length-placed_from le) (λ m. out ((union_members group (union_of_groups groups) a).1 (inr m))) ∙
+    placed_other group table a low le (λ m. out ((union_members group (union_of_groups groups) a).1 (inl m)))
 
 -- the group of a processor is the one placed that it is in
 table_after-own : (groups table : List ℕ) (a group : ℕ) → a ≤ length table → are_apart groups ≡ true
     → Contains groups group → IsMember group a → get_or (table_after table groups) (a - 1) 0 ≡ group
 unfolding are_apart table_after
-table_after-own [] table a group le apart found m = absurd (omega (arith, found.1))
-table_after-own (first ∷ groups) table a group le apart found m =
-    let parts = and_parts (common first (together groups) == nobody) (are_apart groups) apart in
+table_after-own [] table a group le isolation found m = absurd (omega (arith, found.1))
+table_after-own (first ∷ groups) table a group le isolation found m =
+    let parts = and_parts (intersection first (union_of_groups groups) == nobody) (are_apart groups) isolation in
     let long : a ≤ length (placed_from 1 first table) = rw length-placed_from le in
     elim (Contains-cons_cases first groups group found) [
       | inl is ↦
@@ -130,43 +130,43 @@ table_after-own (first ∷ groups) table a group le apart found m =
 
 -- ---- under a cut
 
--- what the test of a cut says
+-- the facts that the test of a cut gives
 apart_by : (nodes : Group) (groups : List ℕ) → is_cut nodes groups ≡ true → are_apart groups ≡ true
 apart_by nodes groups cut = (and_parts (nat_le 2 (length groups)) (are_apart groups)
-    (and_parts (nat_le 2 (length groups) && are_apart groups) (together groups == everybody nodes.count) cut).0).1
+    (and_parts (nat_le 2 (length groups) && are_apart groups) (union_of_groups groups == everybody nodes.count) cut).0).1
 
-together_by : (nodes : Group) (groups : List ℕ) → is_cut nodes groups ≡ true → together groups ≡ everybody nodes.count
-together_by nodes groups cut = eqb-true _ _ (and_parts (nat_le 2 (length groups) && are_apart groups) (together groups == everybody nodes.count) cut).1
+together_by : (nodes : Group) (groups : List ℕ) → is_cut nodes groups ≡ true → union_of_groups groups ≡ everybody nodes.count
+together_by nodes groups cut = eqb-true _ _ (and_parts (nat_le 2 (length groups) && are_apart groups) (union_of_groups groups == everybody nodes.count) cut).1
 
 -- the group kept for a processor is the one that it is in
 table_of-own : (nodes : Group) (groups : List ℕ) (a group : ℕ) → is_cut nodes groups ≡ true → IsProc a
     → Contains groups group → IsMember group a → slice_index (table_of groups) (a - 1) ≡ group
-table_of-own nodes groups a group cut proc = table_after-own groups (replicate most_processors nobody) a group proc.1 (apart_by nodes groups cut)
+table_of-own nodes groups a group cut proc = table_after-own groups (replicate max_processors nobody) a group proc.1 (apart_by nodes groups cut)
 
 -- nobody, where it is in none
-table_of-other : (groups : List ℕ) (a : ℕ) → IsProc a → (IsMember (together groups) a → ⊥) → slice_index (table_of groups) (a - 1) ≡ nobody
+table_of-other : (groups : List ℕ) (a : ℕ) → IsProc a → (IsMember (union_of_groups groups) a → ⊥) → slice_index (table_of groups) (a - 1) ≡ nobody
 table_of-other groups a proc out =
-    table_after-other groups (replicate most_processors nobody) a proc.0 proc.1 out ∙
-    get_or-replicate most_processors (a - 1) nobody 0 (omega (arith, proc.0, proc.1))
+    table_after-other groups (replicate max_processors nobody) a proc.0 proc.1 out ∙
+    get_or-replicate max_processors (a - 1) nobody 0 (omega (arith, proc.0, proc.1))
 
 -- two nodes are together where one of the groups has both
-pub are_together : (nodes : Group) (groups : List ℕ) (a b : ℕ) → is_cut nodes groups ≡ true → IsProc a → IsProc b
-    → (has (slice_index (table_of groups) (a - 1)) b ≡ true) ↔ AreTogether groups a b
-are_together nodes groups a b cut proc also = (
-  λ h. elim (cases_Bool (has (together groups) a)) [
+pub are_connected : (nodes : Group) (groups : List ℕ) (a b : ℕ) → is_cut nodes groups ≡ true → IsProc a → IsProc b
+    → (has (slice_index (table_of groups) (a - 1)) b ≡ true) ↔ AreConnected groups a b
+are_connected nodes groups a b cut proc also = (
+  λ h. elim (cases_Bool (has (union_of_groups groups) a)) [
     | inl some ↦
-        let one = in_one groups a (member_had (together groups) a proc.0 some) in
+        let one = in_one groups a (member_had (union_of_groups groups) a proc.0 some) in
         let own = table_of-own nodes groups a one.0 cut proc one.1 one.2 in
         (one.0, one.1, one.2, member_had one.0 b also.0 (rw own at h))
     | inr none ↦
-        let out = table_of-other groups a proc (λ m. cc (has_member (together groups) a m, none)) in
+        let out = table_of-other groups a proc (λ m. cc (has_member (union_of_groups groups) a m, none)) in
         absurd (nobody_member b (member_had nobody b also.0 (rw out at h)))
   ],
   λ t. rw (table_of-own nodes groups a t.0 cut proc t.1 t.2) (has_member t.0 b t.3),
 )
 
 -- each node is in one of the groups
-pub cut_everyone : (nodes : Group) (groups : List ℕ) (a : ℕ) → is_cut nodes groups ≡ true → 1 ≤ a → a ≤ nodes.count → AreTogether groups a a
+pub cut_everyone : (nodes : Group) (groups : List ℕ) (a : ℕ) → is_cut nodes groups ≡ true → 1 ≤ a → a ≤ nodes.count → AreConnected groups a a
 cut_everyone nodes groups a cut low high = in_one groups a (rw (together_by nodes groups cut) ((everybody_members nodes.count a).1 (low, high)))
 
 -- and in no other
@@ -174,7 +174,7 @@ pub cut_once : (nodes : Group) (groups : List ℕ) (a one other : ℕ) → is_cu
     → Contains groups other → IsMember one a → IsMember other a → one ≡ other
 cut_once nodes groups a one other cut = in_just_one groups a one other (apart_by nodes groups cut)
 
--- ---- the groups that words tell
+-- ---- the groups that words denote
 
 -- nodes count from 1
 node_low : (nodes : Group) (number : List ℕ) → IfSome (node_of nodes number) (λ node. 1 ≤ node)
@@ -203,14 +203,14 @@ numbered_more nodes number numbers node set group a is low others = (
   ],
 )
 
-gathered_members : (nodes : Group) (set : ℕ) (numbers : List (List ℕ)) (group a : ℕ) → gathered nodes set numbers
+gathered_members : (nodes : Group) (set : ℕ) (numbers : List (List ℕ)) (group a : ℕ) → member_set nodes set numbers
     ≡ Some group → IsMember group a ↔ (IsMember set a ⊎ HasNumber nodes numbers a)
-unfolding gathered
+unfolding member_set
 gathered_members nodes set [] group a read =
     let same : set ≡ group = cc in
     (λ m. inl (rw same m), λ u. elim u [ inl m ↦ rw (← same) m | inr none ↦ absurd (omega (arith, none.1.1)) ])
 gathered_members nodes set (number ∷ numbers) group a read =
-    option_and_then_some (λ node. if has set node then None else gathered nodes (union set (only node)) numbers)
+    option_and_then_some (λ node. if has set node then None else member_set nodes (union set (only node)) numbers)
     (node_of nodes number) group read (λ node is rest.
     let low : 1 ≤ node = rw is at (node_low nodes number) in
     elim (cases_Bool (has set node)) [
@@ -218,14 +218,14 @@ gathered_members nodes set (number ∷ numbers) group a read =
       | inr new ↦ numbered_more nodes number numbers node set group a is low (gathered_members nodes (union set (only node)) numbers group a (rw new at rest))
     ])
 
--- the nodes of the group that a word tells are those that it names
+-- the nodes of the group that a word denotes are those that it names
 group_of-members : (nodes : Group) (word : List ℕ) (group a : ℕ) → group_of nodes word ≡ Some group → IsMember group a ↔ Names nodes word a
 unfolding group_of
 group_of-members nodes word group a read =
     let members = gathered_members nodes nobody (pieces 44 word) group a read in
     (λ m. elim (members.0 m) [ inl none ↦ absurd (nobody_member a none) | inr named ↦ named ], λ named. members.1 (inr named))
 
--- each group is told by a word
+-- each group is denoted by a word
 by_a_word : (nodes : Group) (words : List (List ℕ)) (groups : List ℕ) (group : ℕ)
     → groups_of nodes words ≡ Some groups → Contains groups group → (word : List ℕ) × Contains words word
     × (group_of nodes word ≡ Some group)
@@ -240,7 +240,7 @@ by_a_word nodes (word ∷ words) groups group read found =
       | inr later ↦ let one = by_a_word nodes words others group more later in (one.0, Contains-cons word words one.0 one.1, one.2)
     ]))
 
--- each word tells one of the groups
+-- each word denotes one of the groups
 of_a_word : (nodes : Group) (words : List (List ℕ)) (groups : List ℕ) (word : List ℕ)
     → groups_of nodes words ≡ Some groups → Contains words word → (group : ℕ) × Contains groups group
     × (group_of nodes word ≡ Some group)
@@ -257,7 +257,7 @@ of_a_word nodes (first ∷ words) groups word read found =
 
 -- two nodes are in one of the groups where one word names both
 named_together : (nodes : Group) (words : List (List ℕ)) (groups : List ℕ) (a b : ℕ)
-    → groups_of nodes words ≡ Some groups → AreTogether groups a b ↔ ((word : List ℕ) × Contains words word
+    → groups_of nodes words ≡ Some groups → AreConnected groups a b ↔ ((word : List ℕ) × Contains words word
     × Names nodes word a × Names nodes word b)
 named_together nodes words groups a b read = (
   λ t.
@@ -268,18 +268,18 @@ named_together nodes words groups a b read = (
       (one.0, one.1, (group_of-members nodes n.0 one.0 a one.2).1 n.2, (group_of-members nodes n.0 one.0 b one.2).1 n.3),
 )
 
--- under the cut that words tell, two nodes are together where one word names both
-pub cut_at-together : (nodes : Group) (words rest : List (List ℕ)) (cut : List ℕ) (a b : ℕ) → cut_at nodes words ≡ Some (cut, rest) → IsProc a → IsProc b →
+-- under the cut that words denote, two nodes are connected where one word names both
+pub cut_at-union_of_groups : (nodes : Group) (words rest : List (List ℕ)) (cut : List ℕ) (a b : ℕ) → cut_at nodes words ≡ Some (cut, rest) → IsProc a → IsProc b →
     (has (slice_index cut (a - 1)) b ≡ true) ↔ ((word : List ℕ) × Contains words word × Names nodes word a × Names nodes word b)
 unfolding cut_at
-cut_at-together nodes words rest cut a b read proc also =
+cut_at-union_of_groups nodes words rest cut a b read proc also =
     option_and_then_some (λ groups. if is_cut nodes groups then Some (table_of groups, []) else None)
     (groups_of nodes words) (cut, rest) read (λ groups told kept.
     elim (cases_Bool (is_cut nodes groups)) [
       | inl parts ↦
           let all : (table_of groups, []) ≡ (cut, rest) = cc (rw parts at kept) in
           let same : table_of groups ≡ cut = ap (λ (pair : List ℕ × List (List ℕ)). pair.0) all in
-          let both = are_together nodes groups a b parts proc also in
+          let both = are_connected nodes groups a b parts proc also in
           let named = named_together nodes words groups a b told in
           (λ h. named.0 (both.0 (rw same h)), λ n. rw same at (both.1 (named.1 n)))
       | inr none ↦ let no : None ≡ Some (cut, rest) = rw none at kept in absurd cc

@@ -11,24 +11,24 @@ use Rattle.std.proofs.lemmas.List.{drop-set-lt, take_all, at_drop_all, append-ni
 use Rattle.std.proofs.lemmas.Nat.{and_le_l, and_comm, or_comm}
 use Rattle.std.proofs.lemmas.Nat.Bits.{bit_at_and, bit_at_or, same_from_bits}
 use Rattle.ring_base.specs.Group.{Group}
-use Rattle.ring_base.specs.Processors.{most_processors, has, nobody, everybody, union, common}
-use Rattle.ring_script.specs.Cuts.{group_of, groups_of, together, are_apart, is_cut, placed_from, table_after, table_of, cut_at}
+use Rattle.ring_base.specs.Processors.{max_processors, has, nobody, everybody, union, intersection}
+use Rattle.ring_script.specs.Cuts.{group_of, groups_of, union_of_groups, are_apart, is_cut, placed_from, table_after, table_of, cut_at}
 use Rattle.ring_script.specs.Reading.{◌>>=◌}
 
--- what the words make of so many groups, of these nodes, with this table
+-- the cut that the words complete, after `count` groups of these nodes with this table
 unfoldable pub cut_after : Group → ℕ → ℕ → List ℕ → List (List ℕ) → Option (List ℕ × List (List ℕ))
 cut_after nodes count placed table [] = if nat_le 2 count && (placed == everybody nodes.count) then Some (table, []) else None
 cut_after nodes count placed table (word ∷ words) = do
   group ← group_of nodes word
-  (if common placed group == nobody then cut_after nodes (min (count + 1) 255) (union placed group) (placed_from 1 group table) words else None)
+  (if intersection placed group == nobody then cut_after nodes (min (count + 1) 255) (union placed group) (placed_from 1 group table) words else None)
 
 -- ---- sets
 
-common-union : (a b c : ℕ) → common a (union b c) ≡ union (common a b) (common a c)
-common-union a b c = same_from_bits _ _ (λ i.
+intersection-union : (a b c : ℕ) → intersection a (union b c) ≡ union (intersection a b) (intersection a c)
+intersection-union a b c = same_from_bits _ _ (λ i.
     let e = bit_at_and a (union b c) i in
     let f = bit_at_or b c i in
-    let g = bit_at_or (common a b) (common a c) i in
+    let g = bit_at_or (intersection a b) (intersection a c) i in
     let h = bit_at_and a b i in
     let k = bit_at_and a c i in
     omega arith)
@@ -44,8 +44,8 @@ union_assoc a b c = same_from_bits _ _ (λ i.
 union-nobody : (a : ℕ) → union a nobody ≡ a
 union-nobody a = let e = or_add_and a 0 in let f = and_le_l 0 a in let g = and_comm 0 a in omega arith
 
-common-nobody : (a : ℕ) → common a nobody ≡ nobody
-common-nobody a = let f = and_le_l 0 a in let g = and_comm 0 a in omega arith
+intersection-nobody : (a : ℕ) → intersection a nobody ≡ nobody
+intersection-nobody a = let f = and_le_l 0 a in let g = and_comm 0 a in omega arith
 
 -- a union is empty where both sets are
 empty-union : (a b : ℕ) → (union a b == nobody) ≡ ((a == nobody) && (b == nobody))
@@ -62,18 +62,18 @@ empty-union a b =
     let second = eqb-true b 0 parts.1 in
     eq-eqb (union a b) 0 (omega arith))
 
-apart_first : (a b c : ℕ) → (common a (union b c) == nobody) ≡ ((common a b == nobody) && (common a c == nobody))
-apart_first a b c = rw common-union (empty-union (common a b) (common a c))
+apart_first : (a b c : ℕ) → (intersection a (union b c) == nobody) ≡ ((intersection a b == nobody) && (intersection a c == nobody))
+apart_first a b c = rw intersection-union (empty-union (intersection a b) (intersection a c))
 
-apart_second : (a b c : ℕ) → (common (union a b) c == nobody) ≡ ((common a c == nobody) && (common b c == nobody))
+apart_second : (a b c : ℕ) → (intersection (union a b) c == nobody) ≡ ((intersection a c == nobody) && (intersection b c == nobody))
 apart_second a b c = rw (and_comm (union a b) c, and_comm a c, and_comm b c) (apart_first c a b)
 
 -- ---- the tests of a cut, from some groups on
 
 abbrev tests : Group → ℕ → ℕ → List ℕ → Bool
 tests nodes count placed groups =
-    ((common placed (together groups) == nobody) && are_apart groups)
-    && (nat_le 2 (count + length groups) && (union placed (together groups) == everybody nodes.count))
+    ((intersection placed (union_of_groups groups) == nobody) && are_apart groups)
+    && (nat_le 2 (count + length groups) && (union placed (union_of_groups groups) == everybody nodes.count))
 
 regroup : (p q r s z : Bool) → (((p && q) && (r && s)) && z) ≡ (p && (((q && r) && s) && z))
 regroup false q r s z = refl
@@ -86,18 +86,18 @@ at_least_two count n = both_ways (nat_le 2 (count + suc n)) (nat_le 2 (min (coun
     (λ e. let le = leb-true 2 (min (count + 1) 255 + n) e in le-leb 2 (count + suc n) (omega arith))
 
 tests_more : (nodes : Group) (count placed group : ℕ) (groups : List ℕ) → tests nodes count placed (group ∷ groups)
-    ≡ ((common placed group == nobody) && tests nodes (min (count + 1) 255) (union placed group) groups)
-unfolding together are_apart
+    ≡ ((intersection placed group == nobody) && tests nodes (min (count + 1) 255) (union placed group) groups)
+unfolding union_of_groups are_apart
 tests_more nodes count placed group groups =
     rw (
-      apart_first placed group (together groups),
-      apart_second placed group (together groups),
+      apart_first placed group (union_of_groups groups),
+      apart_second placed group (union_of_groups groups),
       at_least_two count (length groups),
-      union_assoc placed group (together groups),
+      union_assoc placed group (union_of_groups groups),
     )
-    (regroup (common placed group == nobody) (common placed (together groups) == nobody) (common group (together groups) == nobody) (are_apart groups) _)
+    (regroup (intersection placed group == nobody) (intersection placed (union_of_groups groups) == nobody) (intersection group (union_of_groups groups) == nobody) (are_apart groups) _)
 
--- ---- the words, by the groups that they tell
+-- ---- the words, by the groups that they denote
 
 nested : {Y : Type 0} (b t : Bool) (x : Option Y) → (if b then (if t then x else None) else None) ≡ (if b && t then x else None)
 nested true t x = refl
@@ -107,26 +107,26 @@ neither : {Y : Type 0} (b : Bool) → if◌then◌else◌ {A = Option Y} b None 
 neither true = refl
 neither false = refl
 
--- what is made of these groups, if they can be read
+-- the result for these groups, if they could be parsed
 abbrev made : Group → ℕ → ℕ → List ℕ → Option (List ℕ) → Option (List ℕ × List (List ℕ))
 made nodes count placed table read = read >>= λ groups. if tests nodes count placed groups then Some (table_after table groups, []) else None
 
 -- one group more
 made_more : (nodes : Group) (count placed : ℕ) (table : List ℕ) (group : ℕ) (read : Option (List ℕ)) →
-    (if common placed group == nobody then made nodes (min (count + 1) 255) (union placed group)
+    (if intersection placed group == nobody then made nodes (min (count + 1) 255) (union placed group)
     (placed_from 1 group table) read else None) ≡ made nodes count placed table
     (read >>= λ others. Some (group ∷ others))
 unfolding table_after
-made_more nodes count placed table group None = neither (common placed group == nobody)
+made_more nodes count placed table group None = neither (intersection placed group == nobody)
 made_more nodes count placed table group (Some others) =
-    nested (common placed group == nobody) (tests nodes (min (count + 1) 255) (union placed group) others)
+    nested (intersection placed group == nobody) (tests nodes (min (count + 1) 255) (union placed group) others)
     (Some (table_after (placed_from 1 group table) others, [])) ∙
     ap (λ (b : Bool). if b then Some (table_after (placed_from 1 group table) others, []) else None) (sym (tests_more nodes count placed group others))
 
 cut_word : (nodes : Group) (count placed : ℕ) (table : List ℕ) (words : List (List ℕ)) (first : Option ℕ) →
     ((group : ℕ) → cut_after nodes (min (count + 1) 255) (union placed group) (placed_from 1 group table) words
     ≡ made nodes (min (count + 1) 255) (union placed group) (placed_from 1 group table) (groups_of nodes words)) →
-    (first >>= λ group. (if common placed group == nobody then cut_after nodes (min (count + 1) 255)
+    (first >>= λ group. (if intersection placed group == nobody then cut_after nodes (min (count + 1) 255)
     (union placed group) (placed_from 1 group table) words else None)) ≡
     made nodes count placed table (first >>= λ group. groups_of nodes words >>= λ others. Some (group ∷ others))
 cut_word nodes count placed table words None others = refl
@@ -134,10 +134,10 @@ cut_word nodes count placed table words (Some group) others = rw (others group) 
 
 cut_after-groups : (nodes : Group) (count placed : ℕ) (table : List ℕ) (words : List (List ℕ))
     → cut_after nodes count placed table words ≡ made nodes count placed table (groups_of nodes words)
-unfolding cut_after groups_of together are_apart table_after
+unfolding cut_after groups_of union_of_groups are_apart table_after
 cut_after-groups nodes count placed table [] =
     let same : count + 0 ≡ count = omega arith in
-    rw (common-nobody placed, union-nobody placed, same) refl
+    rw (intersection-nobody placed, union-nobody placed, same) refl
 cut_after-groups nodes count placed table (word ∷ words) =
     cut_word nodes count placed table words (group_of nodes word)
     (λ group. cut_after-groups nodes (min (count + 1) 255) (union placed group) (placed_from 1 group table) words)
@@ -150,17 +150,17 @@ shuffle false false e = refl
 
 tests-none : (nodes : Group) (groups : List ℕ) → tests nodes 0 nobody groups ≡ is_cut nodes groups
 tests-none nodes groups =
-    let none : common nobody (together groups) ≡ nobody = and_comm 0 (together groups) ∙ common-nobody (together groups) in
-    let all : union nobody (together groups) ≡ together groups = or_comm 0 (together groups) ∙ union-nobody (together groups) in
+    let none : intersection nobody (union_of_groups groups) ≡ nobody = and_comm 0 (union_of_groups groups) ∙ intersection-nobody (union_of_groups groups) in
+    let all : union nobody (union_of_groups groups) ≡ union_of_groups groups = or_comm 0 (union_of_groups groups) ∙ union-nobody (union_of_groups groups) in
     let same : 0 + length groups ≡ length groups = omega arith in
-    rw (none, all, same) (shuffle (are_apart groups) (nat_le 2 (length groups)) (together groups == everybody nodes.count))
+    rw (none, all, same) (shuffle (are_apart groups) (nat_le 2 (length groups)) (union_of_groups groups == everybody nodes.count))
 
--- from no group on
-pub cut_after-none : (nodes : Group) (words : List (List ℕ)) → cut_after nodes 0 nobody (replicate most_processors nobody) words ≡ cut_at nodes words
+-- from the first group on
+pub cut_after-none : (nodes : Group) (words : List (List ℕ)) → cut_after nodes 0 nobody (replicate max_processors nobody) words ≡ cut_at nodes words
 unfolding cut_at
-cut_after-none nodes words = cut_after-groups nodes 0 nobody (replicate most_processors nobody) words ∙ whole (groups_of nodes words)
+cut_after-none nodes words = cut_after-groups nodes 0 nobody (replicate max_processors nobody) words ∙ whole (groups_of nodes words)
   where
-    whole : (read : Option (List ℕ)) → made nodes 0 nobody (replicate most_processors nobody) read
+    whole : (read : Option (List ℕ)) → made nodes 0 nobody (replicate max_processors nobody) read
         ≡ (read >>= λ groups. if is_cut nodes groups then Some (table_of groups, []) else None)
     whole None = refl
     whole (Some groups) = rw (tests-none nodes groups) refl

@@ -32,7 +32,7 @@ value_more text n lt e =
 
 -- ---- the first word
 
--- the text goes on with no digit
+-- the text doesn't begin with a digit
 abbrev pub GoesOn : List ℕ → Type 0
 GoesOn [] = Unit {0}
 GoesOn (b ∷ rest) = is_ascii_digit b ≡ false
@@ -45,7 +45,7 @@ no_separator separator d none digit =
       | inr other ↦ other
     ]
 
--- digits before a text stand before its first piece
+-- digits before a text come before its first piece
 pieces_behind : (separator : ℕ) (digits rest first : List ℕ) (others : List (List ℕ)) → AreDigits digits → is_ascii_digit separator ≡ false
     → pieces separator rest ≡ first ∷ others → pieces separator (digits ++ rest) ≡ (digits ++ first) ∷ others
 unfolding pieces
@@ -54,7 +54,7 @@ pieces_behind separator (d ∷ digits) rest first others h none e =
     let parts = and_parts (is_ascii_digit d) (list_all is_ascii_digit digits) h in
     rw (no_separator separator d none parts.0, pieces_behind separator digits rest first others parts.1 none e) refl
 
--- the first piece of a text that goes on with no digit
+-- the first piece of a text that doesn't begin with a digit
 record Opens (separator : ℕ) (rest : List ℕ) : Type 0 where
   first : List ℕ
   others : List (List ℕ)
@@ -83,7 +83,7 @@ above_zero n lt =
       | inr some ↦ some
     ]
 
--- a word that goes on behind its digits is no number
+-- a word with more than its leading digits is no number
 broken : (digits : List ℕ) (b : ℕ) (rest : List ℕ) → AreDigits digits → is_ascii_digit b ≡ false → is_decimal (digits ++ b ∷ rest) ≡ false
 broken [] b rest h e =
     elim (cases_Bool (b == 48)) [
@@ -96,7 +96,7 @@ broken (c ∷ digits) b rest h e =
       | inr other ↦ rw (other, list_all-append is_ascii_digit (c ∷ digits) (b ∷ rest), h, e) refl
     ]
 
--- nor are digits that are none by themselves
+-- nor are digits that are no number on their own
 none_behind : (digits first : List ℕ) → AreDigits digits → GoesOn first → is_decimal digits ≡ false → is_decimal (digits ++ first) ≡ false
 none_behind digits [] h goes_on none = rw (append-nil digits) none
 none_behind digits (b ∷ rest) h goes_on none = broken digits b rest h goes_on
@@ -106,7 +106,7 @@ none_read : (separator : ℕ) (digits rest first : List ℕ) (others : List (Lis
 unfolding number_of
 none_read separator digits rest first others h none e bad = rw (pieces_behind separator digits rest first others h none e, bad) refl
 
--- the text behind the digits that it begins with
+-- the text after its leading digits
 rest_goes_on : (text : List ℕ) (n : ℕ) → (n < length text → is_ascii_digit (get_or text n 0) ≡ false) → GoesOn (drop n text)
 rest_goes_on [] zero e = tt
 rest_goes_on [] (suc n) e = tt
@@ -122,7 +122,7 @@ decimal-none separator text n value none begins bad =
     (none_read separator (take n text) (drop n text) o.first o.others begins.digits none o.parted
     (none_behind (take n text) o.first begins.digits o.goes_on bad))
 
--- behind the digits stands another byte
+-- another byte follows the digits
 broken_read : (separator : ℕ) (digits rest : List ℕ) → AreDigits digits → is_ascii_digit separator ≡ false → GoesOn rest → 0 < length rest
     → (get_or rest 0 0 == separator) ≡ false → decimal_at (pieces separator (digits ++ rest)) ≡ None
 unfolding pieces
@@ -151,7 +151,7 @@ decimal-read separator text n value left none begins plain parted =
     let first = rw (take-append-drop n text, append-nil (take n text)) at whole in
     rw (first, plain, ← begins.value_is) refl
 
--- ---- what is left behind a separator
+-- ---- the rest after a separator
 
 pub pieces-empty : (separator : ℕ) (text : List ℕ) → length text ≡ 0 → pieces separator text ≡ [] ∷ []
 unfolding pieces

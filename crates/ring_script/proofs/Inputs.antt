@@ -4,10 +4,10 @@ use Rattle.std.specs.Prelude.{IfSome, option_map, unwrap_or}
 use Rattle.std.proofs.lemmas.List.{length-take, take_all}
 use Rattle.ring_script.specs.declared.scripts.ScriptFault.{ScriptFault}
 use Rattle.ring_script.specs.declared.scripts.ScriptFault.TheVariants.{Memory, AtLine}
-use Rattle.ring_script.specs.Operations.{Form}
-use Rattle.ring_script.specs.Scripts.{IsAllOf, AnswersInputBy, IsUnread}
+use Rattle.ring_script.specs.Operations.{OperationForm}
+use Rattle.ring_script.specs.Scripts.{IsAllOf, IsScriptOfInputBy, IsInputFault}
 
--- what was read up to a limit, and stayed below it, is all
+-- bytes read up to a limit, fewer than the limit, are all of the input
 pub whole_below : (limit : ℕ) (known : Option (List ℕ)) (bytes : List ℕ) → IfSome (option_map (take limit) known)
     (λ xs. bytes ≡ [] ++ xs) → length bytes < limit → IsAllOf known bytes
 whole_below limit None bytes e lt = tt
@@ -20,7 +20,7 @@ pub whole_is : (known : Option (List ℕ)) → IsAllOf known (unwrap_or known []
 whole_is None = tt
 whole_is (Some xs) = refl
 
--- an input that was not read is answered so whatever its bytes are
-pub unread : (A : Type 0) (forms : List Form) (fault : ScriptFault) (bytes : List ℕ) → IsUnread fault → AnswersInputBy {A = A} forms (Err fault) bytes
+-- an input that can't be read has this result, whatever its bytes are
+pub unread : (A : Type 0) (forms : List OperationForm) (fault : ScriptFault) (bytes : List ℕ) → IsInputFault fault → IsScriptOfInputBy {A = A} forms (Err fault) bytes
 unread A forms Memory bytes refused = tt
 unread A forms (AtLine line) bytes refused = inl refused

@@ -19,10 +19,10 @@ use Rattle.ring_base.specs.declared.fault.Fault.TheVariants.{Memory, BadFrame, B
 use Rattle.ring_payload.specs.Calls.{IsNewCall}
 use Rattle.ring_script.specs.declared.vocabulary.Argument.{Argument}
 use Rattle.ring_script.specs.declared.vocabulary.Argument.TheVariants.{Key, Value, Name}
-use Rattle.ring_script.specs.HexWords.{bytes_of}
+use Rattle.ring_script.specs.HexWords.{hex_bytes_of}
 use Rattle.ring_script.specs.Numbers.{is, word_at, number_at}
-use Rattle.ring_script.specs.Operations.{is_name, argument_at, argument_after, arguments_after, Form, is_short, are_short, form_of, named_at, raw_at, operation_at}
-use Rattle.ring_script.specs.Reading.{Refuses}
+use Rattle.ring_script.specs.Operations.{is_name, argument_at, argument_after, arguments_after, OperationForm, is_short, are_short, form_of, named_at, raw_at, operation_at}
+use Rattle.ring_script.specs.Reading.{IsBadScriptOrMemory}
 
 -- a word that may be a name
 name_short : (word x : List ℕ × List (List ℕ)) → (if is_name word.0 then Some word else None) ≡ Some x → length x.0 ≤ 64
@@ -60,20 +60,20 @@ arguments_short bytes (argument ∷ others) words x e =
     let same : bytes ++ first.0 ≡ next.0 = cc in
     omega (arith, ap length same, length-append bytes first.0, argument_short argument words first read, arguments_short next.0 others next.1 x made)
 
--- what is found among these has at most 1,024 bytes
-either_short : (b : Bool) (first form : Form) (others : Option Form) → is_short first ≡ true → (others ≡ Some form → is_short form ≡ true)
+-- the form found among these makes at most 1,024 bytes
+either_short : (b : Bool) (first form : OperationForm) (others : Option OperationForm) → is_short first ≡ true → (others ≡ Some form → is_short form ≡ true)
     → (if b then Some first else others) ≡ Some form → is_short form ≡ true
-either_short true first form others short more e = subst (λ (f : Form). is_short f ≡ true) (same_Some first form e) short
+either_short true first form others short more e = subst (λ (f : OperationForm). is_short f ≡ true) (same_Some first form e) short
 either_short false first form others short more e = more e
 
-found_short : (forms : List Form) (word : List ℕ) (form : Form) → are_short forms ≡ true → form_of forms word ≡ Some form → is_short form ≡ true
+found_short : (forms : List OperationForm) (word : List ℕ) (form : OperationForm) → are_short forms ≡ true → form_of forms word ≡ Some form → is_short form ≡ true
 unfolding form_of
 found_short [] word form short e = absurd cc
 found_short (first ∷ forms) word form short e =
     let parts = and_parts (is_short first) (are_short forms) short in
     either_short (is first.word word) first form (form_of forms word) parts.0 (found_short forms word form parts.1) e
 
-named_short : (forms : List Form) (name : List ℕ) (words : List (List ℕ)) (x : List ℕ × List (List ℕ)) → are_short forms ≡ true
+named_short : (forms : List OperationForm) (name : List ℕ) (words : List (List ℕ)) (x : List ℕ × List (List ℕ)) → are_short forms ≡ true
     → named_at forms name words ≡ Some x → length x.0 ≤ 1024
 unfolding named_at
 named_short forms name words x short e =
@@ -85,10 +85,10 @@ ok_from_some : {X E : Type 0} (r : Result X E) (x : X) → result_ok r ≡ Some 
 ok_from_some (Ok y) x e = ap Ok (same_Some y x e)
 ok_from_some (Err y) x e = absurd cc
 
--- the bytes that a word spells
-spelled_short : (most : ℕ) (word bytes : List ℕ) → bytes_of most word ≡ Some bytes → length bytes ≤ most
-unfolding bytes_of
-spelled_short most word bytes e =
+-- the bytes that a word encodes
+encoded_short : (most : ℕ) (word bytes : List ℕ) → hex_bytes_of most word ≡ Some bytes → length bytes ≤ most
+unfolding hex_bytes_of
+encoded_short most word bytes e =
     let is_short = nat_le 1 (length word) && nat_le (length word) (2 * most) in
     let is_lower = not (list_any is_ascii_uppercase word) in
     elim (cases_Bool (is_short && is_lower)) [
@@ -104,10 +104,10 @@ raw_short : (words : List (List ℕ)) (x : List ℕ × List (List ℕ)) → raw_
 unfolding raw_at
 raw_short words x e =
     let (word, at, next) = and_then_some _ (word_at words) x e in
-    let (bytes, read, made) = and_then_some _ (bytes_of 1024 word.0) x next in
-    subst (λ (y : List ℕ × List (List ℕ)). length y.0 ≤ 1024) (same_Some (bytes, word.1) x made) (spelled_short 1024 word.0 bytes read)
+    let (bytes, read, made) = and_then_some _ (hex_bytes_of 1024 word.0) x next in
+    subst (λ (y : List ℕ × List (List ℕ)). length y.0 ≤ 1024) (same_Some (bytes, word.1) x made) (encoded_short 1024 word.0 bytes read)
 
-pub operation_short : (forms : List Form) (words : List (List ℕ)) (x : List ℕ × List (List ℕ)) → are_short forms ≡ true
+pub operation_short : (forms : List OperationForm) (words : List (List ℕ)) (x : List ℕ × List (List ℕ)) → are_short forms ≡ true
     → operation_at forms words ≡ Some x → length x.0 ≤ 1024
 unfolding operation_at
 operation_short forms words x short e =
@@ -119,7 +119,7 @@ operation_short forms words x short e =
 
 -- a call of such an operation is refused for want of memory alone
 pub call_refused : {Y : Type 0} (A : Type 0) (e : Fault) (client number : ℕ) (op : List ℕ) (read : Option Y)
-    → length op ≤ 1024 → 1 ≤ number → IsNewCall {A = A} client number op (Err e) → Refuses e read
+    → length op ≤ 1024 → 1 ≤ number → IsNewCall {A = A} client number op (Err e) → IsBadScriptOrMemory e read
 call_refused A NotMember client number op read short some h = h
 call_refused A PendingFull client number op read short some h = h
 call_refused A OpTooLong client number op read short some h = absurd (omega (arith, h))

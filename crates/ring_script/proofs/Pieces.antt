@@ -1,4 +1,4 @@
--- The first piece of a text, and the first line, by where the separator stands.
+-- The first piece of a text, and the first line, by the place of the separator.
 use Rattle.std.proofs.Common.{◌≡◌, ℕ, suc, ◌+◌, ◌-◌, ◌<◌, ◌≤◌, true, false, List, [], ◌∷◌, length, get_or, take, drop, Some, None, ltb, arith, refl, inl, inr}
 use Rattle.std.specs.Prelude.{position, ◌==◌}
 use Rattle.std.specs.List.{position_or_len}
@@ -8,7 +8,7 @@ use Rattle.memchr.specs.Find.{IsFirstByte, is_byte}
 use Rattle.ring_base.proofs.ListFronts.{rest_whole}
 use Rattle.ring_script.specs.Words.{pieces, lines_of}
 
--- where a byte stands first, or the length
+-- the index of the first such byte, or the length
 abbrev place : ℕ → List ℕ → ℕ
 place separator text = position_or_len (λ b. b == separator) text
 
@@ -89,7 +89,7 @@ line_stays b (c ∷ text) le =
           rw (later, others) refl
     ]
 
--- a byte stands first where a search finds it
+-- the first such byte is where a search finds it
 found_place : (b : ℕ) (text : List ℕ) (n : ℕ) → IsFirstByte (is_byte b) text (Some n) → place b text ≡ n
 found_place b text n found =
     position_or_len_is (λ x. x == b) text n 0 (omega (arith, found.0.high)) (λ k lt. other k lt) (λ lt. found.1)

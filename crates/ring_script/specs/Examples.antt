@@ -1,19 +1,20 @@
--- Worked texts: which line of each is at fault, what good ones ask for, and how operations are spelled.
+-- Worked examples: the faulty lines of bad texts, the schedules of good ones, and the encodings of operations.
+-- Formats: Scripts
 use Rattle.std.specs.Prelude.{◌≡◌, ℕ, List, [], ◌∷◌, ◌++◌, map, codes, Some, None, Ok, Err}
 use Rattle.std.specs.List.{join_with_byte}
 use Rattle.ring_base.specs.declared.kind.Kind.TheVariants.{Loss}
 use Rattle.ring_script.specs.Lines.{Call, Deliver, Timeout, Noise, Stop, Cut, Heal, Pump, Show}
 use Rattle.ring_script.specs.Operations.{operation_at}
 use Rattle.ring_script.specs.Scripts.{Schedule, script_of}
-use Rattle.ring_script.specs.ShelfWords.{shelf_forms}
-use Rattle.ring_script.specs.Votes.{nodes_alike}
+use Rattle.ring_script.specs.ShelfVocabulary.{shelf_operation_forms}
+use Rattle.ring_script.specs.Votes.{nodes_with_one_vote}
 use Rattle.ring_script.specs.Words.{words_of}
 
--- lines with a line feed between each two
+-- lines joined by line feeds
 abbrev pub text : List (List ℕ) → List ℕ
 text lines = join_with_byte 10 lines
 
--- the line that is at fault, and the lines of the text
+-- the number of the faulty line, and the lines of the text
 abbrev pub faulty : List (ℕ × List (List ℕ))
 faulty =
     (1, []) ∷
@@ -71,27 +72,27 @@ faulty =
     (2, codes "nodes 2" ∷ codes "pump 0" ∷ codes "nodes 99" ∷ [] ∷ []) ∷
     []
 
--- each of these texts is refused at the line beside it
-abbrev pub FaultsTold : Type 0
-FaultsTold = map (λ row. script_of (text row.1)) faulty ≡ map (λ row. Err row.0) faulty
+-- each of these texts is refused at the line given with it
+abbrev pub AreFaultExamples : Type 0
+AreFaultExamples = map (λ row. script_of (text row.1)) faulty ≡ map (λ row. Err row.0) faulty
 
--- the lines of a text, and what they ask for
+-- the lines of a text, and its schedule
 abbrev pub good : List (List (List ℕ) × Schedule)
 good = (
   codes "nodes 3" ∷ codes "cut 3,1 2" ∷ [],
   record {
-    nodes = nodes_alike 3;
+    nodes = nodes_with_one_vote 3;
     asked = (
       2,
       Cut (5 ∷ 2 ∷ 5 ∷ 0 ∷ 0 ∷ 0 ∷ 0 ∷ 0 ∷ 0 ∷ 0 ∷ 0 ∷ 0 ∷ 0 ∷ 0 ∷ 0 ∷ 0 ∷ []),
     ) ∷ [];
   },
 ) ∷
-    (codes "nodes 2" ∷ codes "deliver 1 99999999999999999999999" ∷ [], record { nodes = nodes_alike 2; asked = (2, Deliver 1 None) ∷ [] }) ∷ (
+    (codes "nodes 2" ∷ codes "deliver 1 99999999999999999999999" ∷ [], record { nodes = nodes_with_one_vote 2; asked = (2, Deliver 1 None) ∷ [] }) ∷ (
       codes "# one" ∷ [] ∷ codes "nodes 16" ∷ codes "timeout 16 loss" ∷ codes "noise 2 5452" ∷ codes "stop 3"
           ∷ codes "heal" ∷ codes "pump 100000" ∷ codes "show" ∷ [] ∷ [],
       record {
-        nodes = nodes_alike 16;
+        nodes = nodes_with_one_vote 16;
         asked = (4, Timeout 16 Loss) ∷ (5, Noise 2 (84 ∷ 82 ∷ [])) ∷ (6, Stop 3)
             ∷ (7, Heal) ∷ (8, Pump 100000) ∷ (9, Show) ∷ [];
       },
@@ -107,16 +108,16 @@ good = (
     ) ∷ (
       codes "nodes 1" ∷ codes "deliver 1 18446744073709551615" ∷ codes "call 1 7 1 add 0 5" ∷ [],
       record {
-        nodes = nodes_alike 1;
+        nodes = nodes_with_one_vote 1;
         asked = (2, Deliver 1 (Some 18446744073709551615))
             ∷ (3, Call 1 7 1 (1 ∷ 1 ∷ 0 ∷ 0 ∷ 0 ∷ 0 ∷ 0 ∷ 0 ∷ 0 ∷ 0 ∷ 5 ∷ [])) ∷ [];
       },
     ) ∷
     []
 
--- each of these texts is the schedule beside it
-abbrev pub SchedulesTold : Type 0
-SchedulesTold = map (λ row. script_of (text row.0)) good ≡ map (λ row. Ok row.1) good
+-- each of these texts is the schedule given with it
+abbrev pub AreScheduleExamples : Type 0
+AreScheduleExamples = map (λ row. script_of (text row.0)) good ≡ map (λ row. Ok row.1) good
 
 -- the words of an operation, and its bytes
 abbrev pub operations : List (List ℕ × List ℕ)
@@ -135,6 +136,6 @@ operations =
     (codes "raw 00ff7a", 0 ∷ 255 ∷ 122 ∷ []) ∷
     []
 
--- the words of each operation say the bytes beside them, and no word is left
-abbrev pub OperationsTold : Type 0
-OperationsTold = map (λ row. operation_at shelf_forms (words_of row.0)) operations ≡ map (λ row. Some (row.1, [])) operations
+-- the words of each operation denote the bytes given with them, and no word is left
+abbrev pub AreOperationExamples : Type 0
+AreOperationExamples = map (λ row. operation_at shelf_operation_forms (words_of row.0)) operations ≡ map (λ row. Some (row.1, [])) operations

@@ -1,14 +1,14 @@
--- What a script asks for keeps the limits of calls.
--- Scripts, of docs/FORMATS.md.
+-- The requests of a script keep the limits of calls.
+-- Formats: Scripts
 use Rattle.std.specs.Prelude.{List}
 use Rattle.std.specs.List.{AllByRecursion}
 use Rattle.ring_payload.specs.Calls.{CallFits}
-use Rattle.ring_script.specs.declared.line.Line.{Line}
-use Rattle.ring_script.specs.declared.line.Line.TheVariants.{Call, Deliver, Timeout, Noise, Stop, Cut, Heal, Pump, Show}
-use Rattle.ring_script.specs.declared.scripts.Numbered.{Numbered}
+use Rattle.ring_script.specs.declared.line.ScriptLine.{ScriptLine}
+use Rattle.ring_script.specs.declared.line.ScriptLine.TheVariants.{Call, Deliver, Timeout, Noise, Stop, Cut, Heal, Pump, Show}
+use Rattle.ring_script.specs.declared.scripts.NumberedLine.{NumberedLine}
 
--- a call has a spelling: its number is at least 1, and its operation has at most 1,024 bytes
-abbrev pub IsFit : {A : Type 0} → Line A → Type 0
+-- a call has an encoding: its number is at least 1, and its operation has at most 1,024 bytes
+abbrev pub IsFit : {A : Type 0} → ScriptLine A → Type 0
 IsFit (Call node call) = CallFits call
 IsFit (Deliver node frame) = Unit {0}
 IsFit (Timeout node kind) = Unit {0}
@@ -19,6 +19,6 @@ IsFit Heal = Unit {0}
 IsFit (Pump turns) = Unit {0}
 IsFit Show = Unit {0}
 
--- all calls have
-abbrev pub AreFit : {A : Type 0} → List (Numbered A) → Type 0
-AreFit lines = AllByRecursion (λ (l : Numbered _). IsFit l.line) lines
+-- each call has an encoding
+abbrev pub AreFit : {A : Type 0} → List (NumberedLine A) → Type 0
+AreFit lines = AllByRecursion (λ (l : NumberedLine _). IsFit l.line) lines

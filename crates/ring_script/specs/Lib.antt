@@ -9,7 +9,7 @@ pub mod Operations
 pub mod Reading
 pub mod Scripts
 pub mod ScriptTexts
-pub mod ShelfWords
+pub mod ShelfVocabulary
 pub mod ShelfWordsLaws
 pub mod Votes
 pub mod Words

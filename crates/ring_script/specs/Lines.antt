@@ -1,20 +1,20 @@
--- The lines of a script after its first: what they ask for, by their words.
--- Scripts, of docs/FORMATS.md.
+-- The lines of a script after its first: the requests that their words denote.
+-- Formats: Scripts
 use Rattle.std.specs.Prelude.{ℕ, ◌^◌, ◌-◌, ◌≤◌, Bool, false, ◌==◌, if◌then◌else◌, List, codes, Option, Some, None, IfSome}
 use Rattle.ring_base.specs.Group.{Group}
 use Rattle.ring_base.specs.declared.kind.Kind.{Kind}
 use Rattle.ring_base.specs.declared.kind.Kind.TheVariants as kinds
-use Rattle.ring_script.specs.declared.line.Line.{Line}
-use Rattle.ring_script.specs.declared.line.Line.TheVariants as lines
+use Rattle.ring_script.specs.declared.line.ScriptLine.{ScriptLine}
+use Rattle.ring_script.specs.declared.line.ScriptLine.TheVariants as lines
 use Rattle.ring_script.specs.Cuts.{cut_at}
-use Rattle.ring_script.specs.HexWords.{bytes_of}
+use Rattle.ring_script.specs.HexWords.{hex_bytes_of}
 use Rattle.ring_script.specs.Numbers.{is, decimal_of, word_at, number_at, node_at}
-use Rattle.ring_script.specs.Operations.{Form, operation_at}
+use Rattle.ring_script.specs.Operations.{OperationForm, operation_at}
 use Rattle.ring_script.specs.Reading.{◌>>=◌}
 use Rattle.ring_script.specs.Words.{words_of, whole}
-use Rattle.ring_base.specs.Numbers.{most_frame}
+use Rattle.ring_base.specs.Numbers.{max_frame_bytes}
 
--- ---- what a line asks for
+-- ---- the requests of lines
 
 pub data LineRequest : Type 0 where
   -- a client's call is submitted at the node
@@ -22,7 +22,7 @@ pub data LineRequest : Type 0 where
   -- the frame of this number is delivered at the node; None is a number that no u64 holds
   Deliver : (node : ℕ) → (frame : Option ℕ) → LineRequest
   Timeout : (node : ℕ) → (kind : Kind) → LineRequest
-  -- bytes that no node sent come at the node
+  -- bytes that no node sent arrive at the node
   Noise : (node : ℕ) → (bytes : List ℕ) → LineRequest
   Stop : (node : ℕ) → LineRequest
   -- the group of each processor
@@ -31,36 +31,36 @@ pub data LineRequest : Type 0 where
   Pump : (turns : ℕ) → LineRequest
   Show : LineRequest
 
--- what a line of the program asks for
-abbrev pub asked_by : {A : Type 0} → Line A → LineRequest
-asked_by (lines.Call node call) = Call node call.client call.number call.op
-asked_by (lines.Deliver node frame) = Deliver node frame
-asked_by (lines.Timeout node kind) = Timeout node kind
-asked_by (lines.Noise node bytes) = Noise node bytes.items
-asked_by (lines.Stop node) = Stop node
-asked_by (lines.Cut groups) = Cut groups
-asked_by lines.Heal = Heal
-asked_by (lines.Pump turns) = Pump turns
-asked_by lines.Show = Show
+-- the request of a line, as the program holds it
+abbrev pub request_of : {A : Type 0} → ScriptLine A → LineRequest
+request_of (lines.Call node call) = Call node call.client call.number call.op
+request_of (lines.Deliver node frame) = Deliver node frame
+request_of (lines.Timeout node kind) = Timeout node kind
+request_of (lines.Noise node bytes) = Noise node bytes.items
+request_of (lines.Stop node) = Stop node
+request_of (lines.Cut groups) = Cut groups
+request_of lines.Heal = Heal
+request_of (lines.Pump turns) = Pump turns
+request_of lines.Show = Show
 
--- the node at which something is asked for, where it is asked at one
-abbrev pub asked_at : LineRequest → Option ℕ
-asked_at (Call node client number operation) = Some node
-asked_at (Deliver node frame) = Some node
-asked_at (Timeout node kind) = Some node
-asked_at (Noise node bytes) = Some node
-asked_at (Stop node) = Some node
-asked_at _ = None
+-- the node that the request concerns, where it concerns one
+abbrev pub requested_node : LineRequest → Option ℕ
+requested_node (Call node client number operation) = Some node
+requested_node (Deliver node frame) = Some node
+requested_node (Timeout node kind) = Some node
+requested_node (Noise node bytes) = Some node
+requested_node (Stop node) = Some node
+requested_node _ = None
 
--- what is asked for is asked at one of so many nodes, or at none
+-- the request concerns one of `count` nodes, or none
 abbrev pub IsAmong : ℕ → LineRequest → Type 0
-IsAmong count asked = IfSome (asked_at asked) (λ node. node ≤ count)
+IsAmong count asked = IfSome (requested_node asked) (λ node. node ≤ count)
 
--- ---- what single words stand for
+-- ---- the values of single words
 
--- the timeout of this name
-unfoldable pub kind_of : List ℕ → Option Kind
-kind_of word =
+-- the timeout with this name
+unfoldable pub timeout_kind_of : List ℕ → Option Kind
+timeout_kind_of word =
     if is (codes "retransmit") word then Some kinds.Retransmit
     else if is (codes "join") word then Some kinds.Join
     else if is (codes "consensus") word then Some kinds.Consensus
@@ -72,23 +72,23 @@ abbrev pub is_zero : Option ℕ → Bool
 is_zero None = false
 is_zero (Some number) = number == 0
 
--- the number of a frame, at least 1
+-- the number of a frame, at least 1; `Some None` is one that no u64 holds
 unfoldable pub frame_of : List ℕ → Option (Option ℕ)
 frame_of word = do
   frame ← decimal_of word
   if is_zero frame then None else Some frame
 
--- the number of a frame that the next word is, and the words after it
+-- the number of a frame that the next word denotes, and the words after it
 abbrev pub frame_at : List (List ℕ) → Option (Option ℕ × List (List ℕ))
 frame_at words = do
   word ← word_at words
   frame ← frame_of word.0
   Some (frame, word.1)
 
--- ---- the forms of lines, by the words behind the first, and the words after each
+-- ---- the forms of lines: each is parsed from the words after the first, and leaves the words after its own
 
 -- `call NODE CLIENT NUMBER OP..`
-unfoldable pub call_at : List Form → Group → List (List ℕ) → Option (LineRequest × List (List ℕ))
+unfoldable pub call_at : List OperationForm → Group → List (List ℕ) → Option (LineRequest × List (List ℕ))
 call_at forms nodes words = do
   node ← node_at nodes words
   client ← number_at 0 (2 ^ 32 - 1) node.1
@@ -109,7 +109,7 @@ unfoldable pub timeout_at : Group → List (List ℕ) → Option (LineRequest ×
 timeout_at nodes words = do
   node ← node_at nodes words
   word ← word_at node.1
-  kind ← kind_of word.0
+  kind ← timeout_kind_of word.0
   Some (Timeout node.0 kind, word.1)
 
 -- `noise NODE HEX`
@@ -117,7 +117,7 @@ unfoldable pub noise_at : Group → List (List ℕ) → Option (LineRequest × L
 noise_at nodes words = do
   node ← node_at nodes words
   word ← word_at node.1
-  bytes ← bytes_of most_frame word.0
+  bytes ← hex_bytes_of max_frame_bytes word.0
   Some (Noise node.0 bytes, word.1)
 
 -- `stop NODE`
@@ -138,8 +138,8 @@ pump_at words = do
   turns ← number_at 1 100000 words
   Some (Pump turns.0, turns.1)
 
--- the form that has this first word
-unfoldable pub form_at : List Form → Group → List ℕ → List (List ℕ) → Option (LineRequest × List (List ℕ))
+-- the form that begins with this first word
+unfoldable pub form_at : List OperationForm → Group → List ℕ → List (List ℕ) → Option (LineRequest × List (List ℕ))
 form_at forms nodes word words =
     if is (codes "call") word then call_at forms nodes words
     else if is (codes "deliver") word then deliver_at nodes words
@@ -152,9 +152,9 @@ form_at forms nodes word words =
     else if is (codes "show") word then Some (Show, words)
     else None
 
--- what the line asks for, of an object with these words
-unfoldable pub asked_of : List Form → Group → List ℕ → Option LineRequest
-asked_of forms nodes line = do
+-- the request of a line, for an object with these operations
+unfoldable pub request_in : List OperationForm → Group → List ℕ → Option LineRequest
+request_in forms nodes line = do
   word ← word_at (words_of line)
   read ← form_at forms nodes word.0 word.1
   whole read

@@ -1,31 +1,31 @@
--- What the reader's calls answer, by what is to be read.
--- Scripts, of docs/FORMATS.md.
+-- The results of the parser's calls, by what there is to parse.
+-- Formats: Scripts
 use Rattle.std.specs.Prelude.{◌≡◌, Option, Some, None, Result, Ok, Err, option_and_then, ⊤}
 use Rattle.ring_base.specs.declared.fault.Fault.{Fault}
 use Rattle.ring_base.specs.declared.fault.Fault.TheVariants.{Memory, BadScript}
 
--- one step, and then another
+-- one parsing step, then another
 infixl 10 ◌>>=◌
 abbrev pub ◌>>=◌ : {A B : Type 0} → Option A → (A → Option B) → Option B
 o >>= f = option_and_then f o
 
--- the refusal where there is nothing to read
-abbrev pub Misses : {Y : Type 0} → Fault → Option Y → Type 0
-Misses BadScript read = read ≡ None
-Misses _ read = ⊥
+-- a refusal is `BadScript`, and comes only where there is nothing to parse
+abbrev pub IsBadScript : {Y : Type 0} → Fault → Option Y → Type 0
+IsBadScript BadScript read = read ≡ None
+IsBadScript _ read = ⊥
 
--- the same where memory may be refused at any time
-abbrev pub Refuses : {Y : Type 0} → Fault → Option Y → Type 0
-Refuses Memory read = ⊤
-Refuses BadScript read = read ≡ None
-Refuses _ read = ⊥
+-- the same, but `Memory` may come at any time
+abbrev pub IsBadScriptOrMemory : {Y : Type 0} → Fault → Option Y → Type 0
+IsBadScriptOrMemory Memory read = ⊤
+IsBadScriptOrMemory BadScript read = read ≡ None
+IsBadScriptOrMemory _ read = ⊥
 
--- a call answers what is read, seen as a value, and `BadScript` where there is nothing to read
-abbrev pub Tells : {X Y : Type 0} → (X → Y) → Result X Fault → Option Y → Type 0
-Tells view (Ok x) read = read ≡ Some (view x)
-Tells view (Err e) read = Misses e read
+-- a call returns the parsed value, seen through `view`, or `BadScript` where there is none
+abbrev pub IsParseResult : {X Y : Type 0} → (X → Y) → Result X Fault → Option Y → Type 0
+IsParseResult view (Ok x) read = read ≡ Some (view x)
+IsParseResult view (Err e) read = IsBadScript e read
 
 -- the same of a call to which memory may be refused
-abbrev pub Gives : {X Y : Type 0} → (X → Y) → Result X Fault → Option Y → Type 0
-Gives view (Ok x) read = read ≡ Some (view x)
-Gives view (Err e) read = Refuses e read
+abbrev pub IsParseResultOrMemory : {X Y : Type 0} → (X → Y) → Result X Fault → Option Y → Type 0
+IsParseResultOrMemory view (Ok x) read = read ≡ Some (view x)
+IsParseResultOrMemory view (Err e) read = IsBadScriptOrMemory e read

@@ -1,14 +1,14 @@
--- Texts that are scripts, and texts that are none.
--- Scripts, of docs/FORMATS.md.
+-- Texts that are scripts, and texts that aren't.
+-- Formats: Scripts
 use Rattle.std.specs.Prelude.{◌≡◌, ℕ, ◌≤◌, List, length, Ok}
-use Rattle.ring_script.specs.Operations.{Form}
-use Rattle.ring_script.specs.Scripts.{Schedule, longest_text, script_by}
+use Rattle.ring_script.specs.Operations.{OperationForm}
+use Rattle.ring_script.specs.Scripts.{Schedule, max_script_bytes, script_by}
 
--- the text is a script by these words: it is no longer than a script may be, and no fault is found, in a line or behind the last,
--- where no line tells the nodes
-abbrev pub IsScript : List Form → List ℕ → Type 0
-IsScript forms text = (length text ≤ longest_text) × ((schedule : Schedule) × (script_by forms text ≡ Ok schedule))
+-- the text is a script over these operations: it isn't too long, and has no fault, neither in a line nor for want of a line
+-- `nodes N`
+abbrev pub IsScript : List OperationForm → List ℕ → Type 0
+IsScript forms text = (length text ≤ max_script_bytes) × ((schedule : Schedule) × (script_by forms text ≡ Ok schedule))
 
--- it is none: it is longer than a script may be, or a fault is found
-abbrev pub IsNoScript : List Form → List ℕ → Type 0
+-- the text is no script: it is too long, or has a fault
+abbrev pub IsNoScript : List OperationForm → List ℕ → Type 0
 IsNoScript forms text = IsScript forms text → ⊥

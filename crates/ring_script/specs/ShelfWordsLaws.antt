@@ -1,8 +1,8 @@
--- The program's operations are short.
+-- The operations of the program's object are short.
 use Rattle.std.specs.Prelude.{◌≡◌, true, refl}
 use Rattle.ring_script.specs.Operations.{are_short}
-use Rattle.ring_script.specs.ShelfWords.{shelf_forms}
+use Rattle.ring_script.specs.ShelfVocabulary.{shelf_operation_forms}
 
-pub shelf_short : are_short shelf_forms ≡ true
-unfolding shelf_forms
+pub shelf_short : are_short shelf_operation_forms ≡ true
+unfolding shelf_operation_forms
 shelf_short = refl

@@ -1,10 +1,13 @@
-//! Worked texts.
+//! Worked examples of the script language.
+//! Formats: Scripts
 
-ghost use Rattle.ring_script.specs.Examples.{FaultsTold, SchedulesTold, OperationsTold};
+ghost use Rattle.ring_script.specs.Examples.{AreFaultExamples, AreScheduleExamples, AreOperationExamples};
 
-/// Worked texts: the line of each that is at fault, what good ones ask for, and how each operation is spelled.
+/// States that the worked examples of the script language hold. It is an example and has no effect at run time. It checks
+/// the faulty line of each bad text, the requests of each good text, and the bytes of each operation.
+/// Formats: Scripts
 pub fn script_example()
-    ensures faults { FaultsTold }
-    ensures schedules { SchedulesTold }
-    ensures operations { OperationsTold }
+    ensures faults { AreFaultExamples }
+    ensures schedules { AreScheduleExamples }
+    ensures operations { AreOperationExamples }
 {}

@@ -1,15 +1,18 @@
-//! The groups that a cut parts the nodes into.
+//! The groups that a cut splits the nodes into.
+//! Formats: Scripts
 
 ghost use Rattle.std.specs.Prelude.{◌≡◌, ◌-◌, slice_index};
 ghost use Rattle.ring_base.specs.Processors.{has, nobody};
-ghost use Rattle.ring_script.specs.Cuts.{apart, cut_at, placed_from, group_of, gathered};
-ghost use Rattle.ring_script.specs.Reading.{Tells};
+ghost use Rattle.ring_script.specs.Cuts.{isolation, cut_at, placed_from, group_of, member_set};
+ghost use Rattle.ring_script.specs.Reading.{IsParseResult};
 
 use crate::words::Words;
 use ring_base::{Fault, Fixed, PROCESSORS, Proc, ProcSet};
 use std::marker::Model;
 
-/// Groups of nodes, in place. Each node is in exactly one of them. Contracts see the group of each node.
+/// A partition of the nodes into the groups of a cut: each node is in exactly one group.
+/// Contracts see the group of each processor, 1 to 16. It takes no heap memory.
+/// Formats: Scripts
 #[derive(Clone, Copy, Debug, PartialEq, Eq)]
 pub struct Groups {
     group_of: [ProcSet; PROCESSORS],
@@ -28,9 +31,10 @@ impl Model for Groups {
 }
 
 impl Groups {
-    /// One node against all others.
-    pub fn apart(node: Proc) -> Groups
-        ensures { result ≡ apart node }
+    /// Returns the partition into two groups: this node alone, and all other processors from 1 to 16.
+    /// Formats: The command line
+    pub fn isolation(node: Proc) -> Groups
+        ensures { result ≡ isolation node }
     {
         let own = ProcSet::only(node);
         let others = ProcSet::from_bits(u16::MAX).less(own);
@@ -39,17 +43,22 @@ impl Groups {
         Groups { group_of }
     }
 
-    /// Whether the two nodes are in one group.
-    pub fn are_together(&self, a: Proc, b: Proc) -> bool
+    /// Returns whether the two nodes are in one group, so that each hears the other under this cut.
+    /// Formats: Pump
+    pub fn are_connected(&self, a: Proc, b: Proc) -> bool
         ensures { result ≡ has (slice_index self.now (a - 1)) b }
     {
         self.group_of[a.number() as usize - 1].contains(b)
     }
 
-    /// The groups that the words name, at least two. `BadScript` where they name none.
+    /// Takes the remaining words and parses them as the groups of a cut. A word is a group: node numbers with single commas
+    /// between them.
+    /// Errors: `BadScript` unless there are at least two groups, and each node is in exactly one of them, once. The words
+    /// left are then unspecified.
+    /// Formats: Scripts
     #[tactic(auto, unfolding(crate::proofs::Cutting::cut_after))]
     pub(crate) fn parse(words: &mut Words<'_>, nodes: Fixed) -> Result<Groups, Fault>
-        ensures { Tells (λ groups. (groups, words.new)) result (cut_at nodes words.old) }
+        ensures { IsParseResult (λ groups. (groups, words.new)) result (cut_at nodes words.old) }
     {
         let mut groups = Groups {
             group_of: [ProcSet::new(); PROCESSORS],
@@ -83,19 +92,18 @@ impl Groups {
     }
 }
 
-/// The nodes whose numbers the word has, parted by commas. `BadScript` where a number is that of no node,
-/// or stands twice.
+/// Parses a group: node numbers separated by single commas. `BadScript` where a number is that of no node, or comes twice.
 #[tactic(auto, unfolding(crate::specs::Cuts::group_of))]
 fn group_of(word: &[u8], nodes: Fixed) -> Result<ProcSet, Fault>
-    ensures { Tells (λ set. set) result (group_of nodes word.now) }
+    ensures { IsParseResult (λ set. set) result (group_of nodes word.now) }
 {
-    gathered(nodes, &mut Words::new(word, b','))
+    member_set(nodes, &mut Words::new(word, b','))
 }
 
-/// The nodes whose numbers these are. `BadScript` where a number is that of no node, or stands twice.
-#[tactic(auto, unfolding(crate::specs::Cuts::gathered))]
-fn gathered(nodes: Fixed, numbers: &mut Words<'_>) -> Result<ProcSet, Fault>
-    ensures { Tells (λ set. set) result (gathered nodes nobody numbers.old) }
+/// Returns the set of nodes with these numbers. `BadScript` where a number is that of no node, or comes twice.
+#[tactic(auto, unfolding(crate::specs::Cuts::member_set))]
+fn member_set(nodes: Fixed, numbers: &mut Words<'_>) -> Result<ProcSet, Fault>
+    ensures { IsParseResult (λ set. set) result (member_set nodes nobody numbers.old) }
 {
     let mut group = ProcSet::new();
     while !numbers.is_over() {

@@ -1,24 +1,27 @@
-//! Bytes that a word spells in hex.
+//! Bytes that a word encodes in hex.
+//! Formats: Scripts
 
 ghost use Rattle.std.specs.Char.{is_ascii_uppercase};
 ghost use Rattle.std.specs.List.{list_any};
 ghost use Rattle.std.specs.Prelude.{◌≡◌, ◌≤◌};
-ghost use Rattle.ring_script.specs.HexWords.{bytes_of};
-ghost use Rattle.ring_script.specs.Reading.{Gives};
-ghost use Rattle.ring_base.specs.Numbers.{most_frame};
+ghost use Rattle.ring_script.specs.HexWords.{hex_bytes_of};
+ghost use Rattle.ring_script.specs.Reading.{IsParseResultOrMemory};
+ghost use Rattle.ring_base.specs.Numbers.{max_frame_bytes};
 
 use ring_base::Fault;
 use std::alloc::Allocator;
 
-/// The bytes that the word spells in lower case hex, 1 to so many of them. `BadScript` where it spells none, or `Memory`.
-#[tactic(auto, unfolding(crate::specs::HexWords::bytes_of))]
-pub(crate) fn bytes_of<A: Allocator + Copy>(
+/// Decodes a word of lower-case hex, two digits a byte, to the 1 to `most` bytes that it encodes. `most` is at most 8,192.
+/// Errors: `BadScript` where the word is empty, has more than 2 * `most` digits, or isn't such hex. `Memory`.
+/// Formats: Scripts
+#[tactic(auto, unfolding(crate::specs::HexWords::hex_bytes_of))]
+pub(crate) fn hex_bytes_of<A: Allocator + Copy>(
     alloc: A,
     word: &[u8],
     most: usize,
 ) -> Result<Vec<u8, A>, Fault>
-    requires { most ≤ most_frame }
-    ensures { Gives (λ bytes. bytes.items) result (bytes_of most word.now) }
+    requires { most ≤ max_frame_bytes }
+    ensures { IsParseResultOrMemory (λ bytes. bytes.items) result (hex_bytes_of most word.now) }
 {
     if word.is_empty() || word.len() > 2 * most || has_upper_case(word) {
         return Err(Fault::BadScript);
@@ -30,7 +33,6 @@ pub(crate) fn bytes_of<A: Allocator + Copy>(
     }
 }
 
-/// Whether a byte is an upper case letter.
 fn has_upper_case(word: &[u8]) -> bool
     ensures { result ≡ list_any is_ascii_uppercase word.now }
 {

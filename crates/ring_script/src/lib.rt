@@ -1,5 +1,6 @@
-//! The language of scripts, as a text: how many nodes there are, their votes, and which events come, in their order. The
-//! reader takes a text whole or tells its first fault; it runs nothing.
+//! The script language, as a text: the number of nodes, their votes, and the events, in order. The parser accepts a whole text
+//! or reports its first fault; it runs nothing.
+//! Formats: Scripts
 #![tactic(auto)]
 
 mod examples;
@@ -10,7 +11,7 @@ mod line;
 mod lines;
 mod operation;
 mod scripts;
-mod shelf_words;
+mod shelf_vocabulary;
 mod vocabulary;
 mod votes;
 mod words;
@@ -18,9 +19,9 @@ mod words;
 pub use examples::script_example;
 pub use groups::Groups;
 pub use laws::cut_law;
-pub use line::{Line, MOST_TURNS, kind_word};
-pub use operation::{LONGEST_NAME, is_name};
-pub use ring_payload::MOST_OPERATION;
-pub use scripts::{LONGEST_TEXT, Numbered, Script, ScriptFault, is_skipped};
-pub use shelf_words::ShelfWords;
-pub use vocabulary::{Argument, Form, NoWords, Vocabulary};
+pub use line::{MAX_TURNS, ScriptLine, timeout_name};
+pub use operation::{MAX_NAME_BYTES, is_name};
+pub use ring_payload::MAX_OPERATION;
+pub use scripts::{MAX_SCRIPT_BYTES, NumberedLine, Script, ScriptFault, is_skipped};
+pub use shelf_vocabulary::ShelfVocabulary;
+pub use vocabulary::{Argument, EmptyVocabulary, OperationForm, Vocabulary};

@@ -1,56 +1,63 @@
-//! The lines of a script, after its first.
+//! The lines of a script after its first: parsing, and the names of the timeouts.
+//! Formats: Scripts
 
 ghost use Rattle.std.specs.Prelude.{◌≡◌, Some};
-ghost use Rattle.ring_script.specs.Lines.{asked_by, asked_of, form_at, call_at, deliver_at, timeout_at, noise_at};
-ghost use Rattle.ring_script.specs.Lines.{stop_at, cut_line_at, pump_at, frame_at, kind_of};
-ghost use Rattle.ring_script.specs.Reading.{Gives, Tells};
+ghost use Rattle.ring_script.specs.Lines.{request_of, request_in, form_at, call_at, deliver_at, timeout_at, noise_at};
+ghost use Rattle.ring_script.specs.Lines.{stop_at, cut_line_at, pump_at, frame_at, timeout_kind_of};
+ghost use Rattle.ring_script.specs.Reading.{IsParseResultOrMemory, IsParseResult};
 
 use crate::groups::Groups;
-use crate::hex_word::bytes_of;
-use crate::operation::spell_operation;
+use crate::hex_word::hex_bytes_of;
+use crate::operation::encode_operation;
 use crate::vocabulary::Vocabulary;
 use crate::words::{Words, is};
-use ring_base::{FRAME_BYTES, Fault, Fixed, Kind, Proc};
+use ring_base::{Fault, Fixed, Kind, MAX_FRAME_BYTES, Proc};
 use ring_payload::Call;
 use std::alloc::{Allocator, Global};
 
-/// The greatest number of turns of one `pump`.
-pub const MOST_TURNS: u64 = 100_000;
+/// The greatest number of turns that a line `pump` may request: 100,000.
+/// Formats: Scripts
+pub const MAX_TURNS: u64 = 100_000;
 
-/// What a line asks for.
+/// The event or command that an effective line of a script requests. The lines `nodes` and `votes` request none.
+/// Formats: Scripts
 #[derive(Drop)]
-pub enum Line<A: Allocator + Copy = Global> {
-    /// A client's call is submitted at a node.
+pub enum ScriptLine<A: Allocator + Copy = Global> {
+    /// The call of a client is submitted at the node.
     Call { node: Proc, call: Call<A> },
-    /// A frame, by its number, is delivered at a node. `None` is a number that no u64 holds.
+    /// The frame of this number is delivered at the node. The number is at least 1. `None` stands for a number of 2^64 or
+    /// more, which no frame has.
     Deliver { node: Proc, frame: Option<u64> },
-    /// A timeout comes at a node.
+    /// The timeout of this kind comes at the node.
     Timeout { node: Proc, kind: Kind },
-    /// Bytes that no node sent come at a node.
+    /// Bytes that no node sent, 1 to 8,192 of them, arrive at the node.
     Noise { node: Proc, bytes: Vec<u8, A> },
-    /// A node stops.
+    /// The node stops for good.
     Stop { node: Proc },
-    /// Nodes of two groups can't hear each other from here on.
+    /// From then on, nodes of different groups don't hear each other. An earlier cut is replaced.
     Cut(Groups),
-    /// All nodes can hear each other from here on.
+    /// From then on, all nodes hear each other.
     Heal,
-    /// So many turns of delivery are taken, fewer if no frame is under way.
+    /// The network takes this number of turns, 1 to 100,000, and fewer where no copy of a frame is open.
     Pump { turns: u32 },
     /// The state of all nodes is printed.
     Show,
 }
 
-impl<A: Allocator + Copy> Line<A> {
-    /// What the line asks for, among these nodes, of an object with these words. `BadScript` where it has none of the forms, or
-    /// `Memory`. The bytes of an operation are put together in the room, which so serves for many lines.
-    #[tactic(auto, unfolding(crate::specs::Lines::asked_of))]
+impl<A: Allocator + Copy> ScriptLine<A> {
+    /// Parses an effective line that is neither `nodes` nor `votes`, for these nodes and an object with this vocabulary. It
+    /// builds the bytes of an operation in `room`, a buffer that all lines share. The contents of `room` don't matter,
+    /// before or after.
+    /// Errors: `BadScript` where the line has none of the forms, or a number is outside its range; `Memory`.
+    /// Formats: Scripts
+    #[tactic(auto, unfolding(crate::specs::Lines::request_in))]
     pub(crate) fn parse<V: Vocabulary>(
         alloc: A,
         nodes: Fixed,
         line: &[u8],
         room: &mut Vec<u8, A>,
-    ) -> Result<Line<A>, Fault>
-        ensures { Gives asked_by result (asked_of V.forms nodes line.now) }
+    ) -> Result<ScriptLine<A>, Fault>
+        ensures { IsParseResultOrMemory request_of result (request_in V.forms nodes line.now) }
     {
         let mut words = Words::new(line, b' ');
         let Some(word) = words.next_word() else {
@@ -64,7 +71,7 @@ impl<A: Allocator + Copy> Line<A> {
     }
 }
 
-/// What the form with this first word asks for, by the words after it.
+/// Parses the words after `word`, the first one, by the form that begins with it.
 #[tactic(auto, unfolding(crate::specs::Lines::form_at))]
 fn form_of<V: Vocabulary, A: Allocator + Copy>(
     alloc: A,
@@ -72,137 +79,142 @@ fn form_of<V: Vocabulary, A: Allocator + Copy>(
     word: &[u8],
     words: &mut Words<'_>,
     room: &mut Vec<u8, A>,
-) -> Result<Line<A>, Fault>
-    ensures { Gives (λ line. (asked_by line, words.new)) result (form_at V.forms nodes word.now words.old) }
+) -> Result<ScriptLine<A>, Fault>
+    ensures { IsParseResultOrMemory (λ line. (request_of line, words.new)) result (form_at V.forms nodes word.now words.old) }
 {
     if is(word, b"call") {
-        call_of::<V, A>(alloc, nodes, words, room)
+        parse_call::<V, A>(alloc, nodes, words, room)
     } else if is(word, b"deliver") {
-        deliver_of(nodes, words)
+        parse_deliver(nodes, words)
     } else if is(word, b"timeout") {
-        timeout_of(nodes, words)
+        parse_timeout(nodes, words)
     } else if is(word, b"noise") {
-        noise_of(alloc, nodes, words)
+        parse_noise(alloc, nodes, words)
     } else if is(word, b"stop") {
-        stop_of(nodes, words)
+        parse_stop(nodes, words)
     } else if is(word, b"cut") {
-        cut_of(nodes, words)
+        parse_cut(nodes, words)
     } else if is(word, b"heal") {
-        Ok(Line::Heal)
+        Ok(ScriptLine::Heal)
     } else if is(word, b"pump") {
-        pump_of(words)
+        parse_pump(words)
     } else if is(word, b"show") {
-        Ok(Line::Show)
+        Ok(ScriptLine::Show)
     } else {
         Err(Fault::BadScript)
     }
 }
 
-/// The call that the words say.
 #[tactic(auto, unfolding(crate::specs::Lines::call_at))]
-fn call_of<V: Vocabulary, A: Allocator + Copy>(
+fn parse_call<V: Vocabulary, A: Allocator + Copy>(
     alloc: A,
     nodes: Fixed,
     words: &mut Words<'_>,
     room: &mut Vec<u8, A>,
-) -> Result<Line<A>, Fault>
-    ensures { Gives (λ line. (asked_by line, words.new)) result (call_at V.forms nodes words.old) }
+) -> Result<ScriptLine<A>, Fault>
+    ensures { IsParseResultOrMemory (λ line. (request_of line, words.new)) result (call_at V.forms nodes words.old) }
 {
     let node = words.node(nodes)?;
     let client = words.number(0, u64::from(u32::MAX))? as u32;
     let number = words.number(1, u64::MAX)?;
-    spell_operation::<V, A>(alloc, words, room)?;
+    encode_operation::<V, A>(alloc, words, room)?;
     match Call::new(alloc, client, number, room.as_slice()) {
-        Ok(call) => Ok(Line::Call { node, call }),
+        Ok(call) => Ok(ScriptLine::Call { node, call }),
         Err(fault) => Err(fault),
     }
 }
 
-/// The delivery that the words say.
 #[tactic(auto, unfolding(crate::specs::Lines::deliver_at))]
-fn deliver_of<A: Allocator + Copy>(nodes: Fixed, words: &mut Words<'_>) -> Result<Line<A>, Fault>
-    ensures { Gives (λ line. (asked_by line, words.new)) result (deliver_at nodes words.old) }
+fn parse_deliver<A: Allocator + Copy>(
+    nodes: Fixed,
+    words: &mut Words<'_>,
+) -> Result<ScriptLine<A>, Fault>
+    ensures { IsParseResultOrMemory (λ line. (request_of line, words.new)) result (deliver_at nodes words.old) }
 {
     let node = words.node(nodes)?;
     match frame_at(words) {
-        Ok(frame) => Ok(Line::Deliver { node, frame }),
+        Ok(frame) => Ok(ScriptLine::Deliver { node, frame }),
         Err(fault) => Err(fault),
     }
 }
 
-/// The timeout that the words say.
 #[tactic(auto, unfolding(crate::specs::Lines::timeout_at))]
-fn timeout_of<A: Allocator + Copy>(nodes: Fixed, words: &mut Words<'_>) -> Result<Line<A>, Fault>
-    ensures { Gives (λ line. (asked_by line, words.new)) result (timeout_at nodes words.old) }
+fn parse_timeout<A: Allocator + Copy>(
+    nodes: Fixed,
+    words: &mut Words<'_>,
+) -> Result<ScriptLine<A>, Fault>
+    ensures { IsParseResultOrMemory (λ line. (request_of line, words.new)) result (timeout_at nodes words.old) }
 {
     let node = words.node(nodes)?;
     let Some(word) = words.next_word() else {
         return Err(Fault::BadScript);
     };
-    match kind_of(word) {
-        Ok(kind) => Ok(Line::Timeout { node, kind }),
+    match timeout_kind_of(word) {
+        Ok(kind) => Ok(ScriptLine::Timeout { node, kind }),
         Err(fault) => Err(fault),
     }
 }
 
-/// The noise that the words say.
 #[tactic(auto, unfolding(crate::specs::Lines::noise_at))]
-fn noise_of<A: Allocator + Copy>(
+fn parse_noise<A: Allocator + Copy>(
     alloc: A,
     nodes: Fixed,
     words: &mut Words<'_>,
-) -> Result<Line<A>, Fault>
-    ensures { Gives (λ line. (asked_by line, words.new)) result (noise_at nodes words.old) }
+) -> Result<ScriptLine<A>, Fault>
+    ensures { IsParseResultOrMemory (λ line. (request_of line, words.new)) result (noise_at nodes words.old) }
 {
     let node = words.node(nodes)?;
     let Some(word) = words.next_word() else {
         return Err(Fault::BadScript);
     };
-    match bytes_of(alloc, word, FRAME_BYTES) {
-        Ok(bytes) => Ok(Line::Noise { node, bytes }),
+    match hex_bytes_of(alloc, word, MAX_FRAME_BYTES) {
+        Ok(bytes) => Ok(ScriptLine::Noise { node, bytes }),
         Err(fault) => Err(fault),
     }
 }
 
-/// The stop that the words say.
 #[tactic(auto, unfolding(crate::specs::Lines::stop_at))]
-fn stop_of<A: Allocator + Copy>(nodes: Fixed, words: &mut Words<'_>) -> Result<Line<A>, Fault>
-    ensures { Gives (λ line. (asked_by line, words.new)) result (stop_at nodes words.old) }
+fn parse_stop<A: Allocator + Copy>(
+    nodes: Fixed,
+    words: &mut Words<'_>,
+) -> Result<ScriptLine<A>, Fault>
+    ensures { IsParseResultOrMemory (λ line. (request_of line, words.new)) result (stop_at nodes words.old) }
 {
     match words.node(nodes) {
-        Ok(node) => Ok(Line::Stop { node }),
+        Ok(node) => Ok(ScriptLine::Stop { node }),
         Err(fault) => Err(fault),
     }
 }
 
-/// The cut that the words say.
 #[tactic(auto, unfolding(crate::specs::Lines::cut_line_at))]
-fn cut_of<A: Allocator + Copy>(nodes: Fixed, words: &mut Words<'_>) -> Result<Line<A>, Fault>
-    ensures { Gives (λ line. (asked_by line, words.new)) result (cut_line_at nodes words.old) }
+fn parse_cut<A: Allocator + Copy>(
+    nodes: Fixed,
+    words: &mut Words<'_>,
+) -> Result<ScriptLine<A>, Fault>
+    ensures { IsParseResultOrMemory (λ line. (request_of line, words.new)) result (cut_line_at nodes words.old) }
 {
     match Groups::parse(words, nodes) {
-        Ok(groups) => Ok(Line::Cut(groups)),
+        Ok(groups) => Ok(ScriptLine::Cut(groups)),
         Err(fault) => Err(fault),
     }
 }
 
-/// The turns of delivery that the words say.
 #[tactic(auto, unfolding(crate::specs::Lines::pump_at))]
-fn pump_of<A: Allocator + Copy>(words: &mut Words<'_>) -> Result<Line<A>, Fault>
-    ensures { Gives (λ line. (asked_by line, words.new)) result (pump_at words.old) }
+fn parse_pump<A: Allocator + Copy>(words: &mut Words<'_>) -> Result<ScriptLine<A>, Fault>
+    ensures { IsParseResultOrMemory (λ line. (request_of line, words.new)) result (pump_at words.old) }
 {
-    match words.number(1, MOST_TURNS) {
-        Ok(turns) => Ok(Line::Pump {
+    match words.number(1, MAX_TURNS) {
+        Ok(turns) => Ok(ScriptLine::Pump {
             turns: turns as u32,
         }),
         Err(fault) => Err(fault),
     }
 }
 
-/// The next word as the number of a frame, none if no u64 holds it.
+/// Parses the next word as the number of a frame, at least 1: `None` if no u64 holds it.
 #[tactic(auto, unfolding(crate::specs::Lines::frame_of))]
 fn frame_at(words: &mut Words<'_>) -> Result<Option<u64>, Fault>
-    ensures { Tells (λ frame. (frame, words.new)) result (frame_at words.old) }
+    ensures { IsParseResult (λ frame. (frame, words.new)) result (frame_at words.old) }
 {
     match words.decimal() {
         Ok(Some(0)) => Err(Fault::BadScript),
@@ -210,9 +222,10 @@ fn frame_at(words: &mut Words<'_>) -> Result<Option<u64>, Fault>
     }
 }
 
-/// The word for a timeout: its name in a script.
-pub fn kind_word(kind: Kind) -> &'static str
-    ensures { kind_of result.now ≡ Some kind }
+/// Returns the word that names a timeout of this kind in scripts: `retransmit`, `join`, `consensus` or `loss`.
+/// Formats: Scripts
+pub fn timeout_name(kind: Kind) -> &'static str
+    ensures { timeout_kind_of result.now ≡ Some kind }
 {
     match kind {
         Kind::Retransmit => "retransmit",
@@ -222,10 +235,10 @@ pub fn kind_word(kind: Kind) -> &'static str
     }
 }
 
-/// The timeout of this name.
-#[tactic(auto, unfolding(crate::specs::Lines::kind_of))]
-fn kind_of(word: &[u8]) -> Result<Kind, Fault>
-    ensures { Tells (λ kind. kind) result (kind_of word.now) }
+/// Returns the timeout with this name, or `BadScript`.
+#[tactic(auto, unfolding(crate::specs::Lines::timeout_kind_of))]
+fn timeout_kind_of(word: &[u8]) -> Result<Kind, Fault>
+    ensures { IsParseResult (λ kind. kind) result (timeout_kind_of word.now) }
 {
     if is(word, b"retransmit") {
         Ok(Kind::Retransmit)

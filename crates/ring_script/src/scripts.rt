@@ -1,82 +1,102 @@
 //! Scripts: schedules of events, as a text.
+//! Rules: Limits 1 and 2
+//! Formats: Scripts
 
 ghost use Rattle.std.specs.Char.{is_ascii};
 ghost use Rattle.std.specs.List.{list_all};
 ghost use Rattle.std.specs.Prelude.{◌≡◌, ℕ, ◌≤◌, Some, List, length, map, option_and_then, option_map, IfOk, IfErr, true};
 ghost use Rattle.ring_script.specs.Faults.{IsOfText};
 ghost use Rattle.ring_script.specs.Fits.{AreFit};
-ghost use Rattle.ring_script.specs.Lines.{asked_by, asked_of};
-ghost use Rattle.ring_script.specs.Reading.{Gives, Tells};
+ghost use Rattle.ring_script.specs.Lines.{request_of, request_in};
+ghost use Rattle.ring_script.specs.Reading.{IsParseResultOrMemory, IsParseResult};
 ghost use Rattle.ring_script.specs.Numbers.{number_at};
 ghost use Rattle.ring_script.specs.Scripts.{nodes_of, unless_skipped, at_line};
-ghost use Rattle.ring_script.specs.Scripts.{nodes_in, asked_in, script_by, script_of, numbered_by, schedule_by, AreAmong, Answers};
-ghost use Rattle.ring_script.specs.Scripts.{longest_text, IsAllOf, AnswersInputBy, AnswersInput, IsUnread};
-ghost use Rattle.ring_script.specs.Votes.{nodes_alike};
+ghost use Rattle.ring_script.specs.Scripts.{nodes_in, requests_in, script_by, script_of, numbered_by, schedule_by, AreAmong, Answers};
+ghost use Rattle.ring_script.specs.Scripts.{max_script_bytes, IsAllOf, IsScriptOfInputBy, IsScriptOfInput, IsInputFault};
+ghost use Rattle.ring_script.specs.Votes.{nodes_with_one_vote};
 ghost use Rattle.ring_script.specs.Words.{are_ascii, is_skipped, whole};
 
-use crate::line::Line;
+use crate::line::ScriptLine;
 use crate::lines::Lines;
-use crate::shelf_words::ShelfWords;
+use crate::shelf_vocabulary::ShelfVocabulary;
 use crate::vocabulary::Vocabulary;
 use crate::votes::read_votes;
 use crate::words::{Words, is};
-use ring_base::{Fault, Fixed, MOST_PROCESSORS};
+use ring_base::{Fault, Fixed, MAX_PROCESSORS};
 use std::alloc::{Allocator, Global};
 use std::io::{ErrorKind, Read};
 
-/// The greatest length of a script, in bytes.
-pub const LONGEST_TEXT: u64 = 1_048_576;
+/// The greatest length of a script, in bytes: 1,048,576.
+/// Rules: Limits 1
+/// Formats: Scripts
+pub const MAX_SCRIPT_BYTES: u64 = 1_048_576;
 
-/// A script has at most so many nodes.
-const MOST_NODES: u64 = MOST_PROCESSORS as u64;
+/// The greatest number of nodes of a script.
+const MAX_NODES: u64 = MAX_PROCESSORS as u64;
 
-/// Why a script is not taken.
+/// The reason why an input gives no script.
+/// Formats: Scripts
 #[derive(Clone, Copy, Debug, PartialEq, Eq)]
 pub enum ScriptFault {
-    /// Memory was refused.
+    /// Memory was refused. Whether the input is a script isn't known.
     Memory,
-    /// This line is at fault, counted from 1. 0 stands for the input as a whole.
+    /// The first line at fault, counted from 1. Where the only fault is that no line is effective, it is one more than the
+    /// number of lines. It is 0 for the input as a whole, which can't be read or is too long.
     AtLine(u64),
 }
 
-/// A script: how many nodes there are with how many votes each, and what its other lines ask for, in their order.
+/// A parsed script: the nodes with their votes, and the requests of all other effective lines, in order.
+/// Formats: Scripts
 #[derive(Drop)]
 pub struct Script<A: Allocator + Copy = Global> {
+    /// The nodes, 1 to 16, with their votes: one vote each where the script has no line `votes`.
     pub nodes: Fixed,
-    pub lines: Vec<Numbered<A>, A>,
+    /// The requests of the effective lines after `nodes` and `votes`, in the order of the lines.
+    pub lines: Vec<NumberedLine<A>, A>,
 }
 
-/// What a line of a script asks for, and the line's number, counted from 1.
+/// The request of an effective line, and the number of the line.
+/// Formats: Scripts
 #[derive(Drop)]
-pub struct Numbered<A: Allocator + Copy = Global> {
+pub struct NumberedLine<A: Allocator + Copy = Global> {
+    /// The number of the line in the text, counted from 1. Skipped lines count.
     pub number: u64,
-    pub line: Line<A>,
+    /// The event or command that the line requests.
+    pub line: ScriptLine<A>,
 }
 
 impl<A: Allocator + Copy> Script<A> {
-    /// The script that the whole input is, as [`parse`](Script::parse) reads it: no line names a node past the script's nodes,
-    /// and each call keeps the limits of calls. `AtLine(0)` where it can't be read or is longer than 1,048,576 bytes.
+    /// Reads the whole input and parses it as a script over the program's object, as [`parse`](Script::parse) does. No line
+    /// names a node above the script's nodes, and each call keeps the limits of calls.
+    /// Errors: `AtLine(0)` where the input can't be read or is longer than 1,048,576 bytes. Otherwise those of `parse`.
+    /// `Memory` also where it is refused to the reading.
+    /// Formats: Scripts
     pub fn read<R: Read>(alloc: A, input: &mut R) -> Result<Script<A>, ScriptFault>
         ensures among { IfOk result (λ script. AreAmong script.nodes.count script.lines.items) }
         ensures fit { IfOk result (λ script. AreFit script.lines.items) }
         ensures read { (bytes : List ℕ) × IsAllOf (R.remaining input.old) bytes
-            × AnswersInput result bytes }
+            × IsScriptOfInput result bytes }
     {
-        Script::read_by::<ShelfWords, R>(alloc, input)
+        Script::read_by::<ShelfVocabulary, R>(alloc, input)
     }
 
-    /// The script that the text is, by the words of the program's object; no line of it names a node past the script's nodes.
-    /// Otherwise `AtLine` with the first line at fault, or with the line after the last where all lines are skipped, or `Memory`.
+    /// Parses the text as a script over the program's object. No line names a node above the script's nodes. The length of
+    /// the text isn't checked.
+    /// Errors: `AtLine` with the number of the first line at fault, or of the line after the last where all lines are
+    /// skipped. `Memory`.
+    /// Formats: Scripts
     pub fn parse(alloc: A, text: &[u8]) -> Result<Script<A>, ScriptFault>
         ensures among { IfOk result (λ script. AreAmong script.nodes.count script.lines.items) }
         ensures fit { IfOk result (λ script. AreFit script.lines.items) }
         ensures read { Answers schedule_by result (script_of text.now) }
         ensures refused { IfErr result IsOfText }
     {
-        Script::parse_by::<ShelfWords>(alloc, text)
+        Script::parse_by::<ShelfVocabulary>(alloc, text)
     }
 
-    /// As [`read`](Script::read), by these words.
+    /// Reads the whole input and parses it as a script over an object with this vocabulary.
+    /// Errors: as for [`read`](Script::read).
+    /// Formats: Scripts
     pub fn read_by<V: Vocabulary, R: Read>(
         alloc: A,
         input: &mut R,
@@ -84,13 +104,15 @@ impl<A: Allocator + Copy> Script<A> {
         ensures among { IfOk result (λ script. AreAmong script.nodes.count script.lines.items) }
         ensures fit { IfOk result (λ script. AreFit script.lines.items) }
         ensures read { (bytes : List ℕ) × IsAllOf (R.remaining input.old) bytes
-            × AnswersInputBy V.forms result bytes }
+            × IsScriptOfInputBy V.forms result bytes }
     {
         let text = read_text(alloc, input)?;
         Script::parse_by::<V>(alloc, text.as_slice())
     }
 
-    /// As [`parse`](Script::parse), by these words.
+    /// Parses the text as a script over an object with this vocabulary.
+    /// Errors: as for [`parse`](Script::parse).
+    /// Formats: Scripts
     #[tactic(auto, unfolding(crate::specs::Scripts::script_by))]
     pub fn parse_by<V: Vocabulary>(alloc: A, text: &[u8]) -> Result<Script<A>, ScriptFault>
         ensures among { IfOk result (λ script. AreAmong script.nodes.count script.lines.items) }
@@ -99,32 +121,31 @@ impl<A: Allocator + Copy> Script<A> {
         ensures refused { IfErr result IsOfText }
     {
         let mut rest = Lines::new(text);
-        let alike = read_nodes(&mut rest)?;
-        let nodes = read_votes(&mut rest, alike)?;
+        let one_vote_each = read_nodes(&mut rest)?;
+        let nodes = read_votes(&mut rest, one_vote_each)?;
         let lines = read_lines::<V, A>(alloc, nodes, &mut rest)?;
         Ok(Script { nodes, lines })
     }
 }
 
-/// The whole input, if it is no longer than a script may be.
+/// Reads the whole input. `AtLine(0)` where it can't be read or is too long for a script; `Memory`.
 fn read_text<A: Allocator + Copy, R: Read>(
     alloc: A,
     input: &mut R,
 ) -> Result<Vec<u8, A>, ScriptFault>
     ensures whole { IfOk result (λ text. IsAllOf (R.remaining input.old) text.items) }
-    ensures fits { IfOk result (λ text. length text.items ≤ longest_text) }
-    ensures refused { IfErr result IsUnread }
+    ensures fits { IfOk result (λ text. length text.items ≤ max_script_bytes) }
+    ensures refused { IfErr result IsInputFault }
 {
     let mut text = Vec::new(alloc);
-    match input.take(LONGEST_TEXT + 1).read_to_end(&mut text) {
-        Ok(length) if length as u64 <= LONGEST_TEXT => Ok(text),
+    match input.take(MAX_SCRIPT_BYTES + 1).read_to_end(&mut text) {
+        Ok(length) if length as u64 <= MAX_SCRIPT_BYTES => Ok(text),
         Err(error) if error.kind() == ErrorKind::OutOfMemory => Err(ScriptFault::Memory),
         _ => Err(ScriptFault::AtLine(0)),
     }
 }
 
-/// The nodes that the first line tells that is not skipped. Where all are skipped, the line after them is at
-/// fault.
+/// Returns the nodes that the first effective line gives. Where all lines are skipped, the line after them is at fault.
 #[tactic(auto, unfolding(crate::specs::Scripts::nodes_in))]
 fn read_nodes(lines: &mut Lines<'_>) -> Result<Fixed, ScriptFault>
     ensures { Answers (λ nodes. (nodes, lines.new)) result
@@ -140,15 +161,15 @@ fn read_nodes(lines: &mut Lines<'_>) -> Result<Fixed, ScriptFault>
     Err(ScriptFault::AtLine(lines.number()))
 }
 
-/// What the other lines ask for, in their order.
-#[tactic(auto, unfolding(crate::specs::Scripts::asked_in))]
+/// Parses the remaining lines.
+#[tactic(auto, unfolding(crate::specs::Scripts::requests_in))]
 fn read_lines<V: Vocabulary, A: Allocator + Copy>(
     alloc: A,
     nodes: Fixed,
     lines: &mut Lines<'_>,
-) -> Result<Vec<Numbered<A>, A>, ScriptFault>
+) -> Result<Vec<NumberedLine<A>, A>, ScriptFault>
     ensures { Answers (λ asked. map numbered_by asked.items) result
-        (asked_in V.forms nodes lines.old.before lines.old.lines) }
+        (requests_in V.forms nodes lines.old.before lines.old.lines) }
 {
     let mut asked = Vec::new(alloc);
     let mut room = Vec::new(alloc);
@@ -157,7 +178,7 @@ fn read_lines<V: Vocabulary, A: Allocator + Copy>(
         match line_of::<V, A>(alloc, nodes, line, is_plain, &mut room) {
             Ok(None) => {}
             Ok(Some(line)) => {
-                if asked.push(Numbered { number, line }).is_err() {
+                if asked.push(NumberedLine { number, line }).is_err() {
                     return Err(ScriptFault::Memory);
                 }
             }
@@ -167,7 +188,8 @@ fn read_lines<V: Vocabulary, A: Allocator + Copy>(
     Ok(asked)
 }
 
-/// What a fault comes to in the line of this number: but for want of memory, it is the line's.
+/// Returns the script's fault for a fault in the line of this number, counted from 1. `Memory` stays `Memory`, and any
+/// other fault becomes `AtLine` with this number.
 pub(crate) fn at_line(fault: Fault, number: u64) -> ScriptFault
     ensures { result ≡ at_line fault number }
 {
@@ -177,9 +199,9 @@ pub(crate) fn at_line(fault: Fault, number: u64) -> ScriptFault
     }
 }
 
-/// The nodes that a line tells, none where it is skipped. `BadScript` where it has not the form `nodes N`.
+/// Returns the nodes that a line gives: `None` where it is skipped. `BadScript` where it is not of the form `nodes N`.
 fn first_of(line: &[u8]) -> Result<Option<Fixed>, Fault>
-    ensures { Tells (λ told. told) result (unless_skipped nodes_of line.now) }
+    ensures { IsParseResult (λ told. told) result (unless_skipped nodes_of line.now) }
 {
     if !are_ascii(line) {
         return Err(Fault::BadScript);
@@ -193,17 +215,17 @@ fn first_of(line: &[u8]) -> Result<Option<Fixed>, Fault>
     }
 }
 
-/// What a line asks for, none where it is skipped. `BadScript` where it has none of the forms, or `Memory`. A line that is
-/// known to be plain ASCII isn't looked through for that.
+/// Parses a line: `None` where it is skipped. `BadScript` where it has none of the forms; `Memory`. A line known to be ASCII
+/// isn't checked for that again.
 fn line_of<V: Vocabulary, A: Allocator + Copy>(
     alloc: A,
     nodes: Fixed,
     line: &[u8],
     is_plain: bool,
     room: &mut Vec<u8, A>,
-) -> Result<Option<Line<A>>, Fault>
+) -> Result<Option<ScriptLine<A>>, Fault>
     requires { is_plain ≡ true → are_ascii line.now ≡ true }
-    ensures { Gives (option_map asked_by) result (unless_skipped (asked_of V.forms nodes) line.now) }
+    ensures { IsParseResultOrMemory (option_map request_of) result (unless_skipped (request_in V.forms nodes) line.now) }
 {
     if !is_plain && !are_ascii(line) {
         return Err(Fault::BadScript);
@@ -211,13 +233,14 @@ fn line_of<V: Vocabulary, A: Allocator + Copy>(
     if is_skipped(line) {
         return Ok(None);
     }
-    match Line::parse::<V>(alloc, nodes, line, room) {
+    match ScriptLine::parse::<V>(alloc, nodes, line, room) {
         Ok(line) => Ok(Some(line)),
         Err(fault) => Err(fault),
     }
 }
 
-/// Whether the line asks for nothing: it is empty, or a comment.
+/// Returns whether a line is skipped and so isn't effective: it is empty, or its first byte is `#`.
+/// Formats: Scripts
 pub fn is_skipped(line: &[u8]) -> bool
     ensures { result ≡ is_skipped line.now }
 {
@@ -227,40 +250,40 @@ pub fn is_skipped(line: &[u8]) -> bool
     }
 }
 
-/// Whether each byte is below 128.
+/// Returns whether each byte of the line is below 128.
 pub(crate) fn are_ascii(line: &[u8]) -> bool
     ensures { result ≡ are_ascii line.now }
 {
     line.is_ascii()
 }
 
-/// The nodes that a line `nodes N` tells. `BadScript` where the line is none.
+/// Returns the nodes that a line `nodes N` gives, or `BadScript` where it is none.
 #[tactic(auto, unfolding(crate::specs::Scripts::nodes_of))]
 fn nodes_of(line: &[u8]) -> Result<Fixed, Fault>
-    ensures { Tells (λ nodes. nodes) result (nodes_of line.now) }
+    ensures { IsParseResult (λ nodes. nodes) result (nodes_of line.now) }
 {
     let mut words = Words::new(line, b' ');
     match words.next_word() {
-        Some(word) if is(word, b"nodes") => counted(&mut words),
+        Some(word) if is(word, b"nodes") => parse_node_count(&mut words),
         _ => Err(Fault::BadScript),
     }
 }
 
-/// The nodes of which a line tells the number, behind its first word, and nothing else.
-fn counted(words: &mut Words<'_>) -> Result<Fixed, Fault>
-    ensures { Tells (λ nodes. nodes) result
-        (option_and_then (λ count. option_map nodes_alike (whole count)) (number_at 1 16 words.old)) }
+/// Parses the rest of a line `nodes N`: one number, and no word after it.
+fn parse_node_count(words: &mut Words<'_>) -> Result<Fixed, Fault>
+    ensures { IsParseResult (λ nodes. nodes) result
+        (option_and_then (λ count. option_map nodes_with_one_vote (whole count)) (number_at 1 16 words.old)) }
 {
-    match words.number(1, MOST_NODES) {
-        Ok(count) if words.is_over() => alike(count as u8),
+    match words.number(1, MAX_NODES) {
+        Ok(count) if words.is_over() => one_vote_each(count as u8),
         _ => Err(Fault::BadScript),
     }
 }
 
-/// So many nodes, with one vote each.
-fn alike(count: u8) -> Result<Fixed, Fault>
+/// Returns a group of this number of nodes, with one vote each.
+fn one_vote_each(count: u8) -> Result<Fixed, Fault>
     requires { (1 ≤ count) × (count ≤ 16) }
-    ensures { Tells (λ nodes. nodes) result (Some (nodes_alike count)) }
+    ensures { IsParseResult (λ nodes. nodes) result (Some (nodes_with_one_vote count)) }
 {
     match Fixed::new(count) {
         Ok(nodes) => Ok(nodes),

@@ -1,7 +1,8 @@
-//! The votes of the nodes, and the line that tells them.
+//! The votes of the nodes, and the line that gives them.
+//! Formats: Scripts
 
 ghost use Rattle.std.specs.Prelude.{◌≡◌, codes, IfOk};
-ghost use Rattle.ring_script.specs.Reading.{Tells};
+ghost use Rattle.ring_script.specs.Reading.{IsParseResult};
 ghost use Rattle.ring_script.specs.Scripts.{Answers};
 ghost use Rattle.ring_script.specs.Votes.{votes_at, votes_of, is_votes, votes_in};
 
@@ -10,8 +11,10 @@ use crate::scripts::{ScriptFault, are_ascii, at_line, is_skipped};
 use crate::words::{Words, is};
 use ring_base::{Fault, Fixed, PROCESSORS};
 
-/// The nodes with the votes that the next line tells which is not skipped, where that is a line of votes. Then the
-/// lines after it are left, and else those from the first on that is not skipped.
+/// Takes the line of votes, if it is the next effective line, and returns the nodes with these votes. Otherwise it returns
+/// the nodes as they are, and the next effective line stays the next one of `lines`.
+/// Errors: `AtLine` with the number of the line of votes, unless it gives one vote from 1 to 255 for each node.
+/// Formats: Scripts
 #[tactic(auto, unfolding(crate::specs::Votes::votes_in))]
 pub(crate) fn read_votes(lines: &mut Lines<'_>, nodes: Fixed) -> Result<Fixed, ScriptFault>
     ensures count { IfOk result (λ voted. voted.count ≡ nodes.count) }
@@ -35,7 +38,6 @@ pub(crate) fn read_votes(lines: &mut Lines<'_>, nodes: Fixed) -> Result<Fixed, S
     Ok(nodes)
 }
 
-/// Whether this is a line of votes.
 fn is_votes(line: &[u8]) -> bool
     ensures { result ≡ is_votes line.now }
 {
@@ -45,12 +47,12 @@ fn is_votes(line: &[u8]) -> bool
     }
 }
 
-/// The nodes with the votes that a line `votes V1 .. VN` tells. `BadScript` where these are not as many as there
-/// are nodes, each 1 to 255.
+/// Returns the nodes with the votes of a line `votes V1 .. VN`. `BadScript` unless there is one vote for each node, each 1 to
+/// 255.
 #[tactic(auto, unfolding(crate::specs::Votes::votes_of))]
 fn votes_of(line: &[u8], nodes: Fixed) -> Result<Fixed, Fault>
     ensures count { IfOk result (λ voted. voted.count ≡ nodes.count) }
-    ensures read { Tells (λ voted. voted) result (votes_of nodes line.now) }
+    ensures read { IsParseResult (λ voted. voted) result (votes_of nodes line.now) }
 {
     let mut words = Words::new(line, b' ');
     if words.next_word().is_none() {
@@ -62,10 +64,10 @@ fn votes_of(line: &[u8], nodes: Fixed) -> Result<Fixed, Fault>
     }
 }
 
-/// The nodes with the votes that the next words are.
+/// Returns the nodes with the votes that the next words denote.
 fn votes_at(words: &mut Words<'_>, nodes: Fixed) -> Result<Fixed, Fault>
     ensures count { IfOk result (λ voted. voted.count ≡ nodes.count) }
-    ensures read { Tells (λ voted. (voted.votes, words.new)) result (votes_at nodes.count words.old) }
+    ensures read { IsParseResult (λ voted. (voted.votes, words.new)) result (votes_at nodes.count words.old) }
 {
     let mut votes = [0; PROCESSORS];
     let count = usize::from(nodes.count());

@@ -1,4 +1,5 @@
-//! The words of a script's line, and what a word can stand for.
+//! The words of a script's line, and the values that a word can denote.
+//! Formats: Scripts
 
 ghost use Rattle.std.specs.Prelude.{◌≡◌, ◌+◌, ◌-◌, ◌*◌, ◌^◌, ◌≤◌, ◌<◌, ◌==◌, ◌∷◌, [], IfOk, IfErr, SomeIff, take, get_or, length, position, true, false};
 ghost use Rattle.std.specs.Char.{is_ascii_digit};
@@ -6,15 +7,15 @@ ghost use Rattle.std.specs.Iterator.{YieldsFirstRef};
 ghost use Rattle.std.specs.List.{list_all};
 ghost use Rattle.std.specs.Str.Parse.{digits_value};
 ghost use Rattle.ring_script.specs.Numbers.{is, is_decimal, BeginsWith, decimal_at, number_at, node_at};
-ghost use Rattle.ring_script.specs.Reading.{Tells};
+ghost use Rattle.ring_script.specs.Reading.{IsParseResult};
 ghost use Rattle.ring_base.specs.declared.fault.Fault.TheVariants.{BadScript};
 ghost use Rattle.ring_script.specs.Words.{pieces, pieces_left};
 
 use ring_base::{Fault, Fixed, Proc};
 use std::marker::Model;
 
-/// The words of a text that are left: the pieces between its separators. One separator parts two words, so
-/// where two stand there is an empty word between them. No digit is the separator. Contracts see the list of the words.
+/// The remaining words of a text: the pieces between its separators. Each separator separates two words, so two in a row
+/// have an empty word between them. The separator isn't a digit. Contracts see the list of the words.
 #[derive(Drop)]
 pub(crate) struct Words<'a> {
     rest: Option<&'a [u8]>,
@@ -34,7 +35,8 @@ impl<'a> Model for Words<'a> {
 }
 
 impl<'a> Words<'a> {
-    /// The words that the byte parts.
+    /// Returns the words of the text, split at the byte `separator`, which isn't a digit. An empty text has one word, which
+    /// is empty.
     pub fn new(text: &'a [u8], separator: u8) -> Words<'a>
         requires { is_ascii_digit separator ≡ false }
         ensures { result ≡ pieces separator text.now }
@@ -45,12 +47,12 @@ impl<'a> Words<'a> {
         }
     }
 
-    /// The next word, none after the last.
+    /// Takes the next word and returns it. Returns `None` after the last word.
     pub fn next_word(&mut self) -> Option<&'a [u8]>
         ensures { YieldsFirstRef (λ words. words) self.old result self.new }
     {
         let text = self.rest?;
-        match end_of_piece(text, self.separator) {
+        match piece_end(text, self.separator) {
             Some(end) => {
                 self.rest = Some(&text[end + 1..]);
                 Some(&text[..end])
@@ -62,9 +64,13 @@ impl<'a> Words<'a> {
         }
     }
 
-    /// The next word as a number, none if no u64 holds it. `BadScript` where it is no number. Each of its bytes is looked at once.
+    /// Takes the next word and returns the number that it denotes, or `None` for a number of 2^64 or more. It reads each
+    /// byte once.
+    /// Errors: `BadScript` where no word is left, or where the word isn't decimal digits without a leading zero (`0` itself
+    /// is a number). The words left are then unspecified.
+    /// Formats: Scripts
     pub fn decimal(&mut self) -> Result<Option<u64>, Fault>
-        ensures { Tells (λ number. (number, self.new)) result (decimal_at self.old) }
+        ensures { IsParseResult (λ number. (number, self.new)) result (decimal_at self.old) }
     {
         let Some(text) = self.rest else {
             return Err(Fault::BadScript);
@@ -82,9 +88,12 @@ impl<'a> Words<'a> {
         }
     }
 
-    /// The next word as a number from `least` to `most`. `BadScript` where it is none.
+    /// Takes the next word and returns the number from `least` to `most`, both included, that it denotes.
+    /// Errors: `BadScript` where no word is left, or where the word isn't such a number. The words left are then
+    /// unspecified.
+    /// Formats: Scripts
     pub fn number(&mut self, least: u64, most: u64) -> Result<u64, Fault>
-        ensures read { Tells (λ number. (number, self.new)) result (number_at least most self.old) }
+        ensures read { IsParseResult (λ number. (number, self.new)) result (number_at least most self.old) }
         ensures within { IfOk result (λ number. (least ≤ number) × (number ≤ most)) }
     {
         match self.decimal() {
@@ -93,9 +102,12 @@ impl<'a> Words<'a> {
         }
     }
 
-    /// The next word as one of the nodes, or `BadScript` where it is none.
+    /// Takes the next word and returns the node whose number, 1 to N, it denotes.
+    /// Errors: `BadScript` where no word is left, or where the word isn't such a number. The words left are then
+    /// unspecified.
+    /// Formats: Scripts
     pub fn node(&mut self, nodes: Fixed) -> Result<Proc, Fault>
-        ensures { Tells (λ node. (node, self.new)) result (node_at nodes self.old) }
+        ensures { IsParseResult (λ node. (node, self.new)) result (node_at nodes self.old) }
     {
         match self.number(1, u64::from(nodes.count())) {
             Ok(number) => Ok(Proc::new(number as u8)),
@@ -103,7 +115,7 @@ impl<'a> Words<'a> {
         }
     }
 
-    /// Whether no word is left.
+    /// Returns whether all words have been taken.
     pub fn is_over(&self) -> bool
         ensures { result ≡ (length self.now == 0) }
     {
@@ -111,7 +123,7 @@ impl<'a> Words<'a> {
     }
 }
 
-/// The digits that a text begins with: how many there are, and the number that they write, none if no u64 holds it.
+/// The digits that a text begins with: their count, and the number that they denote, `None` if no u64 holds it.
 #[derive(Drop)]
 struct Digits {
     count: usize,
@@ -119,7 +131,7 @@ struct Digits {
 }
 
 impl Digits {
-    /// Those of this text.
+    /// Returns the leading digits of this text.
     fn leading(text: &[u8]) -> Digits
         ensures { BeginsWith text.now result.count result.value }
     {
@@ -138,7 +150,7 @@ impl Digits {
         }
     }
 
-    /// Those of this text, where the digit at this place and those before it write a number that no u64 holds.
+    /// As `leading`, where the digits up to and including this place denote a number that no u64 holds.
     fn beyond(text: &[u8], place: usize) -> Digits
         requires within { place + 1 ≤ length text.now }
         requires digits { list_all is_ascii_digit (take (place + 1) text.now) ≡ true }
@@ -153,7 +165,7 @@ impl Digits {
     }
 }
 
-/// The number with one digit more at its end, none if no u64 holds it.
+/// Returns the number with one more digit at its end: `None` if no u64 holds it.
 fn with_digit(number: u64, digit: u8) -> Option<u64>
     requires { is_ascii_digit digit ≡ true }
     ensures { SomeIff result (number * 10 + (digit - 48) < 2 ^ 64) (number * 10 + (digit - 48)) }
@@ -161,7 +173,7 @@ fn with_digit(number: u64, digit: u8) -> Option<u64>
     number.checked_mul(10)?.checked_add(u64::from(digit - b'0'))
 }
 
-/// Whether there are digits, with no leading zero but in `0` itself.
+/// Whether there are digits, without a leading zero except in `0` itself.
 fn are_plain(digits: &[u8]) -> bool
     requires { list_all is_ascii_digit digits.now ≡ true }
     ensures { result ≡ is_decimal digits.now }
@@ -172,7 +184,8 @@ fn are_plain(digits: &[u8]) -> bool
     }
 }
 
-/// What is left of a text behind its first byte, the separator, and none of an empty one. `BadScript` where another byte comes first.
+/// Returns the text after its first byte, which is the separator: `None` for an empty text. `BadScript` where its first byte is
+/// another.
 fn behind(text: &[u8], separator: u8) -> Result<Option<&[u8]>, Fault>
     ensures left { IfOk result (λ left. pieces separator text.now ≡ [] ∷ pieces_left separator left) }
     ensures failed { IfErr result (λ fault. (fault ≡ BadScript) × (0 < length text.now) × ((get_or text.now 0 0 == separator) ≡ false)) }
@@ -184,14 +197,14 @@ fn behind(text: &[u8], separator: u8) -> Result<Option<&[u8]>, Fault>
     }
 }
 
-/// Where the first piece of the text ends: at the separator, none where there is no separator.
-pub(crate) fn end_of_piece(text: &[u8], separator: u8) -> Option<usize>
+/// Returns the index of the first separator in the text, counted from 0. Returns `None` where there is none.
+pub(crate) fn piece_end(text: &[u8], separator: u8) -> Option<usize>
     ensures { result ≡ position (λ byte. byte == separator) text.now }
 {
     text.iter().position(|byte| *byte == separator)
 }
 
-/// Whether the word is just this name.
+/// Returns whether the word has exactly the bytes of this name.
 #[tactic(auto, unfolding(crate::specs::Numbers::is))]
 pub(crate) fn is(word: &[u8], name: &[u8]) -> bool
     ensures { result ≡ is name.now word.now }

@@ -1,4 +1,4 @@
--- Seats that are made one after the other are new, each at the gauge, and of the node at its place or of none.
+-- Seats made one after the other are new, each at the gauge, and of the node at its place or of none.
 use Rattle.std.proofs.Common.{◌≡◌, ℕ, suc, ◌<◌, ◌≤◌, ◌++◌, Bool, true, false, nat_lt, if◌then◌else◌, List, [], ◌∷◌, Option, Some, None}
 use Rattle.std.proofs.Common.{length, refl, ap, sym, ◌∙◌, inl, inr, arith}
 use Rattle.std.specs.Prelude.{All}
@@ -33,7 +33,7 @@ pub all_at : (gauge : TableId) (nodes : ℕ) (seats : List SeatView) → AreNew 
 all_at gauge nodes seats new =
     All-from_recursion (IsAt gauge) seats (each-placed (IsAt gauge) seats (λ i s there. ap (λ (z : SeatView). z.gauge) (new i s there)))
 
--- a new seat is that of the node at its place, or of none behind the nodes
+-- a new seat belongs to the node at its place, or to none after the nodes
 pub new_of_node : (gauge t : TableId) (nodes i n : ℕ) (published : List ℕ) (seen : List (ℕ × ℕ)) → t ≡ gauge → n ≡ suc i → i < nodes → published ≡ [] → seen ≡ []
     → record { gauge = t; node = Some n; published = published; seen = seen; clock = new_clock } ≡ new_seat gauge (node_at nodes i)
 new_of_node gauge t nodes i n published seen table number within none nothing =

@@ -1,4 +1,5 @@
 pub mod Gauges
 pub mod Clocks
 pub mod Seats
+pub mod OutboxFrames
 pub mod Outboxes

@@ -1,11 +1,26 @@
--- What an outbox keeps of a line (docs/PROTOCOL.md, The book and the threads).
-use Rattle.std.specs.Prelude.{ℕ, ◌≡◌, ◌+◌, ◌-◌, ◌^◌, ◌⊎◌, Bool, true, min, [], ◌∷◌, ◌++◌, length}
+-- The frames of a line in an outbox.
+-- Rules: The book and the threads 21
+use Rattle.std.specs.Prelude.{ℕ, ◌≡◌, ◌+◌, ◌-◌, ◌^◌, ◌≤◌, ◌⊎◌, Bool, true, min, length, drop, List, [], ◌∷◌, ◌++◌}
 use Rattle.ring_base.specs.Processors.{size}
+use Rattle.ring_seat.specs.OutboxFrames.{FrameCopy, end_of, AreInOrder, frames_from}
 use Rattle.ring_seat.specs.declared.outbox.Outbox.{Outbox}
 
--- A frame whose bytes were put stands behind the others; or its copies are counted. 2^32 - 1 stays.
-abbrev pub NotesOrDrops : {A : Type 0} → ℕ → ℕ → Bool → Outbox A → Outbox A → Type 0
-NotesOrDrops place to is_put old new =
+-- the frames in an outbox, each with its place in the line, its receivers and its bytes
+abbrev pub frames_in : {A : Type 0} → Outbox A → List FrameCopy
+frames_in outbox = frames_from 0 outbox.text.items outbox.frames
+
+-- the bytes of the text after those of all frames
+abbrev pub bytes_put : {A : Type 0} → Outbox A → List ℕ
+bytes_put outbox = drop (end_of outbox.frames) outbox.text.items
+
+-- the frames are in order, and all their bytes are in the text
+abbrev pub IsWhole : {A : Type 0} → Outbox A → Type 0
+IsWhole outbox = AreInOrder 0 outbox.frames × (end_of outbox.frames ≤ length outbox.text.items)
+
+-- Either the frame is added after the others, with the bytes put for it, or its copies are counted as dropped, up to
+-- 2^32 - 1.
+abbrev pub IsNotedOrDropped : {A : Type 0} → ℕ → ℕ → Bool → Outbox A → Outbox A → Type 0
+IsNotedOrDropped place to is_put old new =
     ((is_put ≡ true) × (new.dropped ≡ old.dropped)
-    × (new.frames.items ≡ old.frames.items ++ record { place = place; to = to; end = length old.text.items } ∷ []))
-    ⊎ ((new.frames.items ≡ old.frames.items) × (new.dropped ≡ min (old.dropped + size to) (2 ^ 32 - 1)))
+    × (frames_in new ≡ frames_in old ++ record { place = place; to = to; bytes = bytes_put old } ∷ []))
+    ⊎ ((frames_in new ≡ frames_in old) × (new.dropped ≡ min (old.dropped + size to) (2 ^ 32 - 1)))

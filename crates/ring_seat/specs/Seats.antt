@@ -1,4 +1,5 @@
 -- The seats of a gauge.
+-- Rules: The book and the threads 19, 33 and 34
 use Rattle.std.specs.Prelude.{ℕ, suc, ◌≡◌, ◌<◌, true, false, List, [], Option, Some, None, MatchOption, slice_get, nat_lt, if◌then◌else◌}
 use Rattle.atomic_table.specs.Seated.{TableId}
 use Rattle.atomic_table.specs.declared.shared.Seat.{Seat as TableSeat}
@@ -6,8 +7,8 @@ use Rattle.ring_seat.specs.Clocks.{new_clock}
 use Rattle.ring_seat.specs.declared.clock.Clock.{Clock}
 use Rattle.ring_seat.specs.declared.rule.View.{View}
 
--- What contracts see of a seat: its gauge, its node, the lengths that were published on it, what it saw of the gauge's words, newest
--- first, and its clock.
+-- A seat as contracts see it: its gauge, its node, the lengths published on it, the words that it saw, newest first,
+-- and its clock.
 pub record SeatView : Type 0 where
   pub gauge : TableId
   pub node : Option ℕ
@@ -15,27 +16,27 @@ pub record SeatView : Type 0 where
   pub seen : List (ℕ × ℕ)
   pub clock : Clock
 
--- The table's seat is the own one of this node, whose word is one less than its number, or of no node.
+-- The table's seat is this node's own, whose word is its number less one, or no node's own.
 abbrev pub IsSeated : Option ℕ → TableSeat ℕ View → Type 0
 IsSeated None s = s.me.0.owns ≡ false
 IsSeated (Some node) s = (s.me.0.owns ≡ true) × (node ≡ suc s.me.0.word) × (s.me.0.word < s.table_id.words)
 
--- a seat at this gauge
+-- the seat is at this gauge
 abbrev pub IsAt : TableId → SeatView → Type 0
 IsAt gauge s = s.gauge ≡ gauge
 
--- a node's own seat at this gauge
+-- the seat is at this gauge and is a node's own
 abbrev pub IsOwn : TableId → SeatView → Type 0
 IsOwn gauge s = (s.gauge ≡ gauge) × MatchOption s.node ⊥ (λ node. Unit {0})
 
--- whose seat the one at this place is, of the seats of so many nodes and then those of none
+-- the node of the seat at this place, where the seats of `nodes` nodes come first, then those of none
 abbrev pub node_at : ℕ → ℕ → Option ℕ
 node_at nodes i = if nat_lt i nodes then Some (suc i) else None
 
--- nothing was published on the seat or seen from it
+-- a new seat: nothing was published on it or seen from it
 abbrev pub new_seat : TableId → Option ℕ → SeatView
 new_seat gauge node = record { gauge = gauge; node = node; published = []; seen = []; clock = new_clock }
 
--- New seats of a gauge: those of so many nodes, ascending, and then seats of none.
+-- The seats are new: those of `nodes` nodes, ascending, then seats of none.
 abbrev pub AreNew : TableId → ℕ → List SeatView → Type 0
 AreNew gauge nodes seats = (i : ℕ) (s : SeatView) → slice_get seats i ≡ Some s → s ≡ new_seat gauge (node_at nodes i)

@@ -1,11 +1,12 @@
-//! When timeouts are due at a seat.
+//! The clock of a seat: when timeouts are due.
+//! Rules: The book and the threads 30 to 32
 
 ghost use Rattle.std.specs.Prelude.{◌≡◌};
-ghost use Rattle.ring_seat.specs.Clocks.{new_clock, ticked, due_of, counted, taken};
+ghost use Rattle.ring_seat.specs.Clocks.{new_clock, clock_counted_down, due_timeout, clock_after_turn, clock_after_item};
 
 use ring_base::Kind;
 
-/// How many turns after it began to count a timeout is due, of each kind.
+/// The number of turns after which a timeout is due, for each kind.
 const JOIN: u16 = 500;
 
 const RETRANSMIT: u16 = 1000;
@@ -14,19 +15,25 @@ const CONSENSUS: u16 = 8000;
 
 const LOSS: u16 = 32000;
 
-/// How many turns are left until each timeout is due; 0 says that it is due. The join timeout is due at every 500th turn, and
-/// comes down from 500. The others come down from 1,000, 8,000 and 32,000, and begin anew when they were done or an item was
-/// taken.
+/// A clock that counts turns of a seat: for each timeout, the number of turns until it is due. 0 means that it is due.
+/// The join timeout is due at every 500th turn and counts down from 500. The others count down from 1,000, 8,000 and
+/// 32,000. Each begins anew when it is done, and all but join do when a turn takes an item.
+/// Rules: The book and the threads 30 to 32
 #[derive(Clone, Copy, Debug, PartialEq, Eq)]
 pub struct Clock {
+    /// The number of turns until the join timeout is due, 1 to 500 between turns.
     pub join: u16,
+    /// The number of turns until the retransmit timeout is due, 0 to 1,000.
     pub retransmit: u16,
+    /// The number of turns until the consensus timeout is due, 0 to 8,000.
     pub consensus: u16,
+    /// The number of turns until the loss timeout is due, 0 to 32,000.
     pub loss: u16,
 }
 
 impl Clock {
-    /// The clock before the first turn.
+    /// Returns the clock of a seat before its first turn: no timeout is due.
+    /// Rules: The book and the threads 30 and 31
     pub fn new() -> Clock
         ensures { result ≡ new_clock }
     {
@@ -38,11 +45,13 @@ impl Clock {
         }
     }
 
-    /// One turn begins: counts it, and tells the timeout that is done in it, if one is due. That one begins to count anew. Of
-    /// several that are due the first is told, in the order join, retransmit, consensus, loss, and the others stay due.
+    /// Counts a turn that begins. Returns the timeout that is done in this turn, or `None` if none is due.
+    /// That timeout begins to count anew. If several are due, it is the first in the order join, retransmit, consensus,
+    /// loss. The others stay due.
+    /// Rules: The book and the threads 31 and 32
     pub fn tick(&mut self) -> Option<Kind>
-        ensures due { result ≡ due_of (ticked self.old) }
-        ensures clock { self.new ≡ counted self.old }
+        ensures due { result ≡ due_timeout (clock_counted_down self.old) }
+        ensures clock { self.new ≡ clock_after_turn self.old }
     {
         self.join = self.join.saturating_sub(1);
         self.retransmit = self.retransmit.saturating_sub(1);
@@ -67,9 +76,11 @@ impl Clock {
         None
     }
 
-    /// The turn has taken an item: all but the join timeout begin to count anew.
+    /// Notes that the turn has taken an item, a token or a commit token that the step didn't ignore.
+    /// All timeouts but join begin to count anew.
+    /// Rules: The book and the threads 31
     pub fn take(&mut self)
-        ensures { self.new ≡ taken self.old }
+        ensures { self.new ≡ clock_after_item self.old }
     {
         self.retransmit = RETRANSMIT;
         self.consensus = CONSENSUS;

@@ -1,24 +1,27 @@
-//! The gauge.
+//! The gauge: a progress counter for each node.
+//! Rules: The book and the threads 33 and 34
 
 ghost use Rattle.std.specs.Prelude.{◌≡◌, ◌<◌, ◌≤◌, ◌+◌, ◌-◌, ◌++◌, ◌∷◌, [], Some, length, All, IfOk, IfErr, OnOk};
 ghost use Rattle.ring_base.specs.declared.fault.Fault.TheVariants.{Memory};
 ghost use Rattle.ring_base.specs.Numbers.{greatest};
-ghost use Rattle.ring_seat.specs.Gauges.{seen_in, maker_view};
+ghost use Rattle.ring_seat.specs.Gauges.{last_seen, maker_view};
 ghost use Rattle.ring_seat.specs.Seats.{IsAt, IsOwn, AreNew};
 
-use crate::rule::{Guest, Look, Owner, Publish, Rising, View};
+use crate::rule::{ForeignSeat, GaugeRule, Look, OwnSeat, Publish, View};
 use crate::seat::Seat;
 use atomic_table::{Seat as TableSeat, Shared, Table};
 use ring_base::{Fault, Proc};
 use std::alloc::{Allocator, Global};
 use std::marker::Model;
 
-/// The greatest length that was published for each node. Contracts see which gauge it is, and of how many nodes.
+/// `Gauge`: a watermark for each node: the greatest length published for it.
+/// Contracts see which gauge it is, and the number of its nodes.
 ///
-/// Each word changes by `fetch_max` alone, so that it never goes back, and no lock is taken.
+/// Each word changes by `fetch_max` alone, so it never falls, and no lock is taken.
+/// Rules: The book and the threads 33 and 34
 #[derive(Drop)]
 pub struct Gauge<A: Allocator + Copy + Drop = Global> {
-    table: Table<u8, View, u64, Rising, A>,
+    table: Table<u8, View, u64, GaugeRule, A>,
 }
 
 impl<A: Allocator + Copy + Drop> Model for Gauge<A> {
@@ -30,8 +33,10 @@ impl<A: Allocator + Copy + Drop> Model for Gauge<A> {
 }
 
 impl<A: Allocator + Copy + Drop> Gauge<A> {
-    /// A gauge of so many nodes, 1 to 16, with the seat of each node, ascending, and behind them so many seats of none. Or
-    /// `Memory`. Each word is 0.
+    /// Returns a gauge of the nodes 1 to `nodes`, each word 0, and its seats: one for each node, ascending, then `more`
+    /// seats of no node. That `nodes` is 1 to 16 is the caller's condition.
+    /// Errors: `Memory`.
+    /// Rules: The book and the threads 19 and 33
     pub fn new(alloc: A, nodes: u8, more: u16) -> Result<(Gauge<A>, Vec<Seat<A>, A>), Fault>
         requires { (1 ≤ nodes) × (nodes ≤ 16) }
         ensures words { IfOk result (λ r. r.0.words ≡ nodes) }
@@ -42,18 +47,20 @@ impl<A: Allocator + Copy + Drop> Gauge<A> {
     {
         let count = u64::from(nodes);
         let words = vec![in alloc; 0u64; nodes as usize]?;
-        let (table, mut maker) = Table::<u8, View, u64, Rising, A>::of_words(
+        let (table, mut maker) = Table::<u8, View, u64, GaugeRule, A>::of_words(
             alloc,
             words.as_slice(),
             &count,
         )?;
         let mut seats = seats_of_nodes(alloc, &table.shared, &mut maker, nodes)?;
-        add_guests(alloc, &table.shared, &mut maker, nodes, more, &mut seats)?;
+        add_foreign_seats(alloc, &table.shared, &mut maker, nodes, more, &mut seats)?;
         Ok((Gauge { table }, seats))
     }
 
-    /// Publishes a length of the seat's node: its word is then at least that. A smaller length never replaces a greater one. It
-    /// takes no lock and no memory, and returns.
+    /// Publishes a length for the seat's node: from this moment the node's word is at least `length`.
+    /// A smaller length never replaces a greater one. The call takes no lock and no memory, and always returns. That
+    /// `seat` is a node's own seat of this gauge is the caller's condition.
+    /// Rules: The book and the threads 33 and 34
     pub fn publish(&self, seat: &mut Seat<A>, length: u64)
         requires own { IsOwn self.now seat.old }
         ensures { seat.new ≡ record (seat.old) { published = seat.old.published ++ length ∷ [] } }
@@ -66,14 +73,16 @@ impl<A: Allocator + Copy + Drop> Gauge<A> {
             .fetch_max::<Publish>(&mut seat.seat, node.number() as usize - 1, length);
     }
 
-    /// The length that the gauge has for a node: 0, or one that was published for it, as the rule of the gauge keeps; never less
-    /// than the seat saw of it before; and on the node's own seat the greatest that was published there. How fresh it is of
-    /// another node isn't told. It takes no lock and no memory, and returns.
+    /// Returns the gauge's length for `node`: 0, or a length that was published for it.
+    /// It is never less than a length that `seat` saw of that node before. On the node's own seat it is the greatest
+    /// length published there, 0 before the first. How fresh it is for another node is unspecified. The call takes no
+    /// lock and no memory, and always returns. That the seat and the node are of this gauge is the caller's condition.
+    /// Rules: The book and the threads 33 and 34
     pub fn look(&self, seat: &mut Seat<A>, node: Proc) -> u64
         requires gauge { seat.old.gauge ≡ self.now }
         requires within { node ≤ self.now.words }
         ensures seat { seat.new ≡ record (seat.old) { seen = (node - 1, result) ∷ seat.old.seen } }
-        ensures rises { seen_in seat.old.seen (node - 1) ≤ result }
+        ensures rises { last_seen seat.old.seen (node - 1) ≤ result }
         ensures exact { seat.old.node ≡ Some node → result ≡ greatest seat.old.published }
     {
         self.table
@@ -82,10 +91,11 @@ impl<A: Allocator + Copy + Drop> Gauge<A> {
     }
 }
 
-/// The seats of so many nodes, ascending, made by the first seat of the words, which has made none before. Or `Memory`.
+/// Returns the seats of `nodes` nodes, ascending. `maker` is the first seat of the words, and has made none before.
+/// Errors: `Memory`.
 fn seats_of_nodes<A: Allocator + Copy + Drop>(
     alloc: A,
-    words: &Shared<u8, View, u64, Rising>,
+    words: &Shared<u8, View, u64, GaugeRule>,
     maker: &mut TableSeat<u8, View>,
     nodes: u8,
 ) -> Result<Vec<Seat<A>, A>, Fault>
@@ -101,16 +111,17 @@ fn seats_of_nodes<A: Allocator + Copy + Drop>(
 {
     let mut seats = Vec::new(alloc);
     for node in 0..nodes {
-        let seat = words.split_seat::<Owner>(maker);
+        let seat = words.split_seat::<OwnSeat>(maker);
         seats.push(Seat::new(alloc, Some(Proc::new(node + 1)), seat))?;
     }
     Ok(seats)
 }
 
-/// Puts so many seats of no node behind those of the nodes, made by the first seat of the words. Or `Memory`.
-fn add_guests<A: Allocator + Copy + Drop>(
+/// Appends `more` seats of no node to the seats of the nodes. `maker` is the first seat of the words.
+/// Errors: `Memory`.
+fn add_foreign_seats<A: Allocator + Copy + Drop>(
     alloc: A,
-    words: &Shared<u8, View, u64, Rising>,
+    words: &Shared<u8, View, u64, GaugeRule>,
     maker: &mut TableSeat<u8, View>,
     nodes: u8,
     more: u16,
@@ -124,8 +135,8 @@ fn add_guests<A: Allocator + Copy + Drop>(
     ensures seats { OnOk result (AreNew words.now.table_id nodes seats.new.items) }
     ensures refused { IfErr result (λ fault. fault ≡ Memory) }
 {
-    for guest in 0..more {
-        let seat = words.split_seat::<Guest>(maker);
+    for foreign_seat in 0..more {
+        let seat = words.split_seat::<ForeignSeat>(maker);
         seats.push(Seat::new(alloc, None, seat))?;
     }
     Ok(())

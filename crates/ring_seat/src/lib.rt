@@ -1,16 +1,20 @@
-//! What a thread of a host has in its hands: a seat, which counts its turns, knows what it published and saw at the gauge, and
-//! has room for the frames that a turn sends. The gauge has, for each node, the greatest length that was published for it.
+//! A host thread's own state: its seat, and the gauge that all seats share.
+//! A seat counts turns, knows what it published and saw at the gauge, and has room for the frames that a turn sends.
+//! The gauge holds, for each node, the greatest length published for it.
 //!
-//! Nothing here waits, and nothing but the outbox takes memory once the seats are made.
+//! Nothing here waits. Once the seats are made, only the outbox takes memory.
+//! Rules: The book and the threads 30 to 34
 #![tactic(auto)]
 
 mod clock;
 mod gauge;
 mod outbox;
+mod outbox_frames;
 mod rule;
 mod seat;
 
 pub use clock::Clock;
 pub use gauge::Gauge;
-pub use outbox::{Outbox, Packed};
+pub use outbox::Outbox;
+pub use outbox_frames::{OutboxFrame, OutboxFrames};
 pub use seat::Seat;

@@ -1,57 +1,54 @@
 //! The frames of a line, on their way from the book to the inboxes.
+//! Rules: The book and the threads 21
 
-ghost use Rattle.std.specs.Prelude.{◌≡◌, []};
-ghost use Rattle.ring_seat.specs.Outboxes.{NotesOrDrops};
+ghost use Rattle.std.specs.Prelude.{◌≡◌, ◌≤◌, [], length, slice_get, IfSome, IfNone, IsSomeAnd};
+ghost use Rattle.ring_seat.specs.Outboxes.{frames_in, bytes_put, IsWhole, IsNotedOrDropped};
 
+use crate::outbox_frames::{OutboxFrame, OutboxFrames};
 use bytes::BytesMut;
 use ring_base::ProcSet;
 use std::alloc::{Allocator, Global};
 
-/// A frame of the line: its place there, and to whom it goes. Its bytes end here in the outbox's text, and begin where those of
-/// the frame before it end.
-#[derive(Clone, Copy, Debug, PartialEq, Eq)]
-pub struct Packed {
-    pub place: u16,
-    pub to: ProcSet,
-    pub end: usize,
-}
-
-/// The frames of one line, copied while the book is lent, so that they can be pushed once it is given back. It is used for one
-/// line after the other and keeps its room, so a line no longer than those before it takes no memory.
+/// The frames that one line sends, copied from the book while it is locked, so that they can be pushed to the inboxes
+/// once it is unlocked. An outbox is used for one line after another and keeps its memory. So a line that isn't longer
+/// than the lines before it takes none.
+/// Rules: The book and the threads 21
 #[derive(Drop)]
 pub struct Outbox<A: Allocator + Copy + Drop = Global> {
+    /// The allocator of the memory that the outbox takes.
     pub(crate) alloc: A,
-    /// The line's number.
+    /// The line's number in the book, counted from 0.
     pub line: u32,
-    /// The bytes of the frames, one after the other.
+    /// The encodings of the frames in `frames`, one after the other.
     pub text: BytesMut<A>,
-    /// The frames, in the order of their places.
-    pub frames: Vec<Packed, A>,
-    /// How many copies memory has refused: of a frame that could not be copied, one for each receiver.
+    /// The frames that were copied, in the order of their places in the line.
+    pub frames: OutboxFrames<A>,
+    /// The number of copies that memory refused: one for each receiver of a frame that could not be copied.
     pub dropped: u32,
 }
 
 impl<A: Allocator + Copy + Drop> Outbox<A> {
-    /// An outbox without a line. It takes no memory.
+    /// Returns an outbox without frames, of line number 0. It takes no memory.
     pub fn new(alloc: A) -> Outbox<A>
         ensures text { result.text.items ≡ [] }
-        ensures frames { result.frames.items ≡ [] }
+        ensures frames { result.frames ≡ [] }
         ensures dropped { result.dropped ≡ 0 }
     {
         Outbox {
             alloc,
             line: 0,
             text: BytesMut::new(alloc),
-            frames: Vec::new(alloc),
+            frames: OutboxFrames::new(alloc),
             dropped: 0,
         }
     }
 
-    /// Begins the line of this number: what was in the outbox goes, its room stays.
-    pub fn begin(&mut self, line: u32)
+    /// Begins the line of this number: removes all frames, sets `dropped` to 0, and keeps the memory.
+    /// Rules: The book and the threads 21
+    pub fn start_line(&mut self, line: u32)
         ensures line { self.new.line ≡ line }
         ensures text { self.new.text.items ≡ [] }
-        ensures frames { self.new.frames.items ≡ [] }
+        ensures frames { self.new.frames ≡ [] }
         ensures dropped { self.new.dropped ≡ 0 }
     {
         self.line = line;
@@ -60,16 +57,33 @@ impl<A: Allocator + Copy + Drop> Outbox<A> {
         self.dropped = 0;
     }
 
-    /// Notes the frame at this place, which goes to these processors. Its bytes were put last, or could not be put: then, and
-    /// where memory refuses the note, its copies are counted as dropped.
-    pub fn note(&mut self, place: u16, to: ProcSet, is_put: bool)
+    /// Adds the frame at `place` of the line, counted from 0, with the receivers `to`.
+    /// `is_put` says whether the frame's bytes were appended to `text`, after the bytes of the frames before it. If
+    /// they were not, or an allocation for the frame fails, the frame is left out: its bytes are removed from `text`, and
+    /// `dropped` grows by the number of its receivers, to at most 2^32 - 1.
+    /// Rules: The book and the threads 23
+    pub fn add_frame(&mut self, place: u16, to: ProcSet, is_put: bool)
         ensures line { self.new.line ≡ self.old.line }
-        ensures text { self.new.text ≡ self.old.text }
-        ensures noted { NotesOrDrops place to is_put self.old self.new }
+        ensures noted { IsNotedOrDropped place to is_put self.old self.new }
+        ensures none { bytes_put self.new ≡ [] }
+        ensures whole { IsWhole self.old → IsWhole self.new }
     {
-        let end = self.text.len();
-        if !is_put || self.frames.push(Packed { place, to, end }).is_err() {
+        let start = self.frames.end();
+        let end = self.text.len().max(start);
+        if !is_put || !self.frames.push(OutboxFrame { place, to, end }) {
+            self.text.truncate(start);
             self.dropped = self.dropped.saturating_add(to.len());
         }
+    }
+
+    /// Returns the bytes of the frame at `index` of `frames`, counted from 0, or `None` if there is no such frame.
+    /// In a whole outbox, one with all its frames' bytes, every frame has its bytes.
+    pub fn bytes_at(&self, index: usize) -> Option<&[u8]>
+        ensures some { IfSome result (λ bytes. IsSomeAnd (slice_get (frames_in self.now) index) (λ frame. bytes.now ≡ frame.bytes)) }
+        ensures none { IfNone result (IsWhole self.now → length self.now.frames ≤ index) }
+    {
+        let outbox_frame = self.frames.get(index)?;
+        let start = self.frames.start(index);
+        self.text.as_slice().get(start..outbox_frame.end)
     }
 }

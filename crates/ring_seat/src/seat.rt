@@ -1,8 +1,9 @@
-//! Seats.
+//! The seats of a host: a thread's handles for taking turns, publishing and looking.
+//! Rules: The book and the threads 19, 30 to 34
 
 ghost use Rattle.std.specs.Prelude.{◌≡◌, ◌≤◌, IfSome};
 ghost use Rattle.ring_seat.specs.Seats.{IsSeated};
-ghost use Rattle.ring_seat.specs.Clocks.{new_clock, ticked, due_of, counted, taken};
+ghost use Rattle.ring_seat.specs.Clocks.{new_clock, clock_counted_down, due_timeout, clock_after_turn, clock_after_item};
 
 use crate::clock::Clock;
 use crate::outbox::Outbox;
@@ -13,12 +14,16 @@ use std::alloc::{Allocator, Global};
 use std::marker::Model;
 use std::mem;
 
-/// A thread's seat at a host: a node's own, or one of no node. Contracts see at which gauge it is, whose it is, the lengths that
-/// were published on it, what it saw of each node, and its clock.
+/// `Seat`: a thread's handle on a host: a node's own seat, or a seat of no node.
+/// It has a clock, an outbox, and what the thread needs to publish and look.
+/// Contracts see its gauge, its node, the lengths published on it, the words that it saw, and its clock.
+/// Rules: The book and the threads 19
 #[derive(Drop)]
 pub struct Seat<A: Allocator + Copy + Drop = Global> {
+    /// The node whose own seat it is, `None` for a seat of no node.
     pub(crate) node: Option<Proc>,
     clock: Clock,
+    /// The seat's handle on the gauge's words.
     pub(crate) seat: TableSeat<u8, View>,
     outbox: Outbox<A>,
 }
@@ -40,7 +45,9 @@ impl<A: Allocator + Copy + Drop> Model for Seat<A> {
 }
 
 impl<A: Allocator + Copy + Drop> Seat<A> {
-    /// The seat of this node, or of none.
+    /// Returns the seat of this node, or a seat of no node for `None`, with a new clock and an empty outbox.
+    /// It takes no memory.
+    /// Rules: The book and the threads 19
     pub(crate) fn new(alloc: A, node: Option<Proc>, seat: TableSeat<u8, View>) -> Seat<A>
         requires { IsSeated node seat }
         ensures { result ≡ record { gauge = seat.table_id; node = node; published = seat.me.0.published; seen = seat.me.0.seen; clock = new_clock } }
@@ -53,7 +60,8 @@ impl<A: Allocator + Copy + Drop> Seat<A> {
         }
     }
 
-    /// Whose seat it is: a node of the gauge's, or nobody's.
+    /// Returns the node whose own seat it is, one of the gauge's nodes, or `None` for a seat of no node.
+    /// Rules: The book and the threads 19
     pub fn node(&self) -> Option<Proc>
         ensures node { result ≡ self.now.node }
         ensures within { IfSome result (λ node. (1 ≤ node) × (node ≤ self.now.gauge.words)) }
@@ -61,29 +69,34 @@ impl<A: Allocator + Copy + Drop> Seat<A> {
         self.node
     }
 
-    /// Its clock.
+    /// Returns a copy of the seat's clock at this moment.
+    /// Rules: The book and the threads 30 to 32
     pub fn clock(&self) -> Clock
         ensures { result ≡ self.now.clock }
     {
         self.clock
     }
 
-    /// One turn of it begins: its clock counts it, and tells the timeout that is done in it, as [`Clock::tick`] says.
+    /// Counts a turn that begins at the seat's clock.
+    /// Returns the timeout that is done in this turn, or `None`, as [`Clock::tick`] does.
+    /// Rules: The book and the threads 31 and 32
     pub fn tick(&mut self) -> Option<Kind>
-        ensures due { result ≡ due_of (ticked self.old.clock) }
-        ensures seat { self.new ≡ record (self.old) { clock = counted self.old.clock } }
+        ensures due { result ≡ due_timeout (clock_counted_down self.old.clock) }
+        ensures seat { self.new ≡ record (self.old) { clock = clock_after_turn self.old.clock } }
     {
         self.clock.tick()
     }
 
-    /// The turn has taken an item, as [`Clock::take`] says.
+    /// Notes that the turn has taken an item, as [`Clock::take`] does: a token or a commit token that wasn't ignored.
+    /// Rules: The book and the threads 31
     pub fn take(&mut self)
-        ensures { self.new ≡ record (self.old) { clock = taken self.old.clock } }
+        ensures { self.new ≡ record (self.old) { clock = clock_after_item self.old.clock } }
     {
         self.clock.take();
     }
 
-    /// Takes its outbox, with its room, and leaves one without. It takes no memory.
+    /// Returns the seat's outbox, with its memory, and leaves an empty one in the seat. It takes no memory.
+    /// Rules: The book and the threads 21
     pub fn take_outbox(&mut self) -> Outbox<A>
         ensures { self.new ≡ self.old }
     {
@@ -91,7 +104,8 @@ impl<A: Allocator + Copy + Drop> Seat<A> {
         mem::replace(&mut self.outbox, none)
     }
 
-    /// Gives it the outbox back.
+    /// Puts an outbox back into the seat, in place of the outbox there, which is dropped. It takes no memory.
+    /// Rules: The book and the threads 21
     pub fn put_outbox(&mut self, outbox: Outbox<A>)
         ensures { self.new ≡ self.old }
     {

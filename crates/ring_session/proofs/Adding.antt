@@ -1,9 +1,9 @@
--- One call more: the session table tells whether it takes effect.
+-- One more call: the session table decides whether it takes effect.
 use Rattle.std.proofs.Common.{◌≡◌, Bool, true, false, List, [], ◌∷◌, ◌++◌}
 use Rattle.std.proofs.Common.{refl, ap, sym, ◌∙◌, append-nil}
 use Rattle.std.specs.Prelude.{if◌then◌else◌}
 use Rattle.std.proofs.lemmas.List.Sums.{fold-append}
-use Rattle.ring_object.specs.Nothing.{Content, nothing}
+use Rattle.ring_object.specs.StatelessObject.{Content, nothing}
 use Rattle.ring_payload.specs.declared.call.Call.{Call}
 use Rattle.ring_session.specs.declared.answer.Answer.{Answer}
 use Rattle.ring_session.specs.Deduplicated.{deduplicated, takes_effect}

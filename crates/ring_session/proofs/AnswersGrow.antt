@@ -9,11 +9,11 @@ use Rattle.ring_object.specs.Operations.{Sequential}
 use Rattle.ring_payload.specs.declared.call.Call.{Call}
 use Rattle.ring_session.specs.declared.answer.Answer.{Answer}
 use Rattle.ring_session.specs.SessionAnswer.{is_same}
-use Rattle.ring_session.specs.declared.answered.Answered.{Answered}
-use Rattle.ring_session.specs.declared.recent.Kept.{Kept}
+use Rattle.ring_session.specs.declared.answered.TicketAnswer.{TicketAnswer}
+use Rattle.ring_session.specs.declared.recent.KeptAnswer.{KeptAnswer}
 use Rattle.ring_session.specs.Table.{Table, table_answer, table_next}
-use Rattle.ring_session.specs.Tickets.{Asked, first_place, place_of, is_place, answers_at, answers_after, kept_answers, answer_to}
-use Rattle.ring_session.specs.Recent.{last_kept, kept_of, kept_answer}
+use Rattle.ring_session.specs.Tickets.{TicketCall, first_place, place_of, is_place, answers_at, answers_after, kept_answers, answer_to}
+use Rattle.ring_session.specs.RecentAnswers.{last_kept, kept_of, kept_answer}
 
 -- ---- a new ticket
 
@@ -22,23 +22,23 @@ late-step : {A : Type 0} (c : Call A) (since at : ℕ) (ds : List (Call A)) (d :
 late-step c since at ds d late e = cond-false (nat_le since at && is_same c d) (Some at)
     (first_place c since (at + 1) ds) (and_left (nat_le since at) (is_same c d) late) ∙ e
 
--- a ticket has no place among the calls done before it was given
+-- A ticket has no place among the calls done before it was given.
 pub first_place-late : {A : Type 0} (c : Call A) (since at : ℕ) (ds : List (Call A)) → at + length ds ≤ since → first_place c since at ds ≡ None
 first_place-late c since at [] late = refl
 first_place-late c since at (d ∷ ds) late = late-step c since at ds d (lt-leb since at (omega arith)) (first_place-late c since (at + 1) ds (omega arith))
 
-answers_at-push : {A : Type 0} (answer : Answer) (done : List (Call A)) (place i : ℕ) (ts : List (Asked A)) (t : Asked A) → length done ≤ t.since
+answers_at-push : {A : Type 0} (answer : Answer) (done : List (Call A)) (place i : ℕ) (ts : List (TicketCall A)) (t : TicketCall A) → length done ≤ t.since
     → answers_at answer done place i (ts ++ t ∷ []) ≡ answers_at answer done place i ts
 answers_at-push {A} answer done place i [] t late =
-    let told : List (Answered A) = record { ticket = i; call = t.call; answer = answer } ∷ [] in
+    let told : List (TicketAnswer A) = record { ticket = i; call = t.call; answer = answer } ∷ [] in
     ap (λ (o : Option ℕ). (if is_place place o then told else []) ++ []) (first_place-late t.call t.since 0 done (omega arith))
 answers_at-push {A} answer done place i (u ∷ ts) t late =
-    let told : List (Answered A) = record { ticket = i; call = u.call; answer = answer } ∷ [] in
+    let told : List (TicketAnswer A) = record { ticket = i; call = u.call; answer = answer } ∷ [] in
     ap (λ w. (if is_place place (place_of done u) then told else []) ++ w) (answers_at-push answer done place (i + 1) ts t late)
 
 module _ {O A : Type 0} (object : Sequential O) where
-  -- a new ticket has no answer yet
-  pub answers_after-push : (table : Table O) (ts : List (Asked A)) (t : Asked A) (done more : List (Call A)) → length done + length more ≤ t.since
+  -- A new ticket has no answer yet.
+  pub answers_after-push : (table : Table O) (ts : List (TicketCall A)) (t : TicketCall A) (done more : List (Call A)) → length done + length more ≤ t.since
       → answers_after object table (ts ++ t ∷ []) done more ≡ answers_after object table ts done more
   answers_after-push table ts t done [] late = refl
   answers_after-push table ts t done (c ∷ more) late =
@@ -50,8 +50,8 @@ module _ {O A : Type 0} (object : Sequential O) where
       ∙ ap (λ w. answers_at answer (done ++ c ∷ []) (length done) 0 ts ++ w)
       (answers_after-push next ts t (done ++ c ∷ []) more (omega (arith, long)))
 
-  -- the answers of later calls come after those of earlier ones
-  pub answers_after-append : (table : Table O) (ts : List (Asked A)) (done xs ys : List (Call A)) → answers_after object table ts done (xs ++ ys)
+  -- The answers of later calls come after those of earlier ones.
+  pub answers_after-append : (table : Table O) (ts : List (TicketCall A)) (done xs ys : List (Call A)) → answers_after object table ts done (xs ++ ys)
       ≡ answers_after object table ts done xs ++ answers_after object (fold (table_next object) table xs) ts (done ++ xs) ys
   answers_after-append table ts done [] ys = ap (λ w. answers_after object table ts w ys) (sym (append-nil done))
   answers_after-append table ts done (c ∷ xs) ys =
@@ -80,47 +80,47 @@ map-drop f zero xs = refl
 map-drop f (suc n) [] = refl
 map-drop f (suc n) (x ∷ xs) = map-drop f n xs
 
-map-last : {A : Type 0} (xs : List (Answered A)) → map kept_of (kept_answers xs) ≡ last_kept (map kept_of xs)
+map-last : {A : Type 0} (xs : List (TicketAnswer A)) → map kept_of (kept_answers xs) ≡ last_kept (map kept_of xs)
 map-last {A} xs = map-drop kept_of (length xs - 64) xs ∙ ap (λ n. drop (n - 64) (map (kept_of {A = A}) xs)) (sym (length-map xs kept_of))
 
-map-append : {A : Type 0} (xs ys : List (Answered A)) → map kept_of (xs ++ ys) ≡ map kept_of xs ++ map kept_of ys
+map-append : {A : Type 0} (xs ys : List (TicketAnswer A)) → map kept_of (xs ++ ys) ≡ map kept_of xs ++ map kept_of ys
 map-append [] ys = refl
 map-append (x ∷ xs) ys = ap (λ w. kept_of x ∷ w) (map-append xs ys)
 
--- what is kept of more answers
-pub kept-more : {A : Type 0} (xs ys : List (Answered A)) → last_kept (map kept_of (kept_answers xs) ++ map kept_of ys) ≡ map kept_of (kept_answers (xs ++ ys))
+-- The kept part of more answers.
+pub kept-more : {A : Type 0} (xs ys : List (TicketAnswer A)) → last_kept (map kept_of (kept_answers xs) ++ map kept_of ys) ≡ map kept_of (kept_answers (xs ++ ys))
 kept-more {A} xs ys =
     ap (λ w. last_kept (w ++ map (kept_of {A = A}) ys)) (map-last xs) ∙ last_kept-append (map kept_of xs) (map kept_of ys)
     ∙ ap last_kept (sym (map-append xs ys)) ∙ sym (map-last (xs ++ ys))
 
-kept-step : {A : Type 0} (a : Answered A) (ticket : ℕ) (b : Bool) (o p : Option Answer) → o ≡ p
+kept-step : {A : Type 0} (a : TicketAnswer A) (ticket : ℕ) (b : Bool) (o p : Option Answer) → o ≡ p
     → (if b then Some a.answer else o) ≡ (if b then Some a.answer else p)
 kept-step a ticket true o p e = refl
 kept-step a ticket false o p e = e
 
-pub kept_answer-map : {A : Type 0} (ticket : ℕ) (xs : List (Answered A)) → kept_answer ticket (map kept_of xs) ≡ answer_to ticket xs
+pub kept_answer-map : {A : Type 0} (ticket : ℕ) (xs : List (TicketAnswer A)) → kept_answer ticket (map kept_of xs) ≡ answer_to ticket xs
 kept_answer-map ticket [] = refl
 kept_answer-map ticket (a ∷ xs) = kept-step a ticket (a.ticket == ticket) (kept_answer ticket (map kept_of xs))
     (answer_to ticket xs) (kept_answer-map ticket xs)
 
--- the kept answers from a place on
-pub kept_answer-next : (ticket : ℕ) (ks : List Kept) (i : ℕ) (k : Kept) → i < length ks → k ≡ get_or ks i k
+-- The kept answers from a position on.
+pub kept_answer-next : (ticket : ℕ) (ks : List KeptAnswer) (i : ℕ) (k : KeptAnswer) → i < length ks → k ≡ get_or ks i k
     → kept_answer ticket (drop i ks) ≡ (if k.ticket == ticket then Some k.answer else kept_answer ticket
     (drop (i + 1) ks))
 kept_answer-next ticket ks i k lt at = ap (kept_answer ticket) (drop-next ks i k lt at)
 
--- few enough are all kept
+-- Few enough answers are all kept.
 pub last_kept-few : {X : Type 0} (xs : List X) → length xs ≤ 64 → xs ≡ last_kept (xs ++ [])
 last_kept-few xs few =
     let none : length xs - 64 ≡ 0 = omega (arith, few) in
     sym (ap (λ w. last_kept w) (append-nil xs) ∙ ap (λ n. drop n xs) none)
 
--- one answer more
-pub kept-next : {A : Type 0} (old now after : List Kept) (answers : List (Answered A)) (i : ℕ) (a : Answered A)
-    (k : Kept) → i < length answers → a ≡ get_or answers i a → k ≡ kept_of a
+-- One more answer.
+pub kept-next : {A : Type 0} (old now after : List KeptAnswer) (answers : List (TicketAnswer A)) (i : ℕ) (a : TicketAnswer A)
+    (k : KeptAnswer) → i < length answers → a ≡ get_or answers i a → k ≡ kept_of a
     → now ≡ last_kept (old ++ map kept_of (take i answers)) → after ≡ last_kept (now ++ k ∷ []) → after ≡ last_kept (old ++ map kept_of (take (i + 1) answers))
 kept-next {A} old now after answers i a k lt at is before e =
     let more : take (i + 1) answers ≡ take i answers ++ a ∷ [] = take-next answers i a lt at in
     e ∙ ap (λ w. last_kept (w ++ k ∷ [])) before ∙ last_kept-append (old ++ map kept_of (take i answers)) (k ∷ [])
-    ∙ ap last_kept (append_assoc old (map kept_of (take i answers)) (k ∷ []) ∙ ap (λ (x : Kept). old ++ (map kept_of (take i answers) ++ x ∷ [])) is
-    ∙ ap (λ (w : List Kept). old ++ w) (sym (map-append (take i answers) (a ∷ [])) ∙ ap (λ (w : List (Answered A)). map kept_of w) (sym more)))
+    ∙ ap last_kept (append_assoc old (map kept_of (take i answers)) (k ∷ []) ∙ ap (λ (x : KeptAnswer). old ++ (map kept_of (take i answers) ++ x ∷ [])) is
+    ∙ ap (λ (w : List KeptAnswer). old ++ w) (sym (map-append (take i answers) (a ∷ [])) ∙ ap (λ (w : List (TicketAnswer A)). map kept_of w) (sym more)))

@@ -1,4 +1,4 @@
--- The places of a call's bucket, one after the other, are all at which a ticket's call can be the same; those between give no answer.
+-- A ticket's call can equal a call only at the positions of the call's bucket; the positions between give no answer.
 use Rattle.std.proofs.Common.{◌≡◌, ℕ, zero, suc, ◌+◌, ◌-◌, ◌<◌, ◌≤◌, ◌==◌, ◌≢◌, ◌&&◌, ◌||◌, Bool, true, false, not, List, [], ◌∷◌, ◌++◌, length, drop}
 use Rattle.std.proofs.Common.{Some, slice_get, get_or, replicate, append_assoc, refl, ap, sym, ◌∙◌, subst, arith, ◌⊎◌, inl, inr, if◌then◌else◌}
 use Rattle.std.specs.Prelude.{slice_index, slice_index_or}
@@ -13,13 +13,13 @@ use Rattle.ring_base.proofs.Cases.{or-false}
 use Rattle.ring_object.specs.Operations.{Sequential}
 use Rattle.ring_payload.specs.declared.call.Call.{Call}
 use Rattle.ring_session.specs.declared.answer.Answer.{Answer}
-use Rattle.ring_session.specs.declared.answered.Answered.{Answered}
+use Rattle.ring_session.specs.declared.answered.TicketAnswer.{TicketAnswer}
 use Rattle.ring_session.specs.declared.pending.Pending.{Pending}
 use Rattle.ring_session.specs.SessionAnswer.{is_same}
 use Rattle.ring_session.specs.SessionAnswerLaws.{is_same-true}
-use Rattle.ring_session.specs.Pendings.{stands_in, answer_for, answers_to, answers_behind, left_by}
+use Rattle.ring_session.specs.Pendings.{contains_call, answer_for, answers_to, answers_behind, unanswered_by}
 use Rattle.ring_session.specs.Table.{Table, table_next}
-use Rattle.ring_session.specs.Buckets.{bucket_of, place_from, AreChained, AreGone, AreGoneTo, IsNone, IsPlaceOf}
+use Rattle.ring_session.specs.Buckets.{bucket_of, place_from, AreChained, AreCommitted, AreCommittedTo, IsNone, IsPlaceOf}
 
 -- ---- cases of numbers
 
@@ -30,7 +30,7 @@ nat_cases-by m n false e = inr (eqb-false m n e)
 nat_cases : (m n : ℕ) → (m ≡ n) ⊎ (m ≢ n)
 nat_cases m n = nat_cases-by m n (m == n) refl
 
--- ---- places of a bucket
+-- ---- positions of a bucket
 
 least-if : (here : Bool) (i k : ℕ) → i + 1 ≤ k → i ≤ (if here then i else k)
 least-if true i k le = omega arith
@@ -64,7 +64,7 @@ module _ {A : Type 0} (b : ℕ) where
   first-another i p ps at true is = let on = cond-true (bucket_of p.call == b) i (place_from b (i + 1) ps) is in absurd (omega (arith, at, on))
   first-another i p ps at false is = refl
 
-  -- what stands there is of the bucket
+  -- The ticket at a position of the bucket is in the bucket.
   pub of-bucket : (i j : ℕ) (ps : List (Pending A)) (p : Pending A) → i + j ≡ place_from b i ps → slice_get ps j ≡ Some p → bucket_of p.call ≡ b
   of-bucket i j [] p at e = absurd (cc e)
   of-bucket i zero (q ∷ ps) p at e =
@@ -74,7 +74,7 @@ module _ {A : Type 0} (b : ℕ) where
       let on = later-place i j q ps (omega (arith, at)) (bucket_of q.call == b) refl in
       of-bucket (i + 1) j ps p (omega (arith, at, on)) e
 
-  -- what stands before it isn't
+  -- The ticket at a position before it isn't.
   pub of-another : (i j : ℕ) (ps : List (Pending A)) (p : Pending A) → i + j < place_from b i ps → slice_get ps j ≡ Some p
       → (bucket_of p.call == b) ≡ false
   of-another i j [] p at e = absurd (cc e)
@@ -85,7 +85,7 @@ module _ {A : Type 0} (b : ℕ) where
       let on = later-place i j q ps (omega (arith, at)) (bucket_of q.call == b) refl in
       of-another (i + 1) j ps p (omega (arith, at, on)) e
 
--- what stands in the rest of a list
+-- Indexing the rest of a list.
 get-drop : {X : Type 0} (i j : ℕ) (xs : List X) → slice_get (drop i xs) j ≡ slice_get xs (i + j)
 get-drop zero j xs = ap (slice_get xs) (let e : j ≡ 0 + j = omega arith in e)
 get-drop (suc i) j [] = refl
@@ -95,7 +95,7 @@ no-more : (b same : Bool) → same ≡ false → b ≡ (b || same)
 no-more true same e = refl
 no-more false same e = sym e
 
--- two calls of different buckets aren't one
+-- Two calls in different buckets are different.
 not-same : {A : Type 0} (c d : Call A) → (bucket_of d == bucket_of c) ≡ false → (t : Bool) → is_same d c ≡ t → t ≡ false
 not-same c d other false e = refl
 not-same {A} c d other true e =
@@ -103,7 +103,7 @@ not-same {A} c d other true e =
     let one = eq-eqb (bucket_of d) (bucket_of c) (ap (λ (x : Call A). bucket_of x) (sym same)) in
     absurd (cc (sym one ∙ other))
 
--- what is left of a list begins with what stands there
+-- The rest of a list from a position on begins with the element at that position.
 drop-some : {X : Type 0} (i : ℕ) (xs : List X) → i < length xs → (x : X) × (slice_get xs i ≡ Some x) × (drop i xs ≡ x ∷ drop (i + 1) xs)
 drop-some i [] lt = absurd (omega (arith, lt))
 drop-some zero (x ∷ xs) lt = (x, refl, refl)
@@ -111,14 +111,14 @@ drop-some (suc i) (x ∷ xs) lt =
     let rest = drop-some i xs (omega (arith, lt)) in
     (rest.0, rest.1, rest.2 ∙ ap (λ k. rest.0 ∷ drop k (x ∷ xs)) (let e : suc (i + 1) ≡ suc i + 1 = omega arith in e))
 
--- the answer to one ticket more
+-- The answer to one more ticket.
 answer_for-not : {A : Type 0} (before : List (Call A)) (c : Call A) (a : Answer) (p : Pending A) → is_same p.call c ≡ false → answer_for before c a p ≡ []
 answer_for-not {A} before c a p other =
-    let told : List (Answered A) = record { ticket = p.ticket; call = p.call; answer = a } ∷ [] in
-    ap (λ b. if b && not (stands_in before p.call) then told else []) other
+    let told : List (TicketAnswer A) = record { ticket = p.ticket; call = p.call; answer = a } ∷ [] in
+    ap (λ b. if b && not (contains_call before p.call) then told else []) other
 
 module _ {A : Type 0} (pending : List (Pending A)) where
-  -- a ticket of another call gives none
+  -- A ticket of another call gives none.
   answers-pass : (before : List (Call A)) (c : Call A) (a : Answer) (i : ℕ) → i < length pending
       → ((p : Pending A) → slice_get pending i ≡ Some p → is_same p.call c ≡ false)
       → answers_to before c a (drop i pending) ≡ answers_to before c a (drop (i + 1) pending)
@@ -128,14 +128,14 @@ module _ {A : Type 0} (pending : List (Pending A)) where
       ap (answers_to before c a) split.2
       ∙ ap (λ w. w ++ answers_to before c a (drop (i + 1) pending)) (answer_for-not before c a p (none p split.1))
 
-  -- at a place of the bucket
+  -- At a position of the bucket.
   pub at-bucket : (b i k : ℕ) → k ≡ place_from b i (drop i pending) → (p : Pending A) → slice_get pending k ≡ Some p → bucket_of p.call ≡ b
   at-bucket b i k is p e =
       let least = place_from-least b i (drop i pending) in
       let same : i + (k - i) ≡ k = omega (arith, is, least) in
       of-bucket b i (k - i) (drop i pending) p (same ∙ is) (get-drop i (k - i) pending ∙ ap (slice_get pending) same ∙ e)
 
-  -- a call is at no place before its bucket's first
+  -- A call is at no position before its bucket's first.
   pub none-before : (c : Call A) (i k : ℕ) → k ≡ place_from (bucket_of c) i (drop i pending) → IsNone c i k pending
   none-before c i k is = λ j p e le lt.
       let same : i + (j - i) ≡ j = omega (arith, le) in
@@ -143,22 +143,22 @@ module _ {A : Type 0} (pending : List (Pending A)) where
       (get-drop i (j - i) pending ∙ ap (slice_get pending) same ∙ e) in
       not-same c p.call other (is_same p.call c) refl
 
-  -- ---- which calls are gone
+  -- ---- the tickets of committed calls
 
-  -- up to the first place of a call's bucket
-  pub gone-start : (gone : List Bool) (before : List (Call A)) (c : Call A) (k : ℕ) → AreGone gone before pending → IsNone c 0 k pending
-      → AreGoneTo gone before c k pending
+  -- Up to the first position of a call's bucket.
+  pub gone-start : (gone : List Bool) (before : List (Call A)) (c : Call A) (k : ℕ) → AreCommitted gone before pending → IsNone c 0 k pending
+      → AreCommittedTo gone before c k pending
   gone-start gone before c k are none =
       record {
-        behind = λ j p e lt. are j p e ∙ no-more (stands_in before p.call) (is_same p.call c) (none j p e (omega arith) lt);
+        behind = λ j p e lt. are j p e ∙ no-more (contains_call before p.call) (is_same p.call c) (none j p e (omega arith) lt);
         ahead = λ j p e le. are j p e;
       }
 
-  -- one place more, and up to the next of the bucket
+  -- One more position, and up to the next of the bucket.
   pub gone-step : (gone gone' : List Bool) (before : List (Call A)) (c : Call A) (i k : ℕ) (p : Pending A) (same : Bool) → i < length pending
       → p ≡ get_or pending i p → same ≡ is_same p.call c → slice_index_or gone' i false ≡ (slice_index_or gone i false || same)
       → ((j : ℕ) → j ≢ i → slice_index_or gone' j false ≡ slice_index_or gone j false) → i < k → IsNone c (i + 1) k pending
-      → AreGoneTo gone before c i pending → AreGoneTo gone' before c k pending
+      → AreCommittedTo gone before c i pending → AreCommittedTo gone' before c k pending
   gone-step gone gone' before c i k p same within is of_p this others on none are =
       record {
         behind = λ j q e lt. elim (nat_cases j i) [
@@ -168,32 +168,32 @@ module _ {A : Type 0} (pending : List (Pending A)) where
         ahead = λ j q e le. let apart : j ≢ i = omega (arith, le, on) in others j apart ∙ are.ahead j q e (omega (arith, le, on));
       }
     where
-      here : (j : ℕ) (q : Pending A) → slice_get pending j ≡ Some q → j ≡ i → slice_index_or gone' j false ≡ (stands_in before q.call || is_same q.call c)
+      here : (j : ℕ) (q : Pending A) → slice_get pending j ≡ Some q → j ≡ i → slice_index_or gone' j false ≡ (contains_call before q.call || is_same q.call c)
       here j q e at =
           let found = slice_get_read pending (length pending) i p refl within is in
           let one : p ≡ q = cc (sym found ∙ ap (slice_get pending) (sym at) ∙ e) in
           ap (λ n. slice_index_or gone' n false) at ∙ this
-          ∙ ap (λ b. b || same) (are.ahead i p found (omega arith)) ∙ ap (λ b. stands_in before p.call || b) of_p
-          ∙ ap (λ (x : Pending A). stands_in before x.call || is_same x.call c) one
+          ∙ ap (λ b. b || same) (are.ahead i p found (omega arith)) ∙ ap (λ b. contains_call before p.call || b) of_p
+          ∙ ap (λ (x : Pending A). contains_call before x.call || is_same x.call c) one
 
       elsewhere : (j : ℕ) (q : Pending A) → slice_get pending j ≡ Some q → j < k → j ≢ i → (j < i) ⊎ (i ≤ j)
-          → slice_index_or gone j false ≡ (stands_in before q.call || is_same q.call c)
+          → slice_index_or gone j false ≡ (contains_call before q.call || is_same q.call c)
       elsewhere j q e lt apart (inl before_i) = are.behind j q e before_i
       elsewhere j q e lt apart (inr behind_i) =
           are.ahead j q e behind_i
-          ∙ no-more (stands_in before q.call) (is_same q.call c) (none j q e (omega (arith, behind_i, apart)) lt)
+          ∙ no-more (contains_call before q.call) (is_same q.call c) (none j q e (omega (arith, behind_i, apart)) lt)
 
-  -- at the end
-  pub gone-end : (gone : List Bool) (before : List (Call A)) (c : Call A) (k : ℕ) → length pending ≤ k → AreGoneTo gone before c k pending
-      → AreGone gone (before ++ c ∷ []) pending
+  -- At the end.
+  pub gone-end : (gone : List Bool) (before : List (Call A)) (c : Call A) (k : ℕ) → length pending ≤ k → AreCommittedTo gone before c k pending
+      → AreCommitted gone (before ++ c ∷ []) pending
   gone-end gone before c k le are = λ j p e.
       are.behind j p e (let within = slice_get_within pending j p e in omega (arith, within, le))
-      ∙ ap (λ b. stands_in before p.call || b) (sym (or-false (is_same p.call c)))
+      ∙ ap (λ b. contains_call before p.call || b) (sym (or-false (is_same p.call c)))
       ∙ sym (list_any-append (is_same p.call) before (c ∷ []))
 
   -- ---- the answers
 
-  -- tickets of other calls give none
+  -- Tickets of other calls give none.
   pub answers-jump : (before : List (Call A)) (c : Call A) (a : Answer) (n i k : ℕ) → i + n ≡ k → k ≤ length pending → IsNone c i k pending
       → answers_to before c a (drop i pending) ≡ answers_to before c a (drop k pending)
   answers-jump before c a zero i k is le none = ap (λ m. answers_to before c a (drop m pending)) (omega (arith, is))
@@ -201,16 +201,16 @@ module _ {A : Type 0} (pending : List (Pending A)) where
       answers-pass before c a i (omega (arith, is, le)) (λ p e. none i p e (omega arith) (omega (arith, is)))
       ∙ answers-jump before c a n (i + 1) k (omega (arith, is)) le (λ j p e l lt. none j p e (omega (arith, l)) lt)
 
--- ---- the chains as they are built
+-- ---- building the chains
 
--- no place of a list of one test is marked
+-- No position of a list of failed tests is marked.
 pub none-marked : (n j : ℕ) → slice_index_or (replicate n false) j false ≡ false
 none-marked zero j = refl
 none-marked (suc n) zero = refl
 none-marked (suc n) (suc j) = none-marked n j
 
 module _ {A : Type 0} (pending : List (Pending A)) where
-  -- of no ticket
+  -- Of no ticket.
   pub chain-start : (nexts : List ℕ) (n : ℕ) → n ≡ length pending → AreChained (replicate 256 n) nexts n pending
   chain-start nexts n long =
       let nothing : drop n pending ≡ [] = drop_all n pending (omega (arith, long)) in
@@ -219,7 +219,7 @@ module _ {A : Type 0} (pending : List (Pending A)) where
         next = λ j p le e. let within = slice_get_within pending j p e in absurd (omega (arith, within, le, long));
       }
 
-  -- one ticket more, before the others
+  -- One more ticket, before the others.
   pub chain-step : (firsts nexts firsts' nexts' : List ℕ) (m i k : ℕ) (p : Pending A) → m ≡ i + 1 → i < length pending → p ≡ get_or pending i p
       → k ≡ bucket_of p.call → AreChained firsts nexts m pending → slice_index firsts' k ≡ i → ((b : ℕ) → b ≢ k → slice_index firsts' b ≡ slice_index firsts b)
       → slice_index nexts' i ≡ slice_index firsts k → ((j : ℕ) → j ≢ i → slice_index nexts' j ≡ slice_index nexts j)
@@ -261,9 +261,9 @@ module _ {A : Type 0} (pending : List (Pending A)) where
           ∙ ap (λ b. place_from b (i + 1) (drop (i + 1) pending)) (of_p ∙ ap (λ (x : Pending A). bucket_of x.call) one)
           ∙ ap (λ m. place_from (bucket_of q.call) (m + 1) (drop (m + 1) pending)) (sym same)
 
--- ---- one place after the other of a call's bucket
+-- ---- the positions of a call's bucket in order
 
--- this is the first place of the call's bucket from another on
+-- This is the first position of the call's bucket from another on.
 pub record IsFoundFrom {A : Type 0} (pending : List (Pending A)) (c : Call A) (i k : ℕ) : Type 0 where
   pub least : i ≤ k
   pub most : k ≤ length pending
@@ -293,21 +293,21 @@ module _ {A : Type 0} (pending : List (Pending A)) (firsts nexts : List ℕ) (ch
       (is ∙ chained.next i p (omega arith) stands ∙ ap (λ b. place_from b (i + 1) (drop (i + 1) pending)) (bucket p stands))
 
 module _ {A : Type 0} (pending : List (Pending A)) (before : List (Call A)) (c : Call A) (a : Answer) where
-  -- nothing is given up to the first place of the bucket
-  pub answers-start : (k : ℕ) (items : List (Answered A)) → IsFoundFrom pending c 0 k
+  -- Nothing is given up to the first position of the bucket.
+  pub answers-start : (k : ℕ) (items : List (TicketAnswer A)) → IsFoundFrom pending c 0 k
       → items ++ answers_to before c a pending ≡ items ++ answers_to before c a (drop k pending)
   answers-start k items is = ap (λ w. items ++ w) (answers-jump pending before c a k 0 k (omega arith) is.most is.none)
 
-  -- one place more, and up to the next
-  pub answers-step : (gone : List Bool) (i k : ℕ) (p : Pending A) (told same : Bool) (all items items' : List (Answered A)) → i < length pending
+  -- One more position, and up to the next.
+  pub answers-step : (gone : List Bool) (i k : ℕ) (p : Pending A) (told same : Bool) (all items items' : List (TicketAnswer A)) → i < length pending
       → p ≡ get_or pending i p → same ≡ is_same p.call c → told ≡ (same && not (slice_index_or gone i false))
       → items' ≡ items ++ (if told then record { ticket = p.ticket; call = p.call; answer = a } ∷ [] else [])
-      → IsFoundFrom pending c (i + 1) k → AreGoneTo gone before c i pending
+      → IsFoundFrom pending c (i + 1) k → AreCommittedTo gone before c i pending
       → all ≡ items ++ answers_to before c a (drop i pending) → all ≡ items' ++ answers_to before c a (drop k pending)
   answers-step gone i k p told same all items items' within here of_p tells more next are so_far =
-      let one : Answered A = record { ticket = p.ticket; call = p.call; answer = a } in
+      let one : TicketAnswer A = record { ticket = p.ticket; call = p.call; answer = a } in
       let stands = slice_get_read pending (length pending) i p refl within here in
-      let test : told ≡ (is_same p.call c && not (stands_in before p.call)) =
+      let test : told ≡ (is_same p.call c && not (contains_call before p.call)) =
       tells ∙ ap (λ b. b && not (slice_index_or gone i false)) of_p ∙ ap (λ b. is_same p.call c && not b) (are.ahead i p stands (omega arith)) in
       let given : items' ≡ items ++ answer_for before c a p = more ∙ ap (λ b. items ++ (if b then one ∷ [] else [])) test in
       let jump = answers-jump pending before c a (k - (i + 1)) (i + 1) k (omega (arith, next.least)) next.most next.none in
@@ -316,7 +316,7 @@ module _ {A : Type 0} (pending : List (Pending A)) (before : List (Call A)) (c :
       ∙ ap (λ w. w ++ answers_to before c a (drop (i + 1) pending)) (sym given)
       ∙ ap (λ w. items' ++ w) jump
 
--- those of two lists of tickets, one behind the other
+-- The answers of two concatenated lists of tickets.
 pub answers_to-append : {A : Type 0} (before : List (Call A)) (c : Call A) (a : Answer) (ps qs : List (Pending A))
     → answers_to before c a (ps ++ qs) ≡ answers_to before c a ps ++ answers_to before c a qs
 answers_to-append before c a [] qs = refl
@@ -324,22 +324,22 @@ answers_to-append before c a (p ∷ ps) qs =
     ap (λ w. answer_for before c a p ++ w) (answers_to-append before c a ps qs)
     ∙ sym (append_assoc (answer_for before c a p) (answers_to before c a ps) (answers_to before c a qs))
 
--- those of all tickets, where some stand behind the others
-pub answers_to-split : {A : Type 0} (before : List (Call A)) (c : Call A) (a : Answer) (all ps qs : List (Pending A)) (old mid new : List (Answered A))
+-- The answers of all tickets, for a concatenation.
+pub answers_to-split : {A : Type 0} (before : List (Call A)) (c : Call A) (a : Answer) (all ps qs : List (Pending A)) (old mid new : List (TicketAnswer A))
     → all ≡ ps ++ qs → mid ≡ old ++ answers_to before c a ps → new ≡ mid ++ answers_to before c a qs → new ≡ old ++ answers_to before c a all
 answers_to-split before c a all ps qs old mid new split first rest =
     rest ∙ ap (λ w. w ++ answers_to before c a qs) first ∙ append_assoc old (answers_to before c a ps) (answers_to before c a qs)
     ∙ ap (λ w. old ++ w) (sym (ap (answers_to before c a) split ∙ answers_to-append before c a ps qs))
 
--- where no ticket waits none has an answer
+-- Without pending tickets there are no answers.
 answers_behind-none : {O A : Type 0} (object : Sequential O) (table : Table O) (before more : List (Call A)) → answers_behind object table [] before more ≡ []
 answers_behind-none object table before [] = refl
 answers_behind-none object table before (c ∷ more) = answers_behind-none object (table_next object table c) (before ++ c ∷ []) more
 
--- ---- the tickets that are left
+-- ---- the remaining tickets
 
 module _ {A : Type 0} (gone : List Bool) (committed : List (Call A)) (xs ys : List (Pending A)) (k i : ℕ) where
-  -- what stands there, before and now
+  -- The tickets at a position, before and now.
   at-place : drop i ys ≡ drop i xs → i < length ys
       → (p : Pending A) × (slice_get xs i ≡ Some p) × (p ≡ get_or ys i p)
   at-place rest within =
@@ -348,38 +348,38 @@ module _ {A : Type 0} (gone : List Bool) (committed : List (Call A)) (xs ys : Li
       let first : (l : List (Pending A)) → slice_get (drop i l) 0 ≡ slice_get l i = λ l. get-drop i 0 l ∙ ap (slice_get l) same in
       (here.0, sym (first xs) ∙ ap (λ l. slice_get l 0) (sym rest) ∙ first ys ∙ here.1, sym (get_or_from_slice_get ys i here.0 here.0 here.1))
 
-  -- a ticket more that is gone
-  pub left-gone : AreGone gone committed xs → i < length ys → slice_index_or gone i false ≡ true
-      → FiltersInPlace (λ (p : Pending A). not (stands_in committed p.call)) xs ys k i
-      → FiltersInPlace (λ (p : Pending A). not (stands_in committed p.call)) xs ys k (i + 1)
+  -- One more ticket is removed.
+  pub left-gone : AreCommitted gone committed xs → i < length ys → slice_index_or gone i false ≡ true
+      → FiltersInPlace (λ (p : Pending A). not (contains_call committed p.call)) xs ys k i
+      → FiltersInPlace (λ (p : Pending A). not (contains_call committed p.call)) xs ys k (i + 1)
   left-gone are within is so_far =
       let here = at-place so_far.rest within in
       FiltersInPlace-more_no {x = here.0} so_far within (ap not (sym (are i here.0 here.1) ∙ is)) here.2
 
-  -- one more that isn't
-  pub left-kept : (zs : List (Pending A)) → AreGone gone committed xs → i < length ys → slice_index_or gone i false ≡ false → SwappedAt ys zs k i
-      → FiltersInPlace (λ (p : Pending A). not (stands_in committed p.call)) xs ys k i
-      → FiltersInPlace (λ (p : Pending A). not (stands_in committed p.call)) xs zs (k + 1) (i + 1)
+  -- One more ticket is kept.
+  pub left-kept : (zs : List (Pending A)) → AreCommitted gone committed xs → i < length ys → slice_index_or gone i false ≡ false → SwappedAt ys zs k i
+      → FiltersInPlace (λ (p : Pending A). not (contains_call committed p.call)) xs ys k i
+      → FiltersInPlace (λ (p : Pending A). not (contains_call committed p.call)) xs zs (k + 1) (i + 1)
   left-kept zs are within is swapped so_far =
       let here = at-place so_far.rest within in
       FiltersInPlace-more_swap {x = here.0} {zs = zs} so_far within (ap not (sym (are i here.0 here.1) ∙ is)) here.2 swapped
 
--- where no call was committed each ticket is left
-left_by-none : {A : Type 0} (pending : List (Pending A)) → left_by [] pending ≡ pending
-left_by-none [] = refl
-left_by-none (p ∷ ps) = ap (λ w. p ∷ w) (left_by-none ps)
+-- If no call was committed each ticket is kept.
+unanswered_by-none : {A : Type 0} (pending : List (Pending A)) → unanswered_by [] pending ≡ pending
+unanswered_by-none [] = refl
+unanswered_by-none (p ∷ ps) = ap (λ w. p ∷ w) (unanswered_by-none ps)
 
--- the same by its length
-pub left_by-empty : {A : Type 0} (committed : List (Call A)) (pending : List (Pending A)) → length committed ≡ 0 → pending ≡ left_by committed pending
-left_by-empty [] pending none = sym (left_by-none pending)
-left_by-empty (c ∷ committed) pending none = absurd (omega (arith, none))
+-- The same by the length of the list.
+pub unanswered_by-empty : {A : Type 0} (committed : List (Call A)) (pending : List (Pending A)) → length committed ≡ 0 → pending ≡ unanswered_by committed pending
+unanswered_by-empty [] pending none = sym (unanswered_by-none pending)
+unanswered_by-empty (c ∷ committed) pending none = absurd (omega (arith, none))
 
--- where no ticket waits none goes
-pub left_by-nobody : {A : Type 0} (committed : List (Call A)) (pending : List (Pending A)) → length pending ≡ 0 → pending ≡ left_by committed pending
-left_by-nobody committed [] none = refl
-left_by-nobody committed (p ∷ pending) none = absurd (omega (arith, none))
+-- Without pending tickets none is removed.
+pub unanswered_by-nobody : {A : Type 0} (committed : List (Call A)) (pending : List (Pending A)) → length pending ≡ 0 → pending ≡ unanswered_by committed pending
+unanswered_by-nobody committed [] none = refl
+unanswered_by-nobody committed (p ∷ pending) none = absurd (omega (arith, none))
 
--- where no ticket waits, by their number, none has an answer
+-- Without pending tickets, by their number, there are no answers.
 pub answers_behind-empty : {O A : Type 0} (object : Sequential O) (table : Table O) (pending : List (Pending A)) (before more : List (Call A))
     → length pending ≡ 0 → answers_behind object table pending before more ≡ []
 answers_behind-empty object table [] before more none = answers_behind-none object table before more

@@ -1,4 +1,4 @@
--- Clients that are read and put in one after the other, as a loop does.
+-- Clients that are read and inserted one after the other, as in a loop.
 use Rattle.std.proofs.Common.{◌≡◌, ℕ, zero, suc, ◌+◌, ◌-◌, ◌<◌, ◌≤◌, List, [], ◌∷◌, ◌++◌, length, take, drop, Option, Some, None, IsSome, refl, sym}
 use Rattle.std.proofs.Common.{ap, subst, ◌∙◌, arith, append_assoc, append-nil}
 use Rattle.std.specs.BTreeMap.{insert_entry}
@@ -13,7 +13,7 @@ use Rattle.std.proofs.lemmas.Bool.{leb-true}
 use Rattle.std.proofs.lemmas.List.{take_rest}
 use Rattle.byteorder.specs.Endian.{big_bytes}
 use Rattle.byteorder.specs.Numbers.{length-bytes_high_first}
-use Rattle.ring_payload.specs.Layouts.{◌>>=◌, bind_some, passed_some}
+use Rattle.ring_payload.specs.Codecs.{◌>>=◌, bind_some, passed_some}
 use Rattle.ring_session.specs.Table.{LastCall}
 use Rattle.ring_session.specs.Snapshots.{client_at, next_at, clients_at, clients_in}
 
@@ -30,7 +30,7 @@ last_bytes width number le =
     let whole : 8 ≡ (8 - width) + width = omega (arith, le) in
     ap (λ n. drop (8 - width) (bytes_high_first n number)) whole ∙ bytes_behind (8 - width) width number
 
--- the last bytes of a word that was written
+-- The last bytes of a written word.
 pub last_written : (width number : ℕ) (word : List ℕ) → width ≤ 8 → word ≡ big_bytes 8 number ++ []
     → take (8 - (8 - width)) (drop (8 - width) word) ≡ big_bytes width number
 last_written width number word le is =
@@ -41,7 +41,7 @@ last_written width number word le is =
 
 -- ---- one client read
 
--- a client that was read is none below the number asked for
+-- A client that was read is not below the required number.
 pub next_above : (low : ℕ) (bytes : List ℕ) (x : (ℕ × LastCall) × List ℕ) → next_at low bytes ≡ Some x → low ≤ x.0.0
 next_above low bytes x is =
     let a = bind_some (client_at bytes) (λ y. if nat_le low y.0.0 then Some y else None) x is in
@@ -52,7 +52,7 @@ next_above low bytes x is =
 abbrev pub with_first : ℕ × LastCall → Option (List (ℕ × LastCall) × List ℕ) → Option (List (ℕ × LastCall) × List ℕ)
 with_first s read = read >>= λ others. Some (s ∷ others.0, others.1)
 
--- a client and the others
+-- A client and the others.
 pub clients-next : (count i low : ℕ) (bytes : List ℕ) (s : ℕ × LastCall) (behind : List ℕ) → i < count → next_at low bytes ≡ Some (s, behind)
     → clients_at (count - i) low bytes ≡ with_first s (clients_at (count - (i + 1)) (suc s.0) behind)
 unfolding clients_at
@@ -66,20 +66,20 @@ clients-none count i low bytes less is =
     let more : count - i ≡ suc (count - (i + 1)) = omega (arith, less) in
     rw (more, is) refl
 
--- nothing is left to read
+-- Nothing is left to read.
 pub clients-end : (count i low : ℕ) (bytes : List ℕ) → count ≤ i → clients_at (count - i) low bytes ≡ Some ([], bytes)
 unfolding clients_at
 clients-end count i low bytes all =
     let none : count - i ≡ 0 = omega (arith, all) in
     rw none refl
 
--- what stands behind the others stands behind all
+-- The bytes after the others are the bytes after all.
 pub behind-first : (s : ℕ × LastCall) (read : Option (List (ℕ × LastCall) × List ℕ))
     → option_map (λ x. x.1) (with_first s read) ≡ option_map (λ x. x.1) read
 behind-first s (Some x) = refl
 behind-first s None = refl
 
--- clients before and after one more
+-- Clients before and after one more.
 pub front-first : (front : List (ℕ × LastCall)) (s : ℕ × LastCall) (read : Option (List (ℕ × LastCall) × List ℕ))
     → option_map (λ x. front ++ x.0) (with_first s read) ≡ option_map (λ x. (front ++ s ∷ []) ++ x.0) read
 front-first front s (Some x) = ap Some (sym (append_assoc front (s ∷ []) x.0))
@@ -93,16 +93,16 @@ bind_there : {A B : Type 0} (read : Option A) (f : A → Option B) → IsSome (r
 bind_there (Some x) f there = refl
 bind_there None f there = absurd cc
 
--- where clients stand, one stands at the front
+-- If there are clients at the start of the bytes, there is a first one.
 pub next_there : (count i low : ℕ) (bytes : List ℕ) → i < count → IsSome (clients_at (count - i) low bytes) → IsSome (next_at low bytes)
 unfolding clients_at
 next_there count i low bytes less there =
     let more : count - i ≡ suc (count - (i + 1)) = omega (arith, less) in
     bind_there (next_at low bytes) (λ first. with_first first.0 (clients_at (count - (i + 1)) (suc first.0.0) first.1)) (rw more at there)
 
--- ---- one client put in behind the others
+-- ---- one client inserted after the others
 
--- all are below this number
+-- All are below this number.
 abbrev pub AreBelow : ℕ → List (ℕ × LastCall) → Type 0
 AreBelow low ss = AllByRecursion (λ s. s.0 < low) ss
 
@@ -126,7 +126,7 @@ AreBelow-push (s ∷ ss) client last below = (omega (arith, below.0), AreBelow-p
 abbrev Clients : Type 0
 Clients = List (ℕ × LastCall)
 
--- what stands behind all, after one more client
+-- The bytes after all, after one more client.
 pub behind-more : (all : Option (List ℕ)) (count i low low' : ℕ) (rest rest' : List ℕ) (s : ℕ × LastCall)
     → all ≡ option_map (λ x. x.1) (clients_at (count - i) low rest) → i < count → next_at low rest ≡ Some (s, rest') → low' ≡ suc s.0
     → all ≡ option_map (λ x. x.1) (clients_at (count - (i + 1)) low' rest')
@@ -137,7 +137,7 @@ behind-more all count i low low' rest rest' s is less next next_low =
     ap (option_map (λ (x : Clients × List ℕ). x.1)) step ∙ behind-first s (clients_at (count - (i + 1)) (suc s.0) rest') in
     is ∙ above ∙ ap (λ (n : ℕ). option_map (λ (x : Clients × List ℕ). x.1) (clients_at (count - (i + 1)) n rest')) (sym next_low)
 
--- These are the clients that were read, and those that are left make the others.
+-- The clients read so far, and the rest, which makes the others.
 pub record AreRead (all : Option (List (ℕ × LastCall))) (count i low : ℕ) (rest : List ℕ) (front : List (ℕ × LastCall)) : Type 0 where
   pub read : all ≡ option_map (λ x. front ++ x.0) (clients_at (count - i) low rest)
   pub more : IsSome (clients_at (count - i) low rest)

@@ -1,4 +1,4 @@
--- One entry of a list of ascending keys put in, written over or taken out.
+-- Inserting, overwriting or removing one entry of a list with ascending keys.
 use Rattle.std.proofs.Common.{◌≡◌, ℕ, ◌+◌, ◌<◌, true, false, List, [], ◌∷◌, length, Some, None, refl, ap, sym, ◌∙◌, arith, cond}
 use Rattle.std.specs.BTreeMap.{insert_entry, is_at}
 use Rattle.std.specs.Cmp.{nat_cmp_total, nat_cmp_is}
@@ -30,7 +30,7 @@ below_all x k lt (y ∷ ys) below =
     let more : k < y = ranked k y Less (sym below.0) in
     (sym (nat_cmp_is x y Less (omega (arith, lt, more))), below_all x k lt ys below.1)
 
--- ---- a key put in
+-- ---- inserting a key
 
 known_step : {X : Type 0} (e : ℕ × X) (es : List (ℕ × X)) (k : ℕ) (w v : X) (o : Ordering) → (o ≡ Less → lookup (is_at (nat_cmp k)) (e ∷ es) ≡ None)
     → (lookup (is_at (nat_cmp k)) es ≡ Some v → set_value (is_at (nat_cmp k)) es w ≡ insert_entry nat_cmp es k w) → lookup (is_at (nat_cmp k)) (e ∷ es) ≡ Some v
@@ -41,7 +41,7 @@ known_step e es k w v Less below rest found there = absurd (cc (found, below ref
 known_step e es k w v Equal below rest found there = refl
 known_step e es k w v Greater below rest found there = ap (λ l. e ∷ l) (rest there)
 
--- a known key keeps its place
+-- A known key keeps its position.
 pub set_value-known : {X : Type 0} (es : List (ℕ × X)) (k : ℕ) (w v : X) → IsStrictlySortedBy nat_cmp (keys_of es)
     → lookup (is_at (nat_cmp k)) es ≡ Some v → set_value (is_at (nat_cmp k)) es w ≡ insert_entry nat_cmp es k w
 set_value-known [] k w v sorted found = absurd (cc found)
@@ -60,7 +60,7 @@ remove_step e es k w Greater is rest none =
     (e ∷ remove_entry (is_at (nat_cmp k)) (insert_entry nat_cmp es k w)) (ap is_eq (sym is))
     ∙ ap (λ l. e ∷ l) (rest none)
 
--- a new key put in and taken out
+-- Inserting and removing a new key.
 pub remove_entry-new : {X : Type 0} (es : List (ℕ × X)) (k : ℕ) (w : X) → lookup (is_at (nat_cmp k)) es ≡ None
     → remove_entry (is_at (nat_cmp k)) (insert_entry nat_cmp es k w) ≡ es
 remove_entry-new [] k w none = cond-true (is_at (nat_cmp k) k) [] ((k, w) ∷ []) (at_itself k)
@@ -75,7 +75,7 @@ length_step e es k w Less rest none = omega arith
 length_step e es k w Equal rest none = absurd (cc none)
 length_step e es k w Greater rest none = omega (arith, rest none)
 
--- a new key is one more
+-- A new key makes one more.
 pub length-new : {X : Type 0} (es : List (ℕ × X)) (k : ℕ) (w : X) → lookup (is_at (nat_cmp k)) es ≡ None → length (insert_entry nat_cmp es k w) ≡ length es + 1
 length-new [] k w none = refl
 length-new (e ∷ es) k w none = length_step e es k w (nat_cmp k e.0) (length-new es k w) none
@@ -88,7 +88,7 @@ same_step e es k w Equal is rest = cond-true (is_at (nat_cmp k) e.0) (Some w) (l
 same_step e es k w Greater is rest = cond-false (is_at (nat_cmp k) e.0) (Some e.1)
     (lookup (is_at (nat_cmp k)) (insert_entry nat_cmp es k w)) (ap is_eq (sym is)) ∙ rest
 
--- the key has what was put in
+-- The key has the inserted value.
 pub lookup-insert_same : {X : Type 0} (es : List (ℕ × X)) (k : ℕ) (w : X) → lookup (is_at (nat_cmp k)) (insert_entry nat_cmp es k w) ≡ Some w
 lookup-insert_same [] k w = cond-true (is_at (nat_cmp k) k) (Some w) None (at_itself k)
 lookup-insert_same (e ∷ es) k w = same_step e es k w (nat_cmp k e.0) refl (lookup-insert_same es k w)
@@ -104,7 +104,7 @@ other_step e es k q w Equal is ne rest =
     ∙ sym (cond-false (is_at (nat_cmp q) e.0) (Some e.1) (lookup (is_at (nat_cmp q)) es) apart)
 other_step e es k q w Greater is ne rest = ap (λ o. cond (is_at (nat_cmp q) e.0) (Some e.1) o) rest
 
--- each other key has what it had
+-- Each other key has its old value.
 pub lookup-insert_other : {X : Type 0} (es : List (ℕ × X)) (k q : ℕ) (w : X) → (q ≡ k → ⊥)
     → lookup (is_at (nat_cmp q)) (insert_entry nat_cmp es k w) ≡ lookup (is_at (nat_cmp q)) es
 lookup-insert_other [] k q w ne = cond-false (is_at (nat_cmp q) k) (Some w) None (at_other q k (nat_cmp q k) refl ne)
@@ -112,7 +112,7 @@ lookup-insert_other (e ∷ es) k q w ne = other_step e es k q w (nat_cmp k e.0) 
 
 -- ---- the order
 
--- no keys ascend
+-- The empty list of keys ascends.
 pub sorted_none : IsStrictlySortedBy nat_cmp []
 unfolding IsStrictlySortedBy
 sorted_none = tt
@@ -139,7 +139,7 @@ sorted_step e es k w Less is sorted rest = ((sym is, below_all k e.0 (ranked k e
 sorted_step e es k w Equal is sorted rest = sorted
 sorted_step e es k w Greater is sorted rest = (below_insert e.0 es k w (sym (nat_cmp_is e.0 k Less (ranked k e.0 Greater is))) sorted.0, rest)
 
--- the keys still ascend
+-- The keys still ascend.
 pub sorted_insert : {X : Type 0} (es : List (ℕ × X)) (k : ℕ) (w : X) → IsStrictlySortedBy nat_cmp (keys_of es)
     → IsStrictlySortedBy nat_cmp (keys_of (insert_entry nat_cmp es k w))
 unfolding IsStrictlySortedBy

@@ -1,17 +1,16 @@
--- Entries: One entry of a list of ascending keys put in, written over or taken out.
+-- Entries: Inserting, overwriting or removing one entry of a list with ascending keys.
 -- OneEffectLaws: Each client's call has one effect and one reply.
--- TableWrites: What the code's writes make of a table.
--- TableLaws: The table after a list of calls holds each client's last call that took effect, with its reply, and gives the answers that the list
---   determines.
--- Adding: One call more: the session table tells whether it takes effect.
--- TicketPlaces: How the places of tickets come as one more call is done.
+-- TableWrites: The table after the code's writes.
+-- TableLaws: The table after a list of calls holds each client's last effect with its reply, and gives the answers of the list.
+-- Adding: One more call: the session table decides whether it takes effect.
+-- TicketPlaces: The places of tickets as one more call is done.
 -- AnswersGrow: Answers of a node: they grow at the end, a new ticket has none yet, and the last of them are kept.
--- TicketEffects: How many calls take effect: as many as the session table tells so, and no more than there are.
--- Pendings: What is kept of tickets is what all tickets, all answers and all calls done make it, and the answers of a step are those of the definition.
--- BucketPlaces: The places of a call's bucket, one after the other, are all at which a ticket's call can be the same; those between give no answer.
--- Clients: Clients that are read and put in one after the other, as a loop does.
--- Parts: A snapshot taken apart and put together, as the code does it.
--- SnapshotTables: The table after calls that keep the limits has a snapshot from which it is restored.
+-- TicketEffects: The number of calls that take effect, by the session table; it is at most the number of calls.
+-- Pendings: All tickets, answers and calls done determine what is kept, and a step gives the answers of the definition.
+-- BucketPlaces: A ticket's call can equal a call only at the positions of the call's bucket; those between give no answer.
+-- Clients: Clients that are read and inserted one after the other, as in a loop.
+-- Parts: A snapshot split and built, as in the code.
+-- SnapshotTables: The table after calls within the limits has a snapshot that restores it.
 pub mod Entries
 pub mod OneEffectLaws
 pub mod TableWrites

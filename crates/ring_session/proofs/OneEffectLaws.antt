@@ -3,7 +3,7 @@ use Rattle.std.proofs.Common.{◌≡◌, ℕ, zero, suc, ◌+◌, ◌==◌, ◌&
 use Rattle.std.proofs.Common.{length, take, Some, position, refl, ap, sym, subst, ◌∙◌, arith, append_assoc}
 use Rattle.std.proofs.Common.{length-append, if◌then◌else◌}
 use Rattle.std.proofs.lemmas.List.{append-nil}
-use Rattle.ring_base.specs.Fronts.{front_append}
+use Rattle.ring_base.specs.Prefixes.{prefix_append}
 use Rattle.ring_object.specs.Operations.{Sequential}
 use Rattle.ring_payload.specs.declared.call.Call.{Call}
 use Rattle.ring_session.specs.declared.answer.Answer.{Answer}
@@ -17,7 +17,7 @@ use Rattle.ring_session.specs.OneEffect.{EachIsDone, IsDoneOnce, RepliesAreTheOb
 
 -- ---- a call that takes effect has its place in the list
 
--- the place at which a call takes effect, behind the calls before
+-- The place at which a call takes effect, after the calls before.
 record EffectAt {A : Type 0} (before calls : List (Call A)) (q : ℕ) (c : Call A) : Type 0 where
   place : ℕ
   stands : StandsAt calls place c
@@ -101,4 +101,4 @@ module _ {O A : Type 0} (object : Sequential O) where
       (replies_are_the_objects calls p c r x).0 (replies_are_the_objects calls q d s y).0 client number
 
   pub answers_stay : (calls : List (Call A)) → AnswersStay object calls
-  answers_stay calls more p c at = session_answer-front object calls (calls ++ more) p c at (front_append calls more)
+  answers_stay calls more p c at = session_answer-front object calls (calls ++ more) p c at (prefix_append calls more)

@@ -1,6 +1,6 @@
--- What is kept of tickets is what all tickets, all answers and all calls done make it, and the answers of a step are those of the definition.
+-- All tickets, answers and calls done determine what is kept, and a step gives the answers of the definition.
 
--- A ticket is left where its call stands nowhere among the calls done since.
+-- A ticket stays pending if its call isn't among the calls done since.
 use Rattle.std.proofs.Common.{◌≡◌, ℕ, suc, ◌+◌, ◌==◌, ◌&&◌, ◌||◌, nat_le, ◌<◌, ◌≤◌, Bool, true, false, not, List, []}
 use Rattle.std.proofs.Common.{◌∷◌, ◌++◌, length, take, drop, map, Option, Some, None, is_none, refl, ap, sym, ◌∙◌}
 use Rattle.std.proofs.Common.{arith, append_assoc, length-append, if◌then◌else◌}
@@ -14,13 +14,13 @@ use Rattle.ring_payload.specs.declared.call.Call.{Call}
 use Rattle.ring_session.specs.declared.answer.Answer.{Answer}
 use Rattle.ring_session.specs.SessionAnswer.{is_same}
 use Rattle.ring_session.specs.Table.{Table, table_answer, table_next}
-use Rattle.ring_session.specs.declared.answered.Answered.{Answered}
+use Rattle.ring_session.specs.declared.answered.TicketAnswer.{TicketAnswer}
 use Rattle.ring_session.specs.declared.pending.Pending.{Pending}
-use Rattle.ring_session.specs.Recent.{last_kept, kept_of, kept_answer}
-use Rattle.ring_session.specs.Tickets.{Asked, first_place, place_of, unanswered, is_place, answers_at}
+use Rattle.ring_session.specs.RecentAnswers.{last_kept, kept_of, kept_answer}
+use Rattle.ring_session.specs.Tickets.{TicketCall, first_place, place_of, unanswered, is_place, answers_at}
 use Rattle.ring_session.specs.Tickets.{answers_after, kept_answers, answer_to}
-use Rattle.ring_session.specs.Pendings.{Tickets, is_full, with_ticket, stands_in, answer_for, answers_to, answers_behind}
-use Rattle.ring_session.specs.Pendings.{left_by, with_answers, pending_from, AreTickets}
+use Rattle.ring_session.specs.Pendings.{Tickets, is_full, with_ticket, contains_call, answer_for, answers_to, answers_behind}
+use Rattle.ring_session.specs.Pendings.{unanswered_by, with_answers, pending_from, AreTickets}
 use Rattle.ring_session.proofs.TicketPlaces.{first_place-below, place-push}
 use Rattle.ring_session.proofs.AnswersGrow.{first_place-late, kept-more, kept_answer-map}
 
@@ -32,10 +32,10 @@ none-step true true stands o at early rest = refl
 none-step true false stands o at early rest = rest
 none-step false same stands o at early rest = absurd (cc early)
 
-none-behind : {A : Type 0} (c : Call A) (since at : ℕ) (ds : List (Call A)) → since ≤ at → is_none (first_place c since at ds) ≡ not (stands_in ds c)
+none-behind : {A : Type 0} (c : Call A) (since at : ℕ) (ds : List (Call A)) → since ≤ at → is_none (first_place c since at ds) ≡ not (contains_call ds c)
 none-behind c since at [] early = refl
 none-behind c since at (d ∷ ds) early =
-    none-step (nat_le since at) (is_same c d) (stands_in ds c) (first_place c since (at + 1) ds) at (le-leb since at early)
+    none-step (nat_le since at) (is_same c d) (contains_call ds c) (first_place c since (at + 1) ds) at (le-leb since at early)
     (none-behind c since (at + 1) ds (omega arith))
 
 or-step : (b stands : Bool) (o p : Option ℕ) (at : ℕ) → is_none p ≡ is_none o && not stands
@@ -44,26 +44,26 @@ or-step true stands o p at rest = refl
 or-step false stands o p at rest = rest
 
 none-append : {A : Type 0} (c : Call A) (since at : ℕ) (xs ys : List (Call A)) → since ≤ at + length xs
-    → is_none (first_place c since at (xs ++ ys)) ≡ is_none (first_place c since at xs) && not (stands_in ys c)
+    → is_none (first_place c since at (xs ++ ys)) ≡ is_none (first_place c since at xs) && not (contains_call ys c)
 none-append c since at [] ys early = none-behind c since at ys (omega arith)
 none-append c since at (x ∷ xs) ys early =
-    or-step (nat_le since at && is_same c x) (stands_in ys c) (first_place c since (at + 1) xs) (first_place c since (at + 1) (xs ++ ys)) at
+    or-step (nat_le since at && is_same c x) (contains_call ys c) (first_place c since (at + 1) xs) (first_place c since (at + 1) (xs ++ ys)) at
     (none-append c since (at + 1) xs ys (omega arith))
 
--- a ticket has no answer yet, if it had none and its call isn't among those done since
-unplaced : {A : Type 0} (t : Asked A) (committed more : List (Call A)) → t.since ≤ length committed
-    → is_none (place_of (committed ++ more) t) ≡ is_none (place_of committed t) && not (stands_in more t.call)
+-- A ticket has no answer yet if it had none and its call isn't among those done since.
+unplaced : {A : Type 0} (t : TicketCall A) (committed more : List (Call A)) → t.since ≤ length committed
+    → is_none (place_of (committed ++ more) t) ≡ is_none (place_of committed t) && not (contains_call more t.call)
 unplaced t committed more early = none-append t.call t.since 0 committed more (omega arith)
 
--- ---- the tickets that are left
+-- ---- the remaining tickets
 
-left-step : {A : Type 0} (more : List (Call A)) (p : Pending A) (rest rest' : List (Pending A)) (b : Bool) → left_by more rest ≡ rest'
-    → left_by more (if b then p ∷ rest else rest) ≡ (if b && not (stands_in more p.call) then p ∷ rest' else rest')
-left-step more p rest rest' true e = ap (λ w. if not (stands_in more p.call) then p ∷ w else w) e
+left-step : {A : Type 0} (more : List (Call A)) (p : Pending A) (rest rest' : List (Pending A)) (b : Bool) → unanswered_by more rest ≡ rest'
+    → unanswered_by more (if b then p ∷ rest else rest) ≡ (if b && not (contains_call more p.call) then p ∷ rest' else rest')
+left-step more p rest rest' true e = ap (λ w. if not (contains_call more p.call) then p ∷ w else w) e
 left-step more p rest rest' false e = e
 
-left-pending : {A : Type 0} (committed more : List (Call A)) (i : ℕ) (ts : List (Asked A)) → AllByRecursion (λ (t : Asked A). t.since ≤ length committed) ts
-    → left_by more (pending_from committed i ts) ≡ pending_from (committed ++ more) i ts
+left-pending : {A : Type 0} (committed more : List (Call A)) (i : ℕ) (ts : List (TicketCall A)) → AllByRecursion (λ (t : TicketCall A). t.since ≤ length committed) ts
+    → unanswered_by more (pending_from committed i ts) ≡ pending_from (committed ++ more) i ts
 left-pending committed more i [] early = refl
 left-pending {A} committed more i (t ∷ ts) early =
     let p : Pending A = record { ticket = i; call = t.call } in
@@ -73,7 +73,7 @@ left-pending {A} committed more i (t ∷ ts) early =
 
 -- ---- the answers of one call
 
-answer-step : {A : Type 0} (b stands same : Bool) (a : Answered A) (o o' : Option ℕ) (n : ℕ) (told here tail : List (Answered A)) → is_none o ≡ b && not stands
+answer-step : {A : Type 0} (b stands same : Bool) (a : TicketAnswer A) (o o' : Option ℕ) (n : ℕ) (told here tail : List (TicketAnswer A)) → is_none o ≡ b && not stands
     → o' ≡ option_or o (if same then Some n else None) → ((q : ℕ) → o ≡ Some q → q < n) → told ≡ a ∷ [] → here ≡ tail
     → (if b then (if same && not stands then a ∷ [] else []) ++ here else here) ≡ (if is_place n o' then told else []) ++ tail
 answer-step {A} b stands same a (Some q) o' n told here tail none is below one e = old b stands same none
@@ -107,27 +107,27 @@ answers-if : {A : Type 0} (before : List (Call A)) (c : Call A) (answer : Answer
 answers-if before c answer p rest true = refl
 answers-if before c answer p rest false = refl
 
-earlier : {A : Type 0} (committed before : List (Call A)) (t : Asked A) → t.since ≤ length committed → t.since ≤ length (committed ++ before)
+earlier : {A : Type 0} (committed before : List (Call A)) (t : TicketCall A) → t.since ≤ length committed → t.since ≤ length (committed ++ before)
 earlier committed before t early = omega (arith, early, length-append committed before)
 
-answers-at : {A : Type 0} (answer : Answer) (done before : List (Call A)) (c : Call A) (i : ℕ) (ts : List (Asked A))
-    → AllByRecursion (λ (t : Asked A). t.since ≤ length done) ts
+answers-at : {A : Type 0} (answer : Answer) (done before : List (Call A)) (c : Call A) (i : ℕ) (ts : List (TicketCall A))
+    → AllByRecursion (λ (t : TicketCall A). t.since ≤ length done) ts
     → answers_to before c answer (pending_from done i ts) ≡ answers_at answer ((done ++ before) ++ c ∷ []) (length (done ++ before)) i ts
 answers-at answer done before c i [] early = refl
 answers-at {A} answer done before c i (t ∷ ts) early =
     let all = done ++ before in
     let p : Pending A = record { ticket = i; call = t.call } in
-    let a : Answered A = record { ticket = i; call = t.call; answer = answer } in
+    let a : TicketAnswer A = record { ticket = i; call = t.call; answer = answer } in
     answers-if before c answer p (pending_from done (i + 1) ts) (is_none (place_of done t))
-    ∙ answer-step (is_none (place_of done t)) (stands_in before t.call) (is_same t.call c) a (place_of all t) (place_of (all ++ c ∷ []) t) (length all)
+    ∙ answer-step (is_none (place_of done t)) (contains_call before t.call) (is_same t.call c) a (place_of all t) (place_of (all ++ c ∷ []) t) (length all)
     (a ∷ []) (answers_to before c answer (pending_from done (i + 1) ts)) (answers_at answer (all ++ c ∷ []) (length all) (i + 1) ts)
     (unplaced t done before early.0) (place-push all t c (earlier done before t early.0))
     (λ q h. omega (arith, first_place-below t.call t.since 0 all q h)) refl (answers-at answer done before c (i + 1) ts early.1)
 
--- ---- the answers of many
+-- ---- the answers of many calls
 
 module _ {O A : Type 0} (object : Sequential O) where
-  answers-of : (table : Table O) (asked : List (Asked A)) (done before more : List (Call A)) → AllByRecursion (λ (t : Asked A). t.since ≤ length done) asked
+  answers-of : (table : Table O) (asked : List (TicketCall A)) (done before more : List (Call A)) → AllByRecursion (λ (t : TicketCall A). t.since ≤ length done) asked
       → answers_behind object table (pending_from done 0 asked) before more ≡ answers_after object table asked (done ++ before) more
   answers-of table asked done before [] early = refl
   answers-of table asked done before (c ∷ more) early =
@@ -139,33 +139,33 @@ module _ {O A : Type 0} (object : Sequential O) where
       ∙ ap (λ w. answers_at answer (all ++ c ∷ []) (length all) 0 asked ++ w)
       (answers-of next asked done (before ++ c ∷ []) more early ∙ ap (λ (w : List (Call A)). answers_after object next asked w more) assoc)
 
-  pub are-answers : (table : Table O) (asked : List (Asked A)) (done more : List (Call A)) (all : List (Answered A)) (t : Tickets A)
+  pub are-answers : (table : Table O) (asked : List (TicketCall A)) (done more : List (Call A)) (all : List (TicketAnswer A)) (t : Tickets A)
       → AreTickets asked done all t → answers_behind object table t.pending [] more ≡ answers_after object table asked done more
   are-answers table asked done more all t are =
       ap (λ (w : List (Pending A)). answers_behind object table w [] more) are.pending
       ∙ answers-of table asked done [] more are.early ∙ ap (λ (w : List (Call A)). answers_after object table asked w more) (append-nil done)
 
--- ---- what is kept
+-- ---- the kept state
 
 module _ {A : Type 0} where
-  early-more : (done more : List (Call A)) (ts : List (Asked A)) → AllByRecursion (λ (t : Asked A). t.since ≤ length done) ts
-      → AllByRecursion (λ (t : Asked A). t.since ≤ length (done ++ more)) ts
+  early-more : (done more : List (Call A)) (ts : List (TicketCall A)) → AllByRecursion (λ (t : TicketCall A). t.since ≤ length done) ts
+      → AllByRecursion (λ (t : TicketCall A). t.since ≤ length (done ++ more)) ts
   early-more done more [] early = early
   early-more done more (t ∷ ts) early = (earlier done more t early.0, early-more done more ts early.1)
 
-  pub are-kept : (asked : List (Asked A)) (done more : List (Call A)) (all new : List (Answered A)) (t : Tickets A) → AreTickets asked done all t
+  pub are-kept : (asked : List (TicketCall A)) (done more : List (Call A)) (all new : List (TicketAnswer A)) (t : Tickets A) → AreTickets asked done all t
       → AreTickets asked (done ++ more) (all ++ new) (with_answers t more new)
   are-kept asked done more all new t are =
       record {
         given = are.given;
         early = early-more done more asked are.early;
-        pending = ap (left_by more) are.pending ∙ left-pending done more 0 asked are.early;
+        pending = ap (unanswered_by more) are.pending ∙ left-pending done more 0 asked are.early;
         kept = ap (λ w. last_kept (w ++ map (kept_of {A = A}) new)) are.kept ∙ kept-more all new;
       }
 
-  early-push : (committed : List (Call A)) (ts : List (Asked A)) (t : Asked A) → t.since ≤ length committed
-      → AllByRecursion (λ (a : Asked A). a.since ≤ length committed) ts
-      → AllByRecursion (λ (a : Asked A). a.since ≤ length committed) (ts ++ t ∷ [])
+  early-push : (committed : List (Call A)) (ts : List (TicketCall A)) (t : TicketCall A) → t.since ≤ length committed
+      → AllByRecursion (λ (a : TicketCall A). a.since ≤ length committed) ts
+      → AllByRecursion (λ (a : TicketCall A). a.since ≤ length committed) (ts ++ t ∷ [])
   early-push committed [] t last early = (last, tt)
   early-push committed (u ∷ ts) t last early = (early.0, early-push committed ts t last early.1)
 
@@ -174,8 +174,8 @@ module _ {A : Type 0} where
   pending-step i c rest p more true e = ap (λ (w : List (Pending A)). record { ticket = i; call = c } ∷ w) e
   pending-step i c rest p more false e = e
 
-  -- a new ticket has no answer
-  pending-push : (committed : List (Call A)) (i : ℕ) (ts : List (Asked A)) (t : Asked A) → length committed ≤ t.since
+  -- A new ticket has no answer.
+  pending-push : (committed : List (Call A)) (i : ℕ) (ts : List (TicketCall A)) (t : TicketCall A) → length committed ≤ t.since
       → pending_from committed i (ts ++ t ∷ []) ≡ pending_from committed i ts ++ record { ticket = i + length ts; call = t.call } ∷ []
   pending-push committed i [] t late =
       let one : ℕ → List (Pending A) = λ k. record { ticket = k; call = t.call } ∷ [] in
@@ -188,10 +188,10 @@ module _ {A : Type 0} where
       (is_none (place_of committed u))
       (pending-push committed (i + 1) ts t late ∙ ap (λ k. pending_from committed (i + 1) ts ++ last k ∷ []) e)
 
-  pub are-given : (asked : List (Asked A)) (done : List (Call A)) (all : List (Answered A)) (t : Tickets A) (c : Call A) → AreTickets asked done all t
+  pub are-given : (asked : List (TicketCall A)) (done : List (Call A)) (all : List (TicketAnswer A)) (t : Tickets A) (c : Call A) → AreTickets asked done all t
       → AreTickets (asked ++ record { call = c; since = length done } ∷ []) done all (with_ticket t c)
   are-given asked done all t c are =
-      let new : Asked A = record { call = c; since = length done } in
+      let new : TicketCall A = record { call = c; since = length done } in
       let last : ℕ → Pending A = λ k. record { ticket = k; call = c } in
       let number : t.given ≡ 0 + length asked = omega (arith, are.given) in
       record {
@@ -202,38 +202,38 @@ module _ {A : Type 0} where
         kept = are.kept;
       }
 
-  length-step : (p : Pending A) (t : Asked A) (rest : List (Pending A)) (ts : List (Asked A)) (b : Bool) → length rest ≡ length ts
+  length-step : (p : Pending A) (t : TicketCall A) (rest : List (Pending A)) (ts : List (TicketCall A)) (b : Bool) → length rest ≡ length ts
       → length (if b then p ∷ rest else rest) ≡ length (if b then t ∷ ts else ts)
   length-step p t rest ts true e = ap suc e
   length-step p t rest ts false e = e
 
-  length-pending : (committed : List (Call A)) (i : ℕ) (ts : List (Asked A)) → length (pending_from committed i ts) ≡ length (unanswered committed ts)
+  length-pending : (committed : List (Call A)) (i : ℕ) (ts : List (TicketCall A)) → length (pending_from committed i ts) ≡ length (unanswered committed ts)
   length-pending committed i [] = refl
   length-pending committed i (t ∷ ts) =
       length-step (record { ticket = i; call = t.call }) t (pending_from committed (i + 1) ts) (unanswered committed ts) (is_none (place_of committed t))
       (length-pending committed (i + 1) ts)
 
-  pub are-full : (asked : List (Asked A)) (done : List (Call A)) (all : List (Answered A)) (t : Tickets A) → AreTickets asked done all t
+  pub are-full : (asked : List (TicketCall A)) (done : List (Call A)) (all : List (TicketAnswer A)) (t : Tickets A) → AreTickets asked done all t
       → is_full t ≡ nat_le 64 (length (unanswered done asked)) || nat_le max_number (length asked)
   are-full asked done all t are =
       let many : length t.pending ≡ length (unanswered done asked) = ap length are.pending ∙ length-pending done 0 asked in
       ap (λ n. nat_le 64 n || nat_le max_number t.given) many ∙ ap (λ n. nat_le 64 (length (unanswered done asked)) || nat_le max_number n) are.given
 
-  pub are-replies : (asked : List (Asked A)) (done : List (Call A)) (all : List (Answered A)) (t : Tickets A) (ticket : ℕ) → AreTickets asked done all t
+  pub are-replies : (asked : List (TicketCall A)) (done : List (Call A)) (all : List (TicketAnswer A)) (t : Tickets A) (ticket : ℕ) → AreTickets asked done all t
       → kept_answer ticket t.kept ≡ answer_to ticket (kept_answers all)
   are-replies asked done all t ticket are = ap (kept_answer ticket) are.kept ∙ kept_answer-map ticket (kept_answers all)
 
--- ---- one committed call more goes through the sessions
+-- ---- one more committed call goes through the sessions
 
 pub answers-on : {O A : Type 0} (object : Sequential O) (t t' : Table O) (pending : List (Pending A)) (more front : List (Call A)) (i : ℕ) (c : Call A)
-    (a : Answer) (all before after : List (Answered A))
+    (a : Answer) (all before after : List (TicketAnswer A))
     → drop i more ≡ c ∷ drop (i + 1) more → take (i + 1) more ≡ take i more ++ c ∷ [] → front ≡ take i more → a ≡ table_answer object t c
     → t' ≡ table_next object t c
     → after ≡ before ++ answers_to front c a pending → all ≡ before ++ answers_behind object t pending (take i more) (drop i more)
     → all ≡ after ++ answers_behind object t' pending (take (i + 1) more) (drop (i + 1) more)
 answers-on {O} {A} object t t' pending more front i c a all before after rest first is answer table told e =
     let left : List (Call A) = drop (i + 1) more in
-    let behind : List (Call A) → List (Answered A) = λ w. answers_behind object (table_next object t c) pending w left in
+    let behind : List (Call A) → List (TicketAnswer A) = λ w. answers_behind object (table_next object t c) pending w left in
     e ∙ ap (λ w. before ++ answers_behind object t pending (take i more) w) rest
     ∙ sym (append_assoc before (answers_to (take i more) c (table_answer object t c) pending) (behind (take i more ++ c ∷ [])))
     ∙ ap (λ b. (before ++ answers_to (take i more) c b pending) ++ behind (take i more ++ c ∷ [])) (sym answer)

@@ -1,4 +1,4 @@
--- The table after calls that keep the limits has a snapshot from which it is restored.
+-- The table after calls within the limits has a snapshot that restores it.
 use Rattle.std.proofs.Common.{◌≡◌, ℕ, suc, ◌+◌, ◌<◌, ◌≤◌, ◌==◌, ◌||◌, nat_lt, true, List, [], ◌∷◌, length, All}
 use Rattle.std.proofs.Common.{Option, Some, None, is_some, fold, refl, sym, ap, subst, ◌∙◌, arith}
 use Rattle.std.specs.BTreeMap.{insert_entry, is_at}
@@ -16,7 +16,7 @@ use Rattle.std.proofs.lemmas.Map.{length-set_value}
 use Rattle.ring_object.specs.Bytes.{AreBytes}
 use Rattle.ring_object.specs.Operations.{Sequential, IsReply}
 use Rattle.ring_payload.specs.declared.call.Call.{Call}
-use Rattle.ring_session.specs.Deduplicated.{most_clients}
+use Rattle.ring_session.specs.Deduplicated.{max_clients}
 use Rattle.ring_session.specs.Snapshots.{AreFrom, ClientFits, HasSnapshot, KeepsLimits}
 use Rattle.ring_session.specs.Table.{LastCall, Table, table_of, last_call, last_number, session_of, is_taken, table_next, table_after, opening}
 use Rattle.ring_session.proofs.Entries.{set_value-known, length-new}
@@ -53,8 +53,8 @@ AreFrom-insert low (s ∷ ss) client last fits le are =
 -- ---- few clients
 
 few_step : (ss : List (ℕ × LastCall)) (client : ℕ) (last : LastCall) (o : Option LastCall) → lookup (is_at (nat_cmp client)) ss ≡ o
-    → IsStrictlySortedBy nat_cmp (keys_of ss) → length ss ≤ most_clients → is_some o || nat_lt (length ss) most_clients ≡ true
-    → length (insert_entry nat_cmp ss client last) ≤ most_clients
+    → IsStrictlySortedBy nat_cmp (keys_of ss) → length ss ≤ max_clients → is_some o || nat_lt (length ss) max_clients ≡ true
+    → length (insert_entry nat_cmp ss client last) ≤ max_clients
 few_step ss client last None is sorted few room = omega (arith, length-new ss client last is, ltb-true _ _ room)
 few_step ss client last (Some known) is sorted few room =
     let same : length (insert_entry nat_cmp ss client last) ≡ length ss =

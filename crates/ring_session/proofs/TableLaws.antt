@@ -1,4 +1,5 @@
--- The table after a list of calls holds each client's last call that took effect, with its reply, and gives the answers that the list determines.
+-- The table after a list of calls holds each client's last call that took effect, with its reply, and gives the answers
+-- that the list determines.
 use Rattle.std.proofs.Common.{◌≡◌, ℕ, ◌+◌, ◌<◌, ◌==◌, ◌&&◌, ◌||◌, nat_lt, Bool, true, false, List, [], ◌∷◌, ◌++◌}
 use Rattle.std.proofs.Common.{length, take, Option, Some, None, is_some, position, slice_get, get_or, refl, ap, sym}
 use Rattle.std.proofs.Common.{subst, ◌∙◌, arith, append_assoc, fold, inl, inr, if◌then◌else◌}
@@ -16,7 +17,7 @@ use Rattle.std.proofs.lemmas.List.Sums.{sum_by-cons, fails_before_first}
 use Rattle.std.proofs.lemmas.Map.{length-set_value}
 use Rattle.std.proofs.lemmas.Option.{slice_get_within, get_or_from_slice_get}
 use Rattle.std.proofs.lemmas.Slice.Eq.{bytes_eq-Decides}
-use Rattle.ring_base.specs.Fronts.{front_get, front_append}
+use Rattle.ring_base.specs.Prefixes.{prefix_get, prefix_append}
 use Rattle.ring_base.specs.declared.fault.Fault.TheVariants.{Conflict, Stale, NumberGap, SessionsFull}
 use Rattle.ring_base.proofs.ListPlaces.{get-last}
 use Rattle.ring_object.specs.Operations.{Sequential, content_after}
@@ -24,7 +25,7 @@ use Rattle.ring_object.proofs.Contents.{content_after-append}
 use Rattle.ring_payload.specs.declared.call.Call.{Call}
 use Rattle.ring_session.specs.declared.answer.Answer.{Answer}
 use Rattle.ring_session.specs.declared.answer.Answer.TheVariants.{Done, Kept}
-use Rattle.ring_session.specs.Deduplicated.{is_of, count_of, client_count, most_clients, may_call, takes_effect, deduplicated, StandsAt, operations}
+use Rattle.ring_session.specs.Deduplicated.{is_of, count_of, client_count, max_clients, may_call, takes_effect, deduplicated, StandsAt, operations}
 use Rattle.ring_session.specs.DeduplicatedLaws.{count_of-push_own, count_of-push_other}
 use Rattle.ring_session.specs.DeduplicatedLaws.{deduplicated-push, deduplicated-front, deduplicated-numbered}
 use Rattle.ring_session.specs.DeduplicatedLaws.{numbered_once, takes_effect-number}
@@ -34,20 +35,20 @@ use Rattle.ring_session.specs.Table.{LastCall, Table, table_of, opening, session
 use Rattle.ring_session.specs.Table.{is_taken, kept_answer, other_answer, table_answer, table_next, table_after}
 use Rattle.ring_session.proofs.Entries.{set_value-known, length-new, lookup-insert_same, lookup-insert_other, sorted_none, sorted_insert}
 
--- ---- what a table holds
+-- ---- the content of a table
 
--- the client's last call, as a call
+-- The client's last call, as a call.
 abbrev pub as_call : {A : Type 0} → ℕ → LastCall → Call A
 as_call client last = record { client = client; number = last.number; op = last.operation }
 
 module _ {O : Type 0} (object : Sequential O) where
-  -- what is kept of a client is its last of these calls, with the reply at its place
+  -- The kept entry of a client is its last of these calls, with the reply at its place.
   abbrev pub IsLastOf : {A : Type 0} → List (Call A) → ℕ → Option LastCall → Type 0
   IsLastOf kept client None = count_of client kept ≡ 0
   IsLastOf kept client (Some last) = (last.number ≡ count_of client kept)
       × ((q : ℕ) × StandsAt kept q (as_call client last) × (call_reply object kept q ≡ last.reply))
 
-  -- the table holds what these calls, which took effect, leave
+  -- The table holds the results of these calls, which took effect.
   pub record Holds {A : Type 0} (kept : List (Call A)) (table : Table O) : Type 0 where
     pub ascending : IsStrictlySortedBy nat_cmp (keys_of table.sessions)
     pub content : table.content ≡ content_after object object.initial (operations kept)
@@ -64,7 +65,7 @@ other_client : (t u m a b n : ℕ) → t ≡ a → u ≡ b → m ≡ n + (if b =
     ≡ (if a == 0 then n + 1 else n) + (if u == 0 then 1 else 0)
 other_client t u m a b n et eu em = grind (arith, nat_tests)
 
--- one more client, if the call is its first
+-- One more client, if the call is its first.
 client_count-push : {A : Type 0} (calls : List (Call A)) (c : Call A) → client_count (calls ++ c ∷ [])
     ≡ client_count calls + (if count_of c.client calls == 0 then 1 else 0)
 client_count-push [] c = refl
@@ -90,7 +91,7 @@ client_count-push {A} (x ∷ cs) c =
     ]
 
 module _ {O A : Type 0} (object : Sequential O) where
-  -- the reply to the last call
+  -- The reply to the last call.
   call_reply-push : (kept : List (Call A)) (c : Call A) → call_reply object (kept ++ c ∷ []) (length kept)
       ≡ object.reply (content_after object object.initial (operations kept)) c.op
   call_reply-push kept c =
@@ -118,8 +119,8 @@ module _ {O A : Type 0} (object : Sequential O) where
   room-is : (calls : List (Call A)) (table : Table O) (client : ℕ) → Holds object (deduplicated calls) table
       → has_room table client ≡ may_call (deduplicated calls) client
   room-is calls table client holds =
-      ap (λ b. b || nat_lt (length table.sessions) most_clients) (known-is calls client (session_of table client) (holds.known client))
-      ∙ ap (λ n. nat_lt 0 (count_of client (deduplicated calls)) || nat_lt n most_clients) holds.many
+      ap (λ b. b || nat_lt (length table.sessions) max_clients) (known-is calls client (session_of table client) (holds.known client))
+      ∙ ap (λ n. nat_lt 0 (count_of client (deduplicated calls)) || nat_lt n max_clients) holds.many
 
   taken-is : (calls : List (Call A)) (table : Table O) (c : Call A) → Holds object (deduplicated calls) table
       → is_taken table c ≡ takes_effect (deduplicated calls) c
@@ -129,7 +130,7 @@ module _ {O A : Type 0} (object : Sequential O) where
 
   -- ---- a call
 
-  -- a call that takes effect is its client's last of those that did
+  -- A call that takes effect is its client's last of those that did.
   last-same : (calls : List (Call A)) (c : Call A) → takes_effect (deduplicated calls) c ≡ true
       → IsLastOf object (deduplicated calls ++ c ∷ []) c.client
       (Some (last_call c (object.reply (content_after object object.initial (operations (deduplicated calls))) c.op)))
@@ -137,7 +138,7 @@ module _ {O A : Type 0} (object : Sequential O) where
       let kept = deduplicated calls in
       (takes_effect-number kept c taken ∙ sym (count_of-push_own kept c), (length kept, get-last kept c, call_reply-push kept c))
 
-  -- and leaves each other client's as it was
+  -- It leaves each other client's last call unchanged.
   last-other : (kept : List (Call A)) (c : Call A) (client : ℕ) (o : Option LastCall) → (client ≡ c.client → ⊥)
       → IsLastOf object kept client o → IsLastOf object (kept ++ c ∷ []) client o
   last-other kept c client None ne is =
@@ -147,8 +148,8 @@ module _ {O A : Type 0} (object : Sequential O) where
         is.0 ∙ sym (count_of-push_other client kept c (λ same. ne (sym same))),
         (
           q,
-          front_get kept (kept ++ c ∷ []) q (as_call client last) (front_append kept (c ∷ [])) is.1.1,
-          call_reply-front object kept (kept ++ c ∷ []) q (front_append kept (c ∷ [])) (slice_get_within kept q (as_call client last) is.1.1) ∙ is.1.2,
+          prefix_get kept (kept ++ c ∷ []) q (as_call client last) (prefix_append kept (c ∷ [])) is.1.1,
+          call_reply-front object kept (kept ++ c ∷ []) q (prefix_append kept (c ∷ [])) (slice_get_within kept q (as_call client last) is.1.1) ∙ is.1.2,
         ),
       )
 
@@ -233,7 +234,7 @@ module _ {O A : Type 0} (object : Sequential O) where
       subst (λ w. Holds object (deduplicated w) (fold (table_next object) (table_next object table c) cs)) (append_assoc before (c ∷ []) cs)
       (holds-fold (before ++ c ∷ []) cs (table_next object table c) (holds-next before table c holds))
 
-  -- the table after a list of calls holds what those that took effect leave
+  -- The table after a list of calls holds the results of those that took effect.
   pub table_holds : (calls : List (Call A)) → Holds object (deduplicated calls) (table_after object calls)
   table_holds calls = holds-fold [] calls (opening object.initial) (record { ascending = sorted_none; content = refl; many = refl; known = λ client. refl })
 
@@ -251,7 +252,7 @@ no_place p xs none k d within passes =
     ]
 
 module _ {O A : Type 0} (object : Sequential O) where
-  -- a call with its client's last number is told the kept reply, if it is the kept call
+  -- A call with its client's last number gets the kept reply, if it is the kept call.
   kept_known : (calls : List (Call A)) (replies : ℕ → List ℕ) (c : Call A)
       → ((q : ℕ) → q < length (deduplicated calls) → replies q ≡ call_reply object (deduplicated calls) q)
       → (last : LastCall) → IsLastOf object (deduplicated calls) c.client (Some last) → c.number ≡ last.number
@@ -291,7 +292,7 @@ module _ {O A : Type 0} (object : Sequential O) where
   kept_same calls replies c same (Some last) is number place at = kept_known calls replies c same last is
       (number ∙ sym is.0) place at (bytes_eq last.operation c.op) refl
 
-  -- the table's answer, by the tests of the list
+  -- The table's answer, by the tests of the list.
   by_list : List (Call A) → Table O → Call A → ℕ → Bool → Answer
   by_list kept table c last room =
       if c.number == last + 1 then (if room then Done (object.reply table.content c.op) else refusal SessionsFull)
@@ -299,7 +300,7 @@ module _ {O A : Type 0} (object : Sequential O) where
       else if nat_lt c.number last then refusal Stale
       else refusal NumberGap
 
-  -- the answer to the call after a list of calls
+  -- The answer to the call after a list of calls.
   answer-holds : (calls : List (Call A)) (table : Table O) (c : Call A) → Holds object (deduplicated calls) table
       → session_answer object (calls ++ c ∷ []) (length calls) ≡ Some (table_answer object table c)
   unfolding by_list
@@ -309,7 +310,7 @@ module _ {O A : Type 0} (object : Sequential O) where
       let all = deduplicated (calls ++ c ∷ []) in
       let replies : ℕ → List ℕ = call_reply object all in
       let before : (q : ℕ) → q < length kept → replies q ≡ call_reply object kept q =
-      λ q within. call_reply-front object kept all q (deduplicated-front calls (calls ++ c ∷ []) (front_append calls (c ∷ []))) within in
+      λ q within. call_reply-front object kept all q (deduplicated-front calls (calls ++ c ∷ []) (prefix_append calls (c ∷ []))) within in
       let own : takes_effect kept c ≡ true → replies (length kept) ≡ object.reply table.content c.op =
       λ taken. ap (λ w. call_reply object w (length kept)) (deduplicated-push calls c ∙ ap (λ w. kept ++ w) (cond-true (takes_effect kept c) (c ∷ []) [] taken))
       ∙ call_reply-push object kept c ∙ ap (λ (o : O). object.reply o c.op) (sym holds.content) in
@@ -326,21 +327,21 @@ module _ {O A : Type 0} (object : Sequential O) where
       ∙ ap (λ w. Some (answer_after replies (deduplicated w) c)) (take_at calls (c ∷ []) (length calls) refl)
       ∙ ap Some (listed ∙ tested)
 
-  -- the table after a list of calls answers the next call as the list does
+  -- The table after a list of calls gives the next call the answer of the list.
   pub table_answers : (calls : List (Call A)) (c : Call A) → session_answer object (calls ++ c ∷ []) (length calls)
       ≡ Some (table_answer object (table_after object calls) c)
   table_answers calls c = answer-holds calls (table_after object calls) c (table_holds object calls)
 
-  -- and its object has the content that the calls which took effect leave
+  -- Its object has the content after the calls that took effect.
   pub table_content : (calls : List (Call A)) → (table_after object calls).content ≡ content_after object object.initial (operations (deduplicated calls))
   table_content calls = (table_holds object calls).content
 
-  -- so what the table of a list of calls answers is what the list determines
+  -- So the answers of the table after a list of calls are those that the list determines.
   pub answer_told : (calls : List (Call A)) (table : Table O) (c : Call A) (a : Answer) → table ≡ table_after object calls → a ≡ table_answer object table c
       → session_answer object (calls ++ c ∷ []) (length calls) ≡ Some a
   answer_told calls table c a after answer = table_answers calls c ∙ ap (λ t. Some (table_answer object t c)) (sym after) ∙ ap Some (sym answer)
 
--- ---- what tells that a call takes effect
+-- ---- the answer of a call that takes effect
 
 kept_not-done : (b : Bool) (reply : List ℕ) → is_done (if b then Kept reply else refusal Conflict) ≡ false
 kept_not-done true reply = refl
@@ -363,7 +364,7 @@ done_where true false reply other e = refl
 done_where false room reply other e = e
 
 module _ {O A : Type 0} (object : Sequential O) where
-  -- a table tells a call that it is done exactly where the call is taken
+  -- A table answers `Done` exactly if the call is taken.
   pub done-taken : (table : Table O) (c : Call A) → is_done (table_answer object table c) ≡ is_taken table c
   done-taken table c =
       let last = session_of table c.client in
@@ -371,7 +372,7 @@ module _ {O A : Type 0} (object : Sequential O) where
       (nat_lt c.number (last_number last)) (kept_answer last c.op) (last_not-done last c.op) in
       done_where (c.number == last_number last + 1) (has_room table c.client) (object.reply table.content c.op) (other_answer last c) apart
 
-  -- so after a list of calls it tells that exactly where the call takes effect
+  -- So after a list of calls it answers `Done` exactly if the call takes effect.
   pub table_effect : (calls : List (Call A)) (c : Call A) → is_done (table_answer object (table_after object calls) c) ≡ takes_effect (deduplicated calls) c
   table_effect calls c =
       let table = table_after object calls in

@@ -1,4 +1,4 @@
--- How many calls take effect: as many as the session table tells so, and no more than there are.
+-- The number of calls that take effect, by the session table; it is at most the number of calls.
 use Rattle.std.proofs.Common.{◌≡◌, ℕ, suc, ◌+◌, ◌≤◌, Bool, true, false, List, [], ◌∷◌, ◌++◌, length, drop, ap, sym, ◌∙◌}
 use Rattle.std.proofs.Common.{arith, append_assoc, length-append, if◌then◌else◌}
 use Rattle.std.proofs.lemmas.List.{append-nil}
@@ -13,12 +13,12 @@ use Rattle.ring_session.specs.Table.{Table, opening, table_answer, table_next, t
 use Rattle.ring_session.proofs.TableLaws.{table_effect}
 use Rattle.ring_session.specs.TicketEffects.{done_after}
 
--- a list with one element more, or the same
+-- A list with one more element, or the same list.
 length-push_if : {X : Type 0} (xs : List X) (x : X) (b : Bool) → length (xs ++ (if b then x ∷ [] else [])) ≡ length xs + (if b then 1 else 0)
 length-push_if xs x true = length-append xs (x ∷ [])
 length-push_if xs x false = length-append xs []
 
--- the calls that are told that they take effect are those by which the order grows
+-- The calls with the answer `Done` are those by which the order grows.
 pub length-deduplicated : {O A : Type 0} (object : Sequential O) (before more : List (Call A))
     → length (deduplicated before) + done_after object (table_after object before) more ≡ length (deduplicated (before ++ more))
 length-deduplicated object before [] = omega (arith, ap (λ w. length (deduplicated w)) (append-nil before))
@@ -38,14 +38,14 @@ few-step : {X : Type 0} (x : X) (xs ys : List X) (n : ℕ) (b : Bool) → length
 few-step x xs ys n true h k = omega (arith, h)
 few-step x xs ys n false h k = omega (arith, k)
 
--- no more calls take effect than there are
+-- At most all calls take effect.
 pub deduplicated_after-few : {A : Type 0} (kept calls : List (Call A)) → length (deduplicated_after kept calls) ≤ length calls
 deduplicated_after-few kept [] = omega arith
 deduplicated_after-few kept (c ∷ calls) =
     few-step c (deduplicated_after (kept ++ c ∷ []) calls) (deduplicated_after kept calls) (length calls)
     (takes_effect kept c) (deduplicated_after-few (kept ++ c ∷ []) calls) (deduplicated_after-few kept calls)
 
--- one committed call more goes through the sessions
+-- One more committed call goes through the sessions.
 pub done-next : {O A : Type 0} (object : Sequential O) (t t' : Table O) (more : List (Call A)) (i : ℕ) (c : Call A) (a : Answer) (all before after : ℕ)
     → drop i more ≡ c ∷ drop (i + 1) more → a ≡ table_answer object t c → t' ≡ table_next object t c → after ≡ before + (if is_done a then 1 else 0)
     → all ≡ before + done_after object t (drop i more) → all ≡ after + done_after object t' (drop (i + 1) more)

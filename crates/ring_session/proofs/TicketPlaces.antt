@@ -1,4 +1,4 @@
--- How the places of tickets come as one more call is done.
+-- The places of tickets as one more call is done.
 use Rattle.std.proofs.Common.{◌≡◌, ℕ, suc, ◌+◌, ◌&&◌, nat_le, ◌<◌, ◌≤◌, Bool, true, false, List, []}
 use Rattle.std.proofs.Common.{◌∷◌, ◌++◌, length, Option, Some, None, refl, ap, ◌∙◌}
 use Rattle.std.proofs.Common.{arith, if◌then◌else◌}
@@ -6,7 +6,7 @@ use Rattle.std.specs.Option.{option_or}
 use Rattle.std.proofs.lemmas.Bool.{le-leb}
 use Rattle.ring_payload.specs.declared.call.Call.{Call}
 use Rattle.ring_session.specs.SessionAnswer.{is_same}
-use Rattle.ring_session.specs.Tickets.{Asked, first_place, place_of}
+use Rattle.ring_session.specs.Tickets.{TicketCall, first_place, place_of}
 
 -- ---- places
 
@@ -16,12 +16,12 @@ below-step : {A : Type 0} (c : Call A) (since at : ℕ) (ds : List (Call A)) (p 
 below-step c since at ds p true later e = let here : at ≡ p = cc e in omega (arith, here)
 below-step c since at ds p false later e = omega (arith, later p e)
 
--- a place lies among the calls
+-- A place is within the calls.
 pub first_place-below : {A : Type 0} (c : Call A) (since at : ℕ) (ds : List (Call A)) (p : ℕ) → first_place c since at ds ≡ Some p → p < at + length ds
 first_place-below c since at [] p e = absurd (cc e)
 first_place-below c since at (d ∷ ds) p e = below-step c since at ds p (nat_le since at && is_same c d) (λ q h. first_place-below c since (at + 1) ds q h) e
 
--- the place of a call that stood nowhere so far, if one more is done
+-- The place of a call that had none, after one more call is done.
 abbrev pub last_place : {A : Type 0} → Call A → ℕ → ℕ → Call A → Option ℕ
 last_place c since at d = if nat_le since at && is_same c d then Some at else None
 
@@ -39,11 +39,11 @@ first_place-push c since at (x ∷ xs) d =
     (let e : at + 1 + length xs ≡ at + suc (length xs) = omega arith in first_place-push c since (at + 1) xs d
     ∙ ap (λ k. option_or (first_place c since (at + 1) xs) (last_place c since k d)) e)
 
--- one more call answers a ticket that waits exactly if it is its call
-abbrev pub place_now : {A : Type 0} → List (Call A) → Asked A → Call A → Option ℕ
+-- One more call answers a pending ticket exactly if it is the ticket's call.
+abbrev pub place_now : {A : Type 0} → List (Call A) → TicketCall A → Call A → Option ℕ
 place_now committed t c = if is_same t.call c then Some (length committed) else None
 
-pub place-push : {A : Type 0} (committed : List (Call A)) (t : Asked A) (c : Call A) → t.since ≤ length committed
+pub place-push : {A : Type 0} (committed : List (Call A)) (t : TicketCall A) (c : Call A) → t.since ≤ length committed
     → place_of (committed ++ c ∷ []) t ≡ option_or (place_of committed t) (place_now committed t c)
 place-push committed t c early =
     let all : 0 + length committed ≡ length committed = omega arith in

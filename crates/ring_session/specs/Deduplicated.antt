@@ -1,51 +1,51 @@
--- Which calls of a list take effect. Each client numbers its calls 1, 2 and so on; a call that is sent again, comes
--- late or leaves a number out takes no effect, nor does one of a client beyond the first 1,024.
--- Sessions, of docs/PROTOCOL.md.
+-- The calls of a list that take effect. Each client numbers its calls 1, 2 and so on. A call that is repeated, late or
+-- leaves a number out takes no effect. Neither does a call of a client beyond the first 1,024.
+-- Rules: Sessions 6 and 7
 use Rattle.std.specs.Prelude.{◌≡◌, ℕ, ◌+◌, ◌==◌, ◌&&◌, ◌||◌, nat_lt, Bool, List, [], ◌∷◌, ◌++◌, count_by, map, take, slice_get, Some, if◌then◌else◌}
 use Rattle.ring_payload.specs.declared.call.Call.{Call}
 
--- whether the call is the client's
+-- Whether the call is the client's.
 abbrev pub is_of : {A : Type 0} → ℕ → Call A → Bool
 is_of client c = c.client == client
 
--- how many of the calls are the client's
+-- The number of the client's calls among these.
 abbrev pub count_of : {A : Type 0} → ℕ → List (Call A) → ℕ
 count_of client calls = count_by (is_of client) calls
 
--- how many clients the calls have
+-- The number of clients of these calls.
 abbrev pub client_count : {A : Type 0} → List (Call A) → ℕ
 client_count [] = 0
 client_count (c ∷ cs) = if count_of c.client cs == 0 then client_count cs + 1 else client_count cs
 
--- no more clients are known
-abbrev pub most_clients : ℕ
-most_clients = 1024
+-- The most known clients.
+abbrev pub max_clients : ℕ
+max_clients = 1024
 
--- whether the client is among those of these calls, or may be added to them
+-- Whether the client has a call among these, or may be added.
 abbrev pub may_call : {A : Type 0} → List (Call A) → ℕ → Bool
-may_call kept client = nat_lt 0 (count_of client kept) || nat_lt (client_count kept) most_clients
+may_call kept client = nat_lt 0 (count_of client kept) || nat_lt (client_count kept) max_clients
 
--- whether the call takes effect after these, which did: its number is the client's next, and the client may call
+-- Sessions 6: whether the call takes effect after these, which did: its number is the client's next, and the client may call.
 abbrev pub takes_effect : {A : Type 0} → List (Call A) → Call A → Bool
 takes_effect kept c = (c.number == count_of c.client kept + 1) && may_call kept c.client
 
--- the calls of a list that take effect after those kept
+-- The calls of a list that take effect after the kept ones.
 abbrev pub deduplicated_after : {A : Type 0} → List (Call A) → List (Call A) → List (Call A)
 deduplicated_after kept [] = []
 deduplicated_after kept (c ∷ cs) = if takes_effect kept c then c ∷ deduplicated_after (kept ++ c ∷ []) cs else deduplicated_after kept cs
 
--- the calls of a list that take effect, in order
+-- Sessions 6: the calls of a list that take effect, in order.
 abbrev pub deduplicated : {A : Type 0} → List (Call A) → List (Call A)
 deduplicated calls = deduplicated_after [] calls
 
--- the call stands at this place of the list
+-- The call is at this place of the list.
 abbrev pub StandsAt : {A : Type 0} → List (Call A) → ℕ → Call A → Type 0
 StandsAt calls p c = slice_get calls p ≡ Some c
 
--- the numbers of each client's calls are 1, 2, .. in this order
+-- The numbers of each client's calls are 1, 2, .. in order.
 abbrev pub IsNumbered : {A : Type 0} → List (Call A) → Type 0
 IsNumbered {A} calls = (p : ℕ) (c : Call A) → StandsAt calls p c → c.number ≡ count_of c.client (take p calls) + 1
 
--- the calls' operations, in order
+-- The operations of the calls, in order.
 abbrev pub operations : {A : Type 0} → List (Call A) → List (List ℕ)
 operations {A} calls = map (λ (c : Call A). c.op) calls

@@ -1,4 +1,6 @@
--- Of the calls that take effect each was in the list and stands once, a client's are numbered 1, 2, .., and more calls only add to their end.
+-- The calls that take effect are calls of the list, each once; each client's are numbered 1, 2, ..; and more calls only
+-- append to them.
+-- Rules: Sessions 6
 use Rattle.std.proofs.Common.{◌≡◌, ℕ, zero, suc, ◌+◌, ◌<◌, ◌≤◌, ◌==◌, Bool, true, false, List, [], ◌∷◌, ◌++◌}
 use Rattle.std.proofs.Common.{take, get_or, refl, ap, sym, subst, ◌∙◌, arith, append_assoc, inl}
 use Rattle.std.proofs.Common.{inr, if◌then◌else◌}
@@ -6,7 +8,7 @@ use Rattle.std.proofs.lemmas.Bool.{cond-true, cond-false, eq-eqb, ne_eqb, eqb-tr
 use Rattle.std.proofs.lemmas.List.{append-nil, take_at, take-take}
 use Rattle.std.proofs.lemmas.List.Sums.{sum_by_push, sum_by_more, sum_by-take-le}
 use Rattle.std.proofs.lemmas.Option.{slice_get_within, get_or_from_slice_get}
-use Rattle.ring_base.specs.Fronts.{IsFront}
+use Rattle.ring_base.specs.Prefixes.{IsListPrefix}
 use Rattle.ring_base.proofs.ListFronts.{take-front}
 use Rattle.ring_base.proofs.ListPlaces.{get-push}
 use Rattle.ring_payload.specs.declared.call.Call.{Call}
@@ -16,15 +18,17 @@ use Rattle.ring_session.specs.Deduplicated.{is_of, count_of, may_call, takes_eff
 
 -- ---- counts
 
--- one more call
+-- One call more.
 pub count_of-push : {A : Type 0} (client : ℕ) (calls : List (Call A)) (c : Call A) → count_of client (calls ++ c ∷ [])
     ≡ count_of client calls + (if is_of client c then 1 else 0)
 count_of-push client calls c = sum_by_push (λ x. if is_of client x then 1 else 0) calls c
 
+-- A call of the client adds one to its count.
 pub count_of-push_own : {A : Type 0} (calls : List (Call A)) (c : Call A) → count_of c.client (calls ++ c ∷ []) ≡ count_of c.client calls + 1
 count_of-push_own calls c = count_of-push c.client calls c ∙ ap (λ n. count_of c.client calls + n)
     (cond-true (c.client == c.client) 1 0 (eq-eqb c.client c.client refl))
 
+-- A call of another client leaves the count unchanged.
 pub count_of-push_other : {A : Type 0} (client : ℕ) (calls : List (Call A)) (c : Call A) → (c.client ≡ client → ⊥)
     → count_of client (calls ++ c ∷ []) ≡ count_of client calls
 count_of-push_other client calls c ne =
@@ -32,7 +36,7 @@ count_of-push_other client calls c ne =
     ∙ ap (λ n. count_of client calls + n) (cond-false (c.client == client) 1 0 (ne_eqb c.client client ne)) in
     omega (arith, none)
 
--- a client's count rises at each call of it
+-- A client's count rises at each call of the client.
 pub count_of-take : {A : Type 0} (calls : List (Call A)) (p q : ℕ) (c : Call A) → StandsAt calls p c → p < q
     → count_of c.client (take p calls) + 1 ≤ count_of c.client (take q calls)
 count_of-take {A} calls p q c at lt =
@@ -58,23 +62,23 @@ append_step kept xs ys x true taken left =
     (append_assoc kept (x ∷ []) (deduplicated_after (kept ++ x ∷ []) xs))
 append_step kept xs ys x false taken left = left
 
--- later calls add at the end
+-- More calls append.
 pub deduplicated_after-append : {A : Type 0} (kept xs ys : List (Call A)) → deduplicated_after kept (xs ++ ys)
     ≡ deduplicated_after kept xs ++ deduplicated_after (kept ++ deduplicated_after kept xs) ys
 deduplicated_after-append kept [] ys = ap (λ w. deduplicated_after w ys) (sym (append-nil kept))
 deduplicated_after-append kept (x ∷ xs) ys = append_step kept xs ys x (takes_effect kept x)
     (deduplicated_after-append (kept ++ x ∷ []) xs ys) (deduplicated_after-append kept xs ys)
 
--- one more call is added if it takes effect
+-- One call more is appended if it takes effect.
 pub deduplicated-push : {A : Type 0} (calls : List (Call A)) (c : Call A) → deduplicated (calls ++ c ∷ [])
     ≡ deduplicated calls ++ (if takes_effect (deduplicated calls) c then c ∷ [] else [])
 deduplicated-push calls c = deduplicated_after-append [] calls (c ∷ [])
 
--- the calls of a front that take effect are a front
-pub deduplicated-front : {A : Type 0} (xs ys : List (Call A)) → IsFront xs ys → IsFront (deduplicated xs) (deduplicated ys)
+-- The calls that take effect in a prefix are a prefix of those that do in the whole list.
+pub deduplicated-front : {A : Type 0} (xs ys : List (Call A)) → IsListPrefix xs ys → IsListPrefix (deduplicated xs) (deduplicated ys)
 deduplicated-front xs ys front = (deduplicated_after (deduplicated xs) front.0, sym (deduplicated_after-append [] xs front.0) ∙ ap deduplicated front.1)
 
--- a call that takes effect has its client's next number
+-- A call that takes effect has its client's next number.
 pub takes_effect-number : {A : Type 0} (kept : List (Call A)) (c : Call A) → takes_effect kept c ≡ true → c.number ≡ count_of c.client kept + 1
 takes_effect-number kept c taken = eqb-true c.number (count_of c.client kept + 1)
     (and_parts (c.number == count_of c.client kept + 1) (may_call kept c.client) taken).0
@@ -105,7 +109,7 @@ numbered_after kept [] numbered = subst IsNumbered (sym (append-nil kept)) numbe
 numbered_after kept (c ∷ cs) numbered = numbered_step kept cs c (takes_effect kept c) refl numbered
     (numbered_after (kept ++ c ∷ []) cs) (numbered_after kept cs)
 
--- each client's calls that take effect are numbered 1, 2, ..
+-- Each client's calls that take effect are numbered 1, 2, ..
 pub deduplicated-numbered : {A : Type 0} (calls : List (Call A)) → IsNumbered (deduplicated calls)
 deduplicated-numbered calls = numbered_after [] calls (λ p c at. absurd (cc at))
 
@@ -117,20 +121,20 @@ stands_step kept cs d true zero c taken left at = (zero, at)
 stands_step kept cs d true (suc p) c taken left at = let r = taken p at in (suc r.0, r.1)
 stands_step kept cs d false p c taken left at = let r = left p at in (suc r.0, r.1)
 
--- a call that takes effect after those kept stands in the list
+-- A call that takes effect after the kept ones is in the list.
 pub deduplicated_after-stands : {A : Type 0} (kept calls : List (Call A)) (p : ℕ) (c : Call A)
     → StandsAt (deduplicated_after kept calls) p c → (q : ℕ) × StandsAt calls q c
 deduplicated_after-stands kept [] p c at = absurd (cc at)
 deduplicated_after-stands kept (d ∷ cs) p c at = stands_step kept cs d (takes_effect kept d) p c
     (λ k. deduplicated_after-stands (kept ++ d ∷ []) cs k c) (λ k. deduplicated_after-stands kept cs k c) at
 
--- a call that takes effect stands in the list
+-- A call that takes effect is in the list.
 pub deduplicated-stands : {A : Type 0} (calls : List (Call A)) (p : ℕ) (c : Call A) → StandsAt (deduplicated calls) p c → (q : ℕ) × StandsAt calls q c
 deduplicated-stands calls p c at = deduplicated_after-stands [] calls p c at
 
 -- ---- each number once
 
--- where each client's calls are numbered, none stands before another of its client and number
+-- If each client's calls are numbered, no call comes before another one of the same client and number.
 not_before : {A : Type 0} (calls : List (Call A)) → IsNumbered calls → (p q : ℕ) (c d : Call A) → StandsAt calls p c
     → StandsAt calls q d → c.client ≡ d.client → c.number ≡ d.number → p < q → ⊥
 not_before calls numbered p q c d at at' client number lt =
@@ -140,7 +144,7 @@ not_before calls numbered p q c d at at' client number lt =
     let same : count_of c.client (take q calls) ≡ count_of d.client (take q calls) = ap (λ k. count_of k (take q calls)) client in
     omega (arith, more, first, second, number, same)
 
--- a client's number stands at one place
+-- If each client's calls are numbered, a client's number occurs at one place.
 pub numbered_once : {A : Type 0} (calls : List (Call A)) → IsNumbered calls → (p q : ℕ) (c d : Call A)
     → StandsAt calls p c → StandsAt calls q d → c.client ≡ d.client → c.number ≡ d.number → p ≡ q
 numbered_once calls numbered p q c d at at' client number =

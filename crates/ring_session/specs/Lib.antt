@@ -7,7 +7,7 @@ pub mod Table
 pub mod Effects
 pub mod Tickets
 pub mod TicketEffects
-pub mod Recent
+pub mod RecentAnswers
 pub mod Pendings
 pub mod Buckets
 pub mod Snapshots

@@ -1,2 +1,2 @@
--- Objects, passed on to the rules of nodes.
+-- Objects, re-exported for the rules of nodes.
 pub use Rattle.ring_object.specs.Operations.{Sequential}

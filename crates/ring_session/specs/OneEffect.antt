@@ -1,5 +1,5 @@
 -- What it means that each client's call has one effect and one reply.
--- Sessions, of docs/PROTOCOL.md.
+-- Rules: Sessions 3, 7 and 8
 use Rattle.std.specs.Prelude.{◌≡◌, ℕ, ◌≤◌, List, ◌++◌, Some}
 use Rattle.ring_object.specs.Operations.{Sequential}
 use Rattle.ring_payload.specs.declared.call.Call.{Call}
@@ -9,34 +9,35 @@ use Rattle.ring_session.specs.Deduplicated.{deduplicated, StandsAt}
 use Rattle.ring_session.specs.SessionAnswer.{reply_in, call_reply, session_answer, IsReplyIn}
 
 module _ {O : Type 0} (object : Sequential O) where
-  -- the call at this place of the list has this reply
+  -- The call at this place of the list has this reply.
   pub record IsReplied {A : Type 0} (calls : List (Call A)) (p : ℕ) (c : Call A) (r : List ℕ) : Type 0 where
     pub answer : Answer
     pub stands : StandsAt calls p c
     pub told : session_answer object calls p ≡ Some answer
     pub brings : reply_in answer ≡ Some r
 
-  -- each call that takes effect is told at its place in the list that it was done, with the sequential object's reply
+  -- Each call that takes effect has the answer `Done` at its place in the list, with the sequential object's reply.
   abbrev pub EachIsDone : {A : Type 0} → List (Call A) → Type 0
   EachIsDone {A} calls = (q : ℕ) (c : Call A) → StandsAt (deduplicated calls) q c
       → (p : ℕ) × StandsAt calls p c × (session_answer object calls p ≡ Some (Done (call_reply object (deduplicated calls) q)))
 
-  -- a client's number is told at no second place that it was done
+  -- A client's number has the answer `Done` at no second place.
   abbrev pub IsDoneOnce : {A : Type 0} → List (Call A) → Type 0
   IsDoneOnce {A} calls = (p q : ℕ) (c d : Call A) (r s : List ℕ) → StandsAt calls p c → StandsAt calls q d
       → session_answer object calls p ≡ Some (Done r) → session_answer object calls q ≡ Some (Done s)
       → c.client ≡ d.client → c.number ≡ d.number → p ≡ q
 
-  -- each reply is the sequential object's at its call's place among those that take effect, and its number is at least 1
+  -- Each reply is the sequential object's, at the place of its call among those that take effect, and the call's number is
+  -- at least 1.
   abbrev pub RepliesAreTheObjects : {A : Type 0} → List (Call A) → Type 0
   RepliesAreTheObjects {A} calls = (p : ℕ) (c : Call A) (r : List ℕ) → IsReplied calls p c r → IsReplyIn object (deduplicated calls) c r × (1 ≤ c.number)
 
-  -- a client's number names one call, which has one reply, wherever they are told
+  -- A client's number with a reply names one call, which has one reply, at whichever places.
   abbrev pub RepliesAreOne : {A : Type 0} → List (Call A) → Type 0
   RepliesAreOne {A} calls = (p q : ℕ) (c d : Call A) (r s : List ℕ) → IsReplied calls p c r → IsReplied calls q d s
       → c.client ≡ d.client → c.number ≡ d.number → (c ≡ d) × (r ≡ s)
 
-  -- no later call changes an answer
+  -- No later call changes an answer.
   abbrev pub AnswersStay : {A : Type 0} → List (Call A) → Type 0
   AnswersStay {A} calls = (more : List (Call A)) (p : ℕ) (c : Call A) → StandsAt calls p c → session_answer object
       (calls ++ more) p ≡ session_answer object calls p

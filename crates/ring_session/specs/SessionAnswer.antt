@@ -1,6 +1,6 @@
--- The session table's answer to each call of a list, as a function of the list alone: what was answered before, where
--- and by whom plays no part.
--- Sessions, of docs/PROTOCOL.md.
+-- The session table's answer to each call of a list, as a function of the list alone: earlier answers, and the node that
+-- gave them, play no part.
+-- Rules: Sessions 3, 4, 7 and 8
 use Rattle.std.specs.Prelude.{◌≡◌, ℕ, ◌+◌, ◌==◌, nat_lt, Bool, true, false, List, length, take, slice_get, Option, Some, None, position, if◌then◌else◌}
 use Rattle.std.specs.Option.{option_map}
 use Rattle.ring_base.specs.Fault.{fault_number}
@@ -13,16 +13,17 @@ use Rattle.ring_session.specs.declared.answer.Answer.{Answer}
 use Rattle.ring_session.specs.declared.answer.Answer.TheVariants.{Done, Kept, Refused}
 use Rattle.ring_session.specs.Deduplicated.{count_of, may_call, deduplicated, StandsAt, operations}
 
--- the answer that refuses for this reason
+-- The answer that refuses with this fault.
 abbrev pub refusal : Fault → Answer
 refusal fault = Refused (fault_number fault)
 
--- the answer to a call whose number is its client's last: the reply at its own place, unless another call has that number
+-- Sessions 3: the answer to a call with its client's last number: the reply at its own place, unless another call has that
+-- number.
 abbrev pub repeated : (ℕ → List ℕ) → Option ℕ → Answer
 repeated replies (Some place) = Kept (replies place)
 repeated replies None = refusal Conflict
 
--- the answer to a call after the kept ones took effect, by the replies at their places and, behind them, at its own
+-- Sessions 3: the answer to a call after the kept calls took effect, from the replies at their places and at the next place.
 abbrev pub answer_after : {A : Type 0} → (ℕ → List ℕ) → List (Call A) → Call A → Answer
 answer_after replies kept c =
     let last = count_of c.client kept in
@@ -31,27 +32,27 @@ answer_after replies kept c =
     else if nat_lt c.number last then refusal Stale
     else refusal NumberGap
 
--- the reply in an answer, if the call took effect, now or before
+-- Sessions 4: the reply in an answer, if the call took effect, now or before.
 abbrev pub reply_in : Answer → Option (List ℕ)
 reply_in (Done reply) = Some reply
 reply_in (Kept reply) = Some reply
 reply_in (Refused number) = None
 
--- whether the answer tells that the call takes effect now
+-- Whether the call takes effect now.
 abbrev pub is_done : Answer → Bool
 is_done (Done reply) = true
 is_done (Kept reply) = false
 is_done (Refused number) = false
 
 module _ {O : Type 0} (object : Sequential O) where
-  -- the sequential object's reply to the call at a place of the list
+  -- Sessions 7: the sequential object's reply to the call at a place of the list.
   abbrev pub call_reply : {A : Type 0} → List (Call A) → ℕ → List ℕ
   call_reply calls p = reply_at object (operations calls) p
 
-  -- the answer to the call at a place of the list, if it has that place
+  -- Sessions 8: the answer to the call at a place of the list, if there is one.
   abbrev pub session_answer : {A : Type 0} → List (Call A) → ℕ → Option Answer
   session_answer calls p = option_map (answer_after (call_reply (deduplicated calls)) (deduplicated (take p calls))) (slice_get calls p)
 
-  -- the call stands in this order of calls, and this is the sequential object's reply there
+  -- The call is in this order of calls, and this is the sequential object's reply there.
   abbrev pub IsReplyIn : {A : Type 0} → List (Call A) → Call A → List ℕ → Type 0
   IsReplyIn order c r = (q : ℕ) × StandsAt order q c × (call_reply order q ≡ r)

@@ -1,4 +1,6 @@
--- A reply of the session table is the sequential object's at the one place where its call takes effect, and no later call changes it.
+-- A reply of the session table is the sequential object's at the one place where its call takes effect, and no later call
+-- changes it.
+-- Rules: Sessions 3, 7 and 8
 use Rattle.std.proofs.Common.{◌≡◌, ℕ, suc, ◌+◌, ◌<◌, ◌≤◌, ◌==◌, ◌&&◌, nat_lt, Bool, true, false, List, [], ◌∷◌}
 use Rattle.std.proofs.Common.{◌++◌, length, take, drop, Option, Some, None, position, slice_get, get_or, refl, ap, sym}
 use Rattle.std.proofs.Common.{◌∙◌, arith, ◌⊎◌, inl, inr, if◌then◌else◌}
@@ -11,7 +13,7 @@ use Rattle.std.proofs.lemmas.Option.{slice_get_within, slice_get-get_or}
 use Rattle.ring_base.proofs.Rows.{take-found}
 use Rattle.ring_base.proofs.ListFronts.{taken-front, take-front}
 use Rattle.ring_base.proofs.ListPlaces.{get-last}
-use Rattle.ring_base.specs.Fronts.{IsFront, front_trans, front_length, front_get}
+use Rattle.ring_base.specs.Prefixes.{IsListPrefix, prefix_trans, prefix_length, prefix_get}
 use Rattle.ring_base.specs.declared.fault.Fault.TheVariants.{Stale, NumberGap, SessionsFull}
 use Rattle.ring_object.specs.Operations.{Sequential, content_after}
 use Rattle.ring_payload.specs.declared.call.Call.{Call}
@@ -26,8 +28,8 @@ use Rattle.ring_session.specs.SessionAnswer.{refusal, is_same, repeated, answer_
 
 -- ---- the sequential object's replies
 
--- a reply stays as the list grows
-pub call_reply-front : {O A : Type 0} (object : Sequential O) (xs ys : List (Call A)) (q : ℕ) → IsFront xs ys → q < length xs
+-- A reply stays the same as the list grows.
+pub call_reply-front : {O A : Type 0} (object : Sequential O) (xs ys : List (Call A)) (q : ℕ) → IsListPrefix xs ys → q < length xs
     → call_reply object ys q ≡ call_reply object xs q
 call_reply-front {O} {A} object xs ys q front within =
     let split : operations ys ≡ operations xs ++ operations front.0 = ap operations (sym front.1) ∙ map-append (λ (c : Call A). c.op) xs front.0 in
@@ -40,17 +42,17 @@ call_reply-front {O} {A} object xs ys q front within =
     ap (λ w. object.reply (content_after object object.initial w) (slice_index_or (operations ys) q [])) before
     ∙ ap (λ op. object.reply (content_after object object.initial (take q (operations xs))) op) here
 
--- a call that was replied in an order is replied so in each longer one
-pub replied_front : {O A : Type 0} (object : Sequential O) (xs ys : List (Call A)) (c : Call A) (r : List ℕ) → IsFront xs ys
+-- A reply of a call in an order is its reply in each longer order.
+pub replied_front : {O A : Type 0} (object : Sequential O) (xs ys : List (Call A)) (c : Call A) (r : List ℕ) → IsListPrefix xs ys
     → IsReplyIn object xs c r → IsReplyIn object ys c r
 replied_front object xs ys c r front replied = (
   replied.0,
-  front_get xs ys replied.0 c front replied.1,
+  prefix_get xs ys replied.0 c front replied.1,
   call_reply-front object xs ys replied.0 front
       (slice_get_within xs replied.0 c replied.1) ∙ replied.2,
 )
 
--- in an order where each client's calls are numbered, a client's number names one call with one reply
+-- In an order where each client's calls are numbered, a client's number names one call with one reply.
 pub one_reply : {O A : Type 0} (object : Sequential O) (order : List (Call A)) → IsNumbered order → (c d : Call A) (r s : List ℕ)
     → IsReplyIn object order c r → IsReplyIn object order d s → c.client ≡ d.client → c.number ≡ d.number → (c ≡ d) × (r ≡ s)
 one_reply {O} {A} object order numbered c d r s x y client number =
@@ -60,13 +62,13 @@ one_reply {O} {A} object order numbered c d r s x y client number =
 
 -- ---- places
 
--- the calls that took effect before a place are a front
-before_front : {A : Type 0} (calls : List (Call A)) (p : ℕ) → IsFront (deduplicated (take p calls)) (deduplicated calls)
+-- The calls that took effect before a place are a prefix.
+before_front : {A : Type 0} (calls : List (Call A)) (p : ℕ) → IsListPrefix (deduplicated (take p calls)) (deduplicated calls)
 before_front calls p = deduplicated-front (take p calls) calls (taken-front p calls)
 
--- a call that takes effect at its place comes right behind those that did before
+-- A call that takes effect at its place comes directly after those that did before.
 pub takes_effect-front : {A : Type 0} (calls : List (Call A)) (p : ℕ) (c : Call A) → StandsAt calls p c
-    → takes_effect (deduplicated (take p calls)) c ≡ true → IsFront (deduplicated (take p calls) ++ c ∷ [])
+    → takes_effect (deduplicated (take p calls)) c ≡ true → IsListPrefix (deduplicated (take p calls) ++ c ∷ [])
     (deduplicated (take (suc p) calls))
 takes_effect-front {A} calls p c at taken =
     let kept = deduplicated (take p calls) in
@@ -75,15 +77,15 @@ takes_effect-front {A} calls p c at taken =
     ([], append-nil (kept ++ c ∷ []) ∙ sym grown)
 
 effect_front : {A : Type 0} (calls : List (Call A)) (p : ℕ) (c : Call A) → StandsAt calls p c
-    → takes_effect (deduplicated (take p calls)) c ≡ true → IsFront (deduplicated (take p calls) ++ c ∷ [])
+    → takes_effect (deduplicated (take p calls)) c ≡ true → IsListPrefix (deduplicated (take p calls) ++ c ∷ [])
     (deduplicated calls)
-effect_front calls p c at taken = front_trans (deduplicated (take p calls) ++ c ∷ [])
+effect_front calls p c at taken = prefix_trans (deduplicated (take p calls) ++ c ∷ [])
     (deduplicated (take (suc p) calls)) (deduplicated calls) (takes_effect-front calls p c at taken)
     (before_front calls (suc p))
 
 -- ---- one call
 
--- the place of one call
+-- The place of one call.
 pub position-is_same : {A : Type 0} (kept : List (Call A)) (c : Call A) (q : ℕ) → position (is_same c) kept ≡ Some q → StandsAt kept q c
 position-is_same kept c q found =
     let there = position-Some (is_same c) kept q c found in
@@ -91,7 +93,7 @@ position-is_same kept c q found =
 
 -- ---- answers
 
--- the answer at a place with a call
+-- The answer at a place with a call.
 pub session_answer-at : {O A : Type 0} (object : Sequential O) (calls : List (Call A)) (p : ℕ) (c : Call A) → StandsAt calls p c
     → session_answer object calls p ≡ Some (answer_after (call_reply object (deduplicated calls)) (deduplicated (take p calls)) c)
 session_answer-at object calls p c at = ap (option_map (answer_after (call_reply object (deduplicated calls)) (deduplicated (take p calls)))) at
@@ -100,7 +102,7 @@ same_place : (f g : ℕ → List ℕ) (o : Option ℕ) → ((q : ℕ) → o ≡ 
 same_place f g None same = refl
 same_place f g (Some q) same = ap Kept (same q refl)
 
--- two answers by the same tests are one, where the replies and the kept answers that they come to are
+-- Two answers by the same tests are equal, if the replies and the kept answers that they lead to are.
 pub same_cases : (next room last old : Bool) (x y : List ℕ) (k l : Answer) → (next && room ≡ true → x ≡ y) → (last ≡ true → k ≡ l)
     → (if next then (if room then Done x else refusal SessionsFull) else if last then k else if old then refusal Stale else refusal NumberGap)
     ≡ (if next then (if room then Done y else refusal SessionsFull) else if last then l else if old then refusal Stale else refusal NumberGap)
@@ -109,7 +111,7 @@ same_cases true false last old x y k l done kept = refl
 same_cases false room true old x y k l done kept = kept refl
 same_cases false room false old x y k l done kept = refl
 
--- the answer looks at the replies at the kept places, and at its own if the call takes effect
+-- The answer depends only on the replies at the kept places, and on its own if the call takes effect.
 pub answer_after-same : {A : Type 0} (f g : ℕ → List ℕ) (kept : List (Call A)) (c : Call A)
     → (takes_effect kept c ≡ true → f (length kept) ≡ g (length kept)) → ((q : ℕ) → q < length kept → f q ≡ g q)
     → answer_after f kept c ≡ answer_after g kept c
@@ -118,8 +120,8 @@ answer_after-same f g kept c own before =
     (f (length kept)) (g (length kept)) (repeated f (position (is_same c) kept)) (repeated g (position (is_same c) kept)) own
     (λ last. same_place f g (position (is_same c) kept) (λ q found. before q (position-Some (is_same c) kept q c found).0))
 
--- an answer stays as the list grows
-pub session_answer-front : {O A : Type 0} (object : Sequential O) (xs ys : List (Call A)) (p : ℕ) (c : Call A) → StandsAt xs p c → IsFront xs ys
+-- An answer stays the same as the list grows.
+pub session_answer-front : {O A : Type 0} (object : Sequential O) (xs ys : List (Call A)) (p : ℕ) (c : Call A) → StandsAt xs p c → IsListPrefix xs ys
     → session_answer object ys p ≡ session_answer object xs p
 session_answer-front {O} {A} object xs ys p c at front =
     let kept = deduplicated (take p xs) in
@@ -129,11 +131,11 @@ session_answer-front {O} {A} object xs ys p c at front =
     let before : take p ys ≡ take p xs = take-front xs ys p front (omega (arith, slice_get_within xs p c at)) in
     let same : (q : ℕ) → q < length (deduplicated xs) → more q ≡ all q = λ q within. call_reply-front object
     (deduplicated xs) (deduplicated ys) q grows within in
-    session_answer-at object ys p c (front_get xs ys p c front at)
+    session_answer-at object ys p c (prefix_get xs ys p c front at)
     ∙ ap (λ w. Some (answer_after more (deduplicated w) c)) before
     ∙ ap Some (answer_after-same more all kept c
-    (λ taken. same (length kept) (omega (arith, front_length (kept ++ c ∷ []) (deduplicated xs) (effect_front xs p c at taken), length-append kept (c ∷ []))))
-    (λ q within. same q (omega (arith, within, front_length kept (deduplicated xs) (before_front xs p)))))
+    (λ taken. same (length kept) (omega (arith, prefix_length (kept ++ c ∷ []) (deduplicated xs) (effect_front xs p c at taken), length-append kept (c ∷ []))))
+    (λ q within. same q (omega (arith, within, prefix_length kept (deduplicated xs) (before_front xs p)))))
     ∙ sym (session_answer-at object xs p c at)
 
 replied_cases : (next room last old : Bool) (f : ℕ → List ℕ) (n : ℕ) (o : Option ℕ) (r : List ℕ)
@@ -147,7 +149,7 @@ replied_cases false room true old f n (Some q) r e = inr (q, refl, cc e)
 replied_cases false room false true f n o r e = absurd (cc e)
 replied_cases false room false false f n o r e = absurd (cc e)
 
--- a reply is the sequential object's at a place where the call takes effect
+-- A reply is the sequential object's at a place where the call takes effect.
 pub answered : {O A : Type 0} (object : Sequential O) (calls : List (Call A)) (p : ℕ) (c : Call A) (a : Answer) (r : List ℕ) → StandsAt calls p c
     → session_answer object calls p ≡ Some a → reply_in a ≡ Some r → IsReplyIn object (deduplicated calls) c r
 answered {O} {A} object calls p c a r at answer is =
@@ -159,11 +161,11 @@ answered {O} {A} object calls p c a r at answer is =
     elim (replied_cases (c.number == count_of c.client kept + 1) (may_call kept c.client)
     (c.number == count_of c.client kept) (nat_lt c.number (count_of c.client kept)) replies (length kept)
     (position (is_same c) kept) r brings) [
-      | inl now ↦ (length kept, front_get (kept ++ c ∷ []) (deduplicated calls) (length kept) c (effect_front calls p c at now.0) (get-last kept c), now.1)
-      | inr before ↦ (before.0, front_get kept (deduplicated calls) before.0 c (before_front calls p) (position-is_same kept c before.0 before.1), before.2)
+      | inl now ↦ (length kept, prefix_get (kept ++ c ∷ []) (deduplicated calls) (length kept) c (effect_front calls p c at now.0) (get-last kept c), now.1)
+      | inr before ↦ (before.0, prefix_get kept (deduplicated calls) before.0 c (before_front calls p) (position-is_same kept c before.0 before.1), before.2)
     ]
 
--- a call that has a reply has a number of at least 1
+-- A call with a reply has a number of at least 1.
 pub answered-number : {O A : Type 0} (object : Sequential O) (calls : List (Call A)) (p : ℕ) (c : Call A) (a : Answer) (r : List ℕ) → StandsAt calls p c
     → session_answer object calls p ≡ Some a → reply_in a ≡ Some r → 1 ≤ c.number
 answered-number object calls p c a r at answer is =
@@ -182,7 +184,7 @@ done_cases false room true old f n (Some q) r e = absurd (cc e)
 done_cases false room false true f n o r e = absurd (cc e)
 done_cases false room false false f n o r e = absurd (cc e)
 
--- a call that is told that it was done takes effect at its place
+-- A call with the answer `Done` takes effect at its place.
 pub done_takes_effect : {O A : Type 0} (object : Sequential O) (calls : List (Call A)) (p : ℕ) (c : Call A) (r : List ℕ) → StandsAt calls p c
     → session_answer object calls p ≡ Some (Done r) → takes_effect (deduplicated (take p calls)) c ≡ true
 done_takes_effect {O} {A} object calls p c r at answer =
@@ -192,7 +194,7 @@ done_takes_effect {O} {A} object calls p c r at answer =
     done_cases (c.number == count_of c.client kept + 1) (may_call kept c.client) (c.number == count_of c.client kept)
     (nat_lt c.number (count_of c.client kept)) replies (length kept) (position (is_same c) kept) r (cc told)
 
--- a client's number takes effect at no later place
+-- A client's number takes effect at no later place.
 no_later_effect : {A : Type 0} (calls : List (Call A)) (p q : ℕ) (c d : Call A) → StandsAt calls p c
     → StandsAt calls q d → takes_effect (deduplicated (take p calls)) c ≡ true
     → takes_effect (deduplicated (take q calls)) d ≡ true
@@ -201,13 +203,13 @@ no_later_effect {A} calls p q c d at at' taken taken' client number lt =
     let before = deduplicated (take p calls) in
     let kept = deduplicated (take q calls) in
     let shorter : take (suc p) (take q calls) ≡ take (suc p) calls = take-take (suc p) q calls (omega (arith, lt)) in
-    let part : IsFront (take (suc p) calls) (take q calls) = (
+    let part : IsListPrefix (take (suc p) calls) (take q calls) = (
       drop (suc p) (take q calls),
       ap (λ w. w ++ drop (suc p) (take q calls)) (sym shorter) ∙ take-append-drop (suc p) (take q calls),
     ) in
     let stands : StandsAt kept (length before) c =
-    front_get (before ++ c ∷ []) kept (length before) c
-    (front_trans (before ++ c ∷ []) (deduplicated (take (suc p) calls)) kept (takes_effect-front calls p c at taken)
+    prefix_get (before ++ c ∷ []) kept (length before) c
+    (prefix_trans (before ++ c ∷ []) (deduplicated (take (suc p) calls)) kept (takes_effect-front calls p c at taken)
     (deduplicated-front (take (suc p) calls) (take q calls) part))
     (get-last before c) in
     let first = deduplicated-numbered (take q calls) (length before) c stands in
@@ -217,7 +219,7 @@ no_later_effect {A} calls p q c d at at' taken taken' client number lt =
     let same : count_of c.client kept ≡ count_of d.client kept = ap (λ k. count_of k kept) client in
     omega (arith, first, second, more, all, same, number)
 
--- a client's number is told that it was done at one place
+-- A client's number has the answer `Done` at one place.
 pub done_once : {O A : Type 0} (object : Sequential O) (calls : List (Call A)) (p q : ℕ) (c d : Call A) (r s : List ℕ) → StandsAt calls p c → StandsAt calls q d
     → session_answer object calls p ≡ Some (Done r) → session_answer object calls q ≡ Some (Done s) → c.client ≡ d.client → c.number ≡ d.number → p ≡ q
 done_once object calls p q c d r s at at' done done' client number =

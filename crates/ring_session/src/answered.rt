@@ -1,14 +1,19 @@
-//! Answers to tickets.
+//! Answered tickets.
+//! Rules: The replicated log 14
 
 use crate::Answer;
 use crate::ticket::Ticket;
 use ring_payload::Call;
 use std::alloc::{Allocator, Global};
 
-/// The answer to a ticket's call.
+/// The answer to a ticket, with the ticket's call, as a step of a node puts it out.
+/// Rules: The replicated log 14
 #[derive(Clone, Drop)]
-pub struct Answered<A: Allocator + Copy = Global> {
+pub struct TicketAnswer<A: Allocator + Copy = Global> {
+    /// The ticket that is answered.
     pub ticket: Ticket,
+    /// The call for which the node gave the ticket.
     pub call: Call<A>,
+    /// The answer of the sessions to this call, at its place among the committed calls.
     pub answer: Answer,
 }

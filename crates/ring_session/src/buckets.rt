@@ -1,4 +1,4 @@
-//! Where calls that wait stand, by client and number.
+//! Buckets of unanswered tickets by the client and number of their calls.
 
 ghost use Rattle.std.specs.Prelude.{◌≡◌, ◌≢◌, ℕ, ◌<◌, ◌≤◌, ◌&&◌, ◌||◌, Bool, not, true, false, length, slice_index, slice_index_or};
 ghost use Rattle.ring_session.specs.Buckets.{bucket_of, AreChained};
@@ -8,15 +8,16 @@ use crate::pending::Pending;
 use ring_payload::Call;
 use std::alloc::Allocator;
 
-/// How many buckets there are.
+/// The number of buckets.
 const BUCKETS: usize = 256;
 
-/// The same, by which numbers are counted off.
+/// The same as a word, for the arithmetic of `bucket_of`.
 const MODULUS: u64 = BUCKETS as u64;
 
-/// Where the calls of at most 64 tickets stand, by bucket: the first place of each bucket, and behind each place the next
-/// of the same bucket. Where there is none, it is the number of the tickets. A committed call is compared with the calls of
-/// its bucket alone, which are few.
+/// The positions of the calls of at most 64 tickets, by bucket: the first position of each bucket, and after each
+/// position the next of the same bucket. Positions count from 0, and the number of tickets ends a chain. So a committed
+/// call is compared only with the few calls of its bucket.
+/// Rules: The replicated log 14
 #[derive(Drop)]
 pub(crate) struct Buckets {
     first: [u8; BUCKETS],
@@ -24,7 +25,8 @@ pub(crate) struct Buckets {
 }
 
 impl Buckets {
-    /// Of these tickets.
+    /// Returns the buckets of these tickets, each chain in ascending order.
+    /// That there are at most 64 is the caller's condition.
     pub(crate) fn of<A: Allocator + Copy>(pending: &[Pending<A>]) -> Buckets
         requires { length pending.now ≤ 64 }
         ensures { AreChained result.first result.next 0 pending.now }
@@ -39,7 +41,7 @@ impl Buckets {
         buckets
     }
 
-    /// Puts a place before those of its bucket.
+    /// Puts a position in front of its bucket's chain.
     fn put(&mut self, bucket: usize, place: usize)
         requires bucket { bucket < 256 }
         requires place { place < 64 }
@@ -52,14 +54,15 @@ impl Buckets {
         self.first[bucket] = place as u8;
     }
 
-    /// The first place of a call's bucket.
+    /// Returns the first position in the bucket of `call`, or the number of tickets if the bucket is empty.
     pub(crate) fn first_of<A: Allocator + Copy>(&self, call: &Call<A>) -> usize
         ensures { result ≡ slice_index self.now.first (bucket_of call.now) }
     {
         usize::from(self.first[bucket_of(call)])
     }
 
-    /// The next place of the same bucket.
+    /// Returns the position after `place` in its bucket, or the number of tickets if it is the last.
+    /// That `place` is below 64 is the caller's condition.
     pub(crate) fn next_of(&self, place: usize) -> usize
         requires { place < 64 }
         ensures { result ≡ slice_index self.now.next place }
@@ -68,7 +71,6 @@ impl Buckets {
     }
 }
 
-/// The bucket of a call.
 fn bucket_of<A: Allocator + Copy>(call: &Call<A>) -> usize
     ensures bucket { result ≡ bucket_of call.now }
     ensures within { result < 256 }
@@ -76,23 +78,24 @@ fn bucket_of<A: Allocator + Copy>(call: &Call<A>) -> usize
     ((u64::from(call.client) % MODULUS * 157 + call.number % MODULUS) % MODULUS) as usize
 }
 
-/// At which of 64 places a ticket stands whose call was committed.
+/// For each of 64 positions of tickets, whether the call of the ticket there has been committed.
+/// Rules: The replicated log 14
 #[derive(Drop)]
-pub(crate) struct Gone {
+pub(crate) struct CommittedFlags {
     places: [bool; MAX_UNANSWERED],
 }
 
-impl Gone {
-    /// At none.
-    pub(crate) fn new() -> Gone
+impl CommittedFlags {
+    /// Returns the flags of 64 positions, none of them marked.
+    pub(crate) fn new() -> CommittedFlags
         ensures { (j : ℕ) → slice_index_or result.places j false ≡ false }
     {
-        Gone {
+        CommittedFlags {
             places: [false; MAX_UNANSWERED],
         }
     }
 
-    /// Whether it is so at a place.
+    /// Returns whether the position is marked. That `place`, counted from 0, is below 64 is the caller's condition.
     pub(crate) fn has(&self, place: usize) -> bool
         requires { place < 64 }
         ensures { result ≡ slice_index_or self.now.places place false }
@@ -100,7 +103,8 @@ impl Gone {
         self.places[place]
     }
 
-    /// Lets the ticket at a place go if its call is the same as a committed one, and tells whether it wasn't gone before.
+    /// Marks the position if `same`, which says that its call is the committed one.
+    /// Returns whether this marked it newly. That `place`, counted from 0, is below 64 is the caller's condition.
     pub(crate) fn take(&mut self, place: usize, same: bool) -> bool
         requires { place < 64 }
         ensures first { result ≡ (same && not (slice_index_or self.old.places place false)) }

@@ -1,4 +1,5 @@
-//! The calls that take effect.
+//! The calls of a list that take effect.
+//! Rules: Sessions 6
 
 ghost use Rattle.std.specs.Prelude.{◌≡◌, [], ◌∷◌, ◌++◌, List, OnOk, IfOk, IfErr};
 ghost use Rattle.ring_base.specs.declared.fault.Fault.TheVariants.{Memory};
@@ -8,16 +9,18 @@ ghost use Rattle.ring_session.specs.Effects.{AreOf};
 
 use crate::{Answer, Sessions, table_law};
 use ring_base::Fault;
-use ring_object::Nothing;
+use ring_object::StatelessObject;
 use ring_payload::Call;
 use std::alloc::Allocator;
 use std::marker::Model;
 
-/// The calls that take effect, of those that were added one after the other. The session table of an object that keeps nothing
-/// tells which these are, whatever the object that they are for.
+/// The deduplicated calls of a list that grows: the calls that take effect among the calls added so far.
+/// The session table of an object without content finds them, so they don't depend on the object that the calls are
+/// for.
+/// Rules: Sessions 6
 #[derive(Drop)]
 pub struct Effects<A: Allocator + Copy + Drop> {
-    sessions: Sessions<Nothing<A>>,
+    sessions: Sessions<StatelessObject<A>>,
     calls: Vec<Call<A>, A>,
 }
 
@@ -30,7 +33,10 @@ impl<A: Allocator + Copy + Drop> Model for Effects<A> {
 }
 
 impl<A: Allocator + Copy + Drop> Effects<A> {
-    /// Of no calls, or `Memory`.
+    /// Returns the deduplicated calls of the empty list: none.
+    ///
+    /// Errors: `Memory`.
+    /// Rules: Sessions 6
     pub fn new(alloc: A) -> Result<Effects<A>, Fault>
         ensures ok { IfOk result (λ effects. AreOf [] effects) }
         ensures refused { IfErr result (λ fault. fault ≡ Memory) }
@@ -41,13 +47,18 @@ impl<A: Allocator + Copy + Drop> Effects<A> {
         })
     }
 
-    /// Adds the call, which takes effect or doesn't after those before it. After `Memory` they are those of no list.
+    /// Adds one call to the list. It takes effect if its number is one more than the count of its client's calls that
+    /// took effect, and the client is known or fewer than 1,024 clients are. Then a copy of it becomes the last of the
+    /// deduplicated calls.
+    ///
+    /// Errors: `Memory`; the value is then unspecified. Drop it.
+    /// Rules: Sessions 6
     pub fn add(&mut self, call: &Call<A>) -> Result<(), Fault>
         ensures ok { (before : List (OneCall A)) → AreOf before self.old → OnOk result (AreOf (before ++ call.now ∷ []) self.new) }
         ensures refused { IfErr result (λ fault. fault ≡ Memory) }
     {
-        // A law: no effect at run time. The proof takes from it which answer one call more has.
-        table_law::<Nothing<A>>();
+        // A law, without effect at run time: it gives the proof the answer to one more call.
+        table_law::<StatelessObject<A>>();
         match self.sessions.apply(call)? {
             Answer::Done(_) => {
                 self.calls.push(call.clone()?)?;
@@ -58,7 +69,10 @@ impl<A: Allocator + Copy + Drop> Effects<A> {
         }
     }
 
-    /// Adds the calls, one after the other. After `Memory` they are those of no list.
+    /// Adds these calls to the list, one after another, as [`add`](Effects::add) does.
+    ///
+    /// Errors: `Memory`; the value is then unspecified. Drop it.
+    /// Rules: Sessions 6
     pub fn add_all(&mut self, calls: &[Call<A>]) -> Result<(), Fault>
         ensures ok { (before : List (OneCall A)) → AreOf before self.old → OnOk result (AreOf (before ++ calls.now) self.new) }
         ensures refused { IfErr result (λ fault. fault ≡ Memory) }
@@ -69,7 +83,9 @@ impl<A: Allocator + Copy + Drop> Effects<A> {
         Ok(())
     }
 
-    /// Those that take effect, in order.
+    /// Returns the deduplicated calls: the calls that take effect among the calls added, in the order in which they
+    /// were added.
+    /// Rules: Sessions 6
     pub fn into_calls(self) -> Vec<Call<A>, A>
         ensures { result.items ≡ self.calls }
     {
@@ -78,7 +94,10 @@ impl<A: Allocator + Copy + Drop> Effects<A> {
     }
 }
 
-/// Of the calls, those that take effect, in order, or `Memory`.
+/// Returns copies of the calls that take effect in a list, in order: its deduplicated calls.
+///
+/// Errors: `Memory`.
+/// Rules: Sessions 6
 pub fn effects_of<A: Allocator + Copy + Drop>(
     alloc: A,
     calls: &[Call<A>],

@@ -1,9 +1,10 @@
-//! What the sessions promise over every list of calls.
+//! Laws of sessions, for every list of calls.
+//! Rules: Sessions 3, 6 to 8 and 12
 
 ghost use Rattle.std.specs.Prelude.{◌≡◌, ℕ, ◌^◌, ◌<◌, ◌∷◌, [], ◌++◌, List, length, Some, All};
-ghost use Rattle.ring_base.specs.Fronts.{IsFront};
+ghost use Rattle.ring_base.specs.Prefixes.{IsListPrefix};
 ghost use Rattle.ring_object.specs.Operations.{content_after};
-ghost use Rattle.ring_object.specs.Snapshots.{Restores};
+ghost use Rattle.ring_object.specs.Snapshots.{HasExactSnapshots};
 ghost use Rattle.ring_payload.specs.declared.call.Call.{Call};
 ghost use Rattle.ring_session.specs.Deduplicated.{takes_effect, deduplicated, StandsAt, IsNumbered, operations};
 ghost use Rattle.ring_session.specs.OneEffect.{EachIsDone, IsDoneOnce, RepliesAreTheObjects, RepliesAreOne, AnswersStay};
@@ -14,17 +15,24 @@ ghost use Rattle.ring_session.specs.Table.{table_answer, table_after};
 use ring_object::Object;
 use std::alloc::Allocator;
 
-/// Law, for every list of calls: those that take effect stand in it, each client's are numbered 1, 2, .. in their order,
-/// so that a client's number takes effect at one place, and more calls only add to their end.
+/// States that, for every list of calls, its deduplicated calls, which are the calls that take effect, are calls of the
+/// list. The deduplicated calls of each client have the numbers 1, 2, .. in this order. So a call with a client's
+/// number takes effect at one place at most. Calls that are added at the list's end only append to its deduplicated
+/// calls.
+/// Rules: Sessions 6
 pub fn deduplicated_law<A: Allocator + Copy>()
     ensures from_list { (calls : List (Call A)) (p : ℕ) (c : Call A) → StandsAt (deduplicated calls) p c → (q : ℕ) × StandsAt calls q c }
     ensures numbered { (calls : List (Call A)) → IsNumbered (deduplicated calls) }
     ensures once { (calls : List (Call A)) (p q : ℕ) (c d : Call A) → StandsAt (deduplicated calls) p c
         → StandsAt (deduplicated calls) q d → c.client ≡ d.client → c.number ≡ d.number → p ≡ q }
-    ensures grows { (calls more : List (Call A)) → IsFront (deduplicated calls) (deduplicated (calls ++ more)) }
+    ensures grows { (calls more : List (Call A)) → IsListPrefix (deduplicated calls) (deduplicated (calls ++ more)) }
 {}
 
-/// Law, for every object and every list of calls: each client's call has one effect and one reply.
+/// States that, for every object and every list of calls, each client's call has one effect and one reply.
+/// A call that takes effect is answered `Done` at its place, with the object's reply. A number of a client is answered
+/// `Done` at one place at most. A number with a reply names one call, and has the same reply at all places. No later
+/// call changes an answer.
+/// Rules: Sessions 3, 7 and 8
 pub fn session_law<O: Object>()
     ensures done { (calls : List (Call O.Alloc)) → EachIsDone O.sequential calls }
     ensures once { (calls : List (Call O.Alloc)) → IsDoneOnce O.sequential calls }
@@ -33,9 +41,10 @@ pub fn session_law<O: Object>()
     ensures stays { (calls : List (Call O.Alloc)) → AnswersStay O.sequential calls }
 {}
 
-/// Law, for every object and every list of calls: the table after the list answers the next call as the list alone
-/// determines, and its object has the content that the calls which took effect leave. It tells a call that it is done
-/// exactly where the call takes effect.
+/// States that, for every object and every list of calls, the session table after the list gives the next call the
+/// answer that the list alone determines. The object in the table has the content after the calls that took effect. The
+/// answer is `Done` exactly if the call takes effect.
+/// Rules: Sessions 6 to 8
 pub fn table_law<O: Object>()
     ensures told { (calls : List (Call O.Alloc)) (c : Call O.Alloc) → session_answer O.sequential (calls ++ c ∷ [])
         (length calls) ≡ Some (table_answer O.sequential (table_after O.sequential calls) c) }
@@ -45,10 +54,13 @@ pub fn table_law<O: Object>()
         ≡ content_after O.sequential O.sequential.initial (operations (deduplicated calls)) }
 {}
 
-/// Law, for every object: exactly the snapshots of tables that keep the limits are restored, each to the table that it is of.
-/// After every list of calls that keep theirs the table does, so its snapshot is restored to it.
+/// States that, for every object, exactly the snapshots of session tables within the limits are restored, each to its
+/// table. Within the limits means: at most 1,024 clients, operations of at most 1,024 bytes, and a valid content. After
+/// every list of calls within the limits the table is within the limits too. If its snapshot has fewer than 2^64 bytes,
+/// the snapshot restores it.
+/// Rules: Sessions 12
 pub fn snapshot_law<O: Object>()
-    ensures restores { Restores (HasSnapshot O.is_content) (table_snapshot O.sequential.snapshot_of) (restored_table O.sequential.restored) }
+    ensures restores { HasExactSnapshots (HasSnapshot O.is_content) (table_snapshot O.sequential.snapshot_of) (restored_table O.sequential.restored) }
     ensures reached { (calls : List (Call O.Alloc)) → All KeepsLimits calls
         → HasSnapshot O.is_content (table_after O.sequential calls) }
     ensures comes_back { (calls : List (Call O.Alloc)) → All KeepsLimits calls →

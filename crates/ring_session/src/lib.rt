@@ -1,10 +1,12 @@
-//! Sessions: each numbered call of a client takes effect once and has one reply, however often it comes.
+//! Sessions: each numbered call of a client takes effect once and has one reply, however often it arrives.
 //!
-//! A client numbers its calls 1, 2 and so on, and sends each until it has an answer. [`Sessions`] keeps an object
-//! and, for each known client, its last call that took effect and the reply to it; it is written as bytes, and restored
-//! from them. [`Effects`] tells which calls of a list
-//! take effect, whatever the object that they are for. [`Tickets`] keeps what a node gave for the calls submitted at it, and
-//! answers each once its call is committed.
+//! A client numbers its calls 1, 2 and so on, and sends each until it has an answer. [`Sessions`] keeps an object and, for
+//! each known client, its last call that took effect and the reply to it; a snapshot of it in bytes restores it.
+//! [`Effects`] finds which calls of a list take effect, whatever object they are for. [`Tickets`] keeps the tickets that a
+//! node gave for submitted calls; each is answered once its call is committed.
+//!
+//! Rules: Sessions 2 to 8 and 12; The replicated log 13 to 15; Limits 1 and 2
+//! Formats: Snapshots
 #![tactic(auto)]
 
 mod answer;
@@ -22,22 +24,25 @@ mod ticket_laws;
 mod tickets;
 
 pub use answer::Answer;
-pub use answered::Answered;
+pub use answered::TicketAnswer;
 pub use effects::{Effects, effects_of};
 pub use laws::{deduplicated_law, session_law, snapshot_law, table_law};
 pub use pending::Pending;
-pub use recent::Recent;
+pub use recent::RecentAnswers;
 pub use ring_object::{Object, Reply};
 pub use sessions::Sessions;
 pub use ticket::Ticket;
 pub use ticket_laws::tickets_law;
-pub use tickets::{Tickets, answers_of, copy_of, stands_in};
+pub use tickets::{Tickets, answers_of, contains_call, copy_of};
 
-/// How many clients may be known.
+/// The most known clients of a session table. A client is known once a call of the client has taken effect.
+/// Rules: Limits 1 and 2
 pub const MAX_CLIENTS: usize = 1024;
 
-/// At most so many tickets of a node are unanswered.
+/// The most unanswered tickets of a node. With this many the node refuses a submit with `PendingFull`.
+/// Rules: Limits 1 and 2
 pub const MAX_UNANSWERED: usize = 64;
 
-/// The answers of so many tickets, those answered last, are kept.
+/// The most answers that a node keeps: the answers to the tickets that it answered last.
+/// Rules: Limits 1 and 2
 pub const KEPT_ANSWERS: usize = 64;

@@ -1,12 +1,16 @@
-//! Tickets without an answer.
+//! Unanswered tickets.
+//! Rules: The replicated log 13 and 14
 
 use crate::ticket::Ticket;
 use ring_payload::Call;
 use std::alloc::{Allocator, Global};
 
-/// A ticket without an answer, with its call.
+/// An unanswered ticket, with its call.
+/// Rules: The replicated log 13 and 14
 #[derive(Clone, Drop)]
 pub struct Pending<A: Allocator + Copy = Global> {
+    /// The ticket that the node gave for the call.
     pub ticket: Ticket,
+    /// The call that was submitted for the ticket.
     pub call: Call<A>,
 }

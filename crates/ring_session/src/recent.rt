@@ -1,12 +1,13 @@
-//! The answers given last.
+//! The answers that a node gave last.
+//! Rules: The replicated log 15
 
 ghost use Rattle.std.specs.Prelude.{◌≡◌, ◌≤◌, [], ◌∷◌, ◌++◌, map, IfOk, IfErr};
 ghost use Rattle.std.specs.VecDeque.{deque_len, deque_capacity};
-ghost use Rattle.ring_session.specs.declared.TheConstants.{KEPT_ANSWERS as MOST};
+ghost use Rattle.ring_session.specs.declared.TheConstants.{KEPT_ANSWERS as MAX_KEPT};
 ghost use Rattle.ring_base.specs.declared.fault.Fault.TheVariants.{Memory};
-ghost use Rattle.ring_session.specs.Recent.{last_kept, kept_of, kept_answer};
+ghost use Rattle.ring_session.specs.RecentAnswers.{last_kept, kept_of, kept_answer};
 
-use crate::answered::Answered;
+use crate::answered::TicketAnswer;
 use crate::ticket::Ticket;
 use crate::{Answer, KEPT_ANSWERS};
 use ring_base::Fault;
@@ -14,56 +15,64 @@ use std::alloc::{AllocError, Allocator};
 use std::collections::VecDeque;
 use std::marker::Model;
 
-/// What is kept of an answer.
+/// An answer that a node keeps, with its ticket.
+/// Rules: The replicated log 15
 #[derive(Clone, Copy)]
-pub struct Kept {
+pub struct KeptAnswer {
+    /// The ticket that was answered.
     pub ticket: Ticket,
+    /// The answer to the ticket's call.
     pub answer: Answer,
 }
 
-/// The answers given last, at most `KEPT_ANSWERS`, the oldest first. Its room is made at once.
+/// The answers that a node gave last, at most [`KEPT_ANSWERS`], oldest first.
+/// Memory for all of them is allocated at once.
+/// Rules: The replicated log 15
 #[derive(Drop)]
-pub struct Recent<A: Allocator + Copy> {
-    answers: VecDeque<Kept, A>,
+pub struct RecentAnswers<A: Allocator + Copy> {
+    answers: VecDeque<KeptAnswer, A>,
 }
 
-impl<A: Allocator + Copy> Model for Recent<A> {
+impl<A: Allocator + Copy> Model for RecentAnswers<A> {
     ghost use Rattle.std.specs.Prelude.{List, ◌≤◌, length};
     ghost use Rattle.std.specs.VecDeque.{deque_len, deque_capacity};
-    ghost use Rattle.ring_session.specs.declared.recent.Kept.{Kept as OneKept};
-    ghost use Rattle.ring_session.specs.declared.TheConstants.{KEPT_ANSWERS as MOST};
+    ghost use Rattle.ring_session.specs.declared.recent.KeptAnswer.{KeptAnswer as OneKept};
+    ghost use Rattle.ring_session.specs.declared.TheConstants.{KEPT_ANSWERS as MAX_KEPT};
 
     ghost Value = { List OneKept };
 
     ghost view = { λ recent. recent.answers.items };
 
-    ghost invariant = { λ recent. (deque_len recent.answers ≤ MOST) × (MOST ≤ deque_capacity recent.answers) };
+    ghost invariant = { λ recent. (deque_len recent.answers ≤ MAX_KEPT) × (MAX_KEPT ≤ deque_capacity recent.answers) };
 }
 
-/// A copy has room for all that are kept, too.
-impl<A: Allocator + Copy> Clone for Recent<A> {
+/// A copy has memory for [`KEPT_ANSWERS`] answers too.
+impl<A: Allocator + Copy> Clone for RecentAnswers<A> {
     ghost is_clone = { λ recent copy. copy ≡ recent };
 
-    fn clone(&self) -> Result<Recent<A>, AllocError> {
-        Ok(Recent {
+    fn clone(&self) -> Result<RecentAnswers<A>, AllocError> {
+        Ok(RecentAnswers {
             answers: with_room(&self.answers)?,
         })
     }
 }
 
-impl<A: Allocator + Copy> Recent<A> {
-    /// No answers, with room for all that are kept, or `Memory`.
-    pub fn new(alloc: A) -> Result<Recent<A>, Fault>
+impl<A: Allocator + Copy> RecentAnswers<A> {
+    /// Returns an empty list with memory for [`KEPT_ANSWERS`] answers.
+    ///
+    /// Errors: `Memory`.
+    /// Rules: The replicated log 15
+    pub fn new(alloc: A) -> Result<RecentAnswers<A>, Fault>
         ensures ok { IfOk result (λ recent. recent ≡ []) }
         ensures refused { IfErr result (λ fault. fault ≡ Memory) }
     {
-        Ok(Recent {
+        Ok(RecentAnswers {
             answers: VecDeque::with_capacity(alloc, KEPT_ANSWERS)?,
         })
     }
 
-    /// Adds an answer, and forgets the oldest where there is no more room.
-    fn push(&mut self, kept: Kept)
+    /// Appends an answer, and drops the oldest if the list is full.
+    fn push(&mut self, kept: KeptAnswer)
         ensures { self.new ≡ last_kept (self.old ++ kept ∷ []) }
     {
         if self.answers.len() == KEPT_ANSWERS {
@@ -72,21 +81,24 @@ impl<A: Allocator + Copy> Recent<A> {
         self.answers.push_back_reserved(kept);
     }
 
-    /// Adds answers, in order.
-    pub fn extend<B: Allocator + Copy>(&mut self, answers: &[Answered<B>])
+    /// Appends answers in order, and drops the oldest until at most [`KEPT_ANSWERS`] are kept. Takes no memory.
+    /// Rules: The replicated log 15
+    pub fn extend<B: Allocator + Copy>(&mut self, answers: &[TicketAnswer<B>])
         ensures { self.new ≡ last_kept (self.old ++ map kept_of answers.now) }
     {
-        // No effect at run time. The proof sees what `Recent` promises of itself only where the body reads a field.
+        // No effect at run time. The proof sees the invariant of `RecentAnswers` only if the body reads a field.
         let _ = &self.answers;
         for answered in answers {
-            self.push(Kept {
+            self.push(KeptAnswer {
                 ticket: answered.ticket,
                 answer: answered.answer,
             });
         }
     }
 
-    /// The answer to the ticket, if it is kept.
+    /// Returns the answer to the ticket if it is kept.
+    /// Returns `None` if the ticket is unanswered, was never given, or was answered too long ago.
+    /// Rules: The replicated log 15
     pub fn answer_to(&self, ticket: Ticket) -> Option<Answer>
         ensures { result ≡ kept_answer ticket self.now }
     {
@@ -100,14 +112,14 @@ impl<A: Allocator + Copy> Recent<A> {
     }
 }
 
-/// The same answers, with room for all that are kept.
+/// Copies the answers into a list with the whole capacity.
 fn with_room<A: Allocator + Copy>(
-    answers: &VecDeque<Kept, A>,
-) -> Result<VecDeque<Kept, A>, AllocError>
-    requires { deque_len answers.now ≤ MOST }
+    answers: &VecDeque<KeptAnswer, A>,
+) -> Result<VecDeque<KeptAnswer, A>, AllocError>
+    requires { deque_len answers.now ≤ MAX_KEPT }
     ensures items { IfOk result (λ copy. copy.items ≡ answers.now.items) }
-    ensures few { IfOk result (λ copy. deque_len copy ≤ MOST) }
-    ensures room { IfOk result (λ copy. MOST ≤ deque_capacity copy) }
+    ensures few { IfOk result (λ copy. deque_len copy ≤ MAX_KEPT) }
+    ensures room { IfOk result (λ copy. MAX_KEPT ≤ deque_capacity copy) }
 {
     let mut copy = VecDeque::with_capacity(*answers.allocator(), KEPT_ANSWERS)?;
     for place in 0..answers.len() {

@@ -1,23 +1,29 @@
-//! What a client's last call tells: the answer to another call, and the bytes by which a snapshot has it.
+//! A client's last call: the answers to other calls of the client, and its bytes in a snapshot.
+//! Rules: Sessions 3
+//! Formats: Snapshots
 
 ghost use Rattle.std.specs.Prelude.{◌≡◌, ◌++◌, take, vec_len, IfErr, OnOk, Some};
 ghost use Rattle.ring_base.specs.declared.fault.Fault.TheVariants.{Memory};
-ghost use Rattle.ring_session.specs.Snapshots.{last_spelling};
+ghost use Rattle.ring_session.specs.Snapshots.{last_call_encoding};
 ghost use Rattle.ring_session.specs.Table.{other_answer};
 
 use crate::answer::Answer;
 use crate::snapshots::append_number;
 use ring_base::Fault;
-use ring_last_call::LastCall;
 use ring_payload::Call;
+use ring_session_entry::LastCall;
 use std::alloc::Allocator;
 
-/// Appends a last call as a snapshot has it; or a front of that, for want of memory.
+/// Appends the last call of a client to `out`, as in a snapshot of the sessions: its number, its operation and the
+/// reply. An operation that is to be read again has at most 1,024 bytes.
+///
+/// Errors: `Memory`; a prefix of the encoding may then be appended to `out`.
+/// Formats: Snapshots
 pub fn append_last<A: Allocator + Copy>(
     last: &LastCall<A>,
     out: &mut Vec<u8, A>,
 ) -> Result<(), Fault>
-    ensures ok { OnOk result (out.new.items ≡ out.old.items ++ last_spelling last.now) }
+    ensures ok { OnOk result (out.new.items ≡ out.old.items ++ last_call_encoding last.now) }
     ensures front { take (vec_len out.old) out.new.items ≡ out.old.items }
     ensures refused { IfErr result (λ fault. fault ≡ Memory) }
 {
@@ -30,7 +36,10 @@ pub fn append_last<A: Allocator + Copy>(
     Ok(())
 }
 
-/// The answer to a call that is not the client's next.
+/// Returns the answer to a call that isn't the next of its client, whose last call is `last`.
+/// It is `Kept` for the number and operation of `last`. Else it is `Refused` with `Conflict` for the same number,
+/// `Stale` for a smaller one, and `NumberGap` for a greater one.
+/// Rules: Sessions 3
 pub fn other_answer<A: Allocator + Copy>(last: &LastCall<A>, call: &Call<A>) -> Answer
     ensures { result ≡ other_answer (Some last.now) call.now }
 {

@@ -1,10 +1,11 @@
-//! The session table.
+//! The session table: an object with the sessions of its clients.
+//! Rules: Sessions 2 to 5, 8 and 12
 
 ghost use Rattle.std.specs.Prelude.{◌≡◌, ◌-◌, ◌^◌, min, ◌<◌, ◌≤◌, ◌∷◌, [], ◌++◌, List, length, take, vec_len, IfOk, IfErr, OnOk, OnErr, Some, None, IsSome};
 ghost use Rattle.ring_base.specs.declared.fault.Fault.TheVariants.{Memory, SessionsFull};
 ghost use Rattle.ring_payload.specs.declared.call.Call.{Call};
-ghost use Rattle.ring_object.specs.Snapshots.{Refuses};
-ghost use Rattle.ring_session.specs.Deduplicated.{most_clients};
+ghost use Rattle.ring_object.specs.Snapshots.{IsSnapshotRefusal};
+ghost use Rattle.ring_session.specs.Deduplicated.{max_clients};
 ghost use Rattle.ring_session.specs.SessionAnswer.{refusal, reply_in, session_answer};
 ghost use Rattle.ring_session.specs.Snapshots.{table_snapshot, restored_table};
 ghost use Rattle.ring_session.specs.TicketEffects.{numbers_in, table_effects};
@@ -15,15 +16,17 @@ use crate::answer::Answer;
 use crate::session::other_answer;
 use crate::snapshots::{append_clients, parts_of, read_clients};
 use ring_base::Fault;
-use ring_last_call::LastCall;
-use ring_object::{Object, append_sized, copied};
+use ring_object::{Object, append_sized, copy_by_snapshot};
 use ring_payload::Call;
+use ring_session_entry::LastCall;
 use std::alloc::Allocator;
 use std::collections::BTreeMap;
 use std::marker::Model;
 
-/// An object, and the sessions of the clients that called it, by client. Contracts see it as a `Table`: the known
-/// clients, ascending, each with its last call and the reply to it, and the object's content.
+/// The session table: an object, and the session of each client that is known.
+/// Contracts see it as a `Table`: the known clients, ascending, each with its last call and the reply to it, and the
+/// object's content.
+/// Rules: Sessions 2
 #[derive(Drop)]
 pub struct Sessions<O: Object> {
     alloc: O::Alloc,
@@ -42,7 +45,10 @@ impl<O: Object> Model for Sessions<O> {
 }
 
 impl<O: Object> Sessions<O> {
-    /// The table that no client has called, with the object at its start, or `Memory`.
+    /// Returns the table without known clients, whose object has its start content.
+    ///
+    /// Errors: `Memory`.
+    /// Rules: Sessions 2
     pub fn new(alloc: O::Alloc) -> Result<Sessions<O>, Fault>
         ensures ok { IfOk result (λ sessions. sessions ≡ opening O.sequential.initial) }
         ensures refused { IfErr result (λ fault. fault ≡ Memory) }
@@ -55,8 +61,12 @@ impl<O: Object> Sessions<O> {
         })
     }
 
-    /// The answer to a call. One that takes effect is done on the object and kept; any other, and `Memory`, leaves
-    /// the table as it was.
+    /// Applies a call and returns its answer. A call that takes effect is applied to the object and kept with its
+    /// reply. After every answer but `Done` the table is unchanged. A call of number 0 is refused: with `Conflict` for
+    /// an unknown client, with `Stale` for a known one.
+    ///
+    /// Errors: `Memory`; the table is then unchanged.
+    /// Rules: Sessions 1, 3 and 5
     pub fn apply(&mut self, call: &Call<O::Alloc>) -> Result<Answer, Fault>
         ensures answer { IfOk result (λ answer. answer ≡ table_answer O.sequential self.old call.now) }
         ensures ok { OnOk result (self.new ≡ table_next O.sequential self.old call.now) }
@@ -67,9 +77,9 @@ impl<O: Object> Sessions<O> {
         ensures told { (calls : List (Call O.Alloc)) → self.old ≡ table_after O.sequential calls
             → IfOk result (λ answer. session_answer O.sequential (calls ++ call.now ∷ []) (length calls) ≡ Some answer) }
 
-        // A call of number 0 has no reply, and the table is full at exactly so many clients.
+        // A call of number 0 has no reply, and `SessionsFull` comes only with exactly `max_clients` known clients.
         ensures replied_from_one { IfOk result (λ answer. IsSome (reply_in answer) → 1 ≤ call.now.number) }
-        ensures full_only_at_limit { IfOk result (λ answer. answer ≡ refusal SessionsFull → length self.old.sessions ≡ most_clients) }
+        ensures full_only_at_limit { IfOk result (λ answer. answer ≡ refusal SessionsFull → length self.old.sessions ≡ max_clients) }
     {
         match self.sessions.get_mut(&call.client) {
             Some(last) => {
@@ -88,9 +98,13 @@ impl<O: Object> Sessions<O> {
         }
     }
 
-    /// Appends the snapshot to `out`: how many clients there are, each client with its last call, ascending, and the object's
-    /// snapshot behind its length. `Memory` leaves `out` as it was. From it the table is restored where each operation that is
-    /// kept has at most 1,024 bytes, as a call's has (`snapshot_law`).
+    /// Appends the snapshot to `out`: the number of clients, each client with its last call, ascending, and the
+    /// object's snapshot after its length. [`restore`](Sessions::restore) restores the table from it if each kept
+    /// operation has at most 1,024 bytes, as the operations of valid calls have (`snapshot_law`).
+    ///
+    /// Errors: `Memory`; `out` is then unchanged.
+    /// Rules: Sessions 12
+    /// Formats: Snapshots
     pub fn snapshot(&self, out: &mut Vec<u8, O::Alloc>) -> Result<(), Fault>
         ensures content { OnOk result (O.is_content self.now.content) }
         ensures ok { OnOk result (out.new.items ≡ out.old.items ++ table_snapshot O.sequential.snapshot_of self.now) }
@@ -105,7 +119,7 @@ impl<O: Object> Sessions<O> {
         Ok(())
     }
 
-    /// Appends the snapshot; or a front of it, for want of memory.
+    /// Appends the snapshot. `Memory` may leave a prefix of it appended.
     #[tactic(auto, unfolding(ring_object::specs::Sized::sized))]
     fn append(&self, out: &mut Vec<u8, O::Alloc>) -> Result<(), Fault>
         ensures content { OnOk result (O.is_content self.now.content) }
@@ -117,10 +131,14 @@ impl<O: Object> Sessions<O> {
         append_sized(&self.object, out)
     }
 
-    /// The table whose snapshot the bytes are. `BadSnapshot` exactly where they are none, else the table or `Memory`.
+    /// Returns the table whose snapshot is exactly `bytes`, in memory of `alloc`.
+    ///
+    /// Errors: `BadSnapshot`, exactly if `bytes` isn't a snapshot of such a table; `Memory`, only if it is one.
+    /// Rules: Sessions 12
+    /// Formats: Snapshots
     pub fn restore(alloc: O::Alloc, bytes: &[u8]) -> Result<Sessions<O>, Fault>
         ensures ok { IfOk result (λ sessions. restored_table O.sequential.restored bytes.now ≡ Some sessions) }
-        ensures refused { IfErr result (Refuses (restored_table O.sequential.restored bytes.now)) }
+        ensures refused { IfErr result (IsSnapshotRefusal (restored_table O.sequential.restored bytes.now)) }
     {
         let Some((count, clients, object)) = parts_of(bytes) else {
             return Err(Fault::BadSnapshot);
@@ -134,7 +152,9 @@ impl<O: Object> Sessions<O> {
         })
     }
 
-    /// A copy of the table, with the object that its snapshot is restored to. Refused with `Memory` alone.
+    /// Returns a copy of the table. The object of the copy is restored from a snapshot of this table's object.
+    ///
+    /// Errors: `Memory`.
     pub fn copy(&self) -> Result<Sessions<O>, Fault>
         ensures ok { IfOk result (λ copy. copy ≡ self.now) }
         ensures refused { IfErr result (λ fault. fault ≡ Memory) }
@@ -142,19 +162,21 @@ impl<O: Object> Sessions<O> {
         Ok(Sessions {
             alloc: self.alloc,
             sessions: self.sessions.clone()?,
-            object: copied(self.alloc, &self.object)?,
+            object: copy_by_snapshot(self.alloc, &self.object)?,
         })
     }
 
-    /// How many calls took effect: the sum of the clients' last numbers, or the greatest number of 64 bits where that is more.
+    /// Returns the number of calls that have taken effect: the sum of the clients' last numbers, at most 2^64 - 1.
+    /// Calls before a restored snapshot count too.
+    /// Rules: Sessions 2
     pub fn effects(&self) -> u64
         ensures { result ≡ table_effects self.now }
     {
         sum_of_numbers(&self.sessions)
     }
 
-    /// The answer to a client's first call. Its session is put in before the object does the call, so that nothing is
-    /// left to fail after that, and taken out again if the object has no memory.
+    /// Applies a client's first call. The session is inserted before the object applies the operation, so that nothing can
+    /// fail after that; it is removed again if the object refuses.
     fn admit(&mut self, call: &Call<O::Alloc>) -> Result<Answer, Fault>
         requires unknown { session_of self.old call.now.client ≡ None }
         requires first { call.now.number ≡ 1 }
@@ -162,7 +184,7 @@ impl<O: Object> Sessions<O> {
         ensures ok { OnOk result (self.new ≡ table_next O.sequential self.old call.now) }
         ensures err { OnErr result (self.new ≡ self.old) }
         ensures refused { IfErr result (λ fault. fault ≡ Memory) }
-        ensures full_only_at_limit { IfOk result (λ answer. answer ≡ refusal SessionsFull → length self.old.sessions ≡ most_clients) }
+        ensures full_only_at_limit { IfOk result (λ answer. answer ≡ refusal SessionsFull → length self.old.sessions ≡ max_clients) }
     {
         if self.sessions.len() >= MAX_CLIENTS {
             return Ok(Answer::refusal(Fault::SessionsFull));
@@ -181,7 +203,7 @@ impl<O: Object> Sessions<O> {
     }
 }
 
-/// The sum of the clients' last numbers, or the greatest number of 64 bits where that is more.
+/// Returns the sum of the clients' last numbers, at most 2^64 - 1.
 fn sum_of_numbers<A: Allocator + Copy>(sessions: &BTreeMap<u32, LastCall<A>, A>) -> u64
     ensures { result ≡ min (2 ^ 64 - 1) (numbers_in sessions.now.entries) }
 {

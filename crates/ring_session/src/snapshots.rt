@@ -1,29 +1,34 @@
-//! How a session table lies in bytes.
+//! The bytes of a session table's snapshot.
+//! Rules: Sessions 12
+//! Formats: Snapshots
 
 ghost use Rattle.std.specs.Prelude.{◌≡◌, suc, ◌^◌, ◌<◌, ◌≤◌, ◌++◌, length, take, Some, IsSome, IfSome, OnOk, OnErr, IfOk, IfErr, vec_len};
 ghost use Rattle.std.specs.List.{flat_map};
 ghost use Rattle.std.specs.Option.{option_map};
 ghost use Rattle.ring_base.specs.declared.fault.Fault.TheVariants.{Memory};
 ghost use Rattle.byteorder.specs.Endian.{big_bytes};
-ghost use Rattle.ring_payload.specs.Layouts.{number_at, text_at, ◌⊕◌};
+ghost use Rattle.ring_payload.specs.Codecs.{number_at, text_at, ◌⊕◌};
 ghost use Rattle.ring_payload.specs.Operations.{op_at};
-ghost use Rattle.ring_session.specs.Deduplicated.{most_clients};
-ghost use Rattle.ring_session.specs.Snapshots.{client_spelling, reply_at, next_at, clients_at, clients_in, AreParts};
+ghost use Rattle.ring_session.specs.Deduplicated.{max_clients};
+ghost use Rattle.ring_session.specs.Snapshots.{client_encoding, reply_at, next_at, clients_at, clients_in, AreParts};
 
 use crate::MAX_CLIENTS;
 use crate::session::append_last;
 use byteorder::{BigEndian, ByteOrder};
 use ring_base::Fault;
-use ring_last_call::LastCall;
-use ring_object::MOST_REPLY;
-use ring_payload::MOST_OPERATION;
+use ring_object::MAX_REPLY;
+use ring_payload::MAX_OPERATION;
+use ring_session_entry::LastCall;
 use std::alloc::Allocator;
 use std::collections::BTreeMap;
 use std::marker::Model;
 
 // ---- writing
 
-/// Appends the last bytes of the number, so many, 1 to 8; or nothing, for want of memory.
+/// Appends the low `width` bytes of `number` to `out`, big-endian. That `width` is at most 8 is the caller's condition.
+///
+/// Errors: `Memory`; `out` is then unchanged.
+/// Formats: Numbers and parts
 pub fn append_number<A: Allocator + Copy>(
     out: &mut Vec<u8, A>,
     number: u64,
@@ -40,13 +45,16 @@ pub fn append_number<A: Allocator + Copy>(
     Ok(())
 }
 
-/// Appends how many clients there are and the clients; or a front of that, for want of memory.
+/// Appends the number of clients to `out`, in 2 bytes, then the clients, ascending, each with its last call.
+///
+/// Errors: `Memory`; a prefix of the encoding may then be appended to `out`.
+/// Formats: Snapshots
 pub fn append_clients<A: Allocator + Copy>(
     out: &mut Vec<u8, A>,
     sessions: &BTreeMap<u32, LastCall<A>, A>,
 ) -> Result<(), Fault>
     ensures ok { OnOk result (out.new.items
-        ≡ out.old.items ++ big_bytes 2 (length sessions.now.entries) ⊕ flat_map client_spelling sessions.now.entries) }
+        ≡ out.old.items ++ big_bytes 2 (length sessions.now.entries) ⊕ flat_map client_encoding sessions.now.entries) }
     ensures front { take (vec_len out.old) out.new.items ≡ out.old.items }
     ensures refused { IfErr result (λ fault. fault ≡ Memory) }
 {
@@ -60,7 +68,7 @@ pub fn append_clients<A: Allocator + Copy>(
 
 // ---- reading
 
-/// The number that the first bytes make, so many, 1 to 8, and what stands behind it.
+/// Splits off a number of `width` bytes, 1 to 8.
 fn first_number(width: usize, bytes: &[u8]) -> Option<(u64, &[u8])>
     requires low { 1 ≤ width }
     requires high { width ≤ 8 }
@@ -73,7 +81,7 @@ fn first_number(width: usize, bytes: &[u8]) -> Option<(u64, &[u8])>
     Some((BigEndian::read_uint(bytes, width), &bytes[width..]))
 }
 
-/// The first bytes, so many, and what stands behind them.
+/// Splits off the first `len` bytes.
 fn first_text(len: u64, bytes: &[u8]) -> Option<(&[u8], &[u8])>
     ensures { option_map (λ p. (p.0.now, p.1.now)) result ≡ text_at len bytes.now }
 {
@@ -83,19 +91,19 @@ fn first_text(len: u64, bytes: &[u8]) -> Option<(&[u8], &[u8])>
     Some(bytes.split_at(len as usize))
 }
 
-/// The operation at the front, and what stands behind it.
+/// Splits off an operation after its length.
 #[tactic(auto, unfolding(ring_payload::specs::Operations::op_at))]
 fn first_operation(bytes: &[u8]) -> Option<(&[u8], &[u8])>
     ensures { option_map (λ p. (p.0.now, p.1.now)) result ≡ op_at bytes.now }
 {
     let (len, rest) = first_number(2, bytes)?;
-    if len > MOST_OPERATION as u64 {
+    if len > MAX_OPERATION as u64 {
         return None;
     }
     first_text(len, rest)
 }
 
-/// The reply at the front, and what stands behind it.
+/// Splits off a reply after its length.
 #[tactic(auto, unfolding(crate::specs::Snapshots::reply_at))]
 fn first_reply(bytes: &[u8]) -> Option<(&[u8], &[u8])>
     ensures { option_map (λ p. (p.0.now, p.1.now)) result ≡ reply_at bytes.now }
@@ -103,22 +111,23 @@ fn first_reply(bytes: &[u8]) -> Option<(&[u8], &[u8])>
     let [len, rest @ ..] = bytes else {
         return None;
     };
-    if *len as usize > MOST_REPLY {
+    if *len as usize > MAX_REPLY {
         return None;
     }
     first_text(u64::from(*len), rest)
 }
 
-/// A client and its last call, as bytes tell them.
+/// A client and its last call, borrowed from the bytes of a snapshot.
+/// Formats: Snapshots
 #[derive(Drop)]
-pub struct ClientTold<'a> {
+pub struct ClientFields<'a> {
     client: u32,
     number: u64,
     operation: &'a [u8],
     reply: &'a [u8],
 }
 
-impl<'a> Model for ClientTold<'a> {
+impl<'a> Model for ClientFields<'a> {
     ghost use Rattle.std.specs.Prelude.{ℕ, ◌≤◌, length};
     ghost use Rattle.ring_session.specs.Table.{LastCall};
 
@@ -129,21 +138,21 @@ impl<'a> Model for ClientTold<'a> {
     ghost invariant = { λ t. length t.reply.now ≤ 64 };
 }
 
-impl<'a> ClientTold<'a> {
+impl<'a> ClientFields<'a> {
     fn client(&self) -> u32
         ensures { result ≡ self.now.0 }
     {
         self.client
     }
 
-    /// The least number that the client behind this one may have.
+    /// Returns the least number that the next client may have.
     fn above(&self) -> u64
         ensures { result ≡ suc self.now.0 }
     {
         u64::from(self.client) + 1
     }
 
-    /// The client's last call, or `Memory`.
+    /// Returns the client's last call. The only refusal is `Memory`.
     fn last_call<A: Allocator + Copy>(&self, alloc: A) -> Result<LastCall<A>, Fault>
         ensures ok { IfOk result (λ last. last ≡ self.now.1) }
         ensures refused { IfErr result (λ fault. fault ≡ Memory) }
@@ -152,8 +161,8 @@ impl<'a> ClientTold<'a> {
     }
 }
 
-/// The client at the front, if its number is none below this one, and what stands behind it.
-fn first_client(low: u64, bytes: &[u8]) -> Option<(ClientTold<'_>, &[u8])>
+/// Splits off the first client. `None` also if its number is below `low`.
+fn first_client(low: u64, bytes: &[u8]) -> Option<(ClientFields<'_>, &[u8])>
     ensures { option_map (λ p. (p.0, p.1.now)) result ≡ next_at low bytes.now }
 {
     let (client, rest) = first_number(4, bytes)?;
@@ -166,33 +175,35 @@ fn first_client(low: u64, bytes: &[u8]) -> Option<(ClientTold<'_>, &[u8])>
     if client < low {
         return None;
     }
-    let told = ClientTold {
+    let client_entry = ClientFields {
         client: client as u32,
         number,
         operation,
         reply,
     };
-    Some((told, rest))
+    Some((client_entry, rest))
 }
 
-/// What stands behind so many clients, ascending, if they stand at the front.
-fn behind_clients(count: u64, bytes: &[u8]) -> Option<&[u8]>
+/// Returns the bytes after `count` ascending clients; `None` if the bytes don't begin with these.
+fn bytes_after_clients(count: u64, bytes: &[u8]) -> Option<&[u8]>
     ensures { option_map (λ rest. rest.now) result ≡ option_map (λ x. x.1) (clients_at count 0 bytes.now) }
 {
     let mut rest = bytes;
     let mut low = 0;
     for _i in 0..count {
-        let Some((told, behind)) = first_client(low, rest) else {
+        let Some((client_entry, behind)) = first_client(low, rest) else {
             return None;
         };
-        low = told.above();
+        low = client_entry.above();
         rest = behind;
     }
     Some(rest)
 }
 
-/// The parts of a snapshot: how many clients there are, the bytes from the first client on, and the object's snapshot. Whether
-/// that is one is not looked at.
+/// Splits a snapshot of the sessions into its three parts.
+/// They are the number of clients, 0 to 1,024, the bytes from the first client on, and the object's snapshot, which
+/// isn't checked. Returns `None` for all bytes that don't have these parts, bytes left over included.
+/// Formats: Snapshots
 pub fn parts_of(bytes: &[u8]) -> Option<(u64, &[u8], &[u8])>
     ensures { AreParts bytes.now (option_map (λ p. (p.0, p.1.now, p.2.now)) result) }
 {
@@ -200,7 +211,7 @@ pub fn parts_of(bytes: &[u8]) -> Option<(u64, &[u8], &[u8])>
     if count > MAX_CLIENTS as u64 {
         return None;
     }
-    let rest = behind_clients(count, clients)?;
+    let rest = bytes_after_clients(count, clients)?;
     let (len, rest) = first_number(8, rest)?;
     let (object, rest) = first_text(len, rest)?;
     if !rest.is_empty() {
@@ -209,7 +220,11 @@ pub fn parts_of(bytes: &[u8]) -> Option<(u64, &[u8], &[u8])>
     Some((count, clients, object))
 }
 
-/// The sessions of so many clients at the front, which stand there; or `Memory`.
+/// Decodes `count` clients with their last calls from the front of `bytes`.
+/// That the encodings of `count` ascending clients begin `bytes` is the caller's condition.
+///
+/// Errors: `Memory`.
+/// Formats: Snapshots
 pub fn read_clients<A: Allocator + Copy>(
     alloc: A,
     count: u64,
@@ -223,10 +238,10 @@ pub fn read_clients<A: Allocator + Copy>(
     let mut rest = bytes;
     let mut low = 0;
     for _i in 0..count {
-        let (told, behind) = first_client(low, rest).unwrap();
-        let last = told.last_call(alloc)?;
-        sessions.insert(told.client(), last)?;
-        low = told.above();
+        let (client_entry, behind) = first_client(low, rest).unwrap();
+        let last = client_entry.last_call(alloc)?;
+        sessions.insert(client_entry.client(), last)?;
+        low = client_entry.above();
         rest = behind;
     }
     Ok(sessions)

@@ -1,20 +1,21 @@
-//! The tickets of a node.
+//! The tickets of a node, and the answers that committed calls give to them.
+//! Rules: The replicated log 13 to 15
 
 ghost use Rattle.std.specs.Prelude.{◌≡◌, ◌≤◌, ◌<◌, List, [], ◌∷◌, ◌++◌, fold, true, false, not, IfOk, IfErr, OnOk, length};
 ghost use Rattle.std.specs.Vec.{vec_capacity};
 ghost use Rattle.ring_base.specs.declared.fault.Fault.TheVariants.{Memory, PendingFull};
 ghost use Rattle.ring_payload.specs.declared.call.Call.{Call as OneCall};
-ghost use Rattle.ring_session.specs.Buckets.{AreChained, AreGone};
+ghost use Rattle.ring_session.specs.Buckets.{AreChained, AreCommitted};
 ghost use Rattle.ring_session.specs.SessionAnswer.{is_done, is_same};
 ghost use Rattle.ring_session.specs.Table.{table_next};
-ghost use Rattle.ring_session.specs.Recent.{kept_answer};
+ghost use Rattle.ring_session.specs.RecentAnswers.{kept_answer};
 ghost use Rattle.ring_session.specs.TicketEffects.{done_after};
-ghost use Rattle.ring_session.specs.Pendings.{none_given, is_full, with_ticket, stands_in, answers_to, answers_behind, left_by, with_answers};
+ghost use Rattle.ring_session.specs.Pendings.{no_tickets, is_full, with_ticket, contains_call, answers_to, answers_behind, unanswered_by, with_answers};
 
-use crate::answered::Answered;
-use crate::buckets::{Buckets, Gone};
+use crate::answered::TicketAnswer;
+use crate::buckets::{Buckets, CommittedFlags};
 use crate::pending::Pending;
-use crate::recent::Recent;
+use crate::recent::RecentAnswers;
 use crate::ticket::Ticket;
 use crate::{Answer, MAX_UNANSWERED, Sessions};
 use ring_base::{Fault, MAX};
@@ -23,13 +24,14 @@ use ring_payload::Call;
 use std::alloc::{AllocError, Allocator, Global};
 use std::marker::Model;
 
-/// The tickets of a node: how many it gave, which of them have no answer yet, and the answers given last. Its room is
-/// made at once. Contracts see these three.
+/// The tickets of a node: the number of tickets that it has given, the unanswered tickets, and the answers given last.
+/// Memory for all of them is allocated at once. Contracts see these three.
+/// Rules: The replicated log 13 to 15
 #[derive(Drop)]
 pub struct Tickets<A: Allocator + Copy + Drop = Global> {
     given: u64,
     pending: Vec<Pending<A>, A>,
-    recent: Recent<A>,
+    recent: RecentAnswers<A>,
 }
 
 impl<A: Allocator + Copy + Drop> Model for Tickets<A> {
@@ -45,7 +47,7 @@ impl<A: Allocator + Copy + Drop> Model for Tickets<A> {
     ghost invariant = { λ t. (length t.pending.items ≤ 64) × (64 ≤ vec_capacity t.pending) × (t.given ≤ max_number) };
 }
 
-/// A copy has room for as many tickets.
+/// A copy has memory for [`MAX_UNANSWERED`] unanswered tickets and [`KEPT_ANSWERS`] answers too.
 impl<A: Allocator + Copy + Drop> Clone for Tickets<A> {
     ghost is_clone = { λ tickets copy. copy ≡ tickets };
 
@@ -64,20 +66,25 @@ impl<A: Allocator + Copy + Drop> Clone for Tickets<A> {
 }
 
 impl<A: Allocator + Copy + Drop> Tickets<A> {
-    /// No ticket was given. Refused with `Memory` alone.
+    /// Returns the tickets of a node that hasn't given any.
+    ///
+    /// Errors: `Memory`.
+    /// Rules: The replicated log 13
     pub fn new(alloc: A) -> Result<Tickets<A>, Fault>
-        ensures ok { IfOk result (λ tickets. tickets ≡ none_given) }
+        ensures ok { IfOk result (λ tickets. tickets ≡ no_tickets) }
         ensures refused { IfErr result (λ fault. fault ≡ Memory) }
     {
         Ok(Tickets {
             given: 0,
             pending: Vec::with_capacity(alloc, MAX_UNANSWERED)?,
-            recent: Recent::new(alloc)?,
+            recent: RecentAnswers::new(alloc)?,
         })
     }
 
-    /// Whether a ticket may be given: refused with `PendingFull` where 64 tickets have no answer, which is the most, or
-    /// 2^62 were given.
+    /// Checks whether the node may give a ticket now.
+    ///
+    /// Errors: `PendingFull` if 64 tickets are unanswered, which is the most, or `MAX` tickets have been given.
+    /// Rules: The replicated log 13
     pub fn check(&self) -> Result<(), Fault>
         ensures ok { OnOk result (is_full self.now ≡ false) }
         ensures full { IfErr result (λ fault. is_full self.now ≡ true) }
@@ -89,7 +96,9 @@ impl<A: Allocator + Copy + Drop> Tickets<A> {
         Ok(())
     }
 
-    /// Gives the call the next ticket. It takes no memory.
+    /// Gives the next ticket for the call, which is unanswered now, and returns the ticket.
+    /// That [`check`](Tickets::check) succeeds is the caller's condition. Takes no memory.
+    /// Rules: The replicated log 13
     pub fn give(&mut self, call: Call<A>) -> Ticket
         requires { is_full self.old ≡ false }
         ensures ticket { result ≡ self.old.given }
@@ -101,23 +110,26 @@ impl<A: Allocator + Copy + Drop> Tickets<A> {
         ticket
     }
 
-    /// The tickets without an answer, in order, with their calls.
+    /// Returns the unanswered tickets with their calls, at most 64, in the order in which they were given.
+    /// Rules: The replicated log 13
     pub fn pending(&self) -> &[Pending<A>]
         ensures { result.now ≡ self.now.pending }
     {
         self.pending.as_slice()
     }
 
-    /// Keeps answers that committed calls gave: the tickets of the same calls have an answer from now on. It takes no
-    /// memory.
-    pub fn keep(&mut self, committed: &[Call<A>], answers: &[Answered<A>])
+    /// Records that the calls `committed` were done, and that the node gave these answers, in this order.
+    /// The tickets of these calls are answered from now on. Takes no memory.
+    /// Rules: The replicated log 14 and 15
+    pub fn keep(&mut self, committed: &[Call<A>], answers: &[TicketAnswer<A>])
         ensures { self.new ≡ with_answers self.old committed.now answers.now }
     {
-        leave(&mut self.pending, committed);
+        remove_committed(&mut self.pending, committed);
         self.recent.extend(answers);
     }
 
-    /// The answer to a ticket, if it is among the 64 that were given last.
+    /// Returns the answer to a ticket if the ticket is among the 64 that were answered last, else `None`.
+    /// Rules: The replicated log 15
     pub fn reply(&self, ticket: Ticket) -> Option<Answer>
         ensures { result ≡ kept_answer ticket self.now.kept }
     {
@@ -125,17 +137,17 @@ impl<A: Allocator + Copy + Drop> Tickets<A> {
     }
 }
 
-/// Whether the two are one call. The calls that wait at a node differ nearly all by their number, so this is compared
-/// first, in line.
+/// Returns whether the two are one call. The pending calls of a node differ nearly all by their number, so it is
+/// compared first, inline.
 #[inline(always)]
 fn is_same<A: Allocator + Copy>(call: &Call<A>, other: &Call<A>) -> bool
     ensures { result ≡ is_same call.now other.now }
 {
-    other.number == call.number && is_same_whole(call, other)
+    other.number == call.number && is_same_call(call, other)
 }
 
-/// Whether the two are of one client and number, and with the same operation.
-fn is_same_whole<A: Allocator + Copy>(call: &Call<A>, other: &Call<A>) -> bool
+/// Compares client, number and operation.
+fn is_same_call<A: Allocator + Copy>(call: &Call<A>, other: &Call<A>) -> bool
     ensures { result ≡ is_same call.now other.now }
 {
     other.client == call.client
@@ -143,43 +155,50 @@ fn is_same_whole<A: Allocator + Copy>(call: &Call<A>, other: &Call<A>) -> bool
         && other.op.as_slice() == call.op.as_slice()
 }
 
-/// A copy of the call. `AllocError` where memory was refused to it.
+/// Returns a copy of the call. The two share the bytes of the operation.
+///
+/// Errors: `AllocError` if memory is refused.
 pub fn copy_of<A: Allocator + Copy>(call: &Call<A>) -> Result<Call<A>, AllocError>
     ensures { IfOk result (λ copy. copy ≡ call.now) }
 {
     call.clone()
 }
 
-/// Whether the answer tells that its call takes effect now.
 fn is_done(answer: &Answer) -> bool
     ensures { result ≡ is_done answer.now }
 {
     matches!(answer, Answer::Done(_))
 }
 
-/// Lets the tickets go whose call was committed.
-fn leave<A: Allocator + Copy + Drop>(pending: &mut Vec<Pending<A>, A>, committed: &[Call<A>])
+/// Removes the tickets whose call was committed.
+fn remove_committed<A: Allocator + Copy + Drop>(
+    pending: &mut Vec<Pending<A>, A>,
+    committed: &[Call<A>],
+)
     requires { length pending.old.items ≤ 64 }
-    ensures items { pending.new.items ≡ left_by committed.now pending.old.items }
+    ensures items { pending.new.items ≡ unanswered_by committed.now pending.old.items }
     ensures few { length pending.new.items ≤ length pending.old.items }
     ensures capacity { vec_capacity pending.new ≡ vec_capacity pending.old }
 {
     if committed.is_empty() || pending.is_empty() {
         return;
     }
-    leave_some(pending, committed);
+    remove_committed_some(pending, committed);
 }
 
-/// The same where a call was committed and a ticket waits. It stands apart, since a call clears its room for the places of
-/// the tickets.
+/// `remove_committed` for a nonempty list of calls and of tickets. A function of its own keeps the large stack slot for the
+/// tickets' positions out of its caller.
 #[inline(never)]
-fn leave_some<A: Allocator + Copy + Drop>(pending: &mut Vec<Pending<A>, A>, committed: &[Call<A>])
+fn remove_committed_some<A: Allocator + Copy + Drop>(
+    pending: &mut Vec<Pending<A>, A>,
+    committed: &[Call<A>],
+)
     requires { length pending.old.items ≤ 64 }
-    ensures items { pending.new.items ≡ left_by committed.now pending.old.items }
+    ensures items { pending.new.items ≡ unanswered_by committed.now pending.old.items }
     ensures few { length pending.new.items ≤ length pending.old.items }
     ensures capacity { vec_capacity pending.new ≡ vec_capacity pending.old }
 {
-    let gone = gone_among(pending.as_slice(), committed);
+    let gone = committed_among(pending.as_slice(), committed);
     let mut kept = 0;
     for place in 0..pending.len() {
         if !gone.has(place) {
@@ -190,30 +209,33 @@ fn leave_some<A: Allocator + Copy + Drop>(pending: &mut Vec<Pending<A>, A>, comm
     pending.truncate(kept);
 }
 
-/// Which of these tickets have a call that was committed.
-fn gone_among<A: Allocator + Copy>(pending: &[Pending<A>], committed: &[Call<A>]) -> Gone
+/// Marks the tickets whose call is among the committed.
+fn committed_among<A: Allocator + Copy>(
+    pending: &[Pending<A>],
+    committed: &[Call<A>],
+) -> CommittedFlags
     requires { length pending.now ≤ 64 }
-    ensures { AreGone result.places committed.now pending.now }
+    ensures { AreCommitted result.places committed.now pending.now }
 {
     let buckets = Buckets::of(pending);
-    let mut gone = Gone::new();
+    let mut gone = CommittedFlags::new();
     for call in committed {
-        let_go(&buckets, &mut gone, pending, call);
+        mark_committed(&buckets, &mut gone, pending, call);
     }
     gone
 }
 
-/// Lets the tickets of a committed call go.
-fn let_go<A: Allocator + Copy>(
+/// Marks the tickets of one committed call.
+fn mark_committed<A: Allocator + Copy>(
     buckets: &Buckets,
-    gone: &mut Gone,
+    gone: &mut CommittedFlags,
     pending: &[Pending<A>],
     call: &Call<A>,
 )
     requires few { length pending.now ≤ 64 }
     requires chained { AreChained buckets.now.first buckets.now.next 0 pending.now }
-    ensures { (before : List (OneCall A)) → AreGone gone.old.places before pending.now
-        → AreGone gone.new.places (before ++ call.now ∷ []) pending.now }
+    ensures { (before : List (OneCall A)) → AreCommitted gone.old.places before pending.now
+        → AreCommitted gone.new.places (before ++ call.now ∷ []) pending.now }
 {
     let mut place = buckets.first_of(call);
     while place < pending.len() {
@@ -222,29 +244,30 @@ fn let_go<A: Allocator + Copy>(
     }
 }
 
-/// Whether the call stands among these.
-pub fn stands_in<A: Allocator + Copy>(calls: &[Call<A>], call: &Call<A>) -> bool
-    ensures { result ≡ stands_in calls.now call.now }
+/// Returns whether one of `calls` has the same client, number and operation as `call`.
+/// Rules: The replicated log 14
+pub fn contains_call<A: Allocator + Copy>(calls: &[Call<A>], call: &Call<A>) -> bool
+    ensures { result ≡ contains_call calls.now call.now }
 {
     calls.iter().any(|other| is_same(call, other))
 }
 
-/// Adds the answers to the tickets of a committed call, behind `answers`, and lets them go: to none that was gone. Refused
-/// with `Memory` alone.
+/// Appends the answers to the tickets of a committed call, and marks these tickets. Tickets already marked get none. The
+/// only refusal is `Memory`.
 fn answer_to<A: Allocator + Copy + Drop>(
     buckets: &Buckets,
-    gone: &mut Gone,
+    gone: &mut CommittedFlags,
     pending: &[Pending<A>],
     call: &Call<A>,
     answer: Answer,
-    answers: &mut Vec<Answered<A>, A>,
+    answers: &mut Vec<TicketAnswer<A>, A>,
 ) -> Result<(), Fault>
     requires few { length pending.now ≤ 64 }
     requires chained { AreChained buckets.now.first buckets.now.next 0 pending.now }
-    ensures answers { OnOk result ((before : List (OneCall A)) → AreGone gone.old.places before pending.now
+    ensures answers { OnOk result ((before : List (OneCall A)) → AreCommitted gone.old.places before pending.now
         → answers.new.items ≡ answers.old.items ++ answers_to before call.now answer pending.now) }
-    ensures gone { OnOk result ((before : List (OneCall A)) → AreGone gone.old.places before pending.now
-        → AreGone gone.new.places (before ++ call.now ∷ []) pending.now) }
+    ensures gone { OnOk result ((before : List (OneCall A)) → AreCommitted gone.old.places before pending.now
+        → AreCommitted gone.new.places (before ++ call.now ∷ []) pending.now) }
     ensures refused { IfErr result (λ fault. fault ≡ Memory) }
 {
     let mut place = buckets.first_of(call);
@@ -258,49 +281,52 @@ fn answer_to<A: Allocator + Copy + Drop>(
     Ok(())
 }
 
-/// The same for tickets for which the buckets have no room: they are looked through for the call, and the calls before it
-/// for each that is of the call.
-fn answer_beyond<A: Allocator + Copy + Drop>(
+/// `answer_to` for the tickets past the buckets' capacity. It searches these tickets for the call; a ticket whose call is
+/// in `before` gets no answer.
+fn answer_without_buckets<A: Allocator + Copy + Drop>(
     pending: &[Pending<A>],
     before: &[Call<A>],
     call: &Call<A>,
     answer: Answer,
-    answers: &mut Vec<Answered<A>, A>,
+    answers: &mut Vec<TicketAnswer<A>, A>,
 ) -> Result<(), Fault>
     ensures answers { OnOk result (answers.new.items ≡ answers.old.items ++ answers_to before.now call.now answer pending.now) }
     ensures refused { IfErr result (λ fault. fault ≡ Memory) }
 {
     for asked in pending {
-        if is_same(&asked.call, call) && !stands_in(before, &asked.call) {
+        if is_same(&asked.call, call) && !contains_call(before, &asked.call) {
             answers.push(answered(asked, answer)?)?;
         }
     }
     Ok(())
 }
 
-/// The answer to a ticket.
 fn answered<A: Allocator + Copy + Drop>(
     asked: &Pending<A>,
     answer: Answer,
-) -> Result<Answered<A>, AllocError>
+) -> Result<TicketAnswer<A>, AllocError>
     ensures { IfOk result (λ told. told ≡ record { ticket = asked.now.ticket; call = asked.now.call; answer = answer }) }
 {
-    Ok(Answered {
+    Ok(TicketAnswer {
         ticket: asked.ticket,
         call: copy_of(&asked.call)?,
         answer,
     })
 }
 
-/// Applies newly committed calls to the sessions, one after the other, and gives each answer to the pending tickets of
-/// the same call, in the order of tickets. Tells, beside the answers, how many of the calls took effect. Refused with
-/// `Memory` alone.
+/// Applies newly committed calls to the sessions, in order.
+/// Returns the answers to the pending tickets of these calls, and the number of calls that took effect. The answers
+/// come in the order of the calls, then of their tickets. Each ticket is answered once, by the first of these calls
+/// with the same client, number and operation.
+///
+/// Errors: `Memory`; the sessions are then unspecified.
+/// Rules: The replicated log 12 and 14
 pub fn answers_of<O: Object>(
     alloc: O::Alloc,
     sessions: &mut Sessions<O>,
     pending: &[Pending<O::Alloc>],
     committed: &[Call<O::Alloc>],
-) -> Result<(Vec<Answered<O::Alloc>, O::Alloc>, u64), Fault>
+) -> Result<(Vec<TicketAnswer<O::Alloc>, O::Alloc>, u64), Fault>
     ensures table { OnOk result (sessions.new ≡ fold (table_next O.sequential) sessions.old committed.now) }
     ensures answers { IfOk result (λ given. given.0.items ≡ answers_behind O.sequential sessions.old pending.now [] committed.now) }
     ensures effects { IfOk result (λ given. given.1 ≡ done_after O.sequential sessions.old committed.now) }
@@ -312,10 +338,10 @@ pub fn answers_of<O: Object>(
     if pending.is_empty() {
         return Ok((Vec::new(alloc), apply_all(sessions, committed)?));
     }
-    answers_among(alloc, sessions, pending, committed)
+    answers_of_pending(alloc, sessions, pending, committed)
 }
 
-/// Applies calls to the sessions, one after the other, and tells how many of them took effect. Refused with `Memory` alone.
+/// Applies calls to the sessions, in order. Returns the number of calls that took effect. The only refusal is `Memory`.
 fn apply_all<O: Object>(
     sessions: &mut Sessions<O>,
     committed: &[Call<O::Alloc>],
@@ -334,15 +360,15 @@ fn apply_all<O: Object>(
     Ok(effects)
 }
 
-/// The same as [`answers_of`], where a call was committed and a ticket waits. It stands apart, since a call clears its
-/// room for the places of the tickets.
+/// [`answers_of`] for a nonempty list of calls and of tickets. A function of its own keeps the large stack slot for the
+/// tickets' positions out of its caller.
 #[inline(never)]
-fn answers_among<O: Object>(
+fn answers_of_pending<O: Object>(
     alloc: O::Alloc,
     sessions: &mut Sessions<O>,
     pending: &[Pending<O::Alloc>],
     committed: &[Call<O::Alloc>],
-) -> Result<(Vec<Answered<O::Alloc>, O::Alloc>, u64), Fault>
+) -> Result<(Vec<TicketAnswer<O::Alloc>, O::Alloc>, u64), Fault>
     ensures table { OnOk result (sessions.new ≡ fold (table_next O.sequential) sessions.old committed.now) }
     ensures answers { IfOk result (λ given. given.0.items ≡ answers_behind O.sequential sessions.old pending.now [] committed.now) }
     ensures effects { IfOk result (λ given. given.1 ≡ done_after O.sequential sessions.old committed.now) }
@@ -350,7 +376,7 @@ fn answers_among<O: Object>(
 {
     let (near, beyond) = pending.split_at(pending.len().min(MAX_UNANSWERED));
     let buckets = Buckets::of(near);
-    let mut gone = Gone::new();
+    let mut gone = CommittedFlags::new();
     let mut answers = Vec::new(alloc);
     let mut effects = 0;
     for (place, call) in committed.iter().enumerate() {
@@ -359,7 +385,7 @@ fn answers_among<O: Object>(
             effects += 1;
         }
         answer_to(&buckets, &mut gone, near, call, answer, &mut answers)?;
-        answer_beyond(beyond, &committed[..place], call, answer, &mut answers)?;
+        answer_without_buckets(beyond, &committed[..place], call, answer, &mut answers)?;
     }
     Ok((answers, effects))
 }

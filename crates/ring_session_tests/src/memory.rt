@@ -1,16 +1,17 @@
 //! Work that takes memory, with each request refused in turn.
+//! Rules: Objects 4; Sessions 5
 
 use crate::sessions::refusals;
 use crate::snapshots::call_and_come_back;
-use crate::things::change_and_come_back_anew;
+use crate::things::change_and_restore_with_faults;
 use crate::tickets::answer_three;
-use refusing_alloc::{Refusing, refuse_in_turn};
+use refusing_alloc::{RefusingHeap, refuse_in_turn};
 use ring_base::Fault;
-use ring_things::{Counters, Names, Queue, Things};
+use ring_things::{Counters, Names, Queue, StandardObjects};
 use std::alloc::{AllocError, Global};
 
-/// Whether work ends with the request that is refused, and tells so.
-fn has_ended(heap: &Refusing, told: Result<(), Fault>) -> bool {
+/// Whether the work's result is `Memory` exactly if a request was refused.
+fn has_ended(heap: &RefusingHeap, told: Result<(), Fault>) -> bool {
     let fault = if heap.has_refused() {
         Some(Fault::Memory)
     } else {
@@ -22,32 +23,35 @@ fn has_ended(heap: &Refusing, told: Result<(), Fault>) -> bool {
 /// Work that takes memory.
 #[derive(Clone, Copy)]
 enum Work {
-    /// It is done all the same, and counts how often it was refused memory.
+    /// Completes in spite of refusals, and counts them.
     Calls,
     Snapshots,
     Shelf,
     Tickets,
 }
 
-/// What `refuse_in_turn` wants to be told of the work: an error where a request was refused, but where the work was wrong
-/// the contrary. The only fault is want of memory, and it comes with each request that is refused.
-fn answered(heap: &Refusing, ample: &Refusing, work: Work) -> Result<(), AllocError> {
+/// Runs the work and gives `refuse_in_turn` the result that it expects: an error if a request was refused. If the work
+/// itself is wrong, the result is the opposite. The only fault is `Memory`, and it comes with each refused request.
+fn answered(heap: &RefusingHeap, ample: &RefusingHeap, work: Work) -> Result<(), AllocError> {
     let is_right = match work {
         Work::Calls => {
-            let refusals = refusals::<Names<&Refusing>>(heap, ample);
+            let refusals = refusals::<Names<&RefusingHeap>>(heap, ample);
             refusals == Ok(u64::from(heap.has_refused()))
         }
-        Work::Snapshots => has_ended(heap, call_and_come_back::<Queue<&Refusing>>(heap)),
-        Work::Shelf => has_ended(heap, change_and_come_back_anew::<Things<&Refusing>>(heap)),
-        Work::Tickets => has_ended(heap, answer_three::<Counters<&Refusing>>(heap)),
+        Work::Snapshots => has_ended(heap, call_and_come_back::<Queue<&RefusingHeap>>(heap)),
+        Work::Shelf => has_ended(
+            heap,
+            change_and_restore_with_faults::<StandardObjects<&RefusingHeap>>(heap),
+        ),
+        Work::Tickets => has_ended(heap, answer_three::<Counters<&RefusingHeap>>(heap)),
     };
     heap.answer(is_right)
 }
 
-/// How often the work asks for memory, each time refused once.
+/// The number of requests for memory that the work makes when each is refused once.
 fn requests_of(alloc: Global, work: Work) -> Option<u64> {
-    let ample = Refusing::new(alloc, u64::MAX);
-    refuse_in_turn(alloc, &|heap: &Refusing| answered(heap, &ample, work))
+    let ample = RefusingHeap::new(alloc, u64::MAX);
+    refuse_in_turn(alloc, &|heap: &RefusingHeap| answered(heap, &ample, work))
 }
 
 #[test]

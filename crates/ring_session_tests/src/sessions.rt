@@ -1,4 +1,5 @@
-//! Calls to a session table, each tried again where a request is refused.
+//! Calls to a session table, each tried again if a request is refused.
+//! Rules: Sessions 3 and 5
 
 use ring_base::Fault;
 use ring_object::{Object, Reply};
@@ -6,8 +7,8 @@ use ring_payload::Call;
 use ring_session::{Answer, Sessions};
 use ring_things::{Names, Outcome, reply};
 
-/// How often the call with this reply was refused memory. One that was is answered, when it is tried again, as if it hadn't
-/// been: the table, and the object in it, were left as they were. Another answer is a fault.
+/// The number of refusals, 0 or 1, of the call with this reply. A refused call is tried again, and its answer shows that
+/// table and object were unchanged. `Conflict` for any other answer.
 fn refused_of<O: Object>(
     sessions: &mut Sessions<O>,
     call: &Call<O::Alloc>,
@@ -25,7 +26,7 @@ fn refused_of<O: Object>(
     }
 }
 
-/// The same of the call of this step, which puts in a name. Where the name was there, another reply would tell.
+/// `refused_of` for the call of this step, which inserts a name. If the name were already there, the reply would differ.
 fn refused_at<O: Object>(
     sessions: &mut Sessions<O>,
     ample: O::Alloc,
@@ -37,8 +38,7 @@ fn refused_at<O: Object>(
     refused_of(sessions, &call, reply(Outcome::Done))
 }
 
-/// How often two calls of each of 16 clients, enough for a table of several nodes, were refused memory, after so many
-/// refusals.
+/// `before` plus the refusals of two calls of each of 16 clients, enough for a table of several nodes.
 fn refused_then<O: Object>(
     sessions: &mut Sessions<O>,
     ample: O::Alloc,
@@ -51,13 +51,13 @@ fn refused_then<O: Object>(
     Ok(all)
 }
 
-/// The same of a table that is made at the second try.
+/// `refused_then` for a table whose making was refused once.
 fn refused_again<O: Object>(heap: O::Alloc, ample: O::Alloc) -> Result<u64, Fault> {
     let mut sessions = Sessions::<O>::new(heap)?;
     refused_then(&mut sessions, ample, 1)
 }
 
-/// The same of a table of names with its making, which is tried again if it is refused memory.
+/// The refusals of making a table of names and of the calls to it; making it is tried again if it is refused.
 pub fn refusals<O: Object>(heap: O::Alloc, ample: O::Alloc) -> Result<u64, Fault> {
     match Sessions::<O>::new(heap) {
         Ok(mut sessions) => refused_then(&mut sessions, ample, 0),

@@ -1,9 +1,11 @@
 //! The objects: operations, replies and snapshots in hexadecimal.
+//! Rules: Objects 2 to 5
+//! Formats: Operations and replies, Snapshots
 
-use crate::spelled::is_spelled;
+use crate::hex_text::is_hex_of;
 use ring_base::Fault;
-use ring_object::{Object, Short};
-use ring_things::{Counters, Names, Place, Queue, Registers, Things};
+use ring_object::{Object, ShortBytes};
+use ring_things::{Counters, Names, Queue, Registers, ShelfPlace, StandardObjects};
 use std::alloc::Global;
 use std::process::Abort;
 use std::test::Fail;
@@ -89,18 +91,18 @@ const NO_SETS: [&str; 7] = [
 
 const NO_VALUES: [&str; 3] = ["", "00", "0000000000000005"];
 
-/// Whether the object replies so to the operation, both in hexadecimal.
+/// Whether the object's reply to the operation is this one, both in hexadecimal.
 fn is_replied<O: Object>(alloc: Global, object: &mut O, op: &str, reply: &str) -> bool {
     let Ok(bytes) = hex::decode(alloc, op) else {
         return false;
     };
     match object.apply(bytes.as_slice()) {
-        Ok(given) => is_spelled(alloc, given.as_slice(), reply),
+        Ok(given) => is_hex_of(alloc, given.as_slice(), reply),
         Err(_) => false,
     }
 }
 
-/// The object does the operations in turn, and gives these replies.
+/// Applies the operations in turn and checks the replies.
 fn assert_replies<O: Object>(
     rt: &impl Abort,
     alloc: Global,
@@ -112,8 +114,8 @@ fn assert_replies<O: Object>(
     }
 }
 
-/// An object at the start does so.
-fn assert_replies_anew<O: Object<Alloc = Global>>(
+/// `assert_replies` for an object at its start.
+fn assert_replies_with_faults<O: Object<Alloc = Global>>(
     rt: &impl Abort,
     alloc: Global,
     rows: &[(&str, &str)],
@@ -122,14 +124,13 @@ fn assert_replies_anew<O: Object<Alloc = Global>>(
     assert_replies(rt, alloc, &mut object, rows);
 }
 
-/// An object's snapshot.
 fn snapshot_of<O: Object>(alloc: O::Alloc, object: &O) -> Result<Vec<u8, O::Alloc>, Fault> {
     let mut snapshot = Vec::new(alloc);
     object.snapshot(&mut snapshot)?;
     Ok(snapshot)
 }
 
-/// The snapshot of the object that is restored from one.
+/// The snapshot of the object restored from a snapshot.
 fn snapshot_again<O: Object>(alloc: O::Alloc, snapshot: &[u8]) -> Result<Vec<u8, O::Alloc>, Fault> {
     let back = O::restore(alloc, snapshot)?;
     snapshot_of(alloc, &back)
@@ -138,12 +139,12 @@ fn snapshot_again<O: Object>(alloc: O::Alloc, snapshot: &[u8]) -> Result<Vec<u8,
 /// Whether the object has this snapshot, in hexadecimal.
 fn has_snapshot<O: Object<Alloc = Global>>(alloc: Global, object: &O, text: &str) -> bool {
     match snapshot_of(alloc, object) {
-        Ok(snapshot) => is_spelled(alloc, snapshot.as_slice(), text),
+        Ok(snapshot) => is_hex_of(alloc, snapshot.as_slice(), text),
         Err(_) => false,
     }
 }
 
-/// The object does the operations, and has this snapshot then.
+/// Applies the operations, checks the replies, and checks the snapshot after them.
 fn assert_becomes<O: Object<Alloc = Global>>(
     rt: &impl Abort,
     alloc: Global,
@@ -155,7 +156,7 @@ fn assert_becomes<O: Object<Alloc = Global>>(
     assert!(rt; has_snapshot(alloc, object, text));
 }
 
-/// An object at the start does so.
+/// `assert_becomes` for an object at its start.
 fn assert_snapshot<O: Object<Alloc = Global>>(
     rt: &impl Abort,
     alloc: Global,
@@ -166,8 +167,8 @@ fn assert_snapshot<O: Object<Alloc = Global>>(
     assert_becomes(rt, alloc, &mut object, rows, text);
 }
 
-/// What is restored from the snapshot has that snapshot. `Conflict` where it has another.
-fn come_back<O: Object>(alloc: O::Alloc, snapshot: &[u8]) -> Result<(), Fault> {
+/// Restores the snapshot and checks that the result has the same snapshot, else `Conflict`.
+fn restore_again<O: Object>(alloc: O::Alloc, snapshot: &[u8]) -> Result<(), Fault> {
     let again = snapshot_again::<O>(alloc, snapshot)?;
     if again.as_slice() == snapshot {
         Ok(())
@@ -176,35 +177,41 @@ fn come_back<O: Object>(alloc: O::Alloc, snapshot: &[u8]) -> Result<(), Fault> {
     }
 }
 
-/// The same of a snapshot in hexadecimal.
-fn spelled_come_back<O: Object<Alloc = Global>>(alloc: Global, text: &str) -> Result<(), Fault> {
+/// `restore_again` for a snapshot in hexadecimal.
+fn encoded_snapshots_restore<O: Object<Alloc = Global>>(
+    alloc: Global,
+    text: &str,
+) -> Result<(), Fault> {
     match hex::decode(alloc, text) {
-        Ok(bytes) => come_back::<O>(alloc, bytes.as_slice()),
+        Ok(bytes) => restore_again::<O>(alloc, bytes.as_slice()),
         Err(_) => Err(Fault::Conflict),
     }
 }
 
-/// It is so told of each of the texts.
-fn assert_come_back<O: Object<Alloc = Global>>(
+/// Checks the result of restoring each of the texts.
+fn assert_restores<O: Object<Alloc = Global>>(
     rt: &impl Abort,
     alloc: Global,
     texts: &[&str],
     told: Result<(), Fault>,
 ) {
     for text in texts {
-        assert!(rt; spelled_come_back::<O>(alloc, *text) == told, "{text}");
+        assert!(rt;
+            encoded_snapshots_restore::<O>(alloc, *text) == told,
+            "{text}"
+        );
     }
 }
 
-/// Each operation has these bytes.
-fn assert_spelled<const N: usize>(rt: &impl Abort, alloc: Global, rows: &[(Short<N>, &str)]) {
+/// Checks the bytes of each operation.
+fn assert_encoding<const N: usize>(rt: &impl Abort, alloc: Global, rows: &[(ShortBytes<N>, &str)]) {
     for (operation, text) in rows {
-        assert!(rt; is_spelled(alloc, operation.as_slice(), *text), "{text}");
+        assert!(rt; is_hex_of(alloc, operation.as_slice(), *text), "{text}");
     }
 }
 
 #[test]
-fn operations_are_spelled(rt: HostRuntime) -> Result<(), Fail> {
+fn operations_are_encoded(rt: HostRuntime) -> Result<(), Fail> {
     let table = [
         (Registers::get(7), "0107"),
         (Registers::put(7, 5), "02070000000000000005"),
@@ -221,64 +228,68 @@ fn operations_are_spelled(rt: HostRuntime) -> Result<(), Fail> {
         (Names::remove(b"ab")?, "026162"),
         (Names::has(b"a")?, "0361"),
     ];
-    assert_spelled(&rt, rt.alloc(), &table);
+    assert_encoding(&rt, rt.alloc(), &table);
     let on_a_shelf = [
-        (Place::First.operation(&Registers::get(255)), "0001ff"),
-        (Place::Second.operation(&Counters::read(0)), "010200"),
-        (Place::Third.operation(&Queue::length()), "0203"),
-        (Place::Fourth.operation(&Names::insert(b"a")?), "030161"),
+        (ShelfPlace::First.operation(&Registers::get(255)), "0001ff"),
+        (ShelfPlace::Second.operation(&Counters::read(0)), "010200"),
+        (ShelfPlace::Third.operation(&Queue::length()), "0203"),
+        (
+            ShelfPlace::Fourth.operation(&Names::insert(b"a")?),
+            "030161",
+        ),
     ];
-    assert_spelled(&rt, rt.alloc(), &on_a_shelf);
+    assert_encoding(&rt, rt.alloc(), &on_a_shelf);
     Ok(())
 }
 
 #[test]
 fn operations_are_replied(rt: HostRuntime) {
-    assert_replies_anew::<Registers>(&rt, rt.alloc(), &REGISTERS);
-    assert_replies_anew::<Counters>(&rt, rt.alloc(), &COUNTERS);
-    assert_replies_anew::<Queue>(&rt, rt.alloc(), &QUEUE);
-    assert_replies_anew::<Names>(&rt, rt.alloc(), &NAMES);
-    assert_replies_anew::<Things<Global>>(&rt, rt.alloc(), &THINGS);
+    assert_replies_with_faults::<Registers>(&rt, rt.alloc(), &REGISTERS);
+    assert_replies_with_faults::<Counters>(&rt, rt.alloc(), &COUNTERS);
+    assert_replies_with_faults::<Queue>(&rt, rt.alloc(), &QUEUE);
+    assert_replies_with_faults::<Names>(&rt, rt.alloc(), &NAMES);
+    assert_replies_with_faults::<StandardObjects<Global>>(&rt, rt.alloc(), &THINGS);
 }
 
 #[test]
-fn snapshots_come_back(rt: HostRuntime) {
+fn snapshots_restore(rt: HostRuntime) {
     let pushes = [("010000000000000007", "00"), ("010000000000000009", "00")];
     assert_snapshot::<Queue>(&rt, rt.alloc(), &pushes, QUEUES[1]);
     let inserts = [("0162", "00"), ("0161", "00")];
     assert_snapshot::<Names>(&rt, rt.alloc(), &inserts, SETS[1]);
-    assert_come_back::<Queue>(&rt, rt.alloc(), &QUEUES, Ok(()));
-    assert_come_back::<Names>(&rt, rt.alloc(), &SETS, Ok(()));
+    assert_restores::<Queue>(&rt, rt.alloc(), &QUEUES, Ok(()));
+    assert_restores::<Names>(&rt, rt.alloc(), &SETS, Ok(()));
 }
 
 #[test]
 fn only_snapshots_are_restored(rt: HostRuntime) {
     let refused = Err(Fault::BadSnapshot);
-    assert_come_back::<Registers>(&rt, rt.alloc(), &NO_VALUES, refused);
-    assert_come_back::<Counters>(&rt, rt.alloc(), &NO_VALUES, refused);
-    assert_come_back::<Queue>(&rt, rt.alloc(), &NO_QUEUES, refused);
-    assert_come_back::<Names>(&rt, rt.alloc(), &NO_SETS, refused);
-    assert_come_back::<Things<Global>>(&rt, rt.alloc(), &NO_VALUES, refused);
+    assert_restores::<Registers>(&rt, rt.alloc(), &NO_VALUES, refused);
+    assert_restores::<Counters>(&rt, rt.alloc(), &NO_VALUES, refused);
+    assert_restores::<Queue>(&rt, rt.alloc(), &NO_QUEUES, refused);
+    assert_restores::<Names>(&rt, rt.alloc(), &NO_SETS, refused);
+    assert_restores::<StandardObjects<Global>>(&rt, rt.alloc(), &NO_VALUES, refused);
 }
 
-/// Changes a shelf's objects in each way in which they take memory, twenty times, and then they come back.
-fn change_and_come_back<O: Object>(alloc: O::Alloc, things: &mut O) -> Result<(), Fault> {
+/// Changes a shelf's objects twenty times, in each way that takes memory, and checks that they are restored from their
+/// snapshot.
+fn change_and_restore<O: Object>(alloc: O::Alloc, things: &mut O) -> Result<(), Fault> {
     for i in 0..20u8 {
         let operations = [
-            Place::Second.operation(&Counters::add(i, 1)),
-            Place::Third.operation(&Queue::push(u64::from(i))),
-            Place::Fourth.operation(&Names::insert(&[i])?),
+            ShelfPlace::Second.operation(&Counters::add(i, 1)),
+            ShelfPlace::Third.operation(&Queue::push(u64::from(i))),
+            ShelfPlace::Fourth.operation(&Names::insert(&[i])?),
         ];
         for operation in &operations {
             things.apply(operation.as_slice())?;
         }
     }
     let snapshot = snapshot_of(alloc, things)?;
-    come_back::<O>(alloc, snapshot.as_slice())
+    restore_again::<O>(alloc, snapshot.as_slice())
 }
 
-/// An object at the start does so.
-pub fn change_and_come_back_anew<O: Object>(alloc: O::Alloc) -> Result<(), Fault> {
+/// `change_and_restore` for an object at its start.
+pub fn change_and_restore_with_faults<O: Object>(alloc: O::Alloc) -> Result<(), Fault> {
     let mut things = O::start(alloc)?;
-    change_and_come_back(alloc, &mut things)
+    change_and_restore(alloc, &mut things)
 }

@@ -1,4 +1,5 @@
-//! Tickets: the 64 that a node may have without an answer, and two more.
+//! Answers to tickets: to the 64 that a node may have unanswered, and to two more.
+//! Rules: The replicated log 13 to 15
 
 use ring_base::Fault;
 use ring_object::Object;
@@ -7,12 +8,11 @@ use ring_session::{Pending, Sessions, Ticket, Tickets, answers_of};
 use ring_things::Counters;
 use std::alloc::Allocator;
 
-/// Client 7's call of this number.
+/// Client 7's call with this number.
 fn call<A: Allocator + Copy>(alloc: A, number: u64) -> Result<Call<A>, Fault> {
     Call::new(alloc, 7, number, Counters::add(0, 1).as_slice())
 }
 
-/// Those of these numbers.
 fn calls<A: Allocator + Copy>(alloc: A, numbers: &[u64]) -> Result<Vec<Call<A>, A>, Fault> {
     let mut calls = Vec::new(alloc);
     for number in numbers {
@@ -21,7 +21,7 @@ fn calls<A: Allocator + Copy>(alloc: A, numbers: &[u64]) -> Result<Vec<Call<A>, 
     Ok(calls)
 }
 
-/// The tickets that are given to the calls 1 to 64, and then those with the numbers of their calls, 65 and 66.
+/// Gives tickets to the calls 1 to 64; then adds two pending tickets past the limit, 65 and 66, to the calls of these numbers.
 fn push_66<A: Allocator + Copy + Drop>(
     alloc: A,
     tickets: &mut Tickets<A>,
@@ -41,7 +41,7 @@ fn push_66<A: Allocator + Copy + Drop>(
     Ok(())
 }
 
-/// The same of a new node.
+/// `push_66` for a new node.
 fn pending<A: Allocator + Copy + Drop>(alloc: A) -> Result<Vec<Pending<A>, A>, Fault> {
     let mut tickets = Tickets::new(alloc)?;
     let mut pending = Vec::new(alloc);
@@ -49,8 +49,8 @@ fn pending<A: Allocator + Copy + Drop>(alloc: A) -> Result<Vec<Pending<A>, A>, F
     Ok(pending)
 }
 
-/// How many tickets are answered, the first of them, and how many calls took effect, as these calls are committed.
-fn told<O: Object>(
+/// The number of tickets answered, the first of them, and the number of calls that took effect, as these calls are committed.
+fn ticket_outcomes<O: Object>(
     alloc: O::Alloc,
     sessions: &mut Sessions<O>,
     pending: &[Pending<O::Alloc>],
@@ -58,26 +58,26 @@ fn told<O: Object>(
 ) -> Result<(usize, Option<u64>, u64), Fault> {
     let (answers, effects) = answers_of(alloc, sessions, pending, calls)?;
     let first = match answers.first() {
-        Some(told) => Some(told.ticket.number()),
+        Some(ticket_outcomes) => Some(ticket_outcomes.ticket.number()),
         None => None,
     };
     Ok((answers.len(), first, effects))
 }
 
-/// The same of these tickets, of new sessions, as four calls are committed.
-fn told_of_four<O: Object>(
+/// `ticket_outcomes` for these tickets and new sessions, as four calls are committed.
+fn outcomes_of_four<O: Object>(
     alloc: O::Alloc,
     pending: &[Pending<O::Alloc>],
 ) -> Result<(usize, Option<u64>, u64), Fault> {
     let calls = calls(alloc, &[66, 1, 66, 64])?;
     let mut sessions = Sessions::<O>::new(alloc)?;
-    told(alloc, &mut sessions, pending, calls.as_slice())
+    ticket_outcomes(alloc, &mut sessions, pending, calls.as_slice())
 }
 
-/// Three of 66 tickets are answered then. `Conflict` where it is not so.
+/// Checks that these commits answer three of 66 tickets, else `Conflict`.
 pub fn answer_three<O: Object>(alloc: O::Alloc) -> Result<(), Fault> {
     let pending = pending(alloc)?;
-    match told_of_four::<O>(alloc, pending.as_slice()) {
+    match outcomes_of_four::<O>(alloc, pending.as_slice()) {
         Ok((3, Some(66), 1)) => Ok(()),
         Ok(_) => Err(Fault::Conflict),
         Err(fault) => Err(fault),

@@ -1,4 +1,4 @@
--- What an act rests on was tested as it was decided.
+-- The conditions of a transition were tested when it was chosen.
 use Rattle.std.proofs.Common.{◌≡◌, ℕ, Bool, true, false, refl, ap, arith}
 use Rattle.std.proofs.lemmas.Bool.{cond_both, and_parts}
 use Rattle.ring_base.specs.declared.kind.Kind.{Kind}
@@ -18,23 +18,23 @@ use Rattle.ring_wire.specs.declared.frame.Frame.TheVariants.{Commit as CommitFra
 use Rattle.ring_wire.specs.declared.join.Join.{Join}
 use Rattle.ring_wire.specs.declared.message.Message.{Message}
 use Rattle.ring_wire.specs.declared.token.Token.{Token}
-use Rattle.ring_core.specs.Tokens.{first_token}
-use Rattle.ring_core.specs.Joins.{Hearing, Ignored, Agrees, Widens}
-use Rattle.ring_core.specs.Commits.{is_at}
-use Rattle.ring_core.specs.declared.input.Input.{Input}
-use Rattle.ring_core.specs.declared.input.Input.TheVariants.{Frame as FrameInput, Timeout, Send}
-use Rattle.ring_core.specs.State.{Core, all_of, formed}
-use Rattle.ring_core.specs.Naming.{is_named}
-use Rattle.ring_core.specs.Visiting.{accepts}
-use Rattle.ring_core.specs.Joining.{regathered, hears, disturbs}
-use Rattle.ring_core.specs.Handing.{takes_first_round, takes_second_round, takes_start}
-use Rattle.ring_core.specs.Deciding.{Ignore, Enqueue, Take, Visit, Fill, Learn, is_taken, decide_message, decide_token}
-use Rattle.ring_core.specs.Deciding.{heard_in_gather, heard_elsewhere, overhear, decide_join, decide_round}
-use Rattle.ring_core.specs.Deciding.{decide_commit, decide_frame, decide_if_named, decide_time, decide_user}
-use Rattle.ring_core.specs.Deciding.{decide_payload, decide}
-use Rattle.ring_srp_acts.specs.Allowing.{Allows, InputFits, TokenGoes, VisitAllowed}
-use Rattle.ring_srp_acts.specs.Machines.{is_running}
-use Rattle.ring_core.proofs.Joins.{agrees_same}
+use Rattle.ring_core_spec.specs.Tokens.{first_token}
+use Rattle.ring_core_spec.specs.Joins.{JoinEffect, Ignored, Agrees, Merges}
+use Rattle.ring_core_spec.specs.Commits.{is_at}
+use Rattle.ring_core_spec.specs.declared.input.Input.{Input}
+use Rattle.ring_core_spec.specs.declared.input.Input.TheVariants.{Frame as FrameInput, Timeout, Send}
+use Rattle.ring_core_spec.specs.State.{Core, all_of, formed}
+use Rattle.ring_core_spec.specs.Naming.{is_named}
+use Rattle.ring_core_spec.specs.Visiting.{accepts}
+use Rattle.ring_core_spec.specs.Joining.{gather_entered, join_effect_at, is_gather_trigger}
+use Rattle.ring_core_spec.specs.Handing.{takes_first_round, takes_second_round, takes_start}
+use Rattle.ring_core_spec.specs.Deciding.{Ignore, Enqueue, Take, Visit, Fill, Learn, is_taken, decide_message, decide_token}
+use Rattle.ring_core_spec.specs.Deciding.{transition_in_gather, transition_into_gather, decide_join_elsewhere, decide_join, decide_round}
+use Rattle.ring_core_spec.specs.Deciding.{decide_commit, decide_frame, decide_if_named, decide_time, decide_user}
+use Rattle.ring_core_spec.specs.Deciding.{decide_payload, decide}
+use Rattle.ring_srp_transitions.specs.Allowing.{Allows, InputFits, TokenGoes, VisitAllowed}
+use Rattle.ring_srp_transitions.specs.RunningCores.{is_running}
+use Rattle.ring_core_spec.proofs.Joins.{agrees_same}
 
 -- Tokens
 
@@ -44,7 +44,7 @@ token_goes t f = record { seq = f.seq; ascending = f.ascending }
 first_goes : (ring : RingId) → TokenGoes (first_token ring)
 first_goes ring = record { seq = omega arith; ascending = λ k l. absurd (omega arith) }
 
--- the representative of the ring that is formed from the start may visit the first token
+-- the representative of a formed ring may visit the first token
 pub first_allowed : {A : Type 0} (n : ℕ) (c : Core A) (t : Token) → c ≡ formed n 1 → t ≡ first_token (all_of n).ring → VisitAllowed c t
 first_allowed n c t e f = rw (e, f) (record { runs = refl; passes = refl; goes = first_goes (all_of n).ring })
 
@@ -62,21 +62,21 @@ in_message c x = cond_both (is_taken c x) (Take x) Ignore (Allows c) (λ e. e) (
 
 -- Joins
 
-in_gather : {A : Type 0} (c : Core A) (j : Join) (x : Hearing) → c.state ≡ Gather → hears c j ≡ x → Allows c (heard_in_gather x j)
+in_gather : {A : Type 0} (c : Core A) (j : Join) (x : JoinEffect) → c.state ≡ Gather → join_effect_at c j ≡ x → Allows c (transition_in_gather x j)
 in_gather c j Ignored h e = tt
 in_gather c j Agrees h e = (h, agrees_same c.me c.gathering j e)
-in_gather c j Widens h e = h
+in_gather c j Merges h e = h
 
-in_other : {A : Type 0} (c : Core A) (j : Join) (x : Hearing) → hears (regathered c) j ≡ x → Allows c (heard_elsewhere x j)
+in_other : {A : Type 0} (c : Core A) (j : Join) (x : JoinEffect) → join_effect_at (gather_entered c) j ≡ x → Allows c (transition_into_gather x j)
 in_other c j Ignored e = tt
-in_other c j Agrees e = agrees_same c.me (regathered c).gathering j e
-in_other c j Widens e = tt
+in_other c j Agrees e = agrees_same c.me (gather_entered c).gathering j e
+in_other c j Merges e = tt
 
-in_overhear : {A : Type 0} (c : Core A) (j : Join) → Allows c (overhear c j)
-in_overhear c j = cond_both (disturbs c j) _ Ignore (Allows c) (λ d. in_other c j (hears (regathered c) j) refl) (λ d. tt)
+in_overhear : {A : Type 0} (c : Core A) (j : Join) → Allows c (decide_join_elsewhere c j)
+in_overhear c j = cond_both (is_gather_trigger c j) _ Ignore (Allows c) (λ d. in_other c j (join_effect_at (gather_entered c) j) refl) (λ d. tt)
 
 in_join : {A : Type 0} (s : State) (c : Core A) (j : Join) → c.state ≡ s → Allows c (decide_join s c j)
-in_join Gather c j h = in_gather c j (hears c j) h refl
+in_join Gather c j h = in_gather c j (join_effect_at c j) h refl
 in_join Stopped c j h = tt
 in_join Commit c j h = in_overhear c j
 in_join Recovery c j h = in_overhear c j

@@ -1,9 +1,9 @@
--- Allowed: What an act rests on was tested as it was decided.
--- SafeInFront: No act makes more of the installed ring safe than was in its front before.
--- StepOutputs: What the parts of a step send and give, one after another, is what the step sends and gives.
--- PayloadSent: A payload that is sent is queued or dropped, and nothing comes out.
--- StoppedCore: The step of a core that has stopped gives nothing and changes nothing.
--- Stopping: A core that has not stopped is the one that is kept.
+-- Allowed: The conditions of a transition were tested when it was chosen.
+-- SafeInFront: No transition raises the safe mark of the installed ring above its front before the step.
+-- StepOutputs: The sends and outputs of the pieces of a step, one after another, are those of the step.
+-- PayloadSent: A payload to send is queued or dropped, and the step has no outputs.
+-- StoppedCore: The step of a stopped core has no outputs and changes nothing.
+-- Stopping: A core that hasn't stopped is the running one.
 pub mod Allowed
 pub mod SafeInFront
 pub mod StepOutputs

@@ -1,29 +1,29 @@
--- A payload that is sent is queued or dropped, and nothing comes out.
+-- A payload to send is queued or dropped, and the step has no outputs.
 use Rattle.std.proofs.Common.{◌≡◌, Bool, true, false, List, [], ◌∷◌, ◌++◌, refl, ap, ◌∙◌, sym, subst}
 use Rattle.std.proofs.lemmas.Bool.{cond-true, cond-false}
 use Rattle.ring_base.specs.declared.state.State.{State}
 use Rattle.ring_base.specs.declared.state.State.TheVariants.{Gather, Commit, Recovery, Operational, Stopped}
 use Rattle.ring_payload.specs.Packing.{is_queued}
 use Rattle.ring_payload.specs.declared.content.Payload.{Payload}
-use Rattle.ring_core.specs.declared.input.Input.TheVariants.{Send as SendInput}
-use Rattle.ring_core.specs.declared.out.Out.{Out}
-use Rattle.ring_core.specs.State.{Core, Stepped}
-use Rattle.ring_core.specs.Views.{mark}
-use Rattle.ring_core.specs.Deciding.{Act, Ignore, Enqueue, decide_payload}
-use Rattle.ring_core.specs.Acting.{done}
-use Rattle.ring_core.specs.Giving.{safe_from, given, installs_in, may_install, settle, delivered}
-use Rattle.ring_core.specs.Stepping.{ring_step}
-use Rattle.ring_core.proofs.Quiet.{none_agreed, none_safe}
+use Rattle.ring_core_spec.specs.declared.input.Input.TheVariants.{Send as SendInput}
+use Rattle.ring_core_spec.specs.declared.out.Out.{Out}
+use Rattle.ring_core_spec.specs.State.{Core, StepResult}
+use Rattle.ring_core_spec.specs.Views.{mark}
+use Rattle.ring_core_spec.specs.Deciding.{Transition, Ignore, Enqueue, decide_payload}
+use Rattle.ring_core_spec.specs.Transitions.{done}
+use Rattle.ring_core_spec.specs.Giving.{safe_from, given, installs_in, may_install, settle, delivered}
+use Rattle.ring_core_spec.specs.Stepping.{ring_step}
+use Rattle.ring_core_spec.proofs.Quiet.{none_agreed, none_safe}
 
--- Where front and mark stay, nothing is given
+-- Where front and mark stay, there are no outputs
 
 given_nothing : {A : Type 0} (c : Core A) → given c c ≡ []
 given_nothing {A} c =
     ap (λ (outs : List (Out A)). outs ++ safe_from c c.installed.ring (mark c c.installed.ring)) (none_agreed c c.installed.ring)
     ∙ none_safe c c.installed.ring
 
--- a step that ended in this core, and gave nothing
-pub record GaveNothing {A : Type 0} (s : Stepped A) (c : Core A) : Type 0 where
+-- a step that ended in this core, without outputs
+pub record GaveNothing {A : Type 0} (s : StepResult A) (c : Core A) : Type 0 where
   pub core : s.core ≡ c
   pub outs : s.outs ≡ []
 
@@ -46,7 +46,7 @@ drops Stopped payload h = refl
 pub dropped : {A : Type 0} (c : Core A) (payload : Payload A) → (c.state ≡ Operational → is_queued payload ≡ false) → may_install c ≡ false
     → GaveNothing (ring_step c (SendInput payload)) c
 unfolding ring_step
-dropped {A} c payload h i = subst (λ (a : Act A). GaveNothing (delivered c (done c a)) c) (sym (drops c.state payload h)) (ignored c i)
+dropped {A} c payload h i = subst (λ (a : Transition A). GaveNothing (delivered c (done c a)) c) (sym (drops c.state payload h)) (ignored c i)
 
 -- A payload is queued
 
@@ -62,4 +62,4 @@ unfolding ring_step
 queued {A} c payload h q =
     let e : decide_payload c.state payload ≡ Enqueue payload = ap (λ s. decide_payload s payload) h
     ∙ cond-true (is_queued payload) (Enqueue payload) Ignore q in
-    subst (λ (a : Act A). GaveNothing (delivered c (done c a)) (record c { queue = c.queue ++ payload ∷ [] })) (sym e) (enqueued c payload h)
+    subst (λ (a : Transition A). GaveNothing (delivered c (done c a)) (record c { queue = c.queue ++ payload ∷ [] })) (sym e) (enqueued c payload h)

@@ -1,4 +1,4 @@
--- No act makes more of the installed ring safe than was in its front before.
+-- No transition raises the safe mark of the installed ring above its front before the step.
 use Rattle.std.proofs.Common.{◌≡◌, ℕ, ◌≤◌, max, true, List, [], ◌∷◌, map, filter}
 use Rattle.std.proofs.Common.{slice_get, ap, ◌∙◌, sym, subst, arith}
 use Rattle.std.specs.Prelude.{◌&&◌, ◌==◌, nat_eq}
@@ -8,46 +8,46 @@ use Rattle.ring_base.specs.Rings.{same_ring}
 use Rattle.ring_base.specs.Numbers.{greatest}
 use Rattle.ring_base.specs.declared.ring_id.RingId.{RingId}
 use Rattle.ring_wire.specs.declared.commit.CommitToken.{CommitToken}
-use Rattle.ring_core.specs.Tokens.{Turn, Raise, turns_of, mark_by, raised_to, safe_mark, last_aru}
-use Rattle.ring_core.specs.Commits.{reports_of, safe_of, is_sound, position_of_hop, is_own, Configuration}
-use Rattle.ring_core.specs.State.{Core}
-use Rattle.ring_core.specs.Views.{front, mark, own_entry}
-use Rattle.ring_core.specs.Visiting.{turn_of}
-use Rattle.ring_core.specs.Joining.{proposes}
-use Rattle.ring_core.specs.Handing.{takes_second_round}
-use Rattle.ring_core.specs.Deciding.{Act, Ignore, Enqueue, Repeat, Announce, Invite, GiveUp, Regather, Agree, Widen}
-use Rattle.ring_core.specs.Deciding.{RegatherAndAgree, RegatherAndWiden, Take, Visit, Fill, Learn}
-use Rattle.ring_core.specs.Acting.{act, may_follow, done}
-use Rattle.ring_srp_acts.specs.Allowing.{Allows}
-use Rattle.ring_core.proofs.InstalledKept.{done_installed, proposed_marks}
-use Rattle.ring_core.proofs.Commits.{none_behind-at, own_stands}
+use Rattle.ring_core_spec.specs.Tokens.{TokenVisit, Raise, turns_of, mark_by, raised_to, safe_mark, last_aru}
+use Rattle.ring_core_spec.specs.Commits.{reports_of, safe_of, is_sound, position_of_hop, is_own, Configuration}
+use Rattle.ring_core_spec.specs.State.{Core}
+use Rattle.ring_core_spec.specs.Views.{front, mark, own_entry}
+use Rattle.ring_core_spec.specs.Visiting.{turn_of}
+use Rattle.ring_core_spec.specs.Joining.{proposes}
+use Rattle.ring_core_spec.specs.Handing.{takes_second_round}
+use Rattle.ring_core_spec.specs.Deciding.{Transition, Ignore, Enqueue, Repeat, Announce, Invite, GiveUp, EnterGather, Agree, MergeJoin}
+use Rattle.ring_core_spec.specs.Deciding.{EnterGatherAndAgree, EnterGatherAndMergeJoin, Take, Visit, Fill, Learn}
+use Rattle.ring_core_spec.specs.Transitions.{apply_transition, may_propose_after, done}
+use Rattle.ring_srp_transitions.specs.Allowing.{Allows}
+use Rattle.ring_core_spec.proofs.InstalledKept.{done_installed, proposed_marks}
+use Rattle.ring_core_spec.proofs.Commits.{none_behind-at, own_stands}
 
--- A visit: its mark is the lesser of two numbers, of which the earlier was in the front
+-- A visit: its mark is the lesser of two numbers, of which the earlier was at most the front
 
-newest_mark : {A : Type 0} (a : ℕ) (turns : List (Turn A)) (raised f : ℕ) → max (mark_by (map (λ (v : Turn A). v.went.aru) turns)) raised ≤ f
-    → last_aru turns ≤ f → max (mark_by (a ∷ map (λ (v : Turn A). v.went.aru) turns)) raised ≤ f
+newest_mark : {A : Type 0} (a : ℕ) (turns : List (TokenVisit A)) (raised f : ℕ) → max (mark_by (map (λ (v : TokenVisit A). v.forwarded.aru) turns)) raised ≤ f
+    → last_aru turns ≤ f → max (mark_by (a ∷ map (λ (v : TokenVisit A). v.forwarded.aru) turns)) raised ≤ f
 newest_mark a [] raised f h l = omega arith
 newest_mark a (v ∷ turns) raised f h l = omega arith
 
-turn_mark : {A : Type 0} (v : Turn A) (turns : List (Turn A)) (raises : List Raise) (ring : RingId) (f : ℕ) → safe_mark turns raises ring ≤ f
+turn_mark : {A : Type 0} (v : TokenVisit A) (turns : List (TokenVisit A)) (raises : List Raise) (ring : RingId) (f : ℕ) → safe_mark turns raises ring ≤ f
     → last_aru (turns_of ring turns) ≤ f → safe_mark (v ∷ turns) raises ring ≤ f
 turn_mark {A} v turns raises ring f h l =
-    cond_both (same_ring v.came.ring ring) (v ∷ turns_of ring turns) (turns_of ring turns)
-    (λ (vs : List (Turn A)). max (mark_by (map (λ (v : Turn A). v.went.aru) vs)) (raised_to ring raises) ≤ f)
-    (λ e. newest_mark v.went.aru (turns_of ring turns) (raised_to ring raises) f h l)
+    cond_both (same_ring v.received.ring ring) (v ∷ turns_of ring turns) (turns_of ring turns)
+    (λ (vs : List (TokenVisit A)). max (mark_by (map (λ (v : TokenVisit A). v.forwarded.aru) vs)) (raised_to ring raises) ≤ f)
+    (λ e. newest_mark v.forwarded.aru (turns_of ring turns) (raised_to ring raises) f h l)
     (λ e. h)
 
--- A raise: it is to a mark that the own front has reached
+-- A raise: the core's own front has reached its mark
 
-raise_mark : {A : Type 0} (x : Raise) (turns : List (Turn A)) (raises : List Raise) (ring : RingId) (f : ℕ) → safe_mark turns raises ring ≤ f → x.mark ≤ f
+raise_mark : {A : Type 0} (x : Raise) (turns : List (TokenVisit A)) (raises : List Raise) (ring : RingId) (f : ℕ) → safe_mark turns raises ring ≤ f → x.mark ≤ f
     → safe_mark turns (x ∷ raises) ring ≤ f
 raise_mark {A} x turns raises ring f h l =
     cond_both (same_ring x.ring ring) (x ∷ filter (λ (x : Raise). same_ring x.ring ring) raises) (filter (λ (x : Raise). same_ring x.ring ring) raises)
-    (λ (xs : List Raise). max (mark_by (map (λ (v : Turn A). v.went.aru) (turns_of ring turns))) (greatest (map (λ (x : Raise). x.mark) xs)) ≤ f)
+    (λ (xs : List Raise). max (mark_by (map (λ (v : TokenVisit A). v.forwarded.aru) (turns_of ring turns))) (greatest (map (λ (x : Raise). x.mark) xs)) ≤ f)
     (λ e. omega arith)
     (λ e. h)
 
--- what those from the old ring report safe, the own front has reached
+-- the core's own front has reached each mark that a transitional member reports
 pub learned_front : {A : Type 0} (c : Core A) (k : CommitToken) → takes_second_round c k ≡ true
     → safe_of (reports_of c.installed.ring k.entries) ≤ front c c.installed.ring
 learned_front c k h =
@@ -61,21 +61,21 @@ learned_front c k h =
     (position_of_hop k) e sound at (and_parts _ (e.front == front c c.installed.ring) two).0 in
     subst (λ n. safe_of (reports_of c.installed.ring k.entries) ≤ n) (eqb-true _ _ (and_parts (same_ring e.old c.installed.ring) _ two).1) i
 
--- Each act
+-- Each transition
 
-acted_mark : {A : Type 0} (c : Core A) (a : Act A) → Allows c a → mark c c.installed.ring ≤ front c c.installed.ring
-    → last_aru (turns_of c.installed.ring c.turns) ≤ front c c.installed.ring → mark (act c a).core c.installed.ring ≤ front c c.installed.ring
+acted_mark : {A : Type 0} (c : Core A) (a : Transition A) → Allows c a → mark c c.installed.ring ≤ front c c.installed.ring
+    → last_aru (turns_of c.installed.ring c.turns) ≤ front c c.installed.ring → mark (apply_transition c a).core c.installed.ring ≤ front c c.installed.ring
 acted_mark c Ignore m h l = h
 acted_mark c (Enqueue payload) m h l = h
 acted_mark c Repeat m h l = h
 acted_mark c Announce m h l = h
 acted_mark c Invite m h l = h
 acted_mark c GiveUp m h l = h
-acted_mark c Regather m h l = h
+acted_mark c EnterGather m h l = h
 acted_mark c (Agree j) m h l = h
-acted_mark c (Widen j) m h l = h
-acted_mark c (RegatherAndAgree j) m h l = h
-acted_mark c (RegatherAndWiden j) m h l = h
+acted_mark c (MergeJoin j) m h l = h
+acted_mark c (EnterGatherAndAgree j) m h l = h
+acted_mark c (EnterGatherAndMergeJoin j) m h l = h
 acted_mark c (Take x) m h l = h
 acted_mark c (Visit t) m h l = turn_mark (turn_of c t) c.turns c.raises c.installed.ring (front c c.installed.ring) h l
 acted_mark c (Fill k) m h l = h
@@ -83,18 +83,18 @@ acted_mark c (Learn k) m h l = raise_mark
     (record { ring = c.installed.ring; mark = safe_of (reports_of c.installed.ring k.entries) }) c.turns c.raises c.installed.ring
     (front c c.installed.ring) h (learned_front c k m.passes)
 
--- nor does the proposal after it, which makes nothing safe
+-- nor does the proposal after it, which raises no mark
 
-done_mark : {A : Type 0} (c : Core A) (a : Act A) → Allows c a → mark c c.installed.ring ≤ front c c.installed.ring
+done_mark : {A : Type 0} (c : Core A) (a : Transition A) → Allows c a → mark c c.installed.ring ≤ front c c.installed.ring
     → last_aru (turns_of c.installed.ring c.turns) ≤ front c c.installed.ring → mark (done c a).core (done c a).core.installed.ring ≤ front c c.installed.ring
 done_mark c a m h l =
-    let e : mark (done c a).core (done c a).core.installed.ring ≡ mark (act c a).core c.installed.ring =
+    let e : mark (done c a).core (done c a).core.installed.ring ≡ mark (apply_transition c a).core c.installed.ring =
     ap (λ (x : Configuration). mark (done c a).core x.ring) (done_installed c a)
-    ∙ proposed_marks (may_follow a && proposes (act c a).core) (act c a) c.installed.ring in
+    ∙ proposed_marks (may_propose_after a && proposes (apply_transition c a).core) (apply_transition c a) c.installed.ring in
     subst (λ n. n ≤ front c c.installed.ring) (sym e) (acted_mark c a m h l)
 
--- the same, of what the code answers
-pub may_give : {A : Type 0} (c new : Core A) (a : Act A) (reached : ℕ) → Allows c a → new ≡ (done c a).core
+-- the same for the code's result
+pub may_give : {A : Type 0} (c new : Core A) (a : Transition A) (reached : ℕ) → Allows c a → new ≡ (done c a).core
     → reached ≡ front c c.installed.ring → mark c c.installed.ring ≤ reached → last_aru (turns_of c.installed.ring c.turns) ≤ reached
     → mark new new.installed.ring ≤ reached
 may_give {A} c new a reached allows e r safe led =

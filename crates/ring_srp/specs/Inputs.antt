@@ -1,2 +1,2 @@
--- Inputs that keep the limits, as the acts of a ring core ask for them.
-pub use Rattle.ring_srp_acts.specs.Allowing.{InputFits}
+-- Inputs that keep the limits, re-exported from the ring core's transitions.
+pub use Rattle.ring_srp_transitions.specs.Allowing.{InputFits}

@@ -1,246 +1,259 @@
-//! One step: what an input comes to is done, a ring may be proposed, and what follows is told.
+//! One step: chooses the transition, applies it, proposes a ring where that is due, and gathers the outputs.
+//! A function marked `inline(never)` keeps the large stack slots of a copied frame and its transition out of its
+//! caller.
+//! Rules: Rings and states 13; Gather 7, 8, 10, 11 and 13; Outputs 1 and 2
 
 ghost use Rattle.std.specs.Prelude.{◌≡◌, ◌≤◌, ◌++◌, [], true, false, map, IfOk, IfErr, OnOk, OnErr};
 ghost use Rattle.ring_base.specs.declared.fault.Fault.TheVariants.{Memory};
 ghost use Rattle.ring_wire.specs.Frames.{FrameFits};
-ghost use Rattle.ring_core.specs.Acting.{act, may_follow, done};
-ghost use Rattle.ring_core.specs.Deciding.{Take as TakeAct, Visit as VisitAct, is_taken};
-ghost use Rattle.ring_core.specs.Giving.{addressed, may_install, sent, settle, delivered, delivered_from};
-ghost use Rattle.ring_core.specs.Stepping.{ring_step};
-ghost use Rattle.ring_core.specs.declared.input.Input.TheVariants.{Frame as FrameInput, Send as SendInput};
-ghost use Rattle.ring_srp_acts.specs.Acts.{act_of};
-ghost use Rattle.ring_srp_acts.specs.Allowing.{Allows, InputFits, VisitAllowed};
-ghost use Rattle.ring_core.specs.State.{all_of, formed, is_stopped, Sent as ToldSent};
-ghost use Rattle.ring_core.specs.Tokens.{first_token};
-ghost use Rattle.ring_core.specs.Visiting.{visited};
-ghost use Rattle.ring_core.specs.Views.{mark};
-ghost use Rattle.ring_core.specs.declared.out.Out.TheVariants.{Send};
+ghost use Rattle.ring_core_spec.specs.Transitions.{apply_transition, may_propose_after, done};
+ghost use Rattle.ring_core_spec.specs.Deciding.{Take as TakeAct, Visit as VisitAct, is_taken};
+ghost use Rattle.ring_core_spec.specs.Giving.{addressed, may_install, sent, settle, delivered, delivered_from};
+ghost use Rattle.ring_core_spec.specs.Stepping.{ring_step};
+ghost use Rattle.ring_core_spec.specs.declared.input.Input.TheVariants.{Frame as FrameInput, Send as SendInput};
+ghost use Rattle.ring_srp_transitions.specs.CodeTransitions.{transition_of};
+ghost use Rattle.ring_srp_transitions.specs.Allowing.{Allows, InputFits, VisitAllowed};
+ghost use Rattle.ring_core_spec.specs.State.{all_of, formed, is_stopped, OutgoingFrame as ToldSent};
+ghost use Rattle.ring_core_spec.specs.Tokens.{first_token};
+ghost use Rattle.ring_core_spec.specs.Visiting.{token_visited};
+ghost use Rattle.ring_core_spec.specs.Views.{mark};
+ghost use Rattle.ring_core_spec.specs.declared.out.Out.TheVariants.{Send};
 ghost use Rattle.ring_srp.specs.Given.{IsGiven};
 
 use ring_base::{Fault, Fixed, State};
-use ring_core::{Input, Out, Sent};
+use ring_core_spec::{Input, Out, OutgoingFrame};
 use ring_payload::Payload;
-use ring_srp_acts::{Act, Machine, Reached, all_of, first_token, is_queued};
+use ring_srp_transitions::{RingProgress, RunningCore, Transition, all_of, first_token, is_queued};
 use ring_wire::{Frame, Message, Token};
 use std::alloc::Allocator;
 
-/// One step, whose frames go to a list of their own. Answers what the processor is told.
+/// Does one step for an input. Appends the frames to `sends`, which is empty, and returns the other outputs.
+/// Errors: `Memory` where an allocation fails; the core and the contents of `sends` are then unspecified.
+/// Rules: Rings and states 13; Outputs 1
 pub(crate) fn step<A: Allocator + Copy>(
-    machine: &mut Machine<A>,
+    running_core: &mut RunningCore<A>,
     input: Input<A>,
-    sends: &mut Vec<Sent<A>, A>,
+    sends: &mut Vec<OutgoingFrame<A>, A>,
 ) -> Result<Vec<Out<A>, A>, Fault>
     requires fits { InputFits input }
     requires empty { sends.old.items ≡ [] }
-    ensures given { IfOk result (λ told. IsGiven (ring_step machine.old input).outs sends.new.items told.items) }
-    ensures core { OnOk result (machine.new ≡ (ring_step machine.old input).core) }
-    ensures running { is_stopped machine.old.state ≡ false }
+    ensures given { IfOk result (λ told. IsGiven (ring_step running_core.old input).outs sends.new.items told.items) }
+    ensures core { OnOk result (running_core.new ≡ (ring_step running_core.old input).core) }
+    ensures running { is_stopped running_core.old.state ≡ false }
     ensures refused { IfErr result (λ fault. fault ≡ Memory) }
 {
-    let before = machine.reached();
-    let what = machine.decide(input);
-    carry_out(machine, what, sends)?;
-    let told = machine.list();
-    tell(machine, before, told)
+    let before = running_core.reached();
+    let what = running_core.decide(input);
+    apply_and_propose(running_core, what, sends)?;
+    let told = running_core.list();
+    give_outputs(running_core, before, told)
 }
 
-/// One step, whose outputs all go to one list, in their order.
-pub(crate) fn step_joined<A: Allocator + Copy>(
-    machine: &mut Machine<A>,
+/// Does one step for an input and returns all its outputs in one list, in their order.
+/// Errors: `Memory` where an allocation fails; the core is then unspecified.
+/// Rules: Rings and states 13; Outputs 1
+pub(crate) fn step_into_one_list<A: Allocator + Copy>(
+    running_core: &mut RunningCore<A>,
     input: Input<A>,
 ) -> Result<Vec<Out<A>, A>, Fault>
     requires { InputFits input }
-    ensures outs { IfOk result (λ outs. outs.items ≡ (ring_step machine.old input).outs) }
-    ensures core { OnOk result (machine.new ≡ (ring_step machine.old input).core) }
-    ensures running { is_stopped machine.old.state ≡ false }
+    ensures outs { IfOk result (λ outs. outs.items ≡ (ring_step running_core.old input).outs) }
+    ensures core { OnOk result (running_core.new ≡ (ring_step running_core.old input).core) }
+    ensures running { is_stopped running_core.old.state ≡ false }
     ensures refused { IfErr result (λ fault. fault ≡ Memory) }
 {
-    let mut sends = machine.list();
-    let told = step(machine, input, &mut sends)?;
-    joined(sends, told)
+    let mut sends = running_core.list();
+    let told = step(running_core, input, &mut sends)?;
+    join_outputs(sends, told)
 }
 
-/// One step, of a frame that the caller keeps. A token that is visited isn't copied, and a message that is taken is copied once.
-pub(crate) fn hear<A: Allocator + Copy>(
-    machine: &mut Machine<A>,
+/// Does one step for a frame that the caller keeps. Appends the frames to `sends`, which is empty, and returns the
+/// other outputs.
+/// A token that is accepted isn't copied. A message that is taken is copied once.
+/// Errors: `Memory` where an allocation fails; the core and the contents of `sends` are then unspecified.
+/// Rules: Rings and states 13; Outputs 1
+pub(crate) fn receive<A: Allocator + Copy>(
+    running_core: &mut RunningCore<A>,
     frame: &Frame<A>,
-    sends: &mut Vec<Sent<A>, A>,
+    sends: &mut Vec<OutgoingFrame<A>, A>,
 ) -> Result<Vec<Out<A>, A>, Fault>
     requires fits { FrameFits frame.now }
     requires empty { sends.old.items ≡ [] }
-    ensures given { IfOk result (λ told. IsGiven (ring_step machine.old (FrameInput frame.now)).outs sends.new.items told.items) }
-    ensures core { OnOk result (machine.new ≡ (ring_step machine.old (FrameInput frame.now)).core) }
-    ensures running { OnOk result (is_stopped machine.old.state ≡ false) }
+    ensures given { IfOk result (λ told. IsGiven (ring_step running_core.old (FrameInput frame.now)).outs sends.new.items told.items) }
+    ensures core { OnOk result (running_core.new ≡ (ring_step running_core.old (FrameInput frame.now)).core) }
+    ensures running { OnOk result (is_stopped running_core.old.state ≡ false) }
     ensures refused { IfErr result (λ fault. fault ≡ Memory) }
 {
-    match machine.visited_by(frame) {
-        Some(token) => pass_by(machine, token, sends),
-        None => hear_other(machine, frame, sends),
+    match running_core.visited_by(frame) {
+        Some(token) => step_with_token(running_core, token, sends),
+        None => receive_other(running_core, frame, sends),
     }
 }
 
-/// The same for a frame that is no token that is visited.
-fn hear_other<A: Allocator + Copy>(
-    machine: &mut Machine<A>,
+/// Does one step for a frame whose transition isn't `Visit`.
+fn receive_other<A: Allocator + Copy>(
+    running_core: &mut RunningCore<A>,
     frame: &Frame<A>,
-    sends: &mut Vec<Sent<A>, A>,
+    sends: &mut Vec<OutgoingFrame<A>, A>,
 ) -> Result<Vec<Out<A>, A>, Fault>
     requires fits { FrameFits frame.now }
     requires empty { sends.old.items ≡ [] }
-    ensures given { IfOk result (λ told. IsGiven (ring_step machine.old (FrameInput frame.now)).outs sends.new.items told.items) }
-    ensures core { OnOk result (machine.new ≡ (ring_step machine.old (FrameInput frame.now)).core) }
-    ensures running { OnOk result (is_stopped machine.old.state ≡ false) }
+    ensures given { IfOk result (λ told. IsGiven (ring_step running_core.old (FrameInput frame.now)).outs sends.new.items told.items) }
+    ensures core { OnOk result (running_core.new ≡ (ring_step running_core.old (FrameInput frame.now)).core) }
+    ensures running { OnOk result (is_stopped running_core.old.state ≡ false) }
     ensures refused { IfErr result (λ fault. fault ≡ Memory) }
 {
-    match machine.taken_by(frame) {
-        Some(message) => take_copy(machine, message, sends),
-        None => step_copy(machine, frame, sends),
+    match running_core.taken_by(frame) {
+        Some(message) => step_with_message_copy(running_core, message, sends),
+        None => step_with_frame_copy(running_core, frame, sends),
     }
 }
 
-/// One step, of a copy of a message that is taken. It stands apart, since a call clears its room for the copy.
+/// Does one step for a message that is taken, with a copy of it.
 #[inline(never)]
-fn take_copy<A: Allocator + Copy>(
-    machine: &mut Machine<A>,
+fn step_with_message_copy<A: Allocator + Copy>(
+    running_core: &mut RunningCore<A>,
     message: &Message<A>,
-    sends: &mut Vec<Sent<A>, A>,
+    sends: &mut Vec<OutgoingFrame<A>, A>,
 ) -> Result<Vec<Out<A>, A>, Fault>
-    requires taken { is_taken machine.old message.now ≡ true }
+    requires taken { is_taken running_core.old message.now ≡ true }
     requires empty { sends.old.items ≡ [] }
-    ensures given { IfOk result (λ told. IsGiven (delivered machine.old (done machine.old (TakeAct message.now))).outs sends.new.items told.items) }
-    ensures core { OnOk result (machine.new ≡ (delivered machine.old (done machine.old (TakeAct message.now))).core) }
-    ensures running { OnOk result (is_stopped machine.old.state ≡ false) }
+    ensures given { IfOk result (λ told. IsGiven (delivered running_core.old (done running_core.old (TakeAct message.now))).outs sends.new.items told.items) }
+    ensures core { OnOk result (running_core.new ≡ (delivered running_core.old (done running_core.old (TakeAct message.now))).core) }
+    ensures running { OnOk result (is_stopped running_core.old.state ≡ false) }
     ensures refused { IfErr result (λ fault. fault ≡ Memory) }
 {
     let copy = copied_message(message)?;
-    take_by(machine, copy, sends)
+    step_with_message(running_core, copy, sends)
 }
 
-/// One step, of a message that is taken.
-fn take_by<A: Allocator + Copy>(
-    machine: &mut Machine<A>,
+/// Does one step for a message that is taken.
+fn step_with_message<A: Allocator + Copy>(
+    running_core: &mut RunningCore<A>,
     message: Message<A>,
-    sends: &mut Vec<Sent<A>, A>,
+    sends: &mut Vec<OutgoingFrame<A>, A>,
 ) -> Result<Vec<Out<A>, A>, Fault>
-    requires taken { is_taken machine.old message ≡ true }
+    requires taken { is_taken running_core.old message ≡ true }
     requires empty { sends.old.items ≡ [] }
-    ensures given { IfOk result (λ told. IsGiven (delivered machine.old (done machine.old (TakeAct message))).outs sends.new.items told.items) }
-    ensures core { OnOk result (machine.new ≡ (delivered machine.old (done machine.old (TakeAct message))).core) }
-    ensures running { is_stopped machine.old.state ≡ false }
+    ensures given { IfOk result (λ told. IsGiven (delivered running_core.old (done running_core.old (TakeAct message))).outs sends.new.items told.items) }
+    ensures core { OnOk result (running_core.new ≡ (delivered running_core.old (done running_core.old (TakeAct message))).core) }
+    ensures running { is_stopped running_core.old.state ≡ false }
     ensures refused { IfErr result (λ fault. fault ≡ Memory) }
 {
-    let before = machine.reached();
-    take_through(machine, message, sends)?;
-    let told = machine.list();
-    tell(machine, before, told)
+    let before = running_core.reached();
+    take_and_propose(running_core, message, sends)?;
+    let told = running_core.list();
+    give_outputs(running_core, before, told)
 }
 
-/// A message is taken, and then a ring may be proposed.
-fn take_through<A: Allocator + Copy>(
-    machine: &mut Machine<A>,
+/// Takes a message, and then proposes a ring where that is due.
+fn take_and_propose<A: Allocator + Copy>(
+    running_core: &mut RunningCore<A>,
     message: Message<A>,
-    sends: &mut Vec<Sent<A>, A>,
+    sends: &mut Vec<OutgoingFrame<A>, A>,
 ) -> Result<(), Fault>
-    requires { is_taken machine.old message ≡ true }
-    ensures core { OnOk result (machine.new ≡ (done machine.old (TakeAct message)).core) }
-    ensures sends { OnOk result (sends.new.items ≡ sends.old.items ++ addressed (done machine.old (TakeAct message)).sends) }
+    requires { is_taken running_core.old message ≡ true }
+    ensures core { OnOk result (running_core.new ≡ (done running_core.old (TakeAct message)).core) }
+    ensures sends { OnOk result (sends.new.items ≡ sends.old.items ++ addressed (done running_core.old (TakeAct message)).sends) }
     ensures refused { IfErr result (λ fault. fault ≡ Memory) }
 {
-    machine.take(message)?;
-    machine.propose_if_due(sends)
+    running_core.take(message)?;
+    running_core.propose_if_due(sends)
 }
 
-/// One step, of a copy of a frame. It stands apart, since a call clears its room for the copy and for what it comes to.
+/// Does one step for a frame, with a copy of it.
 #[inline(never)]
-fn step_copy<A: Allocator + Copy>(
-    machine: &mut Machine<A>,
+fn step_with_frame_copy<A: Allocator + Copy>(
+    running_core: &mut RunningCore<A>,
     frame: &Frame<A>,
-    sends: &mut Vec<Sent<A>, A>,
+    sends: &mut Vec<OutgoingFrame<A>, A>,
 ) -> Result<Vec<Out<A>, A>, Fault>
     requires fits { FrameFits frame.now }
     requires empty { sends.old.items ≡ [] }
-    ensures given { IfOk result (λ told. IsGiven (ring_step machine.old (FrameInput frame.now)).outs sends.new.items told.items) }
-    ensures core { OnOk result (machine.new ≡ (ring_step machine.old (FrameInput frame.now)).core) }
-    ensures running { OnOk result (is_stopped machine.old.state ≡ false) }
+    ensures given { IfOk result (λ told. IsGiven (ring_step running_core.old (FrameInput frame.now)).outs sends.new.items told.items) }
+    ensures core { OnOk result (running_core.new ≡ (ring_step running_core.old (FrameInput frame.now)).core) }
+    ensures running { OnOk result (is_stopped running_core.old.state ≡ false) }
     ensures refused { IfErr result (λ fault. fault ≡ Memory) }
 {
     let copy = copied(frame)?;
-    step(machine, Input::Frame(copy), sends)
+    step(running_core, Input::Frame(copy), sends)
 }
 
-/// One step, of a token that is visited.
-fn pass_by<A: Allocator + Copy>(
-    machine: &mut Machine<A>,
+/// Does one step for a token that is visited.
+fn step_with_token<A: Allocator + Copy>(
+    running_core: &mut RunningCore<A>,
     token: &Token,
-    sends: &mut Vec<Sent<A>, A>,
+    sends: &mut Vec<OutgoingFrame<A>, A>,
 ) -> Result<Vec<Out<A>, A>, Fault>
-    requires allowed { VisitAllowed machine.old token.now }
+    requires allowed { VisitAllowed running_core.old token.now }
     requires empty { sends.old.items ≡ [] }
-    ensures given { IfOk result (λ told. IsGiven (delivered machine.old (done machine.old (VisitAct token.now))).outs sends.new.items told.items) }
-    ensures core { OnOk result (machine.new ≡ (delivered machine.old (done machine.old (VisitAct token.now))).core) }
-    ensures running { is_stopped machine.old.state ≡ false }
+    ensures given { IfOk result (λ told. IsGiven (delivered running_core.old (done running_core.old (VisitAct token.now))).outs sends.new.items told.items) }
+    ensures core { OnOk result (running_core.new ≡ (delivered running_core.old (done running_core.old (VisitAct token.now))).core) }
+    ensures running { is_stopped running_core.old.state ≡ false }
     ensures refused { IfErr result (λ fault. fault ≡ Memory) }
 {
-    let told = machine.told_by_visit()?;
-    let before = machine.reached();
-    visit_through(machine, token, sends)?;
-    tell(machine, before, told)
+    let told = running_core.visit_output_buffer()?;
+    let before = running_core.reached();
+    visit_and_propose(running_core, token, sends)?;
+    give_outputs(running_core, before, told)
 }
 
-/// A token is visited, and then a ring may be proposed.
-fn visit_through<A: Allocator + Copy>(
-    machine: &mut Machine<A>,
+/// Visits a token, and then proposes a ring where that is due.
+fn visit_and_propose<A: Allocator + Copy>(
+    running_core: &mut RunningCore<A>,
     token: &Token,
-    sends: &mut Vec<Sent<A>, A>,
+    sends: &mut Vec<OutgoingFrame<A>, A>,
 ) -> Result<(), Fault>
-    requires { VisitAllowed machine.old token.now }
-    ensures core { OnOk result (machine.new ≡ (done machine.old (VisitAct token.now)).core) }
-    ensures sends { OnOk result (sends.new.items ≡ sends.old.items ++ addressed (done machine.old (VisitAct token.now)).sends) }
+    requires { VisitAllowed running_core.old token.now }
+    ensures core { OnOk result (running_core.new ≡ (done running_core.old (VisitAct token.now)).core) }
+    ensures sends { OnOk result (sends.new.items ≡ sends.old.items ++ addressed (done running_core.old (VisitAct token.now)).sends) }
     ensures refused { IfErr result (λ fault. fault ≡ Memory) }
 {
-    machine.visit(token, sends)?;
-    machine.propose_if_due(sends)
+    running_core.visit(token, sends)?;
+    running_core.propose_if_due(sends)
 }
 
-/// The representative of the ring that is formed from the start visits the first token. Answers what it sent.
+/// Lets the first token of the formed ring visit its representative, processor 1. Returns the outputs.
+/// Errors: `Memory` where an allocation fails; the core is then unspecified.
+/// Rules: Rings and states 14; The commit token 7
 pub(crate) fn visit_first<A: Allocator + Copy>(
-    machine: &mut Machine<A>,
+    running_core: &mut RunningCore<A>,
     fixed: Fixed,
 ) -> Result<Vec<Out<A>, A>, Fault>
-    requires { machine.old ≡ formed fixed.count 1 }
-    ensures core { OnOk result (machine.new ≡ (visited (formed fixed.count 1) (first_token (all_of fixed.count).ring)).core) }
-    ensures outs { IfOk result (λ outs. outs.items ≡ sent (visited (formed fixed.count 1) (first_token (all_of fixed.count).ring)).sends) }
+    requires { running_core.old ≡ formed fixed.count 1 }
+    ensures core { OnOk result (running_core.new ≡ (token_visited (formed fixed.count 1) (first_token (all_of fixed.count).ring)).core) }
+    ensures outs { IfOk result (λ outs. outs.items ≡ sent (token_visited (formed fixed.count 1) (first_token (all_of fixed.count).ring)).sends) }
     ensures refused { IfErr result (λ fault. fault ≡ Memory) }
 {
     let token = first_token(all_of(fixed).ring);
-    let mut sends = machine.list();
-    machine.visit(&token, &mut sends)?;
-    joined(sends, machine.list())
+    let mut sends = running_core.list();
+    running_core.visit(&token, &mut sends)?;
+    join_outputs(sends, running_core.list())
 }
 
-/// What the processor is told after an act, in an empty list: what is agreed and safe by now of the ring that was installed before
-/// it, and then what an installation gives.
-fn tell<A: Allocator + Copy>(
-    machine: &mut Machine<A>,
-    before: Reached,
+/// Appends the outputs after a transition to `told`, which is empty: what is newly agreed and safe of the ring that
+/// was installed before it, then the outputs of an installation.
+fn give_outputs<A: Allocator + Copy>(
+    running_core: &mut RunningCore<A>,
+    before: RingProgress,
     mut told: Vec<Out<A>, A>,
 ) -> Result<Vec<Out<A>, A>, Fault>
     requires empty { told.items ≡ [] }
-    requires ring { before.ring ≡ machine.old.installed.ring }
-    requires mark { mark machine.old machine.old.installed.ring ≤ before.front }
-    ensures told { IfOk result (λ told. told.items ≡ delivered_from machine.old before.ring before.front before.mark ++
-        (settle (may_install machine.old) machine.old []).outs) }
-    ensures core { OnOk result (machine.new ≡ (settle (may_install machine.old) machine.old []).core) }
+    requires ring { before.ring ≡ running_core.old.installed.ring }
+    requires mark { mark running_core.old running_core.old.installed.ring ≤ before.front }
+    ensures told { IfOk result (λ told. told.items ≡ delivered_from running_core.old before.ring before.front before.mark ++
+        (settle (may_install running_core.old) running_core.old []).outs) }
+    ensures core { OnOk result (running_core.new ≡ (settle (may_install running_core.old) running_core.old []).core) }
     ensures refused { IfErr result (λ fault. fault ≡ Memory) }
 {
-    machine.give(before, &mut told)?;
-    machine.install_if_due(&mut told)?;
+    running_core.give(before, &mut told)?;
+    running_core.install_if_due(&mut told)?;
     Ok(told)
 }
 
-/// All outputs of a step in one list: the frames that were sent, and then what the processor is told.
-fn joined<A: Allocator + Copy>(
-    sends: Vec<Sent<A>, A>,
+/// Returns all outputs of a step in one list: the frames that were sent, then the others.
+fn join_outputs<A: Allocator + Copy>(
+    sends: Vec<OutgoingFrame<A>, A>,
     mut told: Vec<Out<A>, A>,
 ) -> Result<Vec<Out<A>, A>, Fault>
     ensures ok { IfOk result (λ outs. outs.items ≡ map (λ (s : ToldSent A). Send s.to s.frame) sends.items ++ told.items) }
@@ -255,22 +268,24 @@ fn joined<A: Allocator + Copy>(
     Ok(outs)
 }
 
-/// A payload is queued in Operational where it may be, and dropped elsewhere. Nothing comes out.
+/// Queues a payload in Operational, if its kind is queued, and drops it otherwise.
+/// Errors: `Memory` where an allocation fails; the core is unchanged.
+/// Rules: Rings and states 9
 pub(crate) fn send<A: Allocator + Copy>(
-    machine: &mut Machine<A>,
+    running_core: &mut RunningCore<A>,
     payload: Payload<A>,
 ) -> Result<(), Fault>
-    requires { may_install machine.old ≡ false }
-    ensures ok { OnOk result (machine.new ≡ (ring_step machine.old (SendInput payload)).core) }
-    ensures silent { OnOk result ((ring_step machine.old (SendInput payload)).outs ≡ []) }
-    ensures kept { OnErr result (machine.new ≡ machine.old) }
-    ensures running { is_stopped machine.old.state ≡ false }
+    requires { may_install running_core.old ≡ false }
+    ensures ok { OnOk result (running_core.new ≡ (ring_step running_core.old (SendInput payload)).core) }
+    ensures silent { OnOk result ((ring_step running_core.old (SendInput payload)).outs ≡ []) }
+    ensures kept { OnErr result (running_core.new ≡ running_core.old) }
+    ensures running { is_stopped running_core.old.state ≡ false }
     ensures refused { IfErr result (λ fault. fault ≡ Memory) }
 {
-    match machine.state() {
+    match running_core.state() {
         State::Operational => {
             if is_queued(&payload) {
-                machine.enqueue(payload)
+                running_core.enqueue(payload)
             } else {
                 Ok(())
             }
@@ -279,84 +294,83 @@ pub(crate) fn send<A: Allocator + Copy>(
     }
 }
 
-/// What an input came to is done, and then a ring may be proposed.
-fn carry_out<A: Allocator + Copy>(
-    machine: &mut Machine<A>,
-    what: Act<A>,
-    sends: &mut Vec<Sent<A>, A>,
+/// Applies a transition, and then proposes a ring where that is due.
+fn apply_and_propose<A: Allocator + Copy>(
+    running_core: &mut RunningCore<A>,
+    what: Transition<A>,
+    sends: &mut Vec<OutgoingFrame<A>, A>,
 ) -> Result<(), Fault>
-    requires { Allows machine.old (act_of what) }
-    ensures core { OnOk result (machine.new ≡ (done machine.old (act_of what)).core) }
-    ensures sends { OnOk result (sends.new.items ≡ sends.old.items ++ addressed (done machine.old (act_of what)).sends) }
+    requires { Allows running_core.old (transition_of what) }
+    ensures core { OnOk result (running_core.new ≡ (done running_core.old (transition_of what)).core) }
+    ensures sends { OnOk result (sends.new.items ≡ sends.old.items ++ addressed (done running_core.old (transition_of what)).sends) }
     ensures refused { IfErr result (λ fault. fault ≡ Memory) }
 {
-    let follows = may_follow(&what);
-    act(machine, what, sends)?;
+    let follows = may_propose_after(&what);
+    apply_transition(running_core, what, sends)?;
     if follows {
-        machine.propose_if_due(sends)
+        running_core.propose_if_due(sends)
     } else {
         Ok(())
     }
 }
 
-/// What an input came to is done.
-fn act<A: Allocator + Copy>(
-    machine: &mut Machine<A>,
-    what: Act<A>,
-    sends: &mut Vec<Sent<A>, A>,
+fn apply_transition<A: Allocator + Copy>(
+    running_core: &mut RunningCore<A>,
+    what: Transition<A>,
+    sends: &mut Vec<OutgoingFrame<A>, A>,
 ) -> Result<(), Fault>
-    requires { Allows machine.old (act_of what) }
-    ensures core { OnOk result (machine.new ≡ (act machine.old (act_of what)).core) }
-    ensures sends { OnOk result (sends.new.items ≡ sends.old.items ++ addressed (act machine.old (act_of what)).sends) }
+    requires { Allows running_core.old (transition_of what) }
+    ensures core { OnOk result (running_core.new ≡ (apply_transition running_core.old (transition_of what)).core) }
+    ensures sends { OnOk result (sends.new.items ≡ sends.old.items ++ addressed (apply_transition running_core.old (transition_of what)).sends) }
     ensures refused { IfErr result (λ fault. fault ≡ Memory) }
 {
     match what {
-        Act::Ignore => Ok(()),
-        Act::Enqueue(payload) => machine.enqueue(payload),
-        Act::Repeat => machine.repeat(sends),
-        Act::Announce => machine.announce(sends),
-        Act::Invite => machine.invite(sends),
-        Act::GiveUp => {
-            machine.give_up();
-            machine.announce(sends)
+        Transition::Ignore => Ok(()),
+        Transition::Enqueue(payload) => running_core.enqueue(payload),
+        Transition::Repeat => running_core.repeat(sends),
+        Transition::Announce => running_core.announce(sends),
+        Transition::Invite => running_core.invite(sends),
+        Transition::GiveUp => {
+            running_core.give_up();
+            running_core.announce(sends)
         }
-        Act::Regather => {
-            machine.regather();
-            machine.announce(sends)
+        Transition::EnterGather => {
+            running_core.enter_gather();
+            running_core.announce(sends)
         }
-        Act::Agree(join) => {
-            machine.agree(&join);
+        Transition::Agree(join) => {
+            running_core.agree(&join);
             Ok(())
         }
-        Act::Widen(join) => {
-            machine.widen(&join);
-            machine.announce(sends)
+        Transition::MergeJoin(join) => {
+            running_core.merge_join(&join);
+            running_core.announce(sends)
         }
-        Act::RegatherAndAgree(join) => {
-            machine.regather();
-            machine.agree(&join);
-            machine.announce(sends)
+        Transition::EnterGatherAndAgree(join) => {
+            running_core.enter_gather();
+            running_core.agree(&join);
+            running_core.announce(sends)
         }
-        Act::RegatherAndWiden(join) => {
-            machine.regather();
-            machine.widen(&join);
-            machine.announce(sends)
+        Transition::EnterGatherAndMergeJoin(join) => {
+            running_core.enter_gather();
+            running_core.merge_join(&join);
+            running_core.announce(sends)
         }
-        Act::Take(message) => machine.take(message),
-        Act::Visit(token) => machine.visit(&token, sends),
-        Act::Fill(boxed) => machine.fill(boxed, sends),
-        Act::Learn(boxed) => machine.learn(boxed, sends),
+        Transition::Take(message) => running_core.take(message),
+        Transition::Visit(token) => running_core.visit(&token, sends),
+        Transition::Fill(boxed) => running_core.fill(boxed, sends),
+        Transition::Learn(boxed) => running_core.learn(boxed, sends),
     }
 }
 
-/// Whether a proposal may follow.
-fn may_follow<A: Allocator + Copy>(what: &Act<A>) -> bool
-    ensures { result ≡ may_follow (act_of what.now) }
+/// Returns whether a proposal may follow the transition: after a timeout, or a frame that isn't ignored.
+/// Rules: Gather 10 and 11
+fn may_propose_after<A: Allocator + Copy>(what: &Transition<A>) -> bool
+    ensures { result ≡ may_propose_after (transition_of what.now) }
 {
-    !matches!(what, Act::Ignore | Act::Enqueue(_))
+    !matches!(what, Transition::Ignore | Transition::Enqueue(_))
 }
 
-/// A copy of a frame, or `Memory`.
 fn copied<A: Allocator + Copy>(frame: &Frame<A>) -> Result<Frame<A>, Fault>
     ensures ok { IfOk result (λ copy. copy ≡ frame.now) }
     ensures refused { IfErr result (λ fault. fault ≡ Memory) }
@@ -365,7 +379,6 @@ fn copied<A: Allocator + Copy>(frame: &Frame<A>) -> Result<Frame<A>, Fault>
     Ok(copy)
 }
 
-/// A copy of a message, or `Memory`.
 fn copied_message<A: Allocator + Copy>(message: &Message<A>) -> Result<Message<A>, Fault>
     ensures ok { IfOk result (λ copy. copy ≡ message.now) }
     ensures refused { IfErr result (λ fault. fault ≡ Memory) }

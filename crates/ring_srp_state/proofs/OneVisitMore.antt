@@ -1,4 +1,4 @@
--- A visit more is a fact: the mark of its ring, and what was forwarded there.
+-- One more visit as a fact: the mark of its ring, and the `aru` forwarded there.
 use Rattle.std.proofs.Common.{◌≡◌, ℕ, ◌+◌, ◌≤◌, min, max, false, List, ◌∷◌, map, length, ap, ◌∙◌, sym, subst, inl, inr, arith}
 use Rattle.std.proofs.lemmas.Bool.{cond-true, cond-false}
 use Rattle.ring_base.specs.Rings.{same_ring}
@@ -7,8 +7,8 @@ use Rattle.ring_base.proofs.SameRing.{ring_itself}
 use Rattle.ring_payload.specs.declared.content.Payload.{Payload}
 use Rattle.ring_wire.specs.declared.token.Token.{Token}
 use Rattle.ring_window.specs.Held.{front_of}
-use Rattle.ring_window.specs.Windows.{Windowed}
-use Rattle.ring_token.specs.Turns.{Turn, Raise, turns_of, mark_by, forwarded_in, raised_to, safe_mark}
+use Rattle.ring_window.specs.Windows.{WindowHistory}
+use Rattle.ring_token.specs.Turns.{TokenVisit, Raise, turns_of, mark_by, forwarded_in, raised_to, safe_mark}
 use Rattle.ring_token.specs.Histories.{TokenHistory, last_aru}
 use Rattle.ring_token.proofs.VisitNumbers.{mark_more}
 use Rattle.ring_token.proofs.Arus.{aru_step}
@@ -16,53 +16,53 @@ use Rattle.ring_srp_state.specs.Setting.{turn_in}
 
 -- The mark of one ring
 
-pub turned : {A : Type 0} (v : Turn A) (turns : List (Turn A)) (ring : RingId) → v.came.ring ≡ ring → turns_of ring (v ∷ turns) ≡ v ∷ turns_of ring turns
-turned v turns ring e = cond-true (same_ring v.came.ring ring) (v ∷ turns_of ring turns) (turns_of ring turns) (ring_itself v.came.ring ring e)
+pub turned : {A : Type 0} (v : TokenVisit A) (turns : List (TokenVisit A)) (ring : RingId) → v.received.ring ≡ ring → turns_of ring (v ∷ turns) ≡ v ∷ turns_of ring turns
+turned v turns ring e = cond-true (same_ring v.received.ring ring) (v ∷ turns_of ring turns) (turns_of ring turns) (ring_itself v.received.ring ring e)
 
-pub unturned : {A : Type 0} (v : Turn A) (turns : List (Turn A)) (ring : RingId) → same_ring v.came.ring ring ≡ false →
+pub unturned : {A : Type 0} (v : TokenVisit A) (turns : List (TokenVisit A)) (ring : RingId) → same_ring v.received.ring ring ≡ false →
     turns_of ring (v ∷ turns) ≡ turns_of ring turns
-unturned v turns ring e = cond-false (same_ring v.came.ring ring) (v ∷ turns_of ring turns) (turns_of ring turns) e
+unturned v turns ring e = cond-false (same_ring v.received.ring ring) (v ∷ turns_of ring turns) (turns_of ring turns) e
 
--- a visit more: the lesser of its aru and the last one
-pub mark_turned : {A : Type 0} (v : Turn A) (turns : List (Turn A)) (raises : List Raise) (ring : RingId) → v.came.ring ≡ ring →
-    safe_mark (v ∷ turns) raises ring ≡ max (min v.went.aru (last_aru (turns_of ring turns))) (safe_mark turns raises ring)
+-- after one more visit, the mark is the lesser of its `aru` and the last one, or stays
+pub mark_turned : {A : Type 0} (v : TokenVisit A) (turns : List (TokenVisit A)) (raises : List Raise) (ring : RingId) → v.received.ring ≡ ring →
+    safe_mark (v ∷ turns) raises ring ≡ max (min v.forwarded.aru (last_aru (turns_of ring turns))) (safe_mark turns raises ring)
 mark_turned {A} v turns raises ring e =
-    let a : mark_by (forwarded_in ring (v ∷ turns)) ≡ max (min v.went.aru (last_aru (turns_of ring turns))) (mark_by (forwarded_in ring turns)) =
-    ap (λ (vs : List (Turn A)). mark_by (map (λ (x : Turn A). x.went.aru) vs)) (turned v turns ring e) ∙ mark_more v (turns_of ring turns) in
+    let a : mark_by (forwarded_in ring (v ∷ turns)) ≡ max (min v.forwarded.aru (last_aru (turns_of ring turns))) (mark_by (forwarded_in ring turns)) =
+    ap (λ (vs : List (TokenVisit A)). mark_by (map (λ (x : TokenVisit A). x.forwarded.aru) vs)) (turned v turns ring e) ∙ mark_more v (turns_of ring turns) in
     regrouped _ _ _ _ a
   where
     regrouped : (one p m raised : ℕ) → one ≡ max p m → max one raised ≡ max p (max m raised)
     regrouped one p m raised a = omega arith
 
-pub mark_unturned : {A : Type 0} (v : Turn A) (turns : List (Turn A)) (raises : List Raise) (ring : RingId) → same_ring v.came.ring ring ≡ false →
+pub mark_unturned : {A : Type 0} (v : TokenVisit A) (turns : List (TokenVisit A)) (raises : List Raise) (ring : RingId) → same_ring v.received.ring ring ≡ false →
     safe_mark (v ∷ turns) raises ring ≡ safe_mark turns raises ring
-mark_unturned {A} v turns raises ring e = ap (λ (vs : List (Turn A)). max (mark_by (map (λ (x : Turn A). x.went.aru) vs)) (raised_to ring raises))
+mark_unturned {A} v turns raises ring e = ap (λ (vs : List (TokenVisit A)). max (mark_by (map (λ (x : TokenVisit A). x.forwarded.aru) vs)) (raised_to ring raises))
     (unturned v turns ring e)
 
--- so it is no further than what the visit and those before it reached
-pub mark_within : {A : Type 0} (v : Turn A) (turns : List (Turn A)) (raises : List Raise) (ring : RingId) (n : ℕ) → v.came.ring ≡ ring →
+-- so it is at most what the visit and those before it forwarded
+pub mark_within : {A : Type 0} (v : TokenVisit A) (turns : List (TokenVisit A)) (raises : List Raise) (ring : RingId) (n : ℕ) → v.received.ring ≡ ring →
     last_aru (turns_of ring turns) ≤ n → safe_mark turns raises ring ≤ n → safe_mark (v ∷ turns) raises ring ≤ n
 mark_within v turns raises ring n e l m = within _ _ _ _ n (mark_turned v turns raises ring e) l m
   where
-    within : (one went last before n : ℕ) → one ≡ max (min went last) before → last ≤ n → before ≤ n → one ≤ n
-    within one went last before n e l m = omega arith
+    within : (one forwarded last before n : ℕ) → one ≡ max (min forwarded last) before → last ≤ n → before ≤ n → one ≤ n
+    within one forwarded last before n e l m = omega arith
 
-pub mark_risen : {A : Type 0} (v : Turn A) (turns : List (Turn A)) (raises : List Raise) (ring : RingId) → v.came.ring ≡ ring →
+pub mark_risen : {A : Type 0} (v : TokenVisit A) (turns : List (TokenVisit A)) (raises : List Raise) (ring : RingId) → v.received.ring ≡ ring →
     safe_mark turns raises ring ≤ safe_mark (v ∷ turns) raises ring
 mark_risen v turns raises ring e = omega (arith, mark_turned v turns raises ring e)
 
-pub led_turned : {A : Type 0} (v : Turn A) (turns : List (Turn A)) (ring : RingId) (n : ℕ) → v.came.ring ≡ ring → v.went.aru ≤ n →
+pub led_turned : {A : Type 0} (v : TokenVisit A) (turns : List (TokenVisit A)) (ring : RingId) (n : ℕ) → v.received.ring ≡ ring → v.forwarded.aru ≤ n →
     last_aru (turns_of ring (v ∷ turns)) ≤ n
-led_turned {A} v turns ring n e l = subst (λ (vs : List (Turn A)). last_aru vs ≤ n) (sym (turned v turns ring e)) l
+led_turned {A} v turns ring n e l = subst (λ (vs : List (TokenVisit A)). last_aru vs ≤ n) (sym (turned v turns ring e)) l
 
-pub led_unturned : {A : Type 0} (v : Turn A) (turns : List (Turn A)) (ring : RingId) (n : ℕ) → same_ring v.came.ring ring ≡ false →
+pub led_unturned : {A : Type 0} (v : TokenVisit A) (turns : List (TokenVisit A)) (ring : RingId) (n : ℕ) → same_ring v.received.ring ring ≡ false →
     last_aru (turns_of ring turns) ≤ n → last_aru (turns_of ring (v ∷ turns)) ≤ n
-led_unturned {A} v turns ring n e l = subst (λ (vs : List (Turn A)). last_aru vs ≤ n) (sym (unturned v turns ring e)) l
+led_unturned {A} v turns ring n e l = subst (λ (vs : List (TokenVisit A)). last_aru vs ≤ n) (sym (unturned v turns ring e)) l
 
--- What a visit forwards is no further than the front
-pub aru_within : {A : Type 0} (w : Windowed A) (h : TokenHistory A) (t : Token) (stays : List ℕ) (fresh : List (Payload A)) →
-    (turn_in w h t stays fresh).went.aru ≤ front_of w.held w.ring
-aru_within w h t stays fresh = elim (aru_step h.me (front_of w.held w.ring) (t.seq + length fresh) t) [
+-- The `aru` that a visit forwards is at most the front
+pub aru_within : {A : Type 0} (w : WindowHistory A) (h : TokenHistory A) (t : Token) (remaining_requests : List ℕ) (fresh : List (Payload A)) →
+    (turn_in w h t remaining_requests fresh).forwarded.aru ≤ front_of w.held w.ring
+aru_within w h t remaining_requests fresh = elim (aru_step h.me (front_of w.held w.ring) (t.seq + length fresh) t) [
   | inl s ↦ omega (arith, s.aru_is)
   | inr s ↦ omega (arith, s.aru_is, s.below)
 ]

@@ -1,4 +1,4 @@
--- What a visit sends in Recovery, found number by number.
+-- The payloads of a visit in Recovery, number by number.
 use Rattle.std.proofs.Common.{◌≡◌, ℕ, suc, ◌+◌, ◌-◌, ◌<◌, ◌≤◌, Bool, true, false, List, [], ◌∷◌, ◌++◌, filter}
 use Rattle.std.proofs.Common.{filter_map, length, take, Option, Some, None, refl, ap, ◌∙◌, sym, arith, append_assoc}
 use Rattle.std.proofs.Common.{length-append}
@@ -12,7 +12,7 @@ use Rattle.ring_payload.specs.declared.content.Payload.TheVariants.{End}
 use Rattle.ring_wire.specs.declared.message.Message.{Message}
 use Rattle.ring_window.specs.Held.{found, highest}
 use Rattle.ring_recover.specs.Plans.{low}
-use Rattle.ring_recover.specs.Recovering.{Recovering as Seen}
+use Rattle.ring_recover.specs.RecoveryState.{RecoveryState as Seen}
 use Rattle.ring_recover.specs.Wrapping.{is_wrapped, wrap, has_own_end}
 use Rattle.ring_recover.proofs.HandedNext.{found_number}
 use Rattle.ring_srp_state.specs.Wraps.{wrap_unless, wrap_left, left_and_end}
@@ -36,14 +36,14 @@ module _ {A : Type 0} (r : Seen A) (held : List (Message A)) where
       ap (filter_map wrap) (cond-true (not (is_wrapped r.seen r.plan.old x.number)) (x ∷ rest) rest yes)
       ∙ ap (λ (qs : List (Payload A)). cons_option (wrap x) qs) h
 
-  -- of a row of numbers
+  -- those of consecutive numbers
   by_number : (ns : List ℕ) → filter_map wrap (filter (λ (x : Message A). not (is_wrapped r.seen r.plan.old x.number)) (filter_map (found held r.plan.old) ns))
       ≡ filter_map (wrap_left r held) ns
   by_number [] = refl
   by_number (n ∷ ns) = one_by (found held r.plan.old n) n (is_wrapped r.seen r.plan.old n) (filter_map (found held r.plan.old) ns)
       (filter_map (wrap_left r held) ns) refl refl (by_number ns)
 
-  -- what is left from a number on
+  -- those left from a number on
   abbrev pub left_from : ℕ → List (Payload A)
   left_from before = filter_map (wrap_left r held) (numbers_from (before + 1) (highest held r.plan.old - before))
 
@@ -53,7 +53,7 @@ module _ {A : Type 0} (r : Seen A) (held : List (Message A)) where
   pub all_left : left_and_end r held ≡ left_from (low r.plan) ++ end_of
   all_left = ap (λ (ps : List (Payload A)). ps ++ end_of) (by_number (numbers_from (low r.plan + 1) (highest held r.plan.old - low r.plan)))
 
-  -- one number on
+  -- one number further
   left_on : (before : ℕ) (o : Option (Payload A)) → before < highest held r.plan.old → o ≡ wrap_left r held (before + 1)
       → left_from before ≡ cons_option o (left_from (before + 1))
   left_on before o l e =
@@ -67,7 +67,7 @@ module _ {A : Type 0} (r : Seen A) (held : List (Message A)) where
   left_over : (before : ℕ) → highest held r.plan.old ≤ before → left_from before ≡ []
   left_over before l = (let n : highest held r.plan.old - before ≡ 0 = omega arith in ap (λ k. filter_map (wrap_left r held) (numbers_from (before + 1) k)) n)
 
--- What was made so far, and what is left from a number on, are all; there are no more than so many
+-- The payloads made so far and those left from a number on are all; at most `most` were made
 pub record IsMade {A : Type 0} (r : Seen A) (held : List (Message A)) (most before : ℕ) (made : List (Payload A)) : Type 0 where
   pub all : left_from r held (low r.plan) ≡ made ++ left_from r held before
   pub few : length made ≤ most
@@ -99,7 +99,7 @@ module _ {A : Type 0} (r : Seen A) (held : List (Message A)) (most : ℕ) where
     on = omega (arith, m.on);
   }
 
-  -- so many are there
+  -- `most` payloads were made
   pub made_full : (before : ℕ) (made : List (Payload A)) → length made ≡ most → IsMade r held most before made → made ≡ take most (left_and_end r held)
   made_full before made n m =
       let rest = left_from r held before ++ end_of r held in
@@ -113,7 +113,7 @@ module _ {A : Type 0} (r : Seen A) (held : List (Message A)) (most : ℕ) where
       all_left r held ∙ ap (λ (ps : List (Payload A)). ps ++ end_of r held)
       (m.all ∙ ap (λ (ps : List (Payload A)). made ++ ps) (left_over r held before l) ∙ append-nil made)
 
-  -- and the End behind them
+  -- and the End after them
   pub made_end : (before : ℕ) (made : List (Payload A)) → highest held r.plan.old ≤ before → length made < most → has_own_end r.me r.seen ≡ false
       → IsMade r held most before made → made ++ End ∷ [] ≡ take most (left_and_end r held)
   made_end before made l n e m =
@@ -121,7 +121,7 @@ module _ {A : Type 0} (r : Seen A) (held : List (Message A)) (most : ℕ) where
       ∙ ap (λ (ps : List (Payload A)). made ++ ps) (cond-false (has_own_end r.me r.seen) [] (End ∷ []) e) in
       sym (ap (take most) whole ∙ take_all most (made ++ End ∷ []) (few_more (length-append made (End ∷ [])) n))
 
-  -- or none
+  -- or no End
   pub made_all : (before : ℕ) (made : List (Payload A)) → highest held r.plan.old ≤ before → has_own_end r.me r.seen ≡ true
       → IsMade r held most before made → made ≡ take most (left_and_end r held)
   made_all before made l e m =

@@ -3,36 +3,36 @@ use Rattle.std.specs.Prelude.{ℕ, List, [], ◌∷◌}
 use Rattle.ring_wire.specs.declared.commit.CommitToken.{CommitToken}
 use Rattle.ring_wire.specs.declared.entries.CommitEntry.{CommitEntry}
 use Rattle.ring_base.specs.declared.ring_id.RingId.{RingId}
-use Rattle.ring_token.specs.Turns.{Turn, Raise}
-use Rattle.ring_core.specs.Commits.{Configuration}
-use Rattle.ring_core.specs.State.{Core, Report}
+use Rattle.ring_token.specs.Turns.{TokenVisit, Raise}
+use Rattle.ring_core_spec.specs.Commits.{Configuration}
+use Rattle.ring_core_spec.specs.State.{Core, Report}
 
--- what only contracts know: the lists of facts of a core, but for the messages held
+-- the lists of facts of a core, but for the messages held; only contracts see them
 pub record History (A : Type 0) : Type 0 where
   pub rings : List Configuration
   pub installs : List Configuration
-  pub turns : List (Turn A)
+  pub turns : List (TokenVisit A)
   pub raises : List Raise
   pub reports : List Report
   pub plans : List CommitToken
 
--- those of a core
+-- the lists of facts of a core
 abbrev pub history_of : {A : Type 0} → Core A → History A
 history_of c = record { rings = c.rings; installs = c.installs; turns = c.turns; raises = c.raises; reports = c.reports; plans = c.plans }
 
--- a ring is taken part in, with this report
+-- the lists after the core takes part in a ring with this report
 abbrev pub with_ring : {A : Type 0} → History A → Configuration → CommitEntry → History A
 with_ring h running own = record h { rings = running ∷ h.rings; reports = record { ring = running.ring; entry = own } ∷ h.reports }
 
--- a token was visited: the newest of these visits
-abbrev pub with_visit : {A : Type 0} → History A → List (Turn A) → History A
+-- the lists after a visit of the token: the newest of these visits
+abbrev pub with_visit : {A : Type 0} → History A → List (TokenVisit A) → History A
 with_visit h [] = h
 with_visit h (v ∷ turns) = record h { turns = v ∷ h.turns }
 
--- a full commit token raises the mark of an old ring
+-- the lists after a full commit token raises the safe mark of an old ring
 abbrev pub with_plan : {A : Type 0} → History A → CommitToken → RingId → ℕ → History A
 with_plan h k old mark = record h { raises = record { ring = old; mark = mark } ∷ h.raises; plans = k ∷ h.plans }
 
--- a ring is installed
+-- the lists after a ring is installed
 abbrev pub with_install : {A : Type 0} → History A → Configuration → History A
 with_install h running = record h { installs = running ∷ h.installs }

@@ -1,11 +1,12 @@
--- What a payload at the front of a queue is to a Pack: a Call of so many bytes, or no part of it; and what is left of a queue.
+-- Payloads at the front of the send queue: the bytes that a Call takes in a Pack, and what is left of a queue.
+-- Rules: Token and window 9
 use Rattle.std.specs.Prelude.{◌≡◌, ◌++◌, ℕ, List, Option, Some, None}
 use Rattle.ring_payload.specs.declared.call.Call.{Call as OneCall}
 use Rattle.ring_payload.specs.declared.content.Payload.{Payload}
 use Rattle.ring_payload.specs.declared.content.Payload.TheVariants.{Call, Wrapped, End, Head, Part, Pack, Snap}
 use Rattle.ring_payload.specs.Calls.{call_bytes}
 
--- the call of a Call; of any other payload none
+-- the call of a Call, none for any other payload
 abbrev pub call_of : {A : Type 0} → Payload A → Option (OneCall A)
 call_of (Call call) = Some call
 call_of (Wrapped old) = None
@@ -15,7 +16,7 @@ call_of (Part part) = None
 call_of (Pack pack) = None
 call_of (Snap snap) = None
 
--- how many bytes a Call takes in a Pack; of any other payload nothing is told
+-- the number of bytes that a Call takes in a Pack, none for any other payload
 abbrev pub bytes_of : {A : Type 0} → Payload A → Option ℕ
 bytes_of (Call call) = Some (call_bytes call)
 bytes_of (Wrapped old) = None
@@ -25,6 +26,6 @@ bytes_of (Part part) = None
 bytes_of (Pack pack) = None
 bytes_of (Snap snap) = None
 
--- a queue off which some of its first payloads were taken
+-- a queue without some of its first payloads
 abbrev pub IsLeftOf : {A : Type 0} → List (Payload A) → List (Payload A) → Type 0
 IsLeftOf left queue = (taken : List (Payload _)) × (taken ++ left ≡ queue)

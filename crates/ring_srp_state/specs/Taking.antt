@@ -1,20 +1,22 @@
--- What is kept in Recovery, once a message of the running ring is held, and what a window gets of what a message wraps: Recovery, rules 5 to 7 of
--- docs/PROTOCOL.md.
+-- The state of Recovery once a message of the running ring is held, and the old ring's window once it takes the inner
+-- message.
+-- Rules: Recovery 5 to 7
 use Rattle.std.specs.Prelude.{List, ◌++◌}
 use Rattle.ring_payload.specs.declared.content.Payload.{Payload}
 use Rattle.ring_wire.specs.declared.message.Message.{Message}
-use Rattle.ring_window.specs.Windows.{Windowed, taken}
+use Rattle.ring_window.specs.Windows.{WindowHistory, taken}
 use Rattle.ring_recover.specs.Installing.{in_front}
-use Rattle.ring_recover.specs.Recovering.{with_seen}
-use Rattle.ring_recover.specs.Wrapping.{unwrapped}
-use Rattle.ring_srp_state.specs.declared.recovering.Recovering.{Recovering}
+use Rattle.ring_recover.specs.RecoveryState.{with_seen}
+use Rattle.ring_recover.specs.Wrapping.{inner_messages}
+use Rattle.ring_srp_state.specs.declared.recovery_state.RecoveryState.{RecoveryState}
 
--- the messages of its window in the front
-abbrev pub window_front : {A : Type 0} → Windowed A → List (Message A)
+-- the messages of a window that its front covers, ascending
+abbrev pub window_front : {A : Type 0} → WindowHistory A → List (Message A)
 window_front w = in_front w.held w.ring
 
--- it is seen by the plan, held in the window, and counted if the front covers it
-abbrev pub with_taken : {A : Type 0} → Recovering A → Message A → Recovering A
+-- the state once a message is held: the plan has seen it, the window holds it, and it is counted if the front covers
+-- it
+abbrev pub with_taken : {A : Type 0} → RecoveryState A → Message A → RecoveryState A
 with_taken r x =
     record r {
       part = record r.part { window = taken r.part.window x };
@@ -22,10 +24,10 @@ with_taken r x =
       ends = window_front (taken r.part.window x);
     }
 
--- what a payload wraps of the window's ring, and is new there
-abbrev pub inner_of : {A : Type 0} → Windowed A → Payload A → List (Message A)
-inner_of w payload = unwrapped w.ring w.mark w.held payload
+-- the inner message of a payload, if it is of the window's ring and new there
+abbrev pub inner_of : {A : Type 0} → WindowHistory A → Payload A → List (Message A)
+inner_of w payload = inner_messages w.ring w.mark w.held payload
 
--- the window once it holds that
-abbrev pub with_inner : {A : Type 0} → Windowed A → Payload A → Windowed A
+-- the window once it holds that message
+abbrev pub with_inner : {A : Type 0} → WindowHistory A → Payload A → WindowHistory A
 with_inner w payload = record w { held = inner_of w payload ++ w.held }

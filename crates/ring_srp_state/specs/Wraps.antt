@@ -1,26 +1,27 @@
--- What a visit sends in Recovery, number by number of the old ring: Recovery, rules 4 and 5 of docs/PROTOCOL.md.
+-- The new messages of a visit in Recovery, number by number of the old ring.
+-- Rules: Recovery 4 and 5
 use Rattle.std.specs.Prelude.{ℕ, Bool, true, false, if◌then◌else◌, List, [], ◌∷◌, ◌++◌, filter_map, Option, Some, None}
 use Rattle.ring_payload.specs.declared.content.Payload.{Payload}
 use Rattle.ring_payload.specs.declared.content.Payload.TheVariants.{End}
 use Rattle.ring_wire.specs.declared.message.Message.{Message}
 use Rattle.ring_window.specs.Held.{found}
-use Rattle.ring_recover.specs.Recovering.{Recovering}
+use Rattle.ring_recover.specs.RecoveryState.{RecoveryState}
 use Rattle.ring_recover.specs.Wrapping.{is_wrapped, wrap, left_to_wrap, has_own_end}
 
--- a message that is there, wrapped
+-- the Wrapped of a message, if there is one and it is a user's
 abbrev pub wrap_found : {A : Type 0} → Option (Message A) → Option (Payload A)
 wrap_found None = None
 wrap_found (Some x) = wrap x
 
--- the old ring's message of a number, wrapped, if it was not seen wrapped
+-- the same, unless its number was seen wrapped
 abbrev pub wrap_unless : {A : Type 0} → Bool → Option (Message A) → Option (Payload A)
 wrap_unless true found = None
 wrap_unless false found = wrap_found found
 
--- so by what is held of the old ring, and what was seen of the new one
-abbrev pub wrap_left : {A : Type 0} → Recovering A → List (Message A) → ℕ → Option (Payload A)
+-- the Wrapped of the old ring's message of number n, unless it was seen wrapped
+abbrev pub wrap_left : {A : Type 0} → RecoveryState A → List (Message A) → ℕ → Option (Payload A)
 wrap_left r held n = wrap_unless (is_wrapped r.seen r.plan.old n) (found held r.plan.old n)
 
--- all that is left, and the End behind it, unless that went out
-abbrev pub left_and_end : {A : Type 0} → Recovering A → List (Message A) → List (Payload A)
+-- the Wrapped of all messages left to wrap, then the End, unless the node's own End was seen
+abbrev pub left_and_end : {A : Type 0} → RecoveryState A → List (Message A) → List (Payload A)
 left_and_end r held = filter_map wrap (left_to_wrap r.plan r.seen held) ++ (if has_own_end r.me r.seen then [] else End ∷ [])

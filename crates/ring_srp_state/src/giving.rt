@@ -1,22 +1,28 @@
-//! What is given of a ring.
+//! Appends the outputs of one ring's messages and safe mark to a list of outputs.
+//! A function marked `inline(never)` keeps the large stack slot of an output out of its caller.
+//! Rules: Outputs 3 to 6
 
 ghost use Rattle.std.specs.Prelude.{◌≡◌, ◌++◌, ◌∷◌, [], ◌≤◌, IfErr, OnOk};
 ghost use Rattle.ring_base.specs.declared.fault.Fault.TheVariants.{Memory};
 ghost use Rattle.ring_window.specs.Held.{front_of};
-ghost use Rattle.ring_core.specs.Giving.{all_agreed};
-ghost use Rattle.ring_core.specs.declared.out.Out.TheVariants.{Agreed, Safe};
+ghost use Rattle.ring_core_spec.specs.Giving.{all_agreed};
+ghost use Rattle.ring_core_spec.specs.declared.out.Out.TheVariants.{Agreed, Safe};
 ghost use Rattle.ring_srp_state.specs.Rests.{rest_one, rest_of};
 ghost use Rattle.ring_srp_state.specs.Users.{agreed_in, agreed_of, safe_to};
 
 use ring_base::{Fault, RingId};
-use ring_core::Out;
+use ring_core_spec::Out;
 use ring_recover::{Numbers, is_user};
 use ring_window::Window;
 use ring_wire::Message;
 use std::alloc::Allocator;
 
-/// Gives the users' messages after a number that the front covers, ascending. None of them is forgotten yet. `Memory` where a growth
-/// was refused: what `outs` has then isn't told.
+/// Appends an `Agreed` for each user message of the window's ring with a number above `below` that the front covers,
+/// ascending.
+/// `below` is at least the window's mark, so none of these messages has been forgotten. Where it is the front or more,
+/// nothing is appended.
+/// Errors: `Memory` where an allocation fails; the contents of `outs` are then unspecified.
+/// Rules: Outputs 3
 pub fn give_agreed<A: Allocator + Copy>(
     window: &Window<A>,
     below: u64,
@@ -34,7 +40,7 @@ pub fn give_agreed<A: Allocator + Copy>(
     Ok(())
 }
 
-/// Gives a message of a ring, if it is a user's. It stands apart, since a call clears its room for an output.
+/// Appends an `Agreed` for a message, if it is a user's.
 #[inline(never)]
 fn give_message<A: Allocator + Copy>(
     ring: RingId,
@@ -52,7 +58,10 @@ fn give_message<A: Allocator + Copy>(
     Ok(())
 }
 
-/// Gives the safe mark of a ring, if it rose. `Memory` where a growth was refused: what `outs` has then isn't told.
+/// Appends a `Safe` with the mark of a ring, if the mark is above `before`, and else nothing.
+/// `before` is the ring's safe mark as the step began.
+/// Errors: `Memory` where an allocation fails; the contents of `outs` are then unspecified.
+/// Rules: Outputs 4
 pub fn give_safe<A: Allocator + Copy>(
     ring: RingId,
     before: u64,
@@ -68,7 +77,6 @@ pub fn give_safe<A: Allocator + Copy>(
     Ok(())
 }
 
-/// Gives a safe mark. It stands apart, since a call clears its room for an output.
 #[inline(never)]
 fn give_mark<A: Allocator + Copy>(
     ring: RingId,
@@ -83,8 +91,10 @@ fn give_mark<A: Allocator + Copy>(
     Ok(())
 }
 
-/// In the transitional configuration the users' messages of these numbers, which the window still has. `Memory` where a growth was
-/// refused: what `outs` has then isn't told.
+/// Appends a `Rest` for each user message of these numbers that the window still has, in ascending order.
+/// A number that the window doesn't hold or has forgotten is skipped, and so is an End or a Wrapped.
+/// Errors: `Memory` where an allocation fails; the contents of `outs` are then unspecified.
+/// Rules: Outputs 5
 pub fn give_rest<A: Allocator + Copy>(
     window: &Window<A>,
     numbers: &Numbers,
@@ -99,7 +109,7 @@ pub fn give_rest<A: Allocator + Copy>(
     Ok(())
 }
 
-/// In the transitional configuration the message of a number, where the window still has it and it is a user's.
+/// Appends a `Rest` for the message of a number, where the window still keeps it and it is a user's.
 fn give_number<A: Allocator + Copy>(
     window: &Window<A>,
     number: u64,
@@ -114,7 +124,7 @@ fn give_number<A: Allocator + Copy>(
     }
 }
 
-/// In the transitional configuration a message, where it is a user's.
+/// Appends a `Rest` for a message, if it is a user's.
 fn give_if_users<A: Allocator + Copy>(
     message: &Message<A>,
     outs: &mut Vec<Out<A>, A>,
@@ -128,8 +138,11 @@ fn give_if_users<A: Allocator + Copy>(
     Ok(())
 }
 
-/// Messages that stood aside are agreed. `Memory` where a growth was refused: what `outs` has then isn't told.
-pub fn give_aside<A: Allocator + Copy>(
+/// Appends an `Agreed` of this ring for each of the messages, in their order.
+/// They are the ring's user messages that Recovery kept aside until the ring's installation.
+/// Errors: `Memory` where an allocation fails; the contents of `outs` are then unspecified.
+/// Rules: Outputs 1 and 3
+pub fn give_deferred<A: Allocator + Copy>(
     ring: &RingId,
     messages: Vec<Message<A>, A>,
     outs: &mut Vec<Out<A>, A>,
@@ -143,7 +156,6 @@ pub fn give_aside<A: Allocator + Copy>(
     Ok(())
 }
 
-/// A message of a ring is agreed.
 fn agreed<A: Allocator + Copy>(ring: RingId, message: Message<A>) -> Out<A>
     ensures { result ≡ Agreed ring message.number message }
 {

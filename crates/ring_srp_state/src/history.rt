@@ -1,24 +1,27 @@
-//! The lists of facts of a core, as contracts see them, and how they grow.
+//! The lists of facts of a core, as ghost values that only contracts read, and how they grow.
 
 ghost use Rattle.std.specs.Prelude.{◌≡◌, [], ◌∷◌, ◌++◌};
-ghost use Rattle.ring_core.specs.State.{formed, opening};
+ghost use Rattle.ring_core_spec.specs.State.{formed, opening};
 ghost use Rattle.ring_srp_state.specs.Histories.{with_ring, with_visit, with_plan, with_install};
 ghost use Rattle.ring_srp_state.specs.Histories.{history_of};
 
-use ring_base::{Fixed, Past, Proc, RingId, past_of, told};
-use ring_core::Configuration;
+use ring_base::{Fixed, Ghost, Proc, RingId, ghost_of, ghost_step};
+use ring_core_spec::Configuration;
 use ring_token::Visit;
 use ring_wire::{CommitEntry, CommitToken};
 use std::alloc::{Allocator, Global};
 use std::marker::{Model, PhantomData};
 
-/// The lists of facts of a core. No value of it is made.
-pub struct CoreStory<A: Allocator + Copy = Global> {
+/// The lists of facts of a core, but for the messages held. No value of this type is made.
+/// They are the rings taken part in, the rings installed, the visits, the marks raised by plans, the reports, and the
+/// plans, each newest first.
+/// Rules: Rings and states 3
+pub struct CoreHistory<A: Allocator + Copy = Global> {
     allocator: PhantomData<A>,
 }
 
-impl<A: Allocator + Copy> Model for CoreStory<A> {
-    ghost use Rattle.ring_core.specs.State.{opening};
+impl<A: Allocator + Copy> Model for CoreHistory<A> {
+    ghost use Rattle.ring_core_spec.specs.State.{opening};
     ghost use Rattle.ring_srp_state.specs.Histories.{History, history_of};
 
     ghost Value = { History A };
@@ -26,80 +29,87 @@ impl<A: Allocator + Copy> Model for CoreStory<A> {
     ghost view = { λ _. history_of (opening 1 1) };
 }
 
-/// The lists of facts that a processor opens with.
-pub fn opened<A: Allocator + Copy>(fixed: Fixed, me: Proc) -> Past<CoreStory<A>>
+/// Returns the lists of facts of processor `me` at the opening.
+/// Rules: Rings and states 5
+pub fn opened<A: Allocator + Copy>(fixed: Fixed, me: Proc) -> Ghost<CoreHistory<A>>
     ensures { result.value ≡ history_of (opening fixed.count me) }
 {
-    past_of(&(&fixed, &me))
+    ghost_of(&(&fixed, &me))
 }
 
-/// The lists of facts of a processor in the ring of all that is formed from the start.
-pub fn formed_of<A: Allocator + Copy>(fixed: Fixed, me: Proc) -> Past<CoreStory<A>>
+/// Returns the lists of facts of processor `me` in the formed ring of all processors.
+/// Rules: Rings and states 14
+pub fn formed_of<A: Allocator + Copy>(fixed: Fixed, me: Proc) -> Ghost<CoreHistory<A>>
     ensures { result.value ≡ history_of (formed fixed.count me) }
 {
-    past_of(&(&fixed, &me))
+    ghost_of(&(&fixed, &me))
 }
 
-/// A ring is taken part in, with this report.
+/// Returns the lists after the core takes part in the ring `running` and reports `own` of its old ring.
+/// Rules: Rings and states 7
 pub fn with_ring<A: Allocator + Copy>(
-    past: &Past<CoreStory<A>>,
+    history: &Ghost<CoreHistory<A>>,
     running: Configuration,
     own: &CommitEntry,
-) -> Past<CoreStory<A>>
-    ensures { result.value ≡ with_ring past.now.value running own.now }
+) -> Ghost<CoreHistory<A>>
+    ensures { result.value ≡ with_ring history.now.value running own.now }
 {
-    told(past, &(running, own))
+    ghost_step(history, &(running, own))
 }
 
-/// A token was visited, as the visits of its ring tell.
+/// Returns the lists with one visit of the token more: the newest one that `visit` has.
+/// Rules: Token and window 7
 pub fn with_visit<A: Allocator + Copy>(
-    past: &Past<CoreStory<A>>,
+    history: &Ghost<CoreHistory<A>>,
     visit: &Visit<A>,
-) -> Past<CoreStory<A>>
-    ensures { result.value ≡ with_visit past.now.value visit.now.turns }
+) -> Ghost<CoreHistory<A>>
+    ensures { result.value ≡ with_visit history.now.value visit.now.turns }
 {
-    told(past, visit)
+    ghost_step(history, visit)
 }
 
-/// A full commit token raises the mark of an old ring.
+/// Returns the lists after a core makes its plan: with the full commit token, and with the safe mark that the plan
+/// raises in the old ring.
+/// Rules: Recovery 3
 pub fn with_plan<A: Allocator + Copy>(
-    past: &Past<CoreStory<A>>,
-    token: &Past<CommitToken>,
+    history: &Ghost<CoreHistory<A>>,
+    token: &Ghost<CommitToken>,
     old: RingId,
     mark: u64,
-) -> Past<CoreStory<A>>
-    ensures { result.value ≡ with_plan past.now.value token.now.value old mark }
+) -> Ghost<CoreHistory<A>>
+    ensures { result.value ≡ with_plan history.now.value token.now.value old mark }
 {
-    told(past, &(token, old, mark))
+    ghost_step(history, &(token, old, mark))
 }
 
-/// A ring is installed.
+/// Returns the lists after the core installs the ring `running`.
+/// Rules: Recovery 7
 pub fn with_install<A: Allocator + Copy>(
-    past: &Past<CoreStory<A>>,
+    history: &Ghost<CoreHistory<A>>,
     running: Configuration,
-) -> Past<CoreStory<A>>
-    ensures { result.value ≡ with_install past.now.value running }
+) -> Ghost<CoreHistory<A>>
+    ensures { result.value ≡ with_install history.now.value running }
 {
-    told(past, &running)
+    ghost_step(history, &running)
 }
 
-/// No items.
-pub fn none<M>() -> Past<[M; 0]>
+/// Returns the empty ghost list.
+pub fn none<M>() -> Ghost<[M; 0]>
     ensures { result.value ≡ [] }
 {
-    past_of(&())
+    ghost_of(&())
 }
 
-/// One item more, as the first.
-pub fn one_first<M>(items: &Past<[M; 0]>, item: &M) -> Past<[M; 0]>
+/// Returns a ghost list with an item added at its head.
+pub fn one_first<M>(items: &Ghost<[M; 0]>, item: &M) -> Ghost<[M; 0]>
     ensures { result.value ≡ item.now ∷ items.now.value }
 {
-    past_of(&(items, item))
+    ghost_of(&(items, item))
 }
 
-/// One item more, as the last.
-pub fn one_last<M>(items: &Past<[M; 0]>, item: &M) -> Past<[M; 0]>
+/// Returns a ghost list with an item added at its end.
+pub fn one_last<M>(items: &Ghost<[M; 0]>, item: &M) -> Ghost<[M; 0]>
     ensures { result.value ≡ items.now.value ++ item.now ∷ [] }
 {
-    past_of(&(items, item))
+    ghost_of(&(items, item))
 }

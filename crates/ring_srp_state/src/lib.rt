@@ -1,24 +1,25 @@
-//! What a ring core keeps of one ring: its window and visits, what it goes by in Recovery, what it wraps, sends and gives, how
-//! its lists of facts grow, and how a visit's messages are made of its queue.
+//! The state that a ring core keeps for one ring: window and visits, the state of Recovery, the messages that it
+//! wraps and sends, its outputs, its lists of facts, and the packing of a visit's new messages.
+//! Rules: Rings and states 3 and 9; Token and window 7, 9 and 12; Recovery 4 to 6; Outputs 3 to 6
 #![tactic(auto)]
 
 mod giving;
 mod history;
 mod packing;
 mod queued;
-mod recovering;
+mod recovery_state;
 mod ring_part;
 mod sent;
 mod wrapping;
 
-pub use giving::{give_agreed, give_aside, give_rest, give_safe};
+pub use giving::{give_agreed, give_deferred, give_rest, give_safe};
 pub use history::{
-    CoreStory, formed_of, none, one_first, one_last, opened, with_install, with_plan, with_ring,
+    CoreHistory, formed_of, none, one_first, one_last, opened, with_install, with_plan, with_ring,
     with_visit,
 };
 pub use packing::take_packed;
 pub use queued::is_queued;
-pub use recovering::{Recovering, unwrap_into};
+pub use recovery_state::{RecoveryState, unwrap_into};
 pub use ring_part::RingPart;
 pub use sent::{send, send_copy, send_message};
-pub use wrapping::first_left;
+pub use wrapping::first_recovery_messages;

@@ -1,28 +1,33 @@
-//! A visit's new messages, made of the front of a queue.
+//! Makes a visit's new messages out of the front of the send queue.
+//! A function marked `inline(never)` keeps the large stack slot of a payload out of its caller.
+//! Rules: Token and window 9
 
 ghost use Rattle.std.specs.Prelude.{◌≡◌, drop, length, IfOk, IfErr, OnOk, OnErr, option_to_list};
 ghost use Rattle.ring_base.specs.declared.fault.Fault.TheVariants.{Memory};
-ghost use Rattle.ring_payload.specs.Packing.{front_run, behind, packed, left_behind};
+ghost use Rattle.ring_payload.specs.Packing.{first_run, behind, packed_payloads, unpacked_rest};
 ghost use Rattle.ring_srp_state.specs.Packing.{call_of, bytes_of, IsLeftOf};
 
 use ring_base::Fault;
-use ring_payload::{Call, Calls, MOST_PACK_BYTES, MOST_PACK_CALLS, Pack, Payload};
+use ring_payload::{Call, Calls, MAX_PACK_BYTES, MAX_PACK_CALLS, Pack, Payload};
 use std::alloc::Allocator;
 use std::collections::VecDeque;
 
-/// A Pack has at most so many calls.
-const MOST_CALLS: usize = MOST_PACK_CALLS as usize;
+/// The most calls in one Pack.
+const MAX_CALLS: usize = MAX_PACK_CALLS as usize;
 
-/// Takes a queue's first messages off it, at most so many: each is made anew of what is left, the longest run of
-/// Calls at the front that fits one Pack as a Pack, a run of one as a Call, anything else alone. `Memory` where a growth
-/// was refused: then some of the queue's first payloads may be lost, and the rest stands as it was.
+/// Takes the payloads of at most `most` new messages off the front of the queue, and returns them in their order.
+/// Each is made of what is left. The longest run of Calls at the front that fits one Pack goes as a Pack, or as a Call
+/// if it is a single one. Anything else goes alone.
+/// Errors: `Memory` where an allocation fails. Some of the queue's first payloads may then be lost, and the rest is
+/// unchanged.
+/// Rules: Token and window 9
 pub fn take_packed<A: Allocator + Copy>(
     alloc: A,
     queue: &mut VecDeque<Payload<A>, A>,
     most: u64,
 ) -> Result<Vec<Payload<A>, A>, Fault>
-    ensures items { IfOk result (λ payloads. payloads.items ≡ packed most queue.old.items) }
-    ensures queue { OnOk result (queue.new.items ≡ left_behind most queue.old.items) }
+    ensures items { IfOk result (λ payloads. payloads.items ≡ packed_payloads most queue.old.items) }
+    ensures queue { OnOk result (queue.new.items ≡ unpacked_rest most queue.old.items) }
     ensures rest { OnErr result (IsLeftOf queue.new.items queue.old.items) }
     ensures refused { IfErr result (λ fault. fault ≡ Memory) }
 {
@@ -32,15 +37,15 @@ pub fn take_packed<A: Allocator + Copy>(
     take_some(alloc, queue, most)
 }
 
-/// The same for a queue that has payloads. It stands apart, since a call clears its room for them.
+/// Does the same for a queue that isn't empty.
 #[inline(never)]
 fn take_some<A: Allocator + Copy>(
     alloc: A,
     queue: &mut VecDeque<Payload<A>, A>,
     most: u64,
 ) -> Result<Vec<Payload<A>, A>, Fault>
-    ensures items { IfOk result (λ payloads. payloads.items ≡ packed most queue.old.items) }
-    ensures queue { OnOk result (queue.new.items ≡ left_behind most queue.old.items) }
+    ensures items { IfOk result (λ payloads. payloads.items ≡ packed_payloads most queue.old.items) }
+    ensures queue { OnOk result (queue.new.items ≡ unpacked_rest most queue.old.items) }
     ensures rest { OnErr result (IsLeftOf queue.new.items queue.old.items) }
     ensures refused { IfErr result (λ fault. fault ≡ Memory) }
 {
@@ -54,12 +59,12 @@ fn take_some<A: Allocator + Copy>(
     Ok(payloads)
 }
 
-/// Takes a queue's first message off it, if it has one. All Calls of a Pack are moved into it.
+/// Takes the payload of one new message off the queue, if there is one. The Calls of a Pack are moved, not copied.
 fn take_message<A: Allocator + Copy>(
     alloc: A,
     queue: &mut VecDeque<Payload<A>, A>,
 ) -> Result<Option<Payload<A>>, Fault>
-    ensures message { IfOk result (λ message. option_to_list message ≡ packed 1 queue.old.items) }
+    ensures message { IfOk result (λ message. option_to_list message ≡ packed_payloads 1 queue.old.items) }
     ensures queue { OnOk result (queue.new.items ≡ behind queue.old.items) }
     ensures rest { OnErr result (IsLeftOf queue.new.items queue.old.items) }
     ensures refused { IfErr result (λ fault. fault ≡ Memory) }
@@ -74,12 +79,12 @@ fn take_message<A: Allocator + Copy>(
     })))
 }
 
-/// How many Calls at a queue's front fit one Pack.
+/// Returns the number of Calls at the queue's front that fit one Pack, 0 to 16.
 fn run_length<A: Allocator + Copy>(queue: &VecDeque<Payload<A>, A>) -> usize
-    ensures { result ≡ length (front_run queue.now.items) }
+    ensures { result ≡ length (first_run queue.now.items) }
 {
-    let mut left = MOST_PACK_BYTES - 2;
-    for count in 0..MOST_CALLS {
+    let mut left = MAX_PACK_BYTES - 2;
+    for count in 0..MAX_CALLS {
         let Some(payload) = queue.get(count) else {
             return count;
         };
@@ -91,17 +96,17 @@ fn run_length<A: Allocator + Copy>(queue: &VecDeque<Payload<A>, A>) -> usize
         }
         left -= bytes;
     }
-    MOST_CALLS
+    MAX_CALLS
 }
 
-/// Takes so many Calls off a queue's front.
+/// Takes `count` Calls off the queue's front, which begins with at least as many.
 fn take_calls<A: Allocator + Copy>(
     alloc: A,
     queue: &mut VecDeque<Payload<A>, A>,
     count: usize,
 ) -> Result<Vec<Call<A>, A>, Fault>
-    requires { count ≡ length (front_run queue.old.items) }
-    ensures calls { IfOk result (λ calls. calls.items ≡ front_run queue.old.items) }
+    requires { count ≡ length (first_run queue.old.items) }
+    ensures calls { IfOk result (λ calls. calls.items ≡ first_run queue.old.items) }
     ensures queue { OnOk result (queue.new.items ≡ drop count queue.old.items) }
     ensures rest { OnErr result (IsLeftOf queue.new.items queue.old.items) }
     ensures refused { IfErr result (λ fault. fault ≡ Memory) }
@@ -119,7 +124,7 @@ fn take_calls<A: Allocator + Copy>(
     Ok(calls)
 }
 
-/// The call that a payload is, if it is a Call.
+/// Returns the call of a Call, or `None` for any other payload.
 fn call_of<A: Allocator + Copy>(payload: Payload<A>) -> Option<Call<A>>
     ensures { result ≡ call_of payload }
 {
@@ -134,7 +139,7 @@ fn call_of<A: Allocator + Copy>(payload: Payload<A>) -> Option<Call<A>>
     }
 }
 
-/// How many bytes a Call takes; of anything else nothing is told.
+/// Returns the number of bytes that a Call takes in a Pack, or `None` for any other payload.
 fn bytes_of<A: Allocator + Copy>(payload: &Payload<A>) -> Option<usize>
     ensures { result ≡ bytes_of payload.now }
 {

@@ -1,4 +1,5 @@
-//! What stands in a queue.
+//! Which payloads the send queue accepts.
+//! Rules: Rings and states 9
 
 ghost use Rattle.std.specs.Prelude.{◌≡◌};
 ghost use Rattle.ring_payload.specs.Packing.{is_queued};
@@ -6,7 +7,9 @@ ghost use Rattle.ring_payload.specs.Packing.{is_queued};
 use ring_payload::Payload;
 use std::alloc::Allocator;
 
-/// Whether a payload is one that is queued: a client's or the log's, and no Pack.
+/// Returns whether a send may queue this payload: whether it is a Call, a Head, a Part or a Snap.
+/// A Pack, an End or a Wrapped is made by a visit, so a send of one does nothing.
+/// Rules: Rings and states 9
 pub fn is_queued<A: Allocator + Copy>(payload: &Payload<A>) -> bool
     ensures { result ≡ is_queued payload.now }
 {

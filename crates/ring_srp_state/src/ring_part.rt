@@ -1,42 +1,48 @@
-//! What is kept of one ring.
+//! The window and the visits that a processor keeps of one ring.
+//! A function marked `inline(never)` keeps the large stack slot of a token or of a list of requests out of its
+//! caller.
+//! Rules: Rings and states 3; Token and window 7, 8 and 10
 
 ghost use Rattle.std.specs.Prelude.{◌≡◌, ℕ, ◌≤◌, ◌<◌, ◌+◌, List, length, take, Some, IfOk, IfErr};
 ghost use Rattle.std.specs.List.Sorted.{IsStrictlyIncreasing};
-ghost use Rattle.ring_wire.specs.Payloads.{most_requests};
+ghost use Rattle.ring_wire.specs.Payloads.{max_requests};
 ghost use Rattle.ring_base.specs.Numbers.{max_number};
 ghost use Rattle.ring_base.specs.declared.fault.Fault.TheVariants.{Memory};
 ghost use Rattle.ring_payload.specs.declared.content.Payload.{Payload as OnePayload};
 ghost use Rattle.ring_wire.specs.declared.frame.Frame.TheVariants.{Token as TokenFrame};
 ghost use Rattle.ring_window.specs.Held.{front_of, missing};
-ghost use Rattle.ring_window.specs.Windows.{opened, forgotten};
+ghost use Rattle.ring_window.specs.Windows.{opened, window_after_forget};
 ghost use Rattle.ring_token.specs.Turns.{turns_of};
 ghost use Rattle.ring_token.specs.Visits.{token_after, requests_after};
-ghost use Rattle.ring_token.specs.Histories.{unvisited, turn_by, with_turn, mark_of, last_aru};
+ghost use Rattle.ring_token.specs.Histories.{without_visits, turn_by, with_turn, mark_of, last_aru};
 ghost use Rattle.ring_srp_state.specs.Setting.{turn_in};
 
 use crate::sent::copied;
-use ring_base::{Fault, Past, Proc, ProcSet, RingId};
-use ring_core::Sent;
+use ring_base::{Fault, Ghost, Proc, ProcSet, RingId};
+use ring_core_spec::OutgoingFrame;
 use ring_payload::Payload;
 use ring_token::{Visit, requests_after};
 use ring_window::Window;
 use ring_wire::{Frame, Requests, Token};
 use std::alloc::{AllocError, Allocator, Global};
 
-/// What a processor keeps of one ring that it took part in: its messages, and its visits of the token.
+/// What a processor keeps of one ring: the messages that it holds, and its visits of the token.
+/// Rules: Rings and states 3
 #[derive(Drop)]
 pub struct RingPart<A: Allocator + Copy = Global> {
-    /// The messages.
+    /// The messages held above the safe mark, and which numbers are new.
     pub window: Window<A>,
-    /// The visits of the token, and the safe mark.
+    /// The token's visits to this processor, and the processor's safe mark in the ring.
     pub visit: Visit<A>,
 }
 
 impl<A: Allocator + Copy> RingPart<A> {
-    /// A ring of which nothing is held, and whose token was not visited; or `Memory`.
+    /// Returns the part of a ring of which processor `me` holds nothing and whose token hasn't visited it.
+    /// Errors: `Memory` where an allocation fails.
+    /// Rules: Rings and states 3
     pub fn new(alloc: A, me: Proc, ring: RingId) -> Result<RingPart<A>, Fault>
         ensures window { IfOk result (λ part. part.window ≡ opened ring) }
-        ensures visit { IfOk result (λ part. part.visit ≡ unvisited me ring) }
+        ensures visit { IfOk result (λ part. part.visit ≡ without_visits me ring) }
         ensures refused { IfErr result (λ fault. fault ≡ Memory) }
     {
         let window = Window::new(alloc, ring)?;
@@ -44,109 +50,118 @@ impl<A: Allocator + Copy> RingPart<A> {
         Ok(RingPart { window, visit })
     }
 
-    /// The token is visited, once the `count` new messages that carry `fresh` are held, and the window may forget what is
-    /// safe by now. The token as it goes on, which asks for `stays` and for what is missing, is then the last that was sent:
-    /// it is written over the one before it.
-    pub fn show(
+    /// Records a visit of the token and writes the forwarded token to `last_sent`, with the receivers `to`. The window
+    /// then forgets what has become safe.
+    /// `token` is of this ring, and its number is below 2^62. `count` is the number of new messages, at most 2^62 -
+    /// `seq`. The window holds them already; `fresh` is their payloads, for contracts.
+    /// The forwarded token requests the 32 smallest of `remaining_requests` and of the missing numbers. Where
+    /// `last_sent` is a token, it is overwritten in place.
+    /// Rules: Token and window 7, 8 and 10
+    pub fn forward_token(
         &mut self,
         token: &Token,
-        stays: &Requests,
+        remaining_requests: &Requests,
         count: u64,
-        fresh: &Past<[Payload<A>; 0]>,
+        fresh: &Ghost<[Payload<A>; 0]>,
         to: ProcSet,
-        shown: &mut Option<Sent<A>>,
+        last_sent: &mut Option<OutgoingFrame<A>>,
     )
         requires ring { token.now.ring ≡ self.old.visit.ring }
         requires number { token.now.number < max_number }
         requires seq { token.now.seq + count ≤ max_number }
         requires count { length fresh.now.value ≡ count }
-        requires stays { IsStrictlyIncreasing stays.now }
+        requires remaining_requests { IsStrictlyIncreasing remaining_requests.now }
         requires reached { mark_of self.old.visit ≤ front_of self.old.window.held self.old.window.ring }
         requires led { last_aru (turns_of self.old.visit.ring self.old.visit.turns) ≤ front_of self.old.window.held self.old.window.ring }
-        ensures shown { shown.new ≡ Some (record {
+        ensures last_sent { last_sent.new ≡ Some (record {
           to = to;
-          frame = TokenFrame (turn_in self.old.window self.old.visit token.now stays.now fresh.now.value).went;
+          frame = TokenFrame (turn_in self.old.window self.old.visit token.now remaining_requests.now fresh.now.value).forwarded;
         }) }
-        ensures visit { self.new.visit ≡ with_turn self.old.visit (turn_in self.old.window self.old.visit token.now stays.now fresh.now.value) }
-        ensures window { self.new.window ≡ forgotten self.old.window (mark_of self.new.visit) }
+        ensures visit { self.new.visit ≡ with_turn self.old.visit (turn_in self.old.window self.old.visit token.now remaining_requests.now fresh.now.value) }
+        ensures window { self.new.window ≡ window_after_forget self.old.window (mark_of self.new.visit) }
     {
-        if let Some(sent) = shown {
+        if let Some(sent) = last_sent {
             if let Frame::Token(kept) = &mut sent.frame {
-                self.pass(token, stays, count, fresh, kept);
+                self.visit_into_token(token, remaining_requests, count, fresh, kept);
                 sent.to = to;
                 return;
             }
         }
-        self.show_first(token, stays, count, fresh, to, shown);
+        self.forward_first_token(token, remaining_requests, count, fresh, to, last_sent);
     }
 
-    /// The same where no token was sent last. It stands apart, since a call clears its room for a token.
+    /// Does the same where no token was sent last.
     #[inline(never)]
-    fn show_first(
+    fn forward_first_token(
         &mut self,
         token: &Token,
-        stays: &Requests,
+        remaining_requests: &Requests,
         count: u64,
-        fresh: &Past<[Payload<A>; 0]>,
+        fresh: &Ghost<[Payload<A>; 0]>,
         to: ProcSet,
-        shown: &mut Option<Sent<A>>,
+        last_sent: &mut Option<OutgoingFrame<A>>,
     )
         requires ring { token.now.ring ≡ self.old.visit.ring }
         requires number { token.now.number < max_number }
         requires seq { token.now.seq + count ≤ max_number }
         requires count { length fresh.now.value ≡ count }
-        requires stays { IsStrictlyIncreasing stays.now }
+        requires remaining_requests { IsStrictlyIncreasing remaining_requests.now }
         requires reached { mark_of self.old.visit ≤ front_of self.old.window.held self.old.window.ring }
         requires led { last_aru (turns_of self.old.visit.ring self.old.visit.turns) ≤ front_of self.old.window.held self.old.window.ring }
-        ensures shown { shown.new ≡ Some (record {
+        ensures last_sent { last_sent.new ≡ Some (record {
           to = to;
-          frame = TokenFrame (turn_in self.old.window self.old.visit token.now stays.now fresh.now.value).went;
+          frame = TokenFrame (turn_in self.old.window self.old.visit token.now remaining_requests.now fresh.now.value).forwarded;
         }) }
-        ensures visit { self.new.visit ≡ with_turn self.old.visit (turn_in self.old.window self.old.visit token.now stays.now fresh.now.value) }
-        ensures window { self.new.window ≡ forgotten self.old.window (mark_of self.new.visit) }
+        ensures visit { self.new.visit ≡ with_turn self.old.visit (turn_in self.old.window self.old.visit token.now remaining_requests.now fresh.now.value) }
+        ensures window { self.new.window ≡ window_after_forget self.old.window (mark_of self.new.visit) }
     {
-        let mut went = copied(token);
-        self.pass(token, stays, count, fresh, &mut went);
-        *shown = Some(Sent {
+        let mut forwarded = copied(token);
+        self.visit_into_token(token, remaining_requests, count, fresh, &mut forwarded);
+        *last_sent = Some(OutgoingFrame {
             to,
-            frame: Frame::Token(went),
+            frame: Frame::Token(forwarded),
         });
     }
 
-    /// The token is visited, and written over another one as it goes on.
-    fn pass(
+    /// Visits the token, and writes the forwarded one over another token.
+    fn visit_into_token(
         &mut self,
         token: &Token,
-        stays: &Requests,
+        remaining_requests: &Requests,
         count: u64,
-        fresh: &Past<[Payload<A>; 0]>,
-        went: &mut Token,
+        fresh: &Ghost<[Payload<A>; 0]>,
+        forwarded: &mut Token,
     )
         requires ring { token.now.ring ≡ self.old.visit.ring }
         requires number { token.now.number < max_number }
         requires seq { token.now.seq + count ≤ max_number }
         requires count { length fresh.now.value ≡ count }
-        requires stays { IsStrictlyIncreasing stays.now }
+        requires remaining_requests { IsStrictlyIncreasing remaining_requests.now }
         requires reached { mark_of self.old.visit ≤ front_of self.old.window.held self.old.window.ring }
         requires led { last_aru (turns_of self.old.visit.ring self.old.visit.turns) ≤ front_of self.old.window.held self.old.window.ring }
-        ensures token { went.new ≡ (turn_in self.old.window self.old.visit token.now stays.now fresh.now.value).went }
-        ensures visit { self.new.visit ≡ with_turn self.old.visit (turn_in self.old.window self.old.visit token.now stays.now fresh.now.value) }
-        ensures window { self.new.window ≡ forgotten self.old.window (mark_of self.new.visit) }
+        ensures token { forwarded.new ≡ (turn_in self.old.window self.old.visit token.now remaining_requests.now fresh.now.value).forwarded }
+        ensures visit { self.new.visit ≡ with_turn self.old.visit (turn_in self.old.window self.old.visit token.now remaining_requests.now fresh.now.value) }
+        ensures window { self.new.window ≡ window_after_forget self.old.window (mark_of self.new.visit) }
     {
-        self.ask(stays, token.seq + count, &mut went.requests);
+        self.fill_requests(
+            remaining_requests,
+            token.seq + count,
+            &mut forwarded.requests,
+        );
         let front = self.window.front();
-        visit_as(&mut self.visit, token, front, count, fresh, went);
+        visit_as(&mut self.visit, token, front, count, fresh, forwarded);
         self.window.forget(self.visit.safe());
     }
 
-    /// Asks for what is to be asked for now, where these requests stay and the messages have numbers up to `upto`.
-    fn ask(&self, stays: &Requests, upto: u64, requests: &mut Requests)
-        requires { IsStrictlyIncreasing stays.now }
-        ensures { requests.new ≡ requests_after stays.now (missing self.now.window.held self.now.window.ring self.now.window.mark upto) }
+    /// Writes the new requests: the 32 smallest of those that remain and of the numbers up to `upto` that are
+    /// missing.
+    fn fill_requests(&self, remaining_requests: &Requests, upto: u64, requests: &mut Requests)
+        requires { IsStrictlyIncreasing remaining_requests.now }
+        ensures { requests.new ≡ requests_after remaining_requests.now (missing self.now.window.held self.now.window.ring self.now.window.mark upto) }
     {
         self.window.missing_into(upto, requests);
-        if !stays.as_slice().is_empty() {
-            add_stays(stays, requests);
+        if !remaining_requests.as_slice().is_empty() {
+            merge_requests(remaining_requests, requests);
         }
     }
 }
@@ -162,26 +177,27 @@ impl<A: Allocator + Copy> Clone for RingPart<A> {
     }
 }
 
-/// The 32 smallest of the requests that stay and of the numbers that are missing, in the place of these, of which no more
-/// than the 32 smallest need be given. It stands apart, since a call clears its room for 32 numbers.
+/// Writes the 32 smallest of the remaining requests and of the missing numbers over `missing`.
+/// Of the missing numbers, the 32 smallest are enough.
 #[inline(never)]
-fn add_stays(stays: &Requests, missing: &mut Requests)
-    requires { IsStrictlyIncreasing stays.now }
-    ensures { (lacking : List ℕ) → missing.old ≡ take most_requests lacking → missing.new ≡ requests_after stays.now lacking }
+fn merge_requests(remaining_requests: &Requests, missing: &mut Requests)
+    requires { IsStrictlyIncreasing remaining_requests.now }
+    ensures { (lacking : List ℕ) → missing.old ≡ take max_requests lacking → missing.new ≡ requests_after remaining_requests.now lacking }
 {
-    let both = requests_after(stays, missing);
+    let both = requests_after(remaining_requests, missing);
     *missing = both;
 }
 
-/// A visit whose new messages carry these payloads: `fresh` alone tells a caller's pick of the ghost list of `Visit::visit_into`,
-/// since a pick is made of a call's own arguments.
+/// Records a visit whose new messages carry the payloads `fresh`.
+/// The ghost argument of `Visit::visit_into` is chosen from a call's own arguments, so this function takes `fresh` as
+/// one of them.
 fn visit_as<A: Allocator + Copy>(
     visit: &mut Visit<A>,
     token: &Token,
     front: u64,
     count: u64,
-    fresh: &Past<[Payload<A>; 0]>,
-    went: &mut Token,
+    fresh: &Ghost<[Payload<A>; 0]>,
+    forwarded: &mut Token,
 )
     ghost payloads: { List (OnePayload A) }
     requires fresh { payloads ≡ fresh.now.value }
@@ -189,9 +205,9 @@ fn visit_as<A: Allocator + Copy>(
     requires number { token.now.number < max_number }
     requires seq { token.now.seq + count ≤ max_number }
     requires count { length payloads ≡ count }
-    ensures token { went.new ≡ token_after visit.old.me front count went.old.requests token.now }
-    ensures visit { visit.new ≡ with_turn visit.old (turn_by visit.old.me front payloads went.old.requests token.now) }
+    ensures token { forwarded.new ≡ token_after visit.old.me front count forwarded.old.requests token.now }
+    ensures visit { visit.new ≡ with_turn visit.old (turn_by visit.old.me front payloads forwarded.old.requests token.now) }
 {
     let _ = fresh;
-    visit.visit_into(token, front, count, went);
+    visit.visit_into(token, front, count, forwarded);
 }

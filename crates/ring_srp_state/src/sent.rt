@@ -1,18 +1,22 @@
-//! Frames that go to their receivers.
+//! Appends frames to a list of sends, unless they have no receiver.
+//! A function marked `inline(never)` keeps the large stack slot of a copied frame out of its caller.
+//! Rules: Token and window 12
 
 ghost use Rattle.std.specs.Prelude.{◌≡◌, [], ◌∷◌, ◌++◌, IfErr, OnOk};
 ghost use Rattle.ring_base.specs.declared.fault.Fault.TheVariants.{Memory};
 ghost use Rattle.ring_wire.specs.declared.frame.Frame.TheVariants.{Message as MessageFrame, Token as TokenFrame};
-ghost use Rattle.ring_core.specs.Giving.{addressed};
+ghost use Rattle.ring_core_spec.specs.Giving.{addressed};
 
 use ring_base::{Fault, ProcSet};
-use ring_core::Sent;
+use ring_core_spec::OutgoingFrame;
 use ring_wire::{Frame, Message, Requests, Token};
 use std::alloc::Allocator;
 
-/// Sends a frame, unless it is to nobody. `Memory` where a growth was refused: what `sends` has then isn't told.
+/// Appends a frame with its receivers `to` to the list of sends, unless it has no receiver.
+/// Errors: `Memory` where an allocation fails; the contents of `sends` are then unspecified.
+/// Rules: Token and window 12
 pub fn send<A: Allocator + Copy>(
-    sends: &mut Vec<Sent<A>, A>,
+    sends: &mut Vec<OutgoingFrame<A>, A>,
     to: ProcSet,
     frame: Frame<A>,
 ) -> Result<(), Fault>
@@ -21,15 +25,17 @@ pub fn send<A: Allocator + Copy>(
 {
     if !to.is_empty() {
         sends.reserve(1)?;
-        sends.push_reserved(Sent { to, frame });
+        sends.push_reserved(OutgoingFrame { to, frame });
     }
     Ok(())
 }
 
-/// Sends a copy of a token or commit token, unless it is to nobody. `Memory` where a growth was refused: what `sends` has then isn't
-/// told.
+/// Appends a copy of a frame with its receivers `to` to the list of sends, unless it has no receiver. It is meant for a
+/// token or a commit token that the core keeps.
+/// Errors: `Memory` where an allocation fails; the contents of `sends` are then unspecified.
+/// Rules: Token and window 12; Rings and states 10
 pub fn send_copy<A: Allocator + Copy>(
-    sends: &mut Vec<Sent<A>, A>,
+    sends: &mut Vec<OutgoingFrame<A>, A>,
     to: ProcSet,
     frame: &Frame<A>,
 ) -> Result<(), Fault>
@@ -42,10 +48,10 @@ pub fn send_copy<A: Allocator + Copy>(
     }
 }
 
-/// Sends a copy of a frame, whatever it is, unless it is to nobody. It stands apart, since a call clears its room for the copy.
+/// Appends a copy of a frame of any kind, unless it has no receiver.
 #[inline(never)]
 fn send_clone<A: Allocator + Copy>(
-    sends: &mut Vec<Sent<A>, A>,
+    sends: &mut Vec<OutgoingFrame<A>, A>,
     to: ProcSet,
     frame: &Frame<A>,
 ) -> Result<(), Fault>
@@ -56,9 +62,9 @@ fn send_clone<A: Allocator + Copy>(
     send(sends, to, copy)
 }
 
-/// Sends a copy of a token, unless it is to nobody.
+/// Appends a copy of a token, unless it has no receiver.
 fn send_token<A: Allocator + Copy>(
-    sends: &mut Vec<Sent<A>, A>,
+    sends: &mut Vec<OutgoingFrame<A>, A>,
     to: ProcSet,
     token: &Token,
 ) -> Result<(), Fault>
@@ -71,9 +77,9 @@ fn send_token<A: Allocator + Copy>(
     Ok(())
 }
 
-/// Sends a copy of a token. That of one that asks for nothing is made in its place: its room for requests is not moved.
+/// Appends a copy of a token. A token without requests is built in place, so its array of requests isn't moved.
 fn add_token<A: Allocator + Copy>(
-    sends: &mut Vec<Sent<A>, A>,
+    sends: &mut Vec<OutgoingFrame<A>, A>,
     to: ProcSet,
     token: &Token,
 ) -> Result<(), Fault>
@@ -84,7 +90,7 @@ fn add_token<A: Allocator + Copy>(
         return add_asking(sends, to, token);
     }
     sends.reserve(1)?;
-    sends.push_reserved(Sent {
+    sends.push_reserved(OutgoingFrame {
         to,
         frame: Frame::Token(Token {
             ring: token.ring,
@@ -98,10 +104,10 @@ fn add_token<A: Allocator + Copy>(
     Ok(())
 }
 
-/// The same for a token that may ask for something. It stands apart, since a call clears its room for the copy.
+/// Does the same for a token that may have requests.
 #[inline(never)]
 fn add_asking<A: Allocator + Copy>(
-    sends: &mut Vec<Sent<A>, A>,
+    sends: &mut Vec<OutgoingFrame<A>, A>,
     to: ProcSet,
     token: &Token,
 ) -> Result<(), Fault>
@@ -109,14 +115,14 @@ fn add_asking<A: Allocator + Copy>(
     ensures refused { IfErr result (λ fault. fault ≡ Memory) }
 {
     sends.reserve(1)?;
-    sends.push_reserved(Sent {
+    sends.push_reserved(OutgoingFrame {
         to,
         frame: Frame::Token(copied(token)),
     });
     Ok(())
 }
 
-/// The same token.
+/// Returns a copy of the token, its requests included. It takes no memory.
 pub(crate) fn copied(token: &Token) -> Token
     ensures { result ≡ token.now }
 {
@@ -130,9 +136,12 @@ pub(crate) fn copied(token: &Token) -> Token
     }
 }
 
-/// Sends a copy of a message, unless it is to nobody. `Memory` where a growth was refused: what `sends` has then isn't told.
+/// Appends a copy of a message with its receivers `to` to the list of sends, unless it has no receiver. The core holds
+/// the message itself.
+/// Errors: `Memory` where an allocation fails; the contents of `sends` are then unspecified.
+/// Rules: Token and window 12
 pub fn send_message<A: Allocator + Copy>(
-    sends: &mut Vec<Sent<A>, A>,
+    sends: &mut Vec<OutgoingFrame<A>, A>,
     to: ProcSet,
     message: &Message<A>,
 ) -> Result<(), Fault>

@@ -1,4 +1,5 @@
-//! What a visit sends in Recovery: what the plan still wraps, and the End behind it.
+//! The new messages of a visit in Recovery: a Wrapped for each message that is left to wrap, then one End.
+//! Rules: Recovery 4
 
 ghost use Rattle.std.specs.Prelude.{◌≡◌, ◌+◌, ◌≤◌, ◌<◌, take, IfOk, IfErr};
 ghost use Rattle.ring_base.specs.declared.fault.Fault.TheVariants.{Memory};
@@ -13,9 +14,14 @@ use ring_recover::{Plan, wrap};
 use ring_window::Window;
 use std::alloc::Allocator;
 
-/// The first of what is left to wrap of the old ring's window, and the End behind it unless it went out: at most so many. `Memory`
-/// where a growth was refused.
-pub fn first_left<A: Allocator + Copy>(
+/// Returns the payloads that a visit in Recovery sends, at most `most`.
+/// They are a Wrapped of each user message left to wrap, in ascending order, and then the End, unless the node's own
+/// End was seen.
+/// `window` is the window of the old ring. Its safe mark is at most the greatest reported one, and it holds no number
+/// more than 256 above that.
+/// Errors: `Memory` where an allocation fails.
+/// Rules: Recovery 4
+pub fn first_recovery_messages<A: Allocator + Copy>(
     alloc: A,
     plan: &Plan<A>,
     window: &Window<A>,
@@ -27,7 +33,7 @@ pub fn first_left<A: Allocator + Copy>(
     ensures items { IfOk result (λ payloads. payloads.items ≡ take most (left_and_end plan.now window.now.held)) }
     ensures refused { IfErr result (λ fault. fault ≡ Memory) }
 {
-    // No effect at run time. The proof takes from it that a number above the least front is above the greatest safe mark.
+    // No effect at run time. The proof uses it: a number above the least front is above the greatest safe mark.
     let sound = plan.safe() <= plan.low();
     prove!(sound);
     let mut payloads = Vec::new(alloc);
@@ -45,7 +51,7 @@ pub fn first_left<A: Allocator + Copy>(
     Ok(payloads)
 }
 
-/// The old ring's message of a number, wrapped, if it is a users' and was not seen wrapped.
+/// Returns the Wrapped of the old ring's message of a number, if the message is a user's and wasn't seen wrapped.
 fn wrap_if_left<A: Allocator + Copy>(
     plan: &Plan<A>,
     window: &Window<A>,

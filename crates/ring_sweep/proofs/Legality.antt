@@ -3,11 +3,11 @@ use Rattle.std.proofs.Common.{◌≡◌, ℕ, ◌+◌, ◌<◌, ◌≤◌, ◌�
 use Rattle.std.proofs.lemmas.Bool.{cases_lt}
 use Rattle.ring_object.specs.Operations.{Sequential}
 use Rattle.ring_payload.specs.declared.call.Call.{Call}
-use Rattle.ring_rules.specs.declared.item.Item.{Item}
-use Rattle.ring_rules.specs.Histories.{IsLinearization}
-use Rattle.ring_rules.specs.Worlds.{order}
-use Rattle.ring_console.specs.Worlds.{Played, world_of}
-use Rattle.ring_sweep.specs.Legal.{IsLegal, AreFronts}
+use Rattle.ring_node_spec.specs.declared.item.Item.{Item}
+use Rattle.ring_node_spec.specs.Histories.{IsLinearization}
+use Rattle.ring_node_spec.specs.Worlds.{order}
+use Rattle.ring_console.specs.Worlds.{WorldView, world_of}
+use Rattle.ring_sweep.specs.Legal.{IsLegal, ArePrefixes}
 
 -- it holds of each number from 1 up to this one
 abbrev pub UpTo : (ℕ → Type 0) → ℕ → Type 0
@@ -21,10 +21,10 @@ at_last P k node h here one most (inr last) = let same : k + 1 ≡ node = omega 
 pub up_next : (P : ℕ → Type 0) (k : ℕ) → UpTo P k → P (k + 1) → UpTo P (k + 1)
 up_next P k h here node one most = at_last P k node h here one most (cases_lt node (k + 1))
 
-module _ {O A : Type 0} (object : Sequential O) (p : Played A) (calls : List (Call A)) (items : List (Item A))
+module _ {O A : Type 0} (object : Sequential O) (p : WorldView A) (calls : List (Call A)) (items : List (Item A))
     (is_order : calls ≡ order (world_of object p)) (is_history : items ≡ (world_of object p).history) (e : Bool)
     (explains : IsTrue e ↔ IsLinearization object calls items) where
-  -- the order explains nothing
+  -- the order is not legal for the history
   pub legal_no : e ≡ false → IsTrue false ↔ IsLegal object p
   legal_no untrue = (
     λ untrue. absurd (cc (untrue)),
@@ -33,13 +33,13 @@ module _ {O A : Type 0} (object : Sequential O) (p : Played A) (calls : List (Ca
         (subst (λ (xs : List (Item A)). IsLinearization object (order (world_of object p)) xs) (sym is_history) legal.explains)),
   )
 
-  -- the order explains the history
-  pub legal_is : (f : Bool) → e ≡ true → (IsTrue f ↔ AreFronts object p calls) → IsTrue f ↔ IsLegal object p
+  -- the order is legal for the history
+  pub legal_is : (f : Bool) → e ≡ true → (IsTrue f ↔ ArePrefixes object p calls) → IsTrue f ↔ IsLegal object p
   legal_is f true_is fronts = (
     λ are. record {
       explains = subst (λ (os : List (Call A)). IsLinearization object os (world_of object p).history) is_order
           (subst (λ (xs : List (Item A)). IsLinearization object calls xs) is_history (explains.0 true_is));
-      fronts = subst (λ (os : List (Call A)). AreFronts object p os) is_order (fronts.0 are);
+      fronts = subst (λ (os : List (Call A)). ArePrefixes object p os) is_order (fronts.0 are);
     },
-    λ legal. fronts.1 (subst (λ (os : List (Call A)). AreFronts object p os) (sym is_order) legal.fronts),
+    λ legal. fronts.1 (subst (λ (os : List (Call A)). ArePrefixes object p os) (sym is_order) legal.fronts),
   )

@@ -1,11 +1,15 @@
--- Fronting: Whether calls are a front of an order.
--- Gapping: The run of a script from place to place among its lines, up to one of its events.
+-- Absent: A number past that of the last variant has no variant.
+-- Fronting: Whether calls are a prefix of an order.
+-- Gapping: The run of a script from position to position among its lines, up to one of its events.
+-- Inserted: A text that is printed around the comment of an injection.
 -- Legality: Whether a run is legal.
--- Placing: Each stop and each cut has its place among the variants.
--- Trying: One variant after another is run.
--- Walking: A script under way, one step after another: what its steps come to.
+-- Placing: Each stop and each cut has its index among the variants.
+-- Trying: The variants are run one after another, in ranges one after the other.
+-- Walking: A running script, one step after another, and the effect of its steps.
+pub mod Absent
 pub mod Fronting
 pub mod Gapping
+pub mod Inserted
 pub mod Legality
 pub mod Placing
 pub mod Trying

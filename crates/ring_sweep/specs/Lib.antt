@@ -1,5 +1,6 @@
 pub mod Copies
-pub mod Gaps
+pub mod ScriptPositions
 pub mod Legal
-pub mod Swept
+pub mod SweepResult
 pub mod Variants
+pub mod VariantTexts

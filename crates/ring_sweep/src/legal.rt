@@ -1,13 +1,15 @@
-//! Whether a run is legal, by a plain look at what came of it.
+//! Whether a run is legal, decided from its world alone.
+//! Rules: Sessions 10 and 11
+//! Formats: The command line
 
 ghost use Rattle.std.specs.Prelude.{◌≡◌, ◌≤◌, ◌↔◌, IsTrue, IfOk, IfErr};
-ghost use Rattle.ring_base.specs.Fronts.{IsFront};
+ghost use Rattle.ring_base.specs.Prefixes.{IsListPrefix};
 ghost use Rattle.ring_base.specs.declared.fault.Fault.TheVariants.{Memory};
 ghost use Rattle.ring_session.specs.Deduplicated.{deduplicated};
-ghost use Rattle.ring_log.specs.Lives.{committed_of};
-ghost use Rattle.ring_rules.specs.Worlds.{lives_of, order as order_of};
+ghost use Rattle.ring_log.specs.EpochHistories.{committed_of};
+ghost use Rattle.ring_node_spec.specs.Worlds.{whole_epochs_in, order as order_of};
 ghost use Rattle.ring_console.specs.Worlds.{world_of};
-ghost use Rattle.ring_sweep.specs.Legal.{IsLegal, AreFronts};
+ghost use Rattle.ring_sweep.specs.Legal.{IsLegal, ArePrefixes};
 
 use ring_base::{Fault, Proc};
 use ring_console::{World, is_linearization};
@@ -16,8 +18,11 @@ use ring_payload::Call;
 use ring_session::effects_of;
 use std::alloc::Allocator;
 
-/// Whether the order of a world explains its history, and each node's committed calls, repeats removed, are a front of the
-/// order. Or `Memory`.
+/// Returns whether a run is legal: the order of its world is legal for its history, and each node's committed calls,
+/// duplicates removed, are a prefix of the order.
+/// Errors: `Memory`.
+/// Rules: Sessions 10 and 11
+/// Formats: The command line
 pub(crate) fn is_legal<O: Object>(alloc: O::Alloc, world: &World<O>) -> Result<bool, Fault>
     ensures ok { IfOk result (λ is_legal. IsTrue is_legal ↔ IsLegal O.sequential world.now) }
     ensures refused { IfErr result (λ fault. fault ≡ Memory) }
@@ -28,7 +33,7 @@ pub(crate) fn is_legal<O: Object>(alloc: O::Alloc, world: &World<O>) -> Result<b
     }
 }
 
-/// As [`is_legal`], where this is the order of the world.
+/// As [`is_legal`], given the order of the world.
 fn is_legal_by<O: Object>(
     alloc: O::Alloc,
     world: &World<O>,
@@ -42,21 +47,21 @@ fn is_legal_by<O: Object>(
     if !explains {
         return Ok(false);
     }
-    are_fronts(alloc, world, order)
+    are_prefixes(alloc, world, order)
 }
 
-/// Whether each node's committed calls, repeats removed, are a front of the order. Or `Memory`.
-fn are_fronts<O: Object>(
+/// Whether each node's committed calls, duplicates removed, are a prefix of the order; or `Memory`.
+fn are_prefixes<O: Object>(
     alloc: O::Alloc,
     world: &World<O>,
     order: &[Call<O::Alloc>],
 ) -> Result<bool, Fault>
-    ensures ok { IfOk result (λ are_fronts. IsTrue are_fronts ↔ AreFronts O.sequential world.now order.now) }
+    ensures ok { IfOk result (λ are_prefixes. IsTrue are_prefixes ↔ ArePrefixes O.sequential world.now order.now) }
     ensures refused { IfErr result (λ fault. fault ≡ Memory) }
 {
     for before in 0..world.fixed().count() {
         let proc = Proc::new(before + 1);
-        let front = has_front(alloc, world, proc, order)?;
+        let front = has_prefix(alloc, world, proc, order)?;
         if !front {
             return Ok(false);
         }
@@ -64,31 +69,31 @@ fn are_fronts<O: Object>(
     Ok(true)
 }
 
-/// Whether a node's committed calls, repeats removed, are a front of the order. Or `Memory`.
-fn has_front<O: Object>(
+/// Whether a node's committed calls, duplicates removed, are a prefix of the order; or `Memory`.
+fn has_prefix<O: Object>(
     alloc: O::Alloc,
     world: &World<O>,
     proc: Proc,
     order: &[Call<O::Alloc>],
 ) -> Result<bool, Fault>
     requires { proc ≤ world.now.group.count }
-    ensures ok { let committed = committed_of world.now.group (lives_of (world_of O.sequential world.now) proc) in
-        IfOk result (λ front. IsTrue front ↔ IsFront (deduplicated committed) order.now) }
+    ensures ok { let committed = committed_of world.now.group (whole_epochs_in (world_of O.sequential world.now) proc) in
+        IfOk result (λ front. IsTrue front ↔ IsListPrefix (deduplicated committed) order.now) }
     ensures refused { IfErr result (λ fault. fault ≡ Memory) }
 {
     match world.committed(proc) {
-        Ok(committed) => is_front(alloc, committed.as_slice(), order),
+        Ok(committed) => is_prefix(alloc, committed.as_slice(), order),
         Err(fault) => Err(fault),
     }
 }
 
-/// Whether the calls, repeats removed, are a front of the order. Or `Memory`.
-fn is_front<A: Allocator + Copy + Drop>(
+/// Whether the calls, duplicates removed, are a prefix of the order; or `Memory`.
+fn is_prefix<A: Allocator + Copy + Drop>(
     alloc: A,
     calls: &[Call<A>],
     order: &[Call<A>],
 ) -> Result<bool, Fault>
-    ensures ok { IfOk result (λ front. IsTrue front ↔ IsFront (deduplicated calls.now) order.now) }
+    ensures ok { IfOk result (λ front. IsTrue front ↔ IsListPrefix (deduplicated calls.now) order.now) }
     ensures refused { IfErr result (λ fault. fault ≡ Memory) }
 {
     let effects = effects_of(alloc, calls)?;
@@ -97,7 +102,7 @@ fn is_front<A: Allocator + Copy + Drop>(
 
 /// Whether the order begins with the calls.
 fn begins<A: Allocator + Copy>(order: &[Call<A>], calls: &[Call<A>]) -> bool
-    ensures { IsTrue result ↔ IsFront calls.now order.now }
+    ensures { IsTrue result ↔ IsListPrefix calls.now order.now }
 {
     if calls.len() > order.len() {
         return false;
@@ -110,7 +115,7 @@ fn begins<A: Allocator + Copy>(order: &[Call<A>], calls: &[Call<A>]) -> bool
     true
 }
 
-/// Whether the two are one call: of one client and number, and with the same operation.
+/// Whether the two are the same call: the same client, number and operation.
 fn is_same<A: Allocator + Copy>(call: &Call<A>, other: &Call<A>) -> bool
     ensures { IsTrue result ↔ (call.now ≡ other.now) }
 {

@@ -1,23 +1,26 @@
-//! What becomes of a script where a node stops, or is cut off from all others, before any of its events.
+//! The command `sweep`: a script is run again with a stop, or with an isolation, of each node before each of its events.
+//! Formats: The command line
 #![tactic(auto)]
 
-mod forerunner;
-mod gap;
+mod base_run;
+mod counted_run;
+mod injection;
 mod laws;
 mod legal;
 mod part;
 mod rounds;
-mod spelling;
+mod script_position;
 mod sweeping;
-mod upset;
-mod walk;
+mod variant_script;
 
+pub use injection::{Injection, InjectionKind};
 pub use laws::{first_law, variants_law};
 pub use ring_console::{
-    Failure, Groups, Line, Script, ShelfWords, Things, Vocabulary, frames, is_linearization,
-    report, script, script_check, script_of,
+    Failure, Groups, Script, ScriptLine, ShelfVocabulary, StandardObjects, Vocabulary, frames,
+    is_linearization, report, script, script_check, script_of,
 };
-pub use ring_report::{BAD_COMMAND_LINE, FAILED};
-pub use spelling::{print_variant, print_variant_of};
-pub use sweeping::{Swept, sweep, sweep_by_threads, sweep_of, sweep_of_by_threads, verdict_status};
-pub use upset::{Blow, Upset};
+pub use ring_failure::{BAD_COMMAND_LINE, FAILED};
+pub use sweeping::{
+    SweepResult, sweep, sweep_by_threads, sweep_of, sweep_of_by_threads, verdict_status,
+};
+pub use variant_script::{print_variant, print_variant_of};

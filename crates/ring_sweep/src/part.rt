@@ -1,34 +1,35 @@
-//! Some of the variants, and the running of these.
+//! Running a range of the variants.
+//! Formats: The command line
 
 ghost use Rattle.std.specs.Prelude.{◌≡◌, ◌-◌, ◌+◌, IfOk, IfErr};
 ghost use Rattle.ring_base.specs.Processors.{IsProc};
 ghost use Rattle.ring_base.specs.declared.fault.Fault.TheVariants.{Memory};
 ghost use Rattle.ring_script.specs.Fits.{AreFit};
 ghost use Rattle.ring_console.specs.Running.{run_opening};
-ghost use Rattle.ring_shares.specs.Shares.{share_begin};
-ghost use Rattle.ring_sweep.specs.Gaps.{HasCome, left_of};
-ghost use Rattle.ring_sweep.specs.Variants.{AreTriedIn, IsDue, IsTried, upset_at, first_illegal};
+ghost use Rattle.ring_failure.specs.Shares.{share_begin};
+ghost use Rattle.ring_sweep.specs.ScriptPositions.{HasReachedEvent, left_of};
+ghost use Rattle.ring_sweep.specs.Variants.{AreTriedIn, IsDue, IsTried, injection_at, first_illegal};
 
-use crate::forerunner::Forerunner;
+use crate::base_run::BaseRun;
+use crate::counted_run::CountedRun;
+use crate::injection::Injection;
 use crate::legal::is_legal;
-use crate::upset::Upset;
-use crate::walk::Walk;
 use ring_base::Fault;
 use ring_console::Script;
+use ring_failure::share_begin;
 use ring_object::Object;
-use ring_shares::share_begin;
 
-/// Some of the variants, by their places, counted from 0.
+/// A range of the variants of a sweep, by their indices, counted from 0. It is empty where `upto` isn't above `from`.
 #[derive(Clone, Copy)]
-pub(crate) struct VariantSpan {
-    /// The first of them.
+pub(crate) struct VariantRange {
+    /// The index of the first variant.
     pub from: u64,
-    /// The one behind the last of them.
+    /// One more than the index of the last variant.
     pub upto: u64,
 }
 
-impl VariantSpan {
-    /// How many they are.
+impl VariantRange {
+    /// Returns the number of variants.
     fn many(&self) -> u64
         ensures { result ≡ self.now.upto - self.now.from }
     {
@@ -36,37 +37,41 @@ impl VariantSpan {
     }
 }
 
-/// Runs the variants of a share of this part, of so many shares, in their order, and tells the first of them that is not legal. None
-/// where all are. The script itself is run once, up to the event of the last of them, and each variant as a copy of that.
+/// Runs the variants of one of `shares` shares of this range, in order. `share` is the share's index, counted from 0; 0
+/// shares count as one. Returns the injection of the first variant that isn't legal, or `None` where all are legal. The
+/// script itself is run once, up to the event of the last variant, and each variant as a copy of that run.
+/// Errors: `Memory`.
+/// Rules: Sessions 10 and 11
+/// Formats: The command line
 pub(crate) fn try_share<O: Object>(
     alloc: O::Alloc,
     script: &Script<O::Alloc>,
-    part: VariantSpan,
+    part: VariantRange,
     shares: u16,
     share: u64,
-) -> Result<Option<Upset>, Fault>
+) -> Result<Option<Injection>, Fault>
     requires { AreFit script.now.lines.items }
     ensures ok { let many = part.upto - part.from in IfOk result (AreTriedIn O.sequential script.now.nodes script.now.lines.items
         (part.from + share_begin many shares share) (part.from + share_begin many shares (share + 1))) }
     ensures refused { IfErr result (λ fault. fault ≡ Memory) }
 {
-    match Forerunner::<O>::new(alloc, script.nodes) {
-        Ok(mut ahead) => try_ahead(alloc, &mut ahead, script, part, shares, share),
+    match BaseRun::<O>::new(alloc, script.nodes) {
+        Ok(mut ahead) => try_from_base(alloc, &mut ahead, script, part, shares, share),
         Err(fault) => Err(fault),
     }
 }
 
-/// As [`try_share`], with a run ahead that stands at the script's opening.
-fn try_ahead<O: Object>(
+/// As [`try_share`], with a base run at the script's opening.
+fn try_from_base<O: Object>(
     alloc: O::Alloc,
-    ahead: &mut Forerunner<O>,
+    ahead: &mut BaseRun<O>,
     script: &Script<O::Alloc>,
-    part: VariantSpan,
+    part: VariantRange,
     shares: u16,
     share: u64,
-) -> Result<Option<Upset>, Fault>
+) -> Result<Option<Injection>, Fault>
     requires fit { AreFit script.now.lines.items }
-    requires walk { (ahead.old.walk.run ≡ run_opening script.now.nodes) × (ahead.old.walk.done ≡ 0) }
+    requires counted_run { (ahead.old.counted_run.run ≡ run_opening script.now.nodes) × (ahead.old.counted_run.done ≡ 0) }
     requires place { (ahead.old.lines ≡ 0) × (ahead.old.turns ≡ 0) }
     ensures ok { let many = part.upto - part.from in IfOk result (AreTriedIn O.sequential script.now.nodes script.now.lines.items
         (part.from + share_begin many shares share) (part.from + share_begin many shares (share + 1))) }
@@ -77,9 +82,9 @@ fn try_ahead<O: Object>(
     let begin = share_begin(many, shares, share);
     let end = share_begin(many, shares, share.saturating_add(1));
     for place in begin..end {
-        let upset = Upset::at(script.nodes.count(), part.from + place);
-        ahead.go_to(script, upset.before)?;
-        let is_legal = try_one(alloc, ahead, script, upset)?;
+        let injection = Injection::at(script.nodes.count(), part.from + place);
+        ahead.go_to(script, injection.before)?;
+        let is_legal = try_one(alloc, ahead, script, injection)?;
         keep_first(
             &mut illegal,
             is_legal,
@@ -90,50 +95,50 @@ fn try_ahead<O: Object>(
     Ok(illegal)
 }
 
-/// Keeps the variant at this place if it is not legal, and none was kept before.
-fn keep_first(first: &mut Option<Upset>, is_legal: bool, count: u8, place: u64)
+/// Keeps the injection of this variant if the variant is not legal and none is kept yet.
+fn keep_first(first: &mut Option<Injection>, is_legal: bool, count: u8, place: u64)
     requires { IsProc count }
-    ensures { first.new ≡ first_illegal first.old is_legal (upset_at count place) }
+    ensures { first.new ≡ first_illegal first.old is_legal (injection_at count place) }
 {
     if !is_legal && first.is_none() {
-        *first = Some(Upset::at(count, place));
+        *first = Some(Injection::at(count, place));
     }
 }
 
-/// Runs the script's variant with this upset, before whose event the run ahead stands, and tells whether it is legal.
+/// Runs the variant with this injection from the base run, which is at the injection's event. Returns whether it is legal.
 fn try_one<O: Object>(
     alloc: O::Alloc,
-    ahead: &Forerunner<O>,
+    ahead: &BaseRun<O>,
     script: &Script<O::Alloc>,
-    upset: Upset,
+    injection: Injection,
 ) -> Result<bool, Fault>
     requires fit { AreFit script.now.lines.items }
-    requires come { HasCome O.sequential script.now.nodes script.now.lines.items ahead.now.lines ahead.now.turns ahead.now.walk.done ahead.now.walk.run }
-    requires due { IsDue O.sequential (left_of script.now.lines.items ahead.now.lines ahead.now.turns) ahead.now.walk.done upset.before ahead.now.walk.run }
-    ensures ok { IfOk result (IsTried O.sequential script.now.nodes script.now.lines.items upset) }
+    requires come { HasReachedEvent O.sequential script.now.nodes script.now.lines.items ahead.now.lines ahead.now.turns ahead.now.counted_run.done ahead.now.counted_run.run }
+    requires due { IsDue O.sequential (left_of script.now.lines.items ahead.now.lines ahead.now.turns) ahead.now.counted_run.done injection.before ahead.now.counted_run.run }
+    ensures ok { IfOk result (IsTried O.sequential script.now.nodes script.now.lines.items injection) }
     ensures refused { IfErr result (λ fault. fault ≡ Memory) }
 {
-    match ahead.walk.copy() {
-        Ok(mut copy) => try_in(alloc, ahead, &mut copy, script, upset),
+    match ahead.counted_run.copy() {
+        Ok(mut copy) => try_in(alloc, ahead, &mut copy, script, injection),
         Err(fault) => Err(fault),
     }
 }
 
-/// As [`try_one`], in this copy of the run ahead.
+/// As [`try_one`], in this copy of the base run.
 fn try_in<O: Object>(
     alloc: O::Alloc,
-    ahead: &Forerunner<O>,
-    copy: &mut Walk<O>,
+    ahead: &BaseRun<O>,
+    copy: &mut CountedRun<O>,
     script: &Script<O::Alloc>,
-    upset: Upset,
+    injection: Injection,
 ) -> Result<bool, Fault>
     requires fit { AreFit script.now.lines.items }
-    requires come { HasCome O.sequential script.now.nodes script.now.lines.items ahead.now.lines ahead.now.turns ahead.now.walk.done ahead.now.walk.run }
-    requires due { IsDue O.sequential (left_of script.now.lines.items ahead.now.lines ahead.now.turns) ahead.now.walk.done upset.before ahead.now.walk.run }
-    requires copy { (copy.old.run ≡ ahead.now.walk.run) × (copy.old.done ≡ ahead.now.walk.done) }
-    ensures ok { IfOk result (IsTried O.sequential script.now.nodes script.now.lines.items upset) }
+    requires come { HasReachedEvent O.sequential script.now.nodes script.now.lines.items ahead.now.lines ahead.now.turns ahead.now.counted_run.done ahead.now.counted_run.run }
+    requires due { IsDue O.sequential (left_of script.now.lines.items ahead.now.lines ahead.now.turns) ahead.now.counted_run.done injection.before ahead.now.counted_run.run }
+    requires copy { (copy.old.run ≡ ahead.now.counted_run.run) × (copy.old.done ≡ ahead.now.counted_run.done) }
+    ensures ok { IfOk result (IsTried O.sequential script.now.nodes script.now.lines.items injection) }
     ensures refused { IfErr result (λ fault. fault ≡ Memory) }
 {
-    ahead.run_variant(copy, script, upset)?;
+    ahead.run_variant(copy, script, injection)?;
     is_legal(alloc, copy.world())
 }

@@ -1,27 +1,30 @@
-//! The running of all variants, by several threads.
+//! Running all variants, with several threads.
+//! Formats: The command line
 
 ghost use Rattle.std.specs.Prelude.{◌≡◌, ℕ, ◌-◌, ◌+◌, ◌<◌, ◌≤◌, IfOk, IfErr, max, vec_len, slice_index_or};
 ghost use Rattle.ring_base.specs.declared.fault.Fault.TheVariants.{Memory};
 ghost use Rattle.ring_script.specs.Fits.{AreFit};
-ghost use Rattle.ring_shares.specs.Shares.{share_begin};
+ghost use Rattle.ring_failure.specs.Shares.{share_begin};
 ghost use Rattle.ring_sweep.specs.Variants.{AreTried, AreTriedIn};
 
-use crate::part::{VariantSpan, try_share};
-use crate::upset::Upset;
+use crate::injection::Injection;
+use crate::part::{VariantRange, try_share};
 use ring_base::Fault;
 use ring_console::Script;
+use ring_failure::{ProgressMeter, round_end};
 use ring_object::Object;
-use ring_shares::{Meter, round_end};
 use std::alloc::{AllocError, Global};
 use std::io::Write;
 use std::thread::{self, Threads};
 use std::time::Clock;
 
-/// So many variants a thread make the first round.
+/// The number of variants for each thread in the first round.
 const FIRST: u64 = 4;
 
-/// Runs the first so many variants by so many threads, or by one where that is 0, and tells the first of them that is not legal. None
-/// where all are. Where somebody watches, tells on the way how far it has come.
+/// Runs the first `variants` variants with this number of threads, or one if that is 0. Returns the injection of the first
+/// variant that isn't legal, or `None` where all are legal. Writes its progress to `progress`, if that is given.
+/// Errors: `Memory`.
+/// Formats: The command line
 pub(crate) fn try_by_threads<O: Object<Alloc = Global> + Send, R: Threads + Clock + Sync, P: Write>(
     rt: &R,
     alloc: Global,
@@ -29,19 +32,19 @@ pub(crate) fn try_by_threads<O: Object<Alloc = Global> + Send, R: Threads + Cloc
     variants: u64,
     threads: u16,
     progress: Option<&mut P>,
-) -> Result<Option<Upset>, Fault>
+) -> Result<Option<Injection>, Fault>
     requires { AreFit script.now.lines.items }
     ensures ok { IfOk result (AreTried O.sequential script.now.nodes script.now.lines.items variants) }
     ensures refused { IfErr result (λ fault. fault ≡ Memory) }
 {
-    let all = VariantSpan {
+    let all = VariantRange {
         from: 0,
         upto: variants,
     };
     match progress {
         Some(out) => {
             let size = u64::from(threads).saturating_mul(FIRST);
-            let mut meter = Meter::new(rt, variants, size);
+            let mut meter = ProgressMeter::new(rt, variants, size);
             let illegal = try_rounds::<O, R, P>(rt, alloc, script, all, threads, &mut meter, out);
             meter.clear(out);
             illegal
@@ -50,16 +53,16 @@ pub(crate) fn try_by_threads<O: Object<Alloc = Global> + Send, R: Threads + Cloc
     }
 }
 
-/// Runs the variants of a part in rounds, one behind the other, and tells between them how far it has come.
+/// Runs the variants of a range in rounds, and reports progress after each.
 fn try_rounds<O: Object<Alloc = Global> + Send, R: Threads + Clock + Sync, P: Write>(
     rt: &R,
     alloc: Global,
     script: &Script<Global>,
-    part: VariantSpan,
+    part: VariantRange,
     threads: u16,
-    meter: &mut Meter,
+    meter: &mut ProgressMeter,
     out: &mut P,
-) -> Result<Option<Upset>, Fault>
+) -> Result<Option<Injection>, Fault>
     requires { AreFit script.now.lines.items }
     ensures ok { IfOk result (λ illegal. part.from ≤ part.upto
         → AreTriedIn O.sequential script.now.nodes script.now.lines.items part.from part.upto illegal) }
@@ -70,13 +73,13 @@ fn try_rounds<O: Object<Alloc = Global> + Send, R: Threads + Clock + Sync, P: Wr
         return Ok(None);
     }
     let end = round_end(begin, meter.size(), last);
-    let round = VariantSpan {
+    let round = VariantRange {
         from: begin,
         upto: end,
     };
     let found = try_part::<O, R>(rt, alloc, script, round, threads)?;
-    meter.pass(rt, out, end);
-    let rest = VariantSpan {
+    meter.end_round(rt, out, end);
+    let rest = VariantRange {
         from: end,
         upto: last,
     };
@@ -84,14 +87,14 @@ fn try_rounds<O: Object<Alloc = Global> + Send, R: Threads + Clock + Sync, P: Wr
     Ok(found.or(others))
 }
 
-/// Runs the variants of a part by so many threads, and tells the first of them that is not legal.
+/// Runs the variants of a range with this number of threads. Returns the first that is not legal.
 fn try_part<O: Object<Alloc = Global> + Send, R: Threads + Sync>(
     rt: &R,
     alloc: Global,
     script: &Script<Global>,
-    part: VariantSpan,
+    part: VariantRange,
     threads: u16,
-) -> Result<Option<Upset>, Fault>
+) -> Result<Option<Injection>, Fault>
     requires { AreFit script.now.lines.items }
     ensures ok { IfOk result (λ illegal. part.from ≤ part.upto
         → AreTriedIn O.sequential script.now.nodes script.now.lines.items part.from part.upto illegal) }
@@ -101,14 +104,14 @@ fn try_part<O: Object<Alloc = Global> + Send, R: Threads + Sync>(
     first_in::<O>(script, part, threads, shares)
 }
 
-/// Runs each of so many shares of a part, in a thread of its own where one can be made.
+/// Runs a range in this number of shares, each in a thread of its own where one can be started.
 fn try_shares<O: Object<Alloc = Global> + Send, R: Threads + Sync>(
     rt: &R,
     alloc: Global,
     script: &Script<Global>,
-    part: VariantSpan,
+    part: VariantRange,
     shares: u16,
-) -> Result<Vec<Result<Option<Upset>, Fault>>, AllocError>
+) -> Result<Vec<Result<Option<Injection>, Fault>>, AllocError>
     requires { AreFit script.now.lines.items }
     ensures len { IfOk result (λ found. vec_len found ≡ max shares 1) }
     ensures each { let many = part.upto - part.from in
@@ -126,13 +129,13 @@ fn try_shares<O: Object<Alloc = Global> + Send, R: Threads + Sync>(
     )
 }
 
-/// The first variant of all shares that is not legal, where these are the first of each.
+/// Returns the first variant of all shares that is not legal, given that of each share.
 fn first_in<O: Object<Alloc = Global>>(
     script: &Script<Global>,
-    part: VariantSpan,
+    part: VariantRange,
     shares: u16,
-    parts: Vec<Result<Option<Upset>, Fault>>,
-) -> Result<Option<Upset>, Fault>
+    parts: Vec<Result<Option<Injection>, Fault>>,
+) -> Result<Option<Injection>, Fault>
     requires len { vec_len parts ≡ max shares 1 }
     requires each { let many = part.upto - part.from in
         (share : ℕ) (one : _) → share < max shares 1 → IfOk (slice_index_or parts.items share one)
@@ -143,7 +146,7 @@ fn first_in<O: Object<Alloc = Global>>(
         → AreTriedIn O.sequential script.now.nodes script.now.lines.items part.from part.upto illegal) }
     ensures refused { IfErr result (λ fault. fault ≡ Memory) }
 {
-    // The contract alone speaks of these.
+    // Only the contract uses these.
     let (_, _, _) = (script, part, shares);
     let mut illegal = None;
     for one in parts {

@@ -1,18 +1,20 @@
--- A random schedule of four processors, and what an independent implementation of the protocol gives of it:
--- past a gap what the old ring's own members sent is delivered, and the rest discarded.
+-- A random schedule of four processors: past a gap what the old ring's own members sent is delivered, and the rest is
+-- discarded.
+-- The outputs are those of an independent implementation of the protocol.
 use Rattle.std.specs.Prelude.{ℕ, List, [], ◌∷◌, Some, None}
 use Rattle.std.specs.declared.alloc.Global.{Global}
 use Rattle.ring_payload.specs.declared.content.Payload.TheVariants.{End}
 use Rattle.ring_wire.specs.declared.frame.Frame.TheVariants.{Message as MessageFrame}
 use Rattle.ring_base.specs.declared.kind.Kind.TheVariants.{Retransmit, Join as JoinTime, Consensus, Loss}
-use Rattle.ring_core.specs.declared.out.Out.{Out}
-use Rattle.ring_core.specs.declared.out.Out.TheVariants.{Send as SendOut, Agreed, Safe, Trans, Rest, Regular}
+use Rattle.ring_core_spec.specs.declared.out.Out.{Out}
+use Rattle.ring_core_spec.specs.declared.out.Out.TheVariants.{Send as SendOut, Agreed, Safe, Trans, Rest, Regular}
 use Rattle.ring_core_proof.specs.declared.event.RingEvent.{RingEvent}
 use Rattle.ring_core_proof.specs.declared.event.RingEvent.TheVariants.{Send as SendEvent, Deliver, Timeout as TimeEvent}
 use Rattle.ring_core_proof.specs.Worlds.{World, run, unformed}
 use Rattle.ring_core_proof.specs.Samples.{ring_of}
 use Rattle.ring_synchrony_examples.specs.Words.{call_of, call, call_content, part, wrapped, message, token, join, report, commit}
 
+-- the events, in order
 abbrev pub events : List (RingEvent Global)
 events =
     TimeEvent 1 JoinTime ∷ TimeEvent 2 JoinTime ∷ TimeEvent 3 JoinTime ∷ TimeEvent 4 JoinTime ∷ Deliver 2 1 ∷ Deliver 3 1 ∷ Deliver 4 1 ∷
@@ -40,6 +42,7 @@ events =
     Deliver 4 90 ∷ Deliver 1 91 ∷ Deliver 1 92 ∷ Deliver 3 93 ∷ Deliver 2 94 ∷ Deliver 4 96 ∷ Deliver 1 97 ∷ Deliver 3 98 ∷ Deliver 3 99 ∷
     Deliver 2 100 ∷ Deliver 4 101 ∷ TimeEvent 3 Retransmit ∷ Deliver 4 102 ∷ []
 
+-- the outputs in order, each with its processor
 abbrev pub outs : List (ℕ × Out Global)
 outs =
     (1, SendOut 14 (join 1 0 15 0)) ∷ (2, SendOut 13 (join 2 0 15 0)) ∷ (3, SendOut 11 (join 3 0 15 0)) ∷ (4, SendOut 7 (join 4 0 15 0)) ∷
@@ -133,6 +136,6 @@ outs =
     (2, Regular (ring_of 2 1) 3) ∷ (2, Safe (ring_of 2 1) 4) ∷ (3, SendOut 8 (token (ring_of 3 3) 3 2 0 (Some 4) [])) ∷
     (4, SendOut 4 (token (ring_of 3 3) 4 2 2 None [])) ∷ []
 
--- the world that it leads to
+-- the world to which the schedule leads
 abbrev pub world : World Global
 world = run (unformed 4) events

@@ -1,12 +1,13 @@
--- A random schedule of four processors, and what an independent implementation of the protocol gives of it:
--- Packs are wrapped, what an outsider sent past a gap is discarded, and one processor stops.
+-- A random schedule of four processors: Packs are wrapped, what an outsider sent past a gap is discarded, and one
+-- processor stops.
+-- The outputs are those of an independent implementation of the protocol.
 use Rattle.std.specs.Prelude.{ℕ, List, [], ◌∷◌, Some, None}
 use Rattle.std.specs.declared.alloc.Global.{Global}
 use Rattle.ring_payload.specs.declared.content.Payload.TheVariants.{End}
 use Rattle.ring_wire.specs.declared.frame.Frame.TheVariants.{Message as MessageFrame}
 use Rattle.ring_base.specs.declared.kind.Kind.TheVariants.{Join as JoinTime, Consensus, Loss}
-use Rattle.ring_core.specs.declared.out.Out.{Out}
-use Rattle.ring_core.specs.declared.out.Out.TheVariants.{Send as SendOut, Agreed, Safe, Trans, Rest, Regular}
+use Rattle.ring_core_spec.specs.declared.out.Out.{Out}
+use Rattle.ring_core_spec.specs.declared.out.Out.TheVariants.{Send as SendOut, Agreed, Safe, Trans, Rest, Regular}
 use Rattle.ring_core_proof.specs.declared.event.RingEvent.{RingEvent}
 use Rattle.ring_core_proof.specs.declared.event.RingEvent.TheVariants.{Send as SendEvent, Deliver, Timeout as TimeEvent, Stop}
 use Rattle.ring_core_proof.specs.Worlds.{World, run, unformed}
@@ -15,6 +16,7 @@ use Rattle.ring_synchrony_examples.specs.Words.{call_of, long_call_of, call, lon
 use Rattle.ring_synchrony_examples.specs.Words.{head_content_after, pack, pack_content, wrapped, message, token, join, report}
 use Rattle.ring_synchrony_examples.specs.Words.{commit}
 
+-- the events, in order
 abbrev pub events : List (RingEvent Global)
 events =
     TimeEvent 1 JoinTime ∷ TimeEvent 2 JoinTime ∷ TimeEvent 3 JoinTime ∷ TimeEvent 4 JoinTime ∷ Deliver 2 1 ∷ Deliver 3 1 ∷ Deliver 4 1 ∷
@@ -43,6 +45,7 @@ events =
     Deliver 3 126 ∷ Deliver 1 127 ∷ Deliver 1 69 ∷ Deliver 3 128 ∷ Deliver 1 129 ∷ Deliver 3 130 ∷ Deliver 1 131 ∷ Deliver 3 132 ∷ Deliver 1 133 ∷
     SendEvent 3 (call 32 1) ∷ SendEvent 2 (call 33 1) ∷ Deliver 3 134 ∷ Deliver 1 136 ∷ []
 
+-- the outputs in order, each with its processor
 abbrev pub outs : List (ℕ × Out Global)
 outs =
     (1, SendOut 14 (join 1 0 15 0)) ∷ (2, SendOut 13 (join 2 0 15 0)) ∷ (3, SendOut 11 (join 3 0 15 0)) ∷ (4, SendOut 7 (join 4 0 15 0)) ∷
@@ -162,6 +165,6 @@ outs =
     (3, SendOut 1 (MessageFrame (message (ring_of 2 1) 7 3 (call 32 1)))) ∷ (3, SendOut 1 (token (ring_of 2 1) 28 7 7 None [])) ∷
     (3, Agreed (ring_of 2 1) 7 (message (ring_of 2 1) 7 3 (call 32 1))) ∷ (1, SendOut 4 (token (ring_of 2 1) 29 7 6 (Some 1) (7 ∷ []))) ∷ []
 
--- the world that it leads to
+-- the world to which the schedule leads
 abbrev pub world : World Global
 world = run (unformed 4) events

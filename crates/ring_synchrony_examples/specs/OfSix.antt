@@ -1,18 +1,19 @@
--- A random schedule of six processors, and what an independent implementation of the protocol gives of it:
--- joins of many sets before their rings come to stand.
+-- A random schedule of six processors: there are joins with many different sets before their rings form.
+-- The outputs are those of an independent implementation of the protocol.
 use Rattle.std.specs.Prelude.{ℕ, List, [], ◌∷◌, None}
 use Rattle.std.specs.declared.alloc.Global.{Global}
 use Rattle.ring_payload.specs.declared.content.Payload.TheVariants.{End}
 use Rattle.ring_wire.specs.declared.frame.Frame.TheVariants.{Message as MessageFrame}
 use Rattle.ring_base.specs.declared.kind.Kind.TheVariants.{Retransmit, Join as JoinTime, Consensus, Loss}
-use Rattle.ring_core.specs.declared.out.Out.{Out}
-use Rattle.ring_core.specs.declared.out.Out.TheVariants.{Send as SendOut, Agreed, Safe, Trans, Rest, Regular}
+use Rattle.ring_core_spec.specs.declared.out.Out.{Out}
+use Rattle.ring_core_spec.specs.declared.out.Out.TheVariants.{Send as SendOut, Agreed, Safe, Trans, Rest, Regular}
 use Rattle.ring_core_proof.specs.declared.event.RingEvent.{RingEvent}
 use Rattle.ring_core_proof.specs.declared.event.RingEvent.TheVariants.{Send as SendEvent, Deliver, Timeout as TimeEvent}
 use Rattle.ring_core_proof.specs.Worlds.{World, run, unformed}
 use Rattle.ring_core_proof.specs.Samples.{ring_of}
 use Rattle.ring_synchrony_examples.specs.Words.{long_call_of, call, long_call, head, message, token, join, report, commit}
 
+-- the events, in order
 abbrev pub events : List (RingEvent Global)
 events =
     TimeEvent 1 JoinTime ∷ TimeEvent 2 JoinTime ∷ TimeEvent 3 JoinTime ∷ TimeEvent 4 JoinTime ∷ TimeEvent 5 JoinTime ∷ TimeEvent 6 JoinTime ∷
@@ -41,6 +42,7 @@ events =
     Deliver 6 79 ∷ TimeEvent 1 Loss ∷ TimeEvent 2 Loss ∷ TimeEvent 3 Loss ∷ TimeEvent 4 Loss ∷ Deliver 1 80 ∷ Deliver 6 81 ∷ Deliver 1 82 ∷
     Deliver 6 83 ∷ Deliver 1 85 ∷ Deliver 3 86 ∷ Deliver 2 87 ∷ Deliver 5 88 ∷ Deliver 6 88 ∷ TimeEvent 2 Consensus ∷ TimeEvent 4 Consensus ∷ []
 
+-- the outputs in order, each with its processor
 abbrev pub outs : List (ℕ × Out Global)
 outs =
     (1, SendOut 62 (join 1 0 63 0)) ∷ (2, SendOut 61 (join 2 0 63 0)) ∷ (3, SendOut 59 (join 3 0 63 0)) ∷ (4, SendOut 55 (join 4 0 63 0)) ∷
@@ -129,6 +131,6 @@ outs =
     (6, SendOut 31 (join 6 2 63 0)) ∷ (2, SendOut 61 (join 2 2 63 57)) ∷ (4, SendOut 55 (join 4 2 63 55)) ∷
     (4, SendOut 8 (commit (ring_of 3 4) 8 1 (report (ring_of 1 1) 8 6 0 ∷ []))) ∷ []
 
--- the world that it leads to
+-- the world to which the schedule leads
 abbrev pub world : World Global
 world = run (unformed 6) events

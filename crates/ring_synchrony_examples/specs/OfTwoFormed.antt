@@ -1,12 +1,12 @@
--- A random schedule of two processors in a formed ring, and what an independent implementation of the protocol gives of it:
--- Packs, Parts and Heads, and a Pack that recovery hands on.
+-- A random schedule of two processors in a formed ring: there are Packs, Parts and Heads, and recovery wraps a Pack.
+-- The outputs are those of an independent implementation of the protocol.
 use Rattle.std.specs.Prelude.{ℕ, List, [], ◌∷◌, Some, None}
 use Rattle.std.specs.declared.alloc.Global.{Global}
 use Rattle.ring_payload.specs.declared.content.Payload.TheVariants.{End}
 use Rattle.ring_wire.specs.declared.frame.Frame.TheVariants.{Message as MessageFrame}
 use Rattle.ring_base.specs.declared.kind.Kind.TheVariants.{Retransmit, Loss}
-use Rattle.ring_core.specs.declared.out.Out.{Out}
-use Rattle.ring_core.specs.declared.out.Out.TheVariants.{Send as SendOut, Agreed, Safe}
+use Rattle.ring_core_spec.specs.declared.out.Out.{Out}
+use Rattle.ring_core_spec.specs.declared.out.Out.TheVariants.{Send as SendOut, Agreed, Safe}
 use Rattle.ring_core_proof.specs.declared.event.RingEvent.{RingEvent}
 use Rattle.ring_core_proof.specs.declared.event.RingEvent.TheVariants.{Send as SendEvent, Deliver, Timeout as TimeEvent}
 use Rattle.ring_core_proof.specs.Worlds.{World, run, ring_formed}
@@ -14,6 +14,7 @@ use Rattle.ring_core_proof.specs.Samples.{ring_of}
 use Rattle.ring_synchrony_examples.specs.Words.{call_of, long_call_of, call, long_call, call_content, head, head_after, part}
 use Rattle.ring_synchrony_examples.specs.Words.{pack, pack_content, wrapped, message, token, join, report, commit}
 
+-- the events, in order
 abbrev pub events : List (RingEvent Global)
 events =
     SendEvent 1 (long_call 1 1) ∷ Deliver 2 1 ∷ Deliver 1 2 ∷ Deliver 2 3 ∷ Deliver 2 4 ∷ SendEvent 2 head ∷ SendEvent 2 (call 3 1) ∷
@@ -44,6 +45,7 @@ events =
     SendEvent 2 (call 40 1) ∷ SendEvent 2 (call 41 1) ∷ SendEvent 1 (call 42 1) ∷ TimeEvent 2 Loss ∷ Deliver 1 147 ∷ Deliver 1 148 ∷ Deliver 2 150 ∷
     Deliver 2 151 ∷ Deliver 2 152 ∷ Deliver 1 153 ∷ Deliver 2 154 ∷ Deliver 1 155 ∷ Deliver 2 156 ∷ Deliver 2 157 ∷ Deliver 2 158 ∷ []
 
+-- the outputs in order, each with its processor
 abbrev pub outs : List (ℕ × Out Global)
 outs =
     (2, SendOut 1 (token (ring_of 1 1) 2 0 0 None [])) ∷ (1, SendOut 2 (MessageFrame (message (ring_of 1 1) 1 1 (long_call 1 1)))) ∷
@@ -188,6 +190,6 @@ outs =
     (2, Agreed (ring_of 1 1) 28 (message (ring_of 1 1) 28 1 (pack (call_of 37 1 ∷ call_of 42 1 ∷ [])))) ∷
     (2, SendOut 1 (MessageFrame (message (ring_of 2 1) 3 2 End))) ∷ (2, SendOut 1 (token (ring_of 2 1) 2 3 3 None [])) ∷ []
 
--- the world that it leads to
+-- the world to which the schedule leads
 abbrev pub world : World Global
 world = run (ring_formed 2) events

@@ -1,5 +1,6 @@
-//! Twelve random schedules of ring cores, with what an independent implementation gives of them; and that the lives of the
-//! ten that open in Gather meet the five facts of virtual synchrony.
+//! Twelve random schedules of ring cores, with the outputs of an independent implementation, and the test of virtual
+//! synchrony for the ten that begin at the opening.
+//! Rules: Rings and states 14; Outputs 11
 #![tactic(auto)]
 
 pub mod lives;

@@ -1,4 +1,5 @@
-//! The random schedules with changes of rings meet virtual synchrony: all five facts, computed of their lives.
+//! The random schedules from the opening are virtually synchronous: all five facts are computed for their lives.
+//! Rules: Outputs 11
 
 ghost use Rattle.std.specs.Prelude.{◌≡◌, true};
 ghost use Rattle.ring_synchrony_examples.specs.OfOne.{world as world_of_one};
@@ -13,52 +14,70 @@ ghost use Rattle.ring_synchrony_examples.specs.OfFive.{world as world_of_five};
 ghost use Rattle.ring_synchrony_examples.specs.OfSix.{world as world_of_six};
 ghost use Rattle.ring_synchrony_proof.specs.Tests.{is_virtually_synchronous};
 
-/// One processor.
+/// States an example, computed from the definitions: the schedule of one processor is virtually synchronous. Its calls
+/// are packed in a ring of one.
+/// Rules: Outputs 11
 pub fn lives_of_one()
     ensures { is_virtually_synchronous world_of_one ≡ true }
 {}
 
-/// Two processors: their ring changes, and the rest of an old ring has a Pack and a Part.
+/// States an example: a schedule of two processors is virtually synchronous. They change rings, and the rest of an old
+/// ring has a Pack and a Part.
+/// Rules: Outputs 5 and 11
 pub fn lives_of_two_rest()
     ensures { is_virtually_synchronous world_of_two_rest ≡ true }
 {}
 
-/// Two processors: a join with other sets leads from a ring to Gather.
+/// States an example: a schedule of two processors is virtually synchronous. A join with other sets makes a node in a
+/// ring enter Gather.
+/// Rules: Gather 13; Outputs 11
 pub fn lives_of_two_gather()
     ensures { is_virtually_synchronous world_of_two_gather ≡ true }
 {}
 
-/// Three processors: two recoveries break off once calls were wrapped.
+/// States an example: a schedule of three processors is virtually synchronous. Two recoveries break off after calls
+/// were wrapped.
+/// Rules: Recovery 10; Outputs 11
 pub fn lives_of_three_broken()
     ensures { is_virtually_synchronous world_of_three_broken ≡ true }
 {}
 
-/// Three processors: two of them stop.
+/// States an example: a schedule of three processors, two of which stop, is virtually synchronous.
+/// Rules: Rings and states 12; Outputs 11
 pub fn lives_of_three_stops()
     ensures { is_virtually_synchronous world_of_three_stops ≡ true }
 {}
 
-/// Four processors: past a gap only what the old ring's own members sent is delivered.
+/// States an example: a schedule of four processors is virtually synchronous. Past a gap, only the messages that the
+/// transitional members sent are delivered.
+/// Rules: Recovery 9; Outputs 11
 pub fn lives_of_four_gap()
     ensures { is_virtually_synchronous world_of_four_gap ≡ true }
 {}
 
-/// Four processors: Packs are wrapped, what an outsider sent past a gap is discarded, and one processor stops.
+/// States an example: a schedule of four processors is virtually synchronous. Packs are wrapped, a message that an
+/// outsider sent past a gap is discarded, and one processor stops.
+/// Rules: Recovery 4 and 9; Outputs 11
 pub fn lives_of_four_packs()
     ensures { is_virtually_synchronous world_of_four_packs ≡ true }
 {}
 
-/// Four processors: recoveries break off with a Pack wrapped.
+/// States an example: a schedule of four processors is virtually synchronous. Recoveries break off after a Pack was
+/// wrapped.
+/// Rules: Recovery 10; Outputs 11
 pub fn lives_of_four_broken()
     ensures { is_virtually_synchronous world_of_four_broken ≡ true }
 {}
 
-/// Five processors: a ring under load.
+/// States an example: a schedule of five processors, with a ring under load, is virtually synchronous.
+/// Rules: Outputs 11
 pub fn lives_of_five()
     ensures { is_virtually_synchronous world_of_five ≡ true }
 {}
 
-/// Six processors: joins of many sets before their rings come to stand.
+/// States an example: a schedule of six processors is virtually synchronous. They send joins with many different sets
+/// before their rings form.
+/// Rules: Gather 3 to 5; Outputs 11
 pub fn lives_of_six()
     ensures { is_virtually_synchronous world_of_six ≡ true }
 {}

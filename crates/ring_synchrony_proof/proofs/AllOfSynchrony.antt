@@ -1,4 +1,5 @@
--- All of virtual synchrony, from one fact more: who holds a users' message of a ring within its front has installed the ring.
+-- Virtual synchrony, from one more fact: a processor that holds a user message of a ring within its front has
+-- installed the ring.
 use Rattle.std.proofs.Common.{◌≡◌, ℕ, ◌+◌, ◌-◌, ◌<◌, ◌≤◌, ◌⊎◌, inl, inr, Bool, true, false, List, [], ◌∷◌}
 use Rattle.std.proofs.Common.{◌++◌, map, Some, refl, ap, sym, ◌∙◌, subst, arith, append-nil}
 use Rattle.std.specs.Prelude.{filter, filter_map, nat_le}
@@ -12,20 +13,20 @@ use Rattle.ring_base.specs.declared.ring_id.RingId.{RingId}
 use Rattle.ring_base.proofs.Each.{each-weaker, each-append, each-filter, each-filter_map}
 use Rattle.ring_payload.specs.Kinds.{is_user}
 use Rattle.ring_wire.specs.declared.message.Message.{Message}
-use Rattle.ring_core.specs.Windows.{found, holds, of_ring}
-use Rattle.ring_core.proofs.Windows.{front_is, holds-found}
+use Rattle.ring_core_spec.specs.Windows.{found, holds, of_ring}
+use Rattle.ring_core_spec.proofs.Windows.{front_is, holds-found}
 use Rattle.ring_base.proofs.SameRing.{ring_same, same-self}
-use Rattle.ring_core.specs.Commits.{Configuration}
-use Rattle.ring_core.specs.Recoveries.{Plan, safe, gap, transitional_part, past_gap_part, rests}
-use Rattle.ring_core.specs.State.{Core}
-use Rattle.ring_core.specs.Views.{front, mark}
-use Rattle.ring_core.specs.Giving.{users}
+use Rattle.ring_core_spec.specs.Commits.{Configuration}
+use Rattle.ring_core_spec.specs.Recoveries.{Plan, safe, gap, transitional_part, past_gap_part, rests}
+use Rattle.ring_core_spec.specs.State.{Core}
+use Rattle.ring_core_spec.specs.Views.{front, mark}
+use Rattle.ring_core_spec.specs.Giving.{users}
 use Rattle.ring_core_proof.specs.FactWords.{IsIn}
 use Rattle.ring_core_proof.specs.LawWords.{IsFalling}
 use Rattle.ring_core_proof.specs.declared.event.RingEvent.{RingEvent}
 use Rattle.ring_core_proof.specs.Worlds.{World, run, unformed}
 use Rattle.ring_core_proof.specs.Texts.{held_by, text_of}
-use Rattle.ring_core_proof.specs.Lives.{Stage, InRegular, InTransitional, delivered_in}
+use Rattle.ring_core_proof.specs.EpochHistories.{Stage, InRegular, InTransitional, delivered_in}
 use Rattle.ring_core_proof.proofs.InLists.{in-each, each-in, in-left, in-right, in-filter, in-filtered, in-contains, in-numbers}
 use Rattle.ring_core_proof.proofs.WithinWindow.{mark_below}
 use Rattle.ring_core_proof.proofs.Rises.{all_below}
@@ -38,22 +39,22 @@ use Rattle.ring_synchrony_proof.specs.Changes.{delivered_by}
 use Rattle.ring_synchrony_proof.specs.Synchrony.{IsBefore, Ascend, HasSameText, DeliversSafely, IsVirtuallySynchronous}
 use Rattle.ring_synchrony_proof.proofs.Quantified.{in_decides, numbers_in}
 use Rattle.ring_synchrony_proof.proofs.EqualityTests.{ring_decides}
-use Rattle.ring_synchrony_proof.specs.Tales.{regular_of, plan_into, between}
-use Rattle.ring_synchrony_proof.proofs.LivesTold.{heard, found_alike}
-use Rattle.ring_synchrony_proof.specs.Installed.{HeardIsInstalled}
+use Rattle.ring_synchrony_proof.specs.LifeOfCore.{regular_stage, plan_into, between}
+use Rattle.ring_synchrony_proof.proofs.LifeAfterStep.{heard, found_alike}
+use Rattle.ring_synchrony_proof.specs.Installed.{HoldersHaveInstalled}
 use Rattle.ring_synchrony_proof.proofs.Planned.{HaveChanged}
 use Rattle.ring_synchrony_proof.proofs.Recovering.{Recovered}
-use Rattle.ring_synchrony_proof.proofs.Heard.{found_as, gap_unknown}
+use Rattle.ring_synchrony_proof.proofs.UserMessages.{found_as, gap_unknown}
 use Rattle.ring_synchrony_proof.proofs.Ascending.{heard_ascends, rest_ascends, rest_above, append_ascends}
 use Rattle.ring_synchrony_proof.proofs.ThreeFacts.{r as recovered, stages_tale, same_held, one_configuration, regular_is}
 use Rattle.ring_synchrony_proof.proofs.ThreeFacts.{delivered_at, positive, stages_are, went_through, among, change_is, regulars_are}
 use Rattle.ring_synchrony_proof.proofs.ThreeFacts.{deliver_alike, deliver_own, have_configurations}
 
--- Stages of a tale
+-- Stages of a core's life
 
 regular_in : {A : Type 0} → (c : Core A) (next : Configuration) (older : List Configuration) (at : Configuration) (agreed : List (Message A)) (safe : ℕ) →
-    IsIn (InRegular at agreed safe) (stages_tale c next older) → IsIn at (next ∷ older) × (InRegular at agreed safe ≡ regular_of c at)
-regular_in c next older at agreed safe (inl e) = (let same : at ≡ next = cc in (inl same, e ∙ ap (regular_of c) (sym same)))
+    IsIn (InRegular at agreed safe) (stages_tale c next older) → IsIn at (next ∷ older) × (InRegular at agreed safe ≡ regular_stage c at)
+regular_in c next older at agreed safe (inl e) = (let same : at ≡ next = cc in (inl same, e ∙ ap (regular_stage c) (sym same)))
 regular_in c next [] at agreed safe (inr i) = absurd i
 regular_in c next (old ∷ older) at agreed safe (inr (inl e)) = absurd (let n : ⊥ = cc in n)
 regular_in c next (old ∷ older) at agreed safe (inr (inr i)) = (let r = regular_in c old older at agreed safe i in (inr r.0, r.1))
@@ -70,24 +71,24 @@ way_in c next [] old new members rest (inr i) = absurd i
 way_in c next (o ∷ older) old new members rest (inr (inl e)) = record { next = next; left = o; is = e }
 way_in c next (o ∷ older) old new members rest (inr (inr i)) = way_in c o older old new members rest i
 
--- What was agreed of a ring
+-- The agreed messages of a ring
 
 module _ {A : Type 0} (c : Core A) where
   abbrev told : Configuration → List (Message A)
   told at = users c at.ring 0 (front c at.ring)
 
-  not_at : (ring : RingId) (at : Configuration) → (at.ring ≡ ring → ⊥) → agreed_at ring (regular_of c at) ≡ []
+  not_at : (ring : RingId) (at : Configuration) → (at.ring ≡ ring → ⊥) → agreed_at ring (regular_stage c at) ≡ []
   not_at ring at f = cond_both (same_ring at.ring ring) (told at) [] (λ (xs : List (Message A)). xs ≡ [])
       (λ e. absurd (f (ring_same at.ring ring e))) (λ e. refl)
 
-  is_at : (at : Configuration) → agreed_at at.ring (regular_of c at) ≡ told at
+  is_at : (at : Configuration) → agreed_at at.ring (regular_stage c at) ≡ told at
   is_at at = cond-true (same_ring at.ring at.ring) (told at) [] (same-self at.ring)
 
   none_of : (ring : RingId) (next : Configuration) (older : List Configuration) → ((x : Configuration) → IsIn x (next ∷ older) → x.ring ≡ ring → ⊥) →
       agreed_of ring (stages_tale c next older) ≡ []
   none_of ring next [] f = not_at ring next (f next (inl refl))
   none_of ring next (old ∷ older) f =
-      ap (λ (xs : List (Message A)). (xs ++ []) ++ agreed_at ring (regular_of c next))
+      ap (λ (xs : List (Message A)). (xs ++ []) ++ agreed_at ring (regular_stage c next))
       (none_of ring old older (λ x i. f x (inr i))) ∙ not_at ring next (f next (inl refl))
 
   newest_of : (next : Configuration) (older : List Configuration) → IsFalling (next ∷ older) → agreed_of next.ring (stages_tale c next older) ≡ told next
@@ -100,7 +101,7 @@ module _ {A : Type 0} (c : Core A) where
         l,
         q,
       ))) in
-      ap (λ (xs : List (Message A)). (xs ++ []) ++ agreed_at next.ring (regular_of c next)) none ∙ is_at next
+      ap (λ (xs : List (Message A)). (xs ++ []) ++ agreed_at next.ring (regular_stage c next)) none ∙ is_at next
 
   agreed_is : (at next : Configuration) (older : List Configuration) → IsFalling (next ∷ older)
       → IsIn at (next ∷ older) → agreed_of at.ring (stages_tale c next older) ≡ told at
@@ -108,7 +109,7 @@ module _ {A : Type 0} (c : Core A) where
   agreed_is at next [] f (inr i) = absurd i
   agreed_is at next (old ∷ older) f (inr i) =
       let l : at.ring.seq < next.ring.seq = all_below next (old ∷ older) f at i in
-      let none : agreed_at at.ring (regular_of c next) ≡ [] = not_at at.ring next
+      let none : agreed_at at.ring (regular_stage c next) ≡ [] = not_at at.ring next
       (λ e. (let q : next.ring.seq ≡ at.ring.seq = ap (λ (r : RingId). r.seq) e in omega (arith, l, q))) in
       let all = agreed_of at.ring (stages_tale c old older) in
       ap (λ (xs : List (Message A)). (all ++ []) ++ xs) none ∙ append-nil (all ++ []) ∙ append-nil all ∙ agreed_is at old older f.1 i
@@ -123,7 +124,7 @@ module _ {A : Type 0} (w : World A) (r : Recovered w.cores w.frames) (i : ℕ) w
   c = w.cores i
 
   regular_held : (next : Configuration) → Each (λ (x : Message A). IsIn x c.held × (x.ring ≡ next.ring)
-      × (x.number ≤ mark c next.ring)) (delivered_in (regular_of c next))
+      × (x.number ≤ mark c next.ring)) (delivered_in (regular_stage c next))
   regular_held next =
       let m = mark c next.ring in
       let Q : Message A → Type 0 = λ x. IsIn x c.held × (x.ring ≡ next.ring) × (x.number ≤ m) in
@@ -133,13 +134,13 @@ module _ {A : Type 0} (w : World A) (r : Recovered w.cores w.frames) (i : ℕ) w
       (λ n x l e. (let f = found_as c.held next.ring n x e in let q = f.number_is in (f.there, f.ring_is, omega (arith, l, q)))) (numbers_from 1 m)
       (each-in (λ n. n < 1 + m) (numbers_from 1 m) (λ n j. (numbers_in n 1 m j).1))))
 
-  regular_under : (next : Configuration) → Each (λ (x : Message A). (x.ring ≡ next.ring) × (x.number ≤ mark c next.ring)) (delivered_in (regular_of c next))
+  regular_under : (next : Configuration) → Each (λ (x : Message A). (x.ring ≡ next.ring) × (x.number ≤ mark c next.ring)) (delivered_in (regular_stage c next))
   regular_under next =
       each-weaker (λ (x : Message A). IsIn x c.held × (x.ring ≡ next.ring) × (x.number ≤ mark c next.ring))
       (λ (x : Message A). (x.ring ≡ next.ring) × (x.number ≤ mark c next.ring)) (λ x q. (q.1, q.2))
-      (delivered_in (regular_of c next)) (regular_held next)
+      (delivered_in (regular_stage c next)) (regular_held next)
 
-  regular_ascends : (next : Configuration) → Ascend (delivered_in (regular_of c next))
+  regular_ascends : (next : Configuration) → Ascend (delivered_in (regular_stage c next))
   regular_ascends next = subst Ascend (sym (regular_is w r i next)) (heard_ascends c.held next.ring 1 (mark c next.ring))
 
   all_ascend : (next : Configuration) (older : List Configuration) → IsFalling (next ∷ older) → HaveChanged c next older →
@@ -147,7 +148,7 @@ module _ {A : Type 0} (w : World A) (r : Recovered w.cores w.frames) (i : ℕ) w
   all_ascend next [] f h = (
     regular_ascends next,
     each-weaker _ (λ (x : Message A). IsUnder c next x) (λ x u. inr u)
-        (delivered_in (regular_of c next)) (regular_under next),
+        (delivered_in (regular_stage c next)) (regular_under next),
   )
   all_ascend next (old ∷ older) f h =
       let before = all_ascend old older f.1 h.1 in
@@ -171,7 +172,7 @@ module _ {A : Type 0} (w : World A) (r : Recovered w.cores w.frames) (i : ℕ) w
         q,
         l,
       ))) rest above) in
-      let regular = delivered_in (regular_of c next) in
+      let regular = delivered_in (regular_stage c next) in
       let second : Each (λ (x : Message A). Each (IsBefore x) regular) (xs ++ rest) =
       each-weaker (λ (x : Message A). x.ring.seq < next.ring.seq) (λ (x : Message A). Each (IsBefore x) regular)
       (λ x l. each-weaker (λ (y : Message A). (y.ring ≡ next.ring) × (y.number ≤ mark c next.ring)) (IsBefore x)
@@ -194,7 +195,7 @@ module _ {A : Type 0} (w : World A) (r : Recovered w.cores w.frames) (i : ℕ) w
       under_next x (inl l) k = omega (arith, l, k)
       under_next x (inr u) k = (let q : x.ring.seq ≡ old.ring.seq = ap (λ (r : RingId). r.seq) u.0 in omega (arith, q, k))
 
--- What is held stands in the text
+-- A held message is in the text
 
 text_has : {A : Type 0} → (cores : ℕ → Core A) (is : List ℕ) (i : ℕ) (x : Message A) → IsIn i is → IsIn x (cores i).held → IsIn x (held_by cores x.ring is)
 text_has cores [] i x h k = absurd h
@@ -210,7 +211,7 @@ none_user [] h = refl
 none_user {A} (x ∷ xs) h = cond-false (is_user x.payload) (x ∷ filter (λ (x : Message A). is_user x.payload) xs)
     (filter (λ (x : Message A). is_user x.payload) xs) h.0 ∙ none_user xs h.1
 
--- The two facts that are left
+-- The two facts that remain
 
 node_in : {A : Type 0} → (w : World A) (i : ℕ) → IsNode w i → IsIn i (numbers_from 1 w.total)
 node_in w i k =
@@ -229,7 +230,7 @@ map_has f x [] h = absurd h
 map_has f x (z ∷ xs) (inl e) = inl (ap f e)
 map_has f x (z ∷ xs) (inr h) = inr (map_has f x xs h)
 
--- the rest is held, of its ring
+-- the messages of the rest are held, and of its ring
 rests_held : {A : Type 0} → (p : Plan) (held : List (Message A)) → Each (λ (x : Message A). IsIn x held × (x.ring ≡ p.old)) (rests p held)
 rests_held {A} p held =
     let ns = transitional_part p ++ past_gap_part p held in
@@ -237,7 +238,7 @@ rests_held {A} p held =
     (each-filter_map (λ (n : ℕ). Unit {0}) (λ (x : Message A). IsIn x held × (x.ring ≡ p.old)) (found held p.old)
     (λ n x l e. (let f = found_as held p.old n x e in (f.there, f.ring_is))) ns (each-in (λ (n : ℕ). Unit {0}) ns (λ n i. tt)))
 
-module _ {A : Type 0} (n : ℕ) (events : List (RingEvent A)) (heard_in : HeardIsInstalled (run (unformed {A = A} n) events)) where
+module _ {A : Type 0} (n : ℕ) (events : List (RingEvent A)) (heard_in : HoldersHaveInstalled (run (unformed {A = A} n) events)) where
   abbrev w : World A
   w = run (unformed n) events
 
@@ -250,7 +251,7 @@ module _ {A : Type 0} (n : ℕ) (events : List (RingEvent A)) (heard_in : HeardI
   in_text : (i : ℕ) → IsNode w i → (x : Message A) → IsIn x (w.cores i).held → IsIn x (text_of w x.ring)
   in_text i k x h = text_has w.cores (numbers_from 1 w.total) i x (node_in w i k) h
 
-  -- what one holds is found in the text
+  -- a message that one processor holds is found in the text
   found_text : (i : ℕ) → IsNode w i → (ring : RingId) (m : ℕ) → holds (w.cores i).held ring m ≡ true
       → found (w.cores i).held ring m ≡ found (text_of w ring) ring m
   found_text i k ring m h =
@@ -408,12 +409,12 @@ module _ {A : Type 0} (n : ℕ) (events : List (RingEvent A)) (heard_in : HeardI
       let g = regular_in c c.installed (older i) at agreed safe
       (subst (λ (xs : List (Stage A)). IsIn (InRegular at agreed safe) xs) (stages_are n events i) s) in
       let inside : IsIn at c.installs = among n events i at g.0 in
-      let there : IsIn x (delivered_in (regular_of c at)) = subst (λ (z : Stage A). IsIn x (delivered_in z)) g.1 j in
+      let there : IsIn x (delivered_in (regular_stage c at)) = subst (λ (z : Stage A). IsIn x (delivered_in z)) g.1 j in
       let there_heard : IsIn x (heard (found c.held at.ring) 1 (mark c at.ring)) =
       subst (λ (xs : List (Message A)). IsIn x xs) (regular_is w (recovered n events) i at) there in
       let u = (in-filtered (λ (x : Message A). is_user x.payload) x (filter_map (found c.held at.ring) (numbers_from 1 (mark c at.ring))) there_heard).1 in
       let b = in-each (λ (x : Message A). IsIn x c.held × (x.ring ≡ at.ring) × (x.number ≤ mark c at.ring)) x
-      (delivered_in (regular_of c at)) (regular_held w (recovered n events) i at) there in
+      (delivered_in (regular_stage c at)) (regular_held w (recovered n events) i at) there in
       record {
         reached = reached i at inside x b.0 b.1 u b.2 node q m;
         through = through i at inside x b.0 b.1 u b.2 node q m;

@@ -1,4 +1,4 @@
--- What is heard ascends.
+-- Delivered messages ascend.
 use Rattle.std.proofs.Common.{◌≡◌, ℕ, zero, suc, ◌+◌, ◌<◌, ◌≤◌, Bool, List, [], ◌∷◌, ◌++◌, Option, Some, None, refl, arith}
 use Rattle.std.specs.Prelude.{filter, filter_map, nat_lt}
 use Rattle.std.specs.List.{AllByRecursion as Each, cons_option}
@@ -8,12 +8,12 @@ use Rattle.ring_base.specs.declared.ring_id.RingId.{RingId}
 use Rattle.ring_base.proofs.Each.{each-weaker, each-append, each-filter, each-filter_map}
 use Rattle.ring_payload.specs.Kinds.{is_user}
 use Rattle.ring_wire.specs.declared.message.Message.{Message}
-use Rattle.ring_core.specs.Windows.{found}
-use Rattle.ring_core.specs.Recoveries.{Plan, safe, is_known, gap, known_above_safe, is_from_mate, transitional_part, past_gap_part, rests}
+use Rattle.ring_core_spec.specs.Windows.{found}
+use Rattle.ring_core_spec.specs.Recoveries.{Plan, safe, is_known, gap, known_above_safe, is_from_transitional_member, transitional_part, past_gap_part, rests}
 use Rattle.ring_core_proof.proofs.InLists.{each-in, numbers-above, in-filtered}
 use Rattle.ring_synchrony_proof.specs.Synchrony.{IsBefore, Ascend}
-use Rattle.ring_synchrony_proof.proofs.LivesTold.{heard}
-use Rattle.ring_synchrony_proof.proofs.Heard.{found_as}
+use Rattle.ring_synchrony_proof.proofs.LifeAfterStep.{heard}
+use Rattle.ring_synchrony_proof.proofs.UserMessages.{found_as}
 
 -- Ascending numbers
 
@@ -66,17 +66,17 @@ pub rest_ascends : {A : Type 0} → (p : Plan) (held : List (Message A)) → Asc
 rest_ascends {A} p held =
     let known = filter_rise (is_known p) (numbers_from (safe p + 1) window_size) (numbers_rise (safe p + 1) window_size) in
     let low = filter_rise (λ n. nat_lt n (gap p)) (known_above_safe p) known in
-    let high = filter_rise (is_from_mate p held) (filter (nat_lt (gap p)) (known_above_safe p)) (filter_rise (nat_lt (gap p)) (known_above_safe p) known) in
+    let high = filter_rise (is_from_transitional_member p held) (filter (nat_lt (gap p)) (known_above_safe p)) (filter_rise (nat_lt (gap p)) (known_above_safe p) known) in
     let cross : Each (λ m. Each (λ n. m < n) (past_gap_part p held)) (transitional_part p) =
     each-in (λ m. Each (λ n. m < n) (past_gap_part p held)) (transitional_part p) (λ m i. each-in (λ n. m < n) (past_gap_part p held) (λ n j.
     let a = ltb-true m (gap p) (in-filtered (λ n. nat_lt n (gap p)) m (known_above_safe p) i).1 in
     let b = ltb-true (gap p) n (in-filtered (nat_lt (gap p)) n (known_above_safe p)
-    (in-filtered (is_from_mate p held) n (filter (nat_lt (gap p)) (known_above_safe p)) j).0).1 in
+    (in-filtered (is_from_transitional_member p held) n (filter (nat_lt (gap p)) (known_above_safe p)) j).0).1 in
     omega (arith, a, b))) in
     filter_ascends (λ (x : Message A). is_user x.payload) (filter_map (found held p.old) (transitional_part p ++ past_gap_part p held))
     (found_ascend held p.old (transitional_part p ++ past_gap_part p held) (append_rise (transitional_part p) (past_gap_part p held) low high cross))
 
--- the rest lies above the greatest mark
+-- the rest is above the greatest mark
 pub rest_above : {A : Type 0} → (p : Plan) (held : List (Message A)) → Each (λ (x : Message A). (x.ring ≡ p.old) × (safe p < x.number)) (rests p held)
 rest_above {A} p held =
     let ns = transitional_part p ++ past_gap_part p held in
@@ -86,13 +86,13 @@ rest_above {A} p held =
     let all : Each (λ n. safe p < n) ns =
     each-append (λ n. safe p < n) (transitional_part p) (past_gap_part p held)
     (each-filter (λ n. safe p < n) (λ n. nat_lt n (gap p)) (known_above_safe p) known)
-    (each-filter (λ n. safe p < n) (is_from_mate p held) (filter (nat_lt (gap p)) (known_above_safe p))
+    (each-filter (λ n. safe p < n) (is_from_transitional_member p held) (filter (nat_lt (gap p)) (known_above_safe p))
     (each-filter (λ n. safe p < n) (nat_lt (gap p)) (known_above_safe p) known)) in
     each-filter (λ (x : Message A). (x.ring ≡ p.old) × (safe p < x.number)) (λ (x : Message A). is_user x.payload) (filter_map (found held p.old) ns)
     (each-filter_map (λ n. safe p < n) (λ (x : Message A). (x.ring ≡ p.old) × (safe p < x.number)) (found held p.old)
     (λ n x l e. (let f = found_as held p.old n x e in let q = f.number_is in (f.ring_is, omega (arith, l, q)))) ns all)
 
--- One list behind another
+-- One list after another
 
 pub append_ascends : {A : Type 0} → (xs ys : List (Message A)) → Ascend xs → Ascend ys → Each (λ (x : Message A). Each (IsBefore x) ys) xs → Ascend (xs ++ ys)
 append_ascends [] ys a b h = b

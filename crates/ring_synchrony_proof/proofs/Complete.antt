@@ -1,6 +1,7 @@
--- Where every member's End of the running ring is within the front, all is held that one of the old ring's members reported.
+-- Where every member's End of the running ring is in the front, the core holds every number that a transitional
+-- member reported.
 
--- Above the least front stand users' messages alone, and each was handed on before its reporter's End.
+-- All messages above the least front are users', and each was wrapped before the End of the member that reported it.
 use Rattle.std.proofs.Common.{◌≡◌, ℕ, zero, suc, ◌+◌, ◌%◌, ◌<◌, ◌≤◌, inl, inr, true, ◌==◌, List, [], ◌∷◌, length, map}
 use Rattle.std.proofs.Common.{Some, refl, ap, sym, ◌∙◌, subst, arith, mod-lt}
 use Rattle.std.specs.Prelude.{slice_get, slice_index, nat_le}
@@ -18,16 +19,16 @@ use Rattle.ring_payload.specs.declared.content.Wrapped.{Wrapped as WrappedMessag
 use Rattle.ring_wire.specs.declared.commit.CommitToken.{CommitToken}
 use Rattle.ring_wire.specs.declared.entries.CommitEntry.{CommitEntry}
 use Rattle.ring_wire.specs.declared.message.Message.{Message}
-use Rattle.ring_core.specs.Windows.{holds, front_of}
-use Rattle.ring_core.proofs.Windows.{front_is, holds-found}
+use Rattle.ring_core_spec.specs.Windows.{holds, front_of}
+use Rattle.ring_core_spec.proofs.Windows.{front_is, holds-found}
 use Rattle.ring_base.proofs.SameRing.{ring_same, same-self}
-use Rattle.ring_core.specs.Tokens.{Turn, VisitBy, AreVisits, numbered}
-use Rattle.ring_core.specs.Commits.{reports_of, Configuration}
-use Rattle.ring_core.specs.Recoveries.{Plan, plan_of, safe, low, least, is_reported, is_known, known_above_safe, is_complete, is_ready, is_wrap_of}
-use Rattle.ring_core.specs.State.{Core, Report}
-use Rattle.ring_core.specs.Views.{front, mark, plan}
+use Rattle.ring_core_spec.specs.Tokens.{TokenVisit, VisitBy, AreVisits, numbered}
+use Rattle.ring_core_spec.specs.Commits.{reports_of, Configuration}
+use Rattle.ring_core_spec.specs.Recoveries.{Plan, plan_of, safe, low, least, is_reported, is_known, known_above_safe, is_complete, is_ready, is_wrap_of}
+use Rattle.ring_core_spec.specs.State.{Core, Report}
+use Rattle.ring_core_spec.specs.Views.{front, mark, plan}
 use Rattle.ring_core_proof.specs.FactWords.{IsIn, SomeIs}
-use Rattle.ring_core_proof.specs.Worlds.{Carried}
+use Rattle.ring_core_proof.specs.Worlds.{Transmission}
 use Rattle.ring_core_proof.proofs.WithinWindow.{mark_below}
 use Rattle.ring_core_proof.proofs.InLists.{in-each, any-some, in-filtered}
 use Rattle.ring_chain_proof.specs.ChainWords.{IsGenuine, IsRingOf}
@@ -37,14 +38,14 @@ use Rattle.ring_chain_proof.proofs.AllLayers.{Holds}
 use Rattle.ring_chain_proof.proofs.OneText.{numbered_in, one_text}
 use Rattle.ring_synchrony_proof.proofs.Quantified.{all_decides, numbers_in}
 use Rattle.ring_synchrony_proof.specs.Recovery.{HoldsEnd}
-use Rattle.ring_synchrony_proof.proofs.Heard.{found_as}
-use Rattle.ring_synchrony_proof.proofs.Inner.{AllUnwrap}
+use Rattle.ring_synchrony_proof.proofs.UserMessages.{found_as}
+use Rattle.ring_synchrony_proof.proofs.WrappedIsHeld.{AllUnwrap}
 use Rattle.ring_synchrony_proof.proofs.KnownReports.{in_reports}
-use Rattle.ring_synchrony_proof.proofs.MatesReported.{got_in}
+use Rattle.ring_synchrony_proof.proofs.TransitionalMembersReported.{got_in}
 use Rattle.ring_synchrony_proof.proofs.Recovering.{numbered_by}
 use Rattle.ring_synchrony_proof.proofs.Unwrapped.{ready_ends}
 use Rattle.ring_synchrony_proof.specs.Ends.{IsSentBy, ReportsBehindEnds, EndsBehindWraps, HasHandedOn, IsHandedBefore}
-use Rattle.ring_synchrony_proof.proofs.Own.{HasOwn, plan_is}
+use Rattle.ring_synchrony_proof.proofs.OwnPlanReport.{HasOwn, plan_is}
 use Rattle.ring_synchrony_proof.proofs.Order.{IsOrderly}
 
 -- Lists
@@ -92,7 +93,7 @@ least_under e (f ∷ []) (inr i) = absurd i
 least_under e (f ∷ g ∷ es) (inl q) = (let s : e.front ≡ f.front = ap (λ (z : CommitEntry). z.front) q in omega (arith, s))
 least_under e (f ∷ g ∷ es) (inr i) = (let l : least (fronts (g ∷ es)) ≤ e.front = least_under e (g ∷ es) i in omega (arith, l))
 
--- what a payload that wraps a number wraps
+-- the number that a payload wraps
 record WrapsNumber {A : Type 0} (old : RingId) (n : ℕ) (p : Payload A) : Type 0 where
   pub wrapped : WrappedMessage A
   pub payload_is : p ≡ Wrapped wrapped
@@ -110,12 +111,12 @@ wraps_number old n (Part part) h = absurd (false≢true h)
 wraps_number old n (Pack pack) h = absurd (false≢true h)
 wraps_number old n (Snap snap) h = absurd (false≢true h)
 
--- who numbers a message in a round is one of its members
+-- a processor that numbers a message in a round is one of its members
 sender_in : {A : Type 0} → (members : ℕ) (ring : RingId) (vs : List (VisitBy A)) → 0 < size members → AreVisits members ring vs → (x : Message A) →
-    SomeIs (λ (v : VisitBy A). IsIn x (numbered ring v.who v.turn.came.seq v.turn.fresh)) vs → IsIn x.sender (elements members)
+    SomeIs (λ (v : VisitBy A). IsIn x (numbered ring v.who v.turn.received.seq v.turn.fresh)) vs → IsIn x.sender (elements members)
 sender_in members ring [] some h x s = absurd s
 sender_in {A} members ring (v ∷ vs) some h x (inl i) =
-    let sender : x.sender ≡ v.who = (numbered_in ring v.who v.turn.came.seq v.turn.fresh x i).sender_is in
+    let sender : x.sender ≡ v.who = (numbered_in ring v.who v.turn.received.seq v.turn.fresh x i).sender_is in
     let who : v.who ≡ at members (length vs % size members) = h.0.turn in
     subst (λ q. IsIn q (elements members)) (sym (sender ∙ who)) (member_place members (length vs % size members) (mod-lt (length vs) some))
 sender_in members ring (v ∷ vs) some h x (inr s) = sender_in members ring vs some h.1 x s
@@ -131,21 +132,21 @@ above_then a b c d l m n = omega (arith, l, m, n)
 
 -- All cores
 
-module _ {A : Type 0} (cores : ℕ → Core A) (frames : List (Carried A)) (a : AllUnwrap cores frames) (orderly : (q : ℕ) → IsOrderly (cores q)) where
+module _ {A : Type 0} (cores : ℕ → Core A) (frames : List (Transmission A)) (a : AllUnwrap cores frames) (orderly : (q : ℕ) → IsOrderly (cores q)) where
   abbrev h : Holds cores frames
   h = ((a.rec).all).all
 
   genuine : (q : ℕ) (x : Message A) → IsIn x (cores q).held → IsGenuine h.visits x
   genuine q x i = in-each (IsGenuine h.visits) x (cores q).held ((h.texts).held q) i
 
-  -- what is held anywhere its sender sent
+  -- each message held anywhere was sent by its sender
   pub sent_by : (q : ℕ) (x : Message A) → IsIn x (cores q).held → IsSentBy (cores x.sender) x
   sent_by q x i =
       let b = numbered_by cores frames h x (genuine q x i) in
       record {
         turn = b.turn;
         there = b.there;
-        numbered_there = subst (λ me. IsIn x (numbered b.turn.came.ring me b.turn.came.seq b.turn.fresh)) (sym ((h.rings).me x.sender)) b.numbered_there;
+        numbered_there = subst (λ me. IsIn x (numbered b.turn.received.ring me b.turn.received.seq b.turn.fresh)) (sym ((h.rings).me x.sender)) b.numbered_there;
       }
 
   pub one_message : (p q : ℕ) (x y : Message A) → IsIn x (cores p).held → IsIn y (cores q).held → x.ring ≡ y.ring → x.number ≡ y.number → x ≡ y
@@ -154,16 +155,16 @@ module _ {A : Type 0} (cores : ℕ → Core A) (frames : List (Carried A)) (a : 
   pub some_ring : (q : ℕ) (x : Message A) → IsIn x (cores q).held → 0 < x.ring.seq
   some_ring q x i =
       let s = sent_by q x i in
-      let low : 0 < (s.turn).came.ring.seq =
-      in-each (λ (v : Turn A). 0 < v.came.ring.seq) s.turn (cores x.sender).turns ((orderly x.sender).begun).turns s.there in
-      let ring = (numbered_in (s.turn).came.ring (cores x.sender).me (s.turn).came.seq (s.turn).fresh x s.numbered_there).ring_is in
+      let low : 0 < (s.turn).received.ring.seq =
+      in-each (λ (v : TokenVisit A). 0 < v.received.ring.seq) s.turn (cores x.sender).turns ((orderly x.sender).begun).turns s.there in
+      let ring = (numbered_in (s.turn).received.ring (cores x.sender).me (s.turn).received.seq (s.turn).fresh x s.numbered_there).ring_is in
       subst (λ (r : RingId). 0 < r.seq) (sym ring) low
 
   pub sender_member : (q : ℕ) (x : Message A) → IsIn x (cores q).held → (members : ℕ) → IsRingOf cores x.ring members → IsIn x.sender (elements members)
   sender_member q x i members ring =
       elim ((h.chains).rounds x.ring) [
         | inl none ↦ absurd
-            (subst (λ (vs : List (VisitBy A)). SomeIs (λ (v : VisitBy A). IsIn x (numbered x.ring v.who v.turn.came.seq v.turn.fresh)) vs) none (genuine q x i))
+            (subst (λ (vs : List (VisitBy A)). SomeIs (λ (v : VisitBy A). IsIn x (numbered x.ring v.who v.turn.received.seq v.turn.fresh)) vs) none (genuine q x i))
         | inr round ↦ subst (λ m. IsIn x.sender (elements m)) (one_members cores h.rings x.ring round.members members round.ring_of ring)
             (sender_in round.members x.ring (h.visits x.ring) round.some round.visits_are x (genuine q x i))
       ]
@@ -172,7 +173,7 @@ module _ {A : Type 0} (cores : ℕ → Core A) (frames : List (Carried A)) (a : 
   pub installed_ring : (q : ℕ) (at : Configuration) → IsIn at (cores q).installs → IsRingOf cores at.ring at.members
   installed_ring q at i = (h.rings).shared q at.ring at.members (((a.rec).local q).among at i)
 
-  -- above the least front reported there are users' messages alone
+  -- above the least reported front all messages are users'
   pub users_above : (k : CommitToken) → IsPlan cores k → (old : RingId) (e : CommitEntry) → IsIn e (reports_of old k.entries) → (q : ℕ) (x : Message A) →
       IsIn x (cores q).held →
       x.ring ≡ old → low (plan_of old k.members k.entries) < x.number → is_user x.payload ≡ true
@@ -199,17 +200,17 @@ module _ {A : Type 0} (cores : ℕ → Core A) (frames : List (Carried A)) (a : 
             omega (arith, under, within, least_is, above))
       ]
 
-  -- What was handed on
+  -- Wrapped messages
 
-  -- who sent an End has handed on
+  -- a processor that sent an End has wrapped its messages
   sent_handed : (m : ℕ) (x : Message A) → IsSentBy (cores m) x → is_end x.payload ≡ true → HasHandedOn (cores m) x.ring x.number
   sent_handed m x s ended =
       let v = s.turn in
-      let ring : x.ring ≡ v.came.ring = (numbered_in v.came.ring (cores m).me v.came.seq v.fresh x s.numbered_there).ring_is in
+      let ring : x.ring ≡ v.received.ring = (numbered_in v.received.ring (cores m).me v.received.seq v.fresh x s.numbered_there).ring_is in
       let q = in-each (EndsBehindWraps (cores m)) v (cores m).turns ((orderly m).order).ends s.there x s.numbered_there ended in
       subst (λ (r : RingId). HasHandedOn (cores m) r x.number) (sym ring) q
 
-  -- one report a member
+  -- one report for each member
   one_entry : (m : ℕ) (l k : CommitToken) → IsPlan cores l → IsPlan cores k → l.ring ≡ k.ring → (place : ℕ) (own : CommitEntry) →
       slice_get l.entries place ≡ Some own →
       at l.members place ≡ m → (g : ℕ) (e : CommitEntry) → slice_get k.entries g ≡ Some e → at k.members g ≡ m → own ≡ e
@@ -227,7 +228,7 @@ module _ {A : Type 0} (cores : ℕ → Core A) (frames : List (Carried A)) (a : 
       subst (λ (r : RingId). low (plan_of r l.members l.entries) < u) (sym same)
       (subst (λ n. low (plan_of old n l.entries) < u) (sym members) (subst (λ es. low (plan_of old k.members es) < u) (sym entries) above))
 
-  -- by the plan of another, which is the same
+  -- by another processor's plan, which is the same
   handed_before : (m : ℕ) (k : CommitToken) → IsPlan cores k → (g : ℕ) (e : CommitEntry) → slice_get k.entries g ≡ Some e → at k.members g ≡ m →
       (old : RingId) → e.old ≡ old →
       (n : ℕ) → HasHandedOn (cores m) k.ring n → (u : ℕ) → is_reported u e ≡ true → low (plan_of old k.members k.entries) < u →
@@ -241,7 +242,7 @@ module _ {A : Type 0} (cores : ℕ → Core A) (frames : List (Carried A)) (a : 
       let reported : is_reported u q.own ≡ true = subst (λ (z : CommitEntry). is_reported u z ≡ true) (sym own_is) r in
       subst (λ (z : RingId). IsHandedBefore (cores m) z k.ring u n) q_old (q.handed u reported (low_alike l k one.0 one.1 old (q.own).old q_old u above))
 
-  -- what another holds of a number within the front is held
+  -- a message that another processor holds, of a number within the front, is held
   held_too : (i m : ℕ) (y : Message A) → IsIn y (cores m).held → (ring : RingId) → y.ring ≡ ring → y.number ≤ front (cores i) ring → IsIn y (cores i).held
   held_too i m y j ring e l =
       let low : 1 ≤ y.number = in-each (λ (x : Message A). 1 ≤ x.number) y (cores m).held (((orderly m).local).messages).numbered j in
@@ -249,7 +250,7 @@ module _ {A : Type 0} (cores : ℕ → Core A) (frames : List (Carried A)) (a : 
       let f = found_as (cores i).held ring y.number z.0 z.1 in
       subst (λ (x : Message A). IsIn x (cores i).held) (one_message i m z.0 y f.there j (f.ring_is ∙ sym e) f.number_is) f.there
 
-  -- so in Recovery it is held, once what wraps it is within the front
+  -- so in Recovery it is held, once its Wrapped is within the front
   handed_held : (i m : ℕ) → (cores i).state ≡ Recovery → (u n : ℕ) → IsHandedBefore (cores m) (cores i).installed.ring (cores i).running.ring u n →
       n ≤ front (cores i) (cores i).running.ring →
       ((x : Message A) → IsIn x (cores m).held → x.ring ≡ (cores i).installed.ring → x.number ≡ u → is_user x.payload ≡ true) →
@@ -286,7 +287,7 @@ module _ {A : Type 0} (cores : ℕ → Core A) (frames : List (Carried A)) (a : 
     own_in : IsIn o.own p.reports
     own_in = in_reports old o.own k.entries (got_in k.entries o.place o.own o.here) (subst (λ r. same_ring o.own.old r ≡ true) o.old (same-self o.own.old))
 
-    -- what a member reported above the front was handed on to this core
+    -- a message that a member reported above the front reached this core wrapped
     handed : (u : ℕ) (e : CommitEntry) → IsIn e p.reports → is_reported u e ≡ true → low p < u → holds c.held old u ≡ true
     handed u e j r above =
         let from = in-filtered (λ (e : CommitEntry). same_ring e.old old) e k.entries j in

@@ -21,18 +21,18 @@ use Rattle.ring_payload.specs.declared.content.Payload.TheVariants.{Call, Wrappe
 use Rattle.ring_payload.specs.declared.content.Wrapped.{Wrapped as WrappedMessage}
 use Rattle.ring_payload.specs.SameCalls.{is_same}
 use Rattle.ring_wire.specs.declared.message.Message.{Message}
-use Rattle.ring_core.specs.Commits.{Configuration}
+use Rattle.ring_core_spec.specs.Commits.{Configuration}
 use Rattle.ring_synchrony_proof.specs.Same.{same_calls, same_last, same_head, same_part, same_snap, same_content, same_wrapped, same_payload, same_message}
 use Rattle.ring_synchrony_proof.specs.Same.{same_messages}
 use Rattle.ring_synchrony_proof.specs.Changes.{Change}
 use Rattle.ring_synchrony_proof.specs.Tests.{same_configuration, same_change}
 
--- Where the parts decide, the whole does
+-- Where the parts are decided, the whole is
 
 both : (p q : Bool) {P Q R : Type 0} → Decides p P → Decides q Q → (P × Q → R) → (R → P × Q) → Decides (p && q) R
 both p q a b f g = Decides-like (p && q) f g (Decides-and p q a b)
 
--- two values of which neither case is the other's
+-- two values of different variants
 apart : {R : Type 0} → (R → ⊥) → Decides false R
 apart f = (λ h. absurd (false≢true h), λ r. absurd (f r))
 
@@ -136,18 +136,18 @@ messages_decide xs ys = pointwise_decides message_decides xs ys
 pub change_decides : {A : Type 0} → (a b : Change A) → Decides (same_change a b) (a ≡ b)
 change_decides a b =
     both (same_configuration a.old b.old)
-    (same_messages a.regular b.regular && ((a.mates == b.mates)
+    (same_messages a.regular b.regular && ((a.transitional_members == b.transitional_members)
     && (same_messages a.rest b.rest && same_configuration a.new b.new))) (configuration_decides a.old b.old)
     (Decides-and (same_messages a.regular b.regular)
-    ((a.mates == b.mates) && (same_messages a.rest b.rest && same_configuration a.new b.new))
+    ((a.transitional_members == b.transitional_members) && (same_messages a.rest b.rest && same_configuration a.new b.new))
     (messages_decide a.regular b.regular)
-    (Decides-and (a.mates == b.mates) (same_messages a.rest b.rest && same_configuration a.new b.new) (Decides-eqb a.mates b.mates)
+    (Decides-and (a.transitional_members == b.transitional_members) (same_messages a.rest b.rest && same_configuration a.new b.new) (Decides-eqb a.transitional_members b.transitional_members)
     (Decides-and (same_messages a.rest b.rest) (same_configuration a.new b.new) (messages_decide a.rest b.rest) (configuration_decides a.new b.new))))
-    (λ p i. record { old = p.0 i; regular = p.1.0 i; mates = p.1.1.0 i; rest = p.1.1.1.0 i; new = p.1.1.1.1 i })
+    (λ p i. record { old = p.0 i; regular = p.1.0 i; transitional_members = p.1.1.0 i; rest = p.1.1.1.0 i; new = p.1.1.1.1 i })
     (λ e. (
       ap (λ (h : Change _). h.old) e,
       (
         ap (λ (h : Change _). h.regular) e,
-        (ap (λ (h : Change _). h.mates) e, (ap (λ (h : Change _). h.rest) e, ap (λ (h : Change _). h.new) e)),
+        (ap (λ (h : Change _). h.transitional_members) e, (ap (λ (h : Change _). h.rest) e, ap (λ (h : Change _). h.new) e)),
       ),
     ))

@@ -12,19 +12,19 @@ use Rattle.ring_base.specs.Rings.{same_ring}
 use Rattle.ring_base.specs.declared.ring_id.RingId.{RingId}
 use Rattle.ring_payload.specs.Kinds.{is_user}
 use Rattle.ring_wire.specs.declared.message.Message.{Message}
-use Rattle.ring_core.specs.Windows.{found, of_ring, is_numbered, holds, highest, front_of}
+use Rattle.ring_core_spec.specs.Windows.{found, of_ring, is_numbered, holds, highest, front_of}
 use Rattle.ring_base.proofs.SameRing.{ring_same, same-self}
-use Rattle.ring_core.specs.Commits.{Configuration}
-use Rattle.ring_core.specs.State.{Core}
-use Rattle.ring_core.specs.Views.{front}
+use Rattle.ring_core_spec.specs.Commits.{Configuration}
+use Rattle.ring_core_spec.specs.State.{Core}
+use Rattle.ring_core_spec.specs.Views.{front}
 use Rattle.ring_core_proof.specs.FactWords.{IsIn}
 use Rattle.ring_core_proof.specs.Worlds.{World, is_node}
 use Rattle.ring_core_proof.specs.Texts.{HasOneText, held_by, text_of}
-use Rattle.ring_core_proof.specs.Lives.{Stage, InRegular, InTransitional, is_well_told, delivered_in}
+use Rattle.ring_core_proof.specs.EpochHistories.{Stage, InRegular, InTransitional, has_ordered_outputs, delivered_in}
 use Rattle.ring_core_proof.specs.CommitRounds.{all_pairs, is_above}
 use Rattle.ring_core_proof.proofs.InLists.{in-left, in-right, in-parts, find-in, in-filter, in-filtered, contains-in, in-contains, find-some}
 use Rattle.ring_synchrony_proof.specs.Changes.{IsNode, stages_in, agreed_of, deliveries_of, users_upto, regulars_of, members_in}
-use Rattle.ring_synchrony_proof.specs.Changes.{alternate, Change, changes_in, delivered_by}
+use Rattle.ring_synchrony_proof.specs.Changes.{alternate, ends_in_regular, Change, changes_in, delivered_by}
 use Rattle.ring_synchrony_proof.specs.Synchrony.{IsBefore, Ascend, HasSameText, IsSafelyDelivered, DeliversSafely, DeliversAlike}
 use Rattle.ring_synchrony_proof.specs.Synchrony.{IsShared, GoesOn, HasConfigurations, DeliversOwn, IsVirtuallySynchronous}
 use Rattle.ring_synchrony_proof.specs.Same.{same_message}
@@ -32,7 +32,7 @@ use Rattle.ring_synchrony_proof.specs.Tests.{of_all, has_message, same_configura
 use Rattle.ring_synchrony_proof.specs.Tests.{rings_held, rings_in, agrees_with_text, agrees_with_texts, rests_in_text, is_before}
 use Rattle.ring_synchrony_proof.specs.Tests.{is_within_front, has_same_text, delivers_of, is_safely_delivered, is_safe_stage}
 use Rattle.ring_synchrony_proof.specs.Tests.{delivers_safely, same_change, are_alike, delivers_alike, is_same_to, is_shared, has_configurations}
-use Rattle.ring_synchrony_proof.specs.Tests.{is_beside, goes_on, is_mate}
+use Rattle.ring_synchrony_proof.specs.Tests.{is_taken_part, is_beside, goes_on, is_transitional_member}
 use Rattle.ring_synchrony_proof.specs.Tests.{have_configurations, is_own_among, delivers_own, is_virtually_synchronous}
 use Rattle.ring_synchrony_proof.proofs.EqualityTests.{ring_decides, configuration_decides, message_decides, messages_decide, change_decides}
 use Rattle.ring_synchrony_proof.proofs.Quantified.{all_decides, each_decides, in_decides, when_decides, nodes_decide}
@@ -114,7 +114,7 @@ module _ {A : Type 0} (w : World A) where
       (λ (x : Message A). found everything x.ring x.number ≡ Some x)
       (λ x. found_decides x (found everything x.ring x.number)) everything)
 
--- What was agreed: of a ring that a processor was neither told of nor holds a message of, nothing was
+-- Agreed messages: of a ring that a processor neither installed nor holds a message of, there are none
 
 with_more : (r ring : RingId) (rings : List RingId) → IsIn r rings → IsIn r (with_ring ring rings)
 with_more r ring rings h = cond_both (list_any (same_ring ring) rings) rings (ring ∷ rings) (IsIn r) (λ e. h) (λ e. inr h)
@@ -180,7 +180,7 @@ module _ {A : Type 0} (w : World A) (i : ℕ) where
       (all_decides (agrees_with_text w i) Agrees (λ ring. messages_decide (agreed_of ring (stages_in w i))
       (users_upto (text_of w ring) ring (front (w.cores i) ring))) (rings_in w i))
 
--- The rest, and what is safe
+-- The rest, and safe numbers
 
 abbrev RestIn : {A : Type 0} → World A → Stage A → Type 0
 RestIn w (InRegular at agreed safe) = Unit {0}
@@ -294,11 +294,16 @@ same_to_decides at b = when_decides (same_ring at.ring b.ring) (same_configurati
 
 shared_decides : {A : Type 0} → (w : World A) (at : Configuration) → Decides (is_shared w at) (IsShared w at)
 shared_decides {A} w at =
-    Decides-like (is_shared w at) (λ h. record { same = λ j n b k e. h.0 j n b k e; group = h.1 }) (λ r. (r.same, r.group))
+    Decides-like (is_shared w at)
+    (λ h. record { same = λ j n b k e. h.0 j n b k e; taken = λ j n b k e. h.1.0 j n b k e; group = h.1.1 })
+    (λ r. (r.same, (r.taken, r.group)))
     (Decides-and _ _
     (nodes_decide w.total (λ j. list_all (is_same_to at) (regulars_of (stages_in w j))) _
     (λ j. all_decides (is_same_to at) _ (same_to_decides at) (regulars_of (stages_in w j))))
-    (all_decides (is_node w) (IsNode w) (λ q. true_decides (is_node w q)) (elements at.members)))
+    (Decides-and _ _
+    (nodes_decide w.total (λ j. list_all (is_same_to at) (w.cores j).rings) _
+    (λ j. all_decides (is_same_to at) _ (same_to_decides at) (w.cores j).rings))
+    (all_decides (is_node w) (IsNode w) (λ q. true_decides (is_node w q)) (elements at.members))))
 
 goes_on_decides : {A : Type 0} → (w : World A) (c : Change A) (q : ℕ) → Decides (goes_on w c q) (GoesOn w c q)
 goes_on_decides {A} w c q =
@@ -311,8 +316,8 @@ goes_on_decides {A} w c q =
     (all_decides (is_beside c) (λ (b : Configuration). (b.ring.seq ≤ c.old.ring.seq) ⊎ (c.new.ring.seq ≤ b.ring.seq))
     (λ b. Decides-or _ _ (le_decides b.ring.seq c.old.ring.seq) (le_decides c.new.ring.seq b.ring.seq)) (regulars_of (stages_in w q))))))
 
-mate_decides : {A : Type 0} → (w : World A) (c : Change A) (q : ℕ) → Decides (is_mate w c q) (GoesOn w c q → has c.mates q ≡ true)
-mate_decides w c q = when_decides (goes_on w c q) (has c.mates q) (goes_on_decides w c q) (true_decides (has c.mates q))
+mate_decides : {A : Type 0} → (w : World A) (c : Change A) (q : ℕ) → Decides (is_transitional_member w c q) (GoesOn w c q → has c.transitional_members q ≡ true)
+mate_decides w c q = when_decides (goes_on w c q) (has c.transitional_members q) (goes_on_decides w c q) (true_decides (has c.transitional_members q))
 
 pub configurations_decide : {A : Type 0} → (w : World A) (i : ℕ) → Decides (has_configurations w i) (HasConfigurations w i)
 configurations_decide {A} w i =
@@ -321,21 +326,29 @@ configurations_decide {A} w i =
       told = h.0;
       own = h.1.0;
       alternating = h.1.1.0;
-      rising = h.1.1.1.0;
-      shared = h.1.1.1.1.0;
-      mates = h.1.1.1.1.1.0;
-      all_mates = h.1.1.1.1.1.1;
+      newest = h.1.1.1.0;
+      rising = h.1.1.1.1.0;
+      took_part = h.1.1.1.1.1.0;
+      shared = h.1.1.1.1.1.1.0;
+      transitional_members = h.1.1.1.1.1.1.1.0;
+      all_transitional_members = h.1.1.1.1.1.1.1.1;
     })
-    (λ r. (r.told, (r.own, (r.alternating, (r.rising, (r.shared, (r.mates, r.all_mates)))))))
-    (Decides-and _ _ (true_decides (is_well_told w i))
+    (λ r. (
+      r.told,
+      (r.own, (r.alternating, (r.newest, (r.rising, (r.took_part, (r.shared, (r.transitional_members, r.all_transitional_members))))))),
+    ))
+    (Decides-and _ _ (true_decides (has_ordered_outputs w i))
     (Decides-and _ _ (all_decides (λ (s : Stage A). has (members_in s) i)
     (λ (s : Stage A). has (members_in s) i ≡ true) (λ s. true_decides (has (members_in s) i)) (stages_in w i))
     (Decides-and _ _ (true_decides (alternate (stages_in w i)))
+    (Decides-and _ _ (true_decides (ends_in_regular (stages_in w i)))
     (Decides-and _ _ (true_decides (all_pairs is_above (regulars_of (stages_in w i))))
+    (Decides-and _ _ (all_decides (is_taken_part w i) (λ (at : Configuration). IsIn at (w.cores i).rings)
+    (λ at. in_decides same_configuration configuration_decides at (w.cores i).rings) (regulars_of (stages_in w i)))
     (Decides-and _ _ (all_decides (is_shared w) (IsShared w) (shared_decides w) (regulars_of (stages_in w i)))
     (Decides-and _ _
-    (all_decides _ _ (λ (c : Change A). all_decides (goes_on w c) (GoesOn w c) (goes_on_decides w c) (elements c.mates)) (changes_in w i))
-    (all_decides _ _ (λ (c : Change A). all_decides (is_mate w c) _ (mate_decides w c) (elements c.new.members)) (changes_in w i))))))))
+    (all_decides _ _ (λ (c : Change A). all_decides (goes_on w c) (GoesOn w c) (goes_on_decides w c) (elements c.transitional_members)) (changes_in w i))
+    (all_decides _ _ (λ (c : Change A). all_decides (is_transitional_member w c) _ (mate_decides w c) (elements c.new.members)) (changes_in w i))))))))))
 
 pub configurations_all : {A : Type 0} → (w : World A) → Decides (have_configurations w) ((i : ℕ) → IsNode w i → HasConfigurations w i)
 configurations_all w = nodes_decide w.total (has_configurations w) (HasConfigurations w) (configurations_decide w)

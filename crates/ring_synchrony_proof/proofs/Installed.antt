@@ -1,6 +1,7 @@
--- In every run a ring that is ready is installed, and who holds a users' message within the front has installed the ring.
+-- In every run a ring that is ready is installed, and a processor that holds a user message within the front has
+-- installed the ring.
 
--- Such a message makes the ring ready, since each member's End stands before it.
+-- Such a message makes the ring ready, since each member's End comes before it.
 use Rattle.std.proofs.Common.{◌≡◌, ℕ, ◌≤◌, ◌⊎◌, inl, inr, Bool, true, false, ◌||◌, ◌==◌, List, [], ◌∷◌, ◌++◌, Option}
 use Rattle.std.proofs.Common.{Some, None, refl, ap, sym, ◌∙◌, subst, arith}
 use Rattle.std.proofs.lemmas.Bool.{cond_both, and_from, or_right, eq-eqb, eqb-true}
@@ -10,18 +11,18 @@ use Rattle.ring_base.specs.declared.ring_id.RingId.{RingId}
 use Rattle.ring_payload.specs.Kinds.{is_user, is_end}
 use Rattle.ring_wire.specs.declared.frame.Frame.{Frame}
 use Rattle.ring_wire.specs.declared.message.Message.{Message}
-use Rattle.ring_core.specs.Windows.{found}
-use Rattle.ring_core.proofs.Windows.{front_is, holds-found}
-use Rattle.ring_core.specs.Commits.{Configuration}
-use Rattle.ring_core.specs.Recoveries.{in_front, ends, has_end_of, all_ended, is_covered, has_user, is_ready}
-use Rattle.ring_core.specs.State.{Core, opening, halted, frame_at}
-use Rattle.ring_core.specs.Stepping.{ring_step}
-use Rattle.ring_core.specs.Views.{front, mark}
-use Rattle.ring_core.specs.declared.input.Input.{Input}
-use Rattle.ring_core.specs.declared.input.Input.TheVariants.{Frame as FrameInput, Timeout as TimeInput, Send as SendInput}
+use Rattle.ring_core_spec.specs.Windows.{found}
+use Rattle.ring_core_spec.proofs.Windows.{front_is, holds-found}
+use Rattle.ring_core_spec.specs.Commits.{Configuration}
+use Rattle.ring_core_spec.specs.Recoveries.{in_front, ends, has_end_of, all_ended, is_covered, has_user, is_ready}
+use Rattle.ring_core_spec.specs.State.{Core, opening, halted, frame_at}
+use Rattle.ring_core_spec.specs.Stepping.{ring_step}
+use Rattle.ring_core_spec.specs.Views.{front, mark}
+use Rattle.ring_core_spec.specs.declared.input.Input.{Input}
+use Rattle.ring_core_spec.specs.declared.input.Input.TheVariants.{Frame as FrameInput, Timeout as TimeInput, Send as SendInput}
 use Rattle.ring_core_proof.specs.FactWords.{IsIn}
-use Rattle.ring_core_proof.specs.Moves.{Move, moved, sends_of, MayMove, CameTo}
-use Rattle.ring_core_proof.specs.Worlds.{World, Carried, put, carried_from, is_node, stepped_if, stopped_if, handed_if, handed}
+use Rattle.ring_core_proof.specs.Moves.{Move, moved, sends_of, MayMove, IsReceivedFrame}
+use Rattle.ring_core_proof.specs.Worlds.{World, Transmission, put, transmissions_from, is_node, stepped_if, stopped_if, handed_if, handed}
 use Rattle.ring_core_proof.specs.Worlds.{happens, run, unformed}
 use Rattle.ring_core_proof.specs.declared.event.RingEvent.{RingEvent}
 use Rattle.ring_core_proof.specs.declared.event.RingEvent.TheVariants.{Send, Deliver, Timeout, Stop}
@@ -34,30 +35,30 @@ use Rattle.ring_chain_proof.proofs.Rings.{one_members}
 use Rattle.ring_chain_proof.proofs.OneText.{numbered_in}
 use Rattle.ring_synchrony_proof.specs.Synchrony.{IsVirtuallySynchronous}
 use Rattle.ring_synchrony_proof.proofs.Quantified.{all_decides}
-use Rattle.ring_synchrony_proof.specs.Installed.{HeardIsInstalled}
-use Rattle.ring_synchrony_proof.proofs.Heard.{found_as}
-use Rattle.ring_synchrony_proof.proofs.Inner.{AllUnwrap, unwrap_moved, all_unwrap}
+use Rattle.ring_synchrony_proof.specs.Installed.{HoldersHaveInstalled}
+use Rattle.ring_synchrony_proof.proofs.UserMessages.{found_as}
+use Rattle.ring_synchrony_proof.proofs.WrappedIsHeld.{AllUnwrap, unwrap_moved, all_unwrap}
 use Rattle.ring_synchrony_proof.proofs.AllOfSynchrony.{synchronous}
 use Rattle.ring_synchrony_proof.specs.Ends.{IsSentBy, HoldsEndUpTo, IsBehindEnds, SendsBehindEnds}
-use Rattle.ring_synchrony_proof.specs.Ready.{ReadyIsComplete, ReadyIsInstalled}
+use Rattle.ring_synchrony_proof.specs.InstallReadiness.{ReadyIsComplete, ReadyIsInstalled}
 use Rattle.ring_synchrony_proof.proofs.Complete.{sent_by, one_message, some_ring, installed_ring, ready_complete}
 use Rattle.ring_synchrony_proof.proofs.Order.{IsOrderly, moved_orderly, opening_orderly}
-use Rattle.ring_synchrony_proof.proofs.Ready.{step_ready}
+use Rattle.ring_synchrony_proof.proofs.InstallReadiness.{step_ready}
 
 -- All cores, after each move
 
-pub record AllOrderly {A : Type 0} (cores : ℕ → Core A) (frames : List (Carried A)) : Type 0 where
+pub record AllOrderly {A : Type 0} (cores : ℕ → Core A) (frames : List (Transmission A)) : Type 0 where
   pub unwraps : AllUnwrap cores frames
   pub orderly : (q : ℕ) → IsOrderly (cores q)
 
-orderly_moved : {A : Type 0} → (cores : ℕ → Core A) (frames : List (Carried A)) (i : ℕ) (m : Move A) → 1 ≤ i → MayMove (CameTo frames i) (cores i) m →
+orderly_moved : {A : Type 0} → (cores : ℕ → Core A) (frames : List (Transmission A)) (i : ℕ) (m : Move A) → 1 ≤ i → MayMove (IsReceivedFrame frames i) (cores i) m →
     AllOrderly cores frames →
-    AllOrderly (put cores i (moved (cores i) m)) (frames ++ carried_from i (sends_of (cores i) m))
+    AllOrderly (put cores i (moved (cores i) m)) (frames ++ transmissions_from i (sends_of (cores i) m))
 orderly_moved {A} cores frames i m low may a =
     record {
       unwraps = unwrap_moved cores frames i m low may a.unwraps;
       orderly = put-each (λ q (x : Core A). IsOrderly x) cores i (moved (cores i) m) (λ q n. a.orderly q)
-          (moved_orderly (CameTo frames i) (cores i) m may (a.orderly i));
+          (moved_orderly (IsReceivedFrame frames i) (cores i) m may (a.orderly i));
     }
 
 orderly_kept : {A : Type 0} → IsKeptInWorlds (AllOrderly {A = A})
@@ -66,10 +67,10 @@ orderly_kept = record { moves = orderly_moved }
 opening_all : (A : Type 0) → (n : ℕ) → AllOrderly (opening {A = A} n) []
 opening_all A n = record { unwraps = all_unwrap n []; orderly = opening_orderly A n }
 
-complete_all : {A : Type 0} → (cores : ℕ → Core A) (frames : List (Carried A)) → AllOrderly cores frames → (q : ℕ) → ReadyIsComplete (cores q)
+complete_all : {A : Type 0} → (cores : ℕ → Core A) (frames : List (Transmission A)) → AllOrderly cores frames → (q : ℕ) → ReadyIsComplete (cores q)
 complete_all cores frames a q s ready = ready_complete cores frames a.unwraps a.orderly q s ready
 
--- After an event each core is as it was, or made a step, or stopped
+-- After an event each core is as it was, or took a step, or stopped
 
 abbrev IsAfter : {A : Type 0} → World A → ℕ → Core A → Type 0
 IsAfter {A} w q c = (c ≡ w.cores q) ⊎ (((input : Input A) × (1 ≤ q) × (c ≡ (ring_step (w.cores q) input).core)) ⊎ (c ≡ halted (w.cores q)))
@@ -93,7 +94,7 @@ after_if : {A : Type 0} → (b : Bool) (w : World A) (i : ℕ) (frame : Frame A)
 after_if false w i frame q = inl refl
 after_if true w i frame q = after_stepped (is_node w i) w i (FrameInput frame) (node_low w i) q
 
-after_handed : {A : Type 0} → (w : World A) (i : ℕ) (o : Option (Carried A)) (q : ℕ) → IsAfter w q ((handed w i o).cores q)
+after_handed : {A : Type 0} → (w : World A) (i : ℕ) (o : Option (Transmission A)) (q : ℕ) → IsAfter w q ((handed w i o).cores q)
 after_handed w i None q = inl refl
 after_handed w i (Some f) q = after_if (has f.to i) w i f.frame q
 
@@ -135,10 +136,10 @@ all_orderly {A} n events = kept_run AllOrderly orderly_kept (unformed n) events 
 pub all_complete : {A : Type 0} → (n : ℕ) (events : List (RingEvent A)) (q : ℕ) → ReadyIsComplete ((run (unformed n) events).cores q)
 all_complete n events q = complete_all (run (unformed n) events).cores (run (unformed n) events).frames (all_orderly n events) q
 
--- Who holds a users' message
+-- A processor that holds a user message
 
-module _ {A : Type 0} (cores : ℕ → Core A) (frames : List (Carried A)) (a : AllOrderly cores frames) (ready : (q : ℕ) → ReadyIsInstalled (cores q)) where
-  -- what another holds, of a number within the front
+module _ {A : Type 0} (cores : ℕ → Core A) (frames : List (Transmission A)) (a : AllOrderly cores frames) (ready : (q : ℕ) → ReadyIsInstalled (cores q)) where
+  -- a message that another processor holds, of a number within the front
   shared : (p q : ℕ) (x : Message A) → IsIn x (cores p).held → x.number ≤ front (cores q) x.ring →
       IsIn x (cores q).held × (found (cores q).held x.ring x.number ≡ Some x)
   shared p q x i l =
@@ -155,7 +156,7 @@ module _ {A : Type 0} (cores : ℕ → Core A) (frames : List (Carried A)) (a : 
       let top = front (cores q) x.ring in
       in-filter_map (found (cores q).held x.ring) x.number x (numbers_from 1 top) (in-numbers 1 top x.number low (omega (arith, l))) (shared p q x i l).1
 
-  -- an End that another holds, of a number within the front
+  -- an End that another processor holds, of a number within the front
   one_end : (p q : ℕ) (r ring : RingId) (n j : ℕ) → r ≡ ring → n ≤ front (cores q) ring → HoldsEndUpTo (cores p) r j n →
       has_end_of (in_front (cores q).held ring) j ≡ true
   one_end p q r ring n j same l e =
@@ -169,15 +170,15 @@ module _ {A : Type 0} (cores : ℕ → Core A) (frames : List (Carried A)) (a : 
       any-in (λ (x : Message A). x.sender == j) e.message (ends xs) (in-filter (λ (x : Message A). is_end x.payload) e.message xs mine e.ended)
       (eq-eqb (e.message).sender j e.sender)
 
-  -- behind each users' message that was sent
+  -- every member's End comes before each user message that was sent
   user_behind : (m : ℕ) (x : Message A) → IsSentBy (cores m) x → is_user x.payload ≡ true → IsBehindEnds (cores m) x.ring x.number
   user_behind m x s u =
       let v = s.turn in
-      let ring : x.ring ≡ v.came.ring = (numbered_in v.came.ring (cores m).me v.came.seq v.fresh x s.numbered_there).ring_is in
+      let ring : x.ring ≡ v.received.ring = (numbered_in v.received.ring (cores m).me v.received.seq v.fresh x s.numbered_there).ring_is in
       let behind = in-each (SendsBehindEnds (cores m)) v (cores m).turns ((a.orderly m).order).users s.there x s.numbered_there u in
       subst (λ (r : RingId). IsBehindEnds (cores m) r x.number) (sym ring) behind
 
-  -- a users' message within the front makes the ring ready
+  -- a user message within the front makes the ring ready
   ready_for : (p q m : ℕ) (x : Message A) → IsIn x (cores p).held → is_user x.payload ≡ true → x.number ≤ front (cores q) x.ring →
       IsBehindEnds (cores m) x.ring x.number →
       (members : ℕ) → IsRingOf cores x.ring members → is_ready (cores q).held x.ring members (mark (cores q) x.ring) ≡ true
@@ -207,7 +208,7 @@ module _ {A : Type 0} (cores : ℕ → Core A) (frames : List (Carried A)) (a : 
         refl,
       )
 
-pub all_heard : {A : Type 0} → (n : ℕ) (events : List (RingEvent A)) → HeardIsInstalled (run (unformed n) events)
+pub all_heard : {A : Type 0} → (n : ℕ) (events : List (RingEvent A)) → HoldersHaveInstalled (run (unformed n) events)
 all_heard {A} n events q ring x i user l =
     let w : World A = run (unformed n) events in
     let h = held_somewhere w.cores ring (numbers_from 1 w.total) x i in

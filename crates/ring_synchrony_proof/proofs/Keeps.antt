@@ -1,4 +1,5 @@
--- What a move that installs nothing keeps of what was told: what was found is found, a ring that was left stays as it is, fronts and marks only rise.
+-- What a move keeps that installs nothing: messages that are found stay found, a ring that was left stays as it is,
+-- fronts and marks only rise.
 use Rattle.std.proofs.Common.{◌≡◌, ℕ, ◌<◌, ◌≤◌, inl, inr, true, false, ◌&&◌, ◌==◌, List, [], ◌∷◌, ◌++◌, Some, refl, ap, sym, ◌∙◌, subst, arith}
 use Rattle.std.specs.Prelude.{not, reverse}
 use Rattle.std.specs.List.{AllByRecursion as Each}
@@ -14,28 +15,28 @@ use Rattle.ring_payload.specs.declared.content.Wrapped.{Wrapped as WrappedMessag
 use Rattle.ring_wire.specs.declared.frame.Frame.{Frame}
 use Rattle.ring_wire.specs.declared.message.Message.{Message}
 use Rattle.ring_wire.specs.declared.token.Token.{Token}
-use Rattle.ring_core.specs.Windows.{is_numbered, found, holds, highest, front_of, is_new, in_window}
-use Rattle.ring_core.proofs.Windows.{highest_covers, holds-found, found-holds}
+use Rattle.ring_core_spec.specs.Windows.{is_numbered, found, holds, highest, front_of, is_new, in_window}
+use Rattle.ring_core_spec.proofs.Windows.{highest_covers, holds-found, found-holds}
 use Rattle.ring_base.proofs.SameRing.{ring_same, other_ring}
-use Rattle.ring_core.specs.Tokens.{numbered}
-use Rattle.ring_core.proofs.Tokens.{safe_mark-turn, safe_mark-raise}
-use Rattle.ring_core.specs.Recoveries.{inner_if_new, unwrapped}
-use Rattle.ring_core.specs.State.{Core, floor}
-use Rattle.ring_core.specs.Views.{front, mark, entries_for}
-use Rattle.ring_core.specs.Acting.{gives_old}
-use Rattle.ring_core.specs.Deciding.{Act, Ignore, Enqueue, Repeat, Announce, Invite, GiveUp, Regather, Agree, Widen}
-use Rattle.ring_core.specs.Deciding.{RegatherAndAgree, RegatherAndWiden, Take, Visit, Fill, Learn}
+use Rattle.ring_core_spec.specs.Tokens.{numbered}
+use Rattle.ring_core_spec.proofs.Tokens.{safe_mark-turn, safe_mark-raise}
+use Rattle.ring_core_spec.specs.Recoveries.{inner_if_new, inner_messages}
+use Rattle.ring_core_spec.specs.State.{Core, floor}
+use Rattle.ring_core_spec.specs.Views.{front, mark, entries_for}
+use Rattle.ring_core_spec.specs.Transitions.{old_ring_messages}
+use Rattle.ring_core_spec.specs.Deciding.{Transition, Ignore, Enqueue, Repeat, Announce, Invite, GiveUp, EnterGather, Agree, MergeJoin}
+use Rattle.ring_core_spec.specs.Deciding.{EnterGatherAndAgree, EnterGatherAndMergeJoin, Take, Visit, Fill, Learn}
 use Rattle.ring_core_proof.specs.Moves.{Move, Idles, Enters, Learns, Visits, Takes, Installs, moved, turn_with, MayMove}
 use Rattle.ring_core_proof.proofs.InLists.{each-in}
 use Rattle.ring_core_proof.proofs.StepsAreMoves.{move_of}
 use Rattle.ring_chain_proof.proofs.FactsGrow.{moved_grows}
-use Rattle.ring_chain_proof.proofs.Left.{IsOther, front_other, turns_other, raises_other, gives_other}
+use Rattle.ring_chain_proof.proofs.OtherRings.{IsOther, front_other, turns_other, raises_other, gives_other}
 use Rattle.ring_chain_proof.proofs.OneText.{numbered_in}
 use Rattle.ring_synchrony_proof.proofs.Ordered.{Ordered}
 
--- What is found among more
+-- Messages found among more
 
--- none of these has that number of the ring
+-- none of these messages has that number of the ring
 abbrev pub IsNot : {A : Type 0} → RingId → ℕ → Message A → Type 0
 IsNot ring n x = is_numbered ring n x ≡ false
 
@@ -44,7 +45,7 @@ pub found_past : {A : Type 0} → (xs held : List (Message A)) (ring : RingId) (
 found_past [] held ring n h = refl
 found_past (x ∷ xs) held ring n h = cond-false (is_numbered ring n x) (Some x) (found (xs ++ held) ring n) h.0 ∙ found_past xs held ring n h.1
 
--- of another ring none has any number
+-- no message of another ring has a number of this one
 pub other_not : {A : Type 0} → (ring : RingId) (n : ℕ) (xs : List (Message A))
     → Each (λ (x : Message A). IsOther ring x) xs → Each (λ (x : Message A). IsNot ring n x) xs
 other_not {A} ring n xs h = each-weaker (λ (x : Message A). IsOther ring x) (λ (x : Message A). IsNot ring n x)
@@ -63,7 +64,7 @@ new_not {A} held m ring n x h new =
     (subst (λ (k : ℕ). holds held ring k ≡ true) (sym k) h) in
     false≢true (ap not (sym t) ∙ q))
 
--- what is unwrapped was new
+-- an inner message is new
 abbrev pub WasNew : {A : Type 0} → List (Message A) → Message A → Type 0
 WasNew held x = (m : ℕ) × (is_new held m x.ring x.number ≡ true)
 
@@ -76,7 +77,7 @@ inner_new {A} old m held w =
     (λ e. tt)
 
 unwrapped_new : {A : Type 0} → (old : RingId) (m : ℕ) (held : List (Message A)) (p : Payload A)
-    → Each (λ (x : Message A). WasNew held x) (unwrapped old m held p)
+    → Each (λ (x : Message A). WasNew held x) (inner_messages old m held p)
 unwrapped_new old m held (Wrapped w) = inner_new old m held w
 unwrapped_new old m held (Call call) = tt
 unwrapped_new old m held End = tt
@@ -85,7 +86,7 @@ unwrapped_new old m held (Part part) = tt
 unwrapped_new old m held (Pack pack) = tt
 unwrapped_new old m held (Snap snap) = tt
 
-pub gives_new : {A : Type 0} → (s : State) (c : Core A) (x : Message A) → Each (λ (x : Message A). WasNew c.held x) (gives_old s c x)
+pub gives_new : {A : Type 0} → (s : State) (c : Core A) (x : Message A) → Each (λ (x : Message A). WasNew c.held x) (old_ring_messages s c x)
 gives_new Recovery c x = unwrapped_new c.installed.ring (mark c c.installed.ring) c.held x.payload
 gives_new Gather c x = tt
 gives_new Commit c x = tt
@@ -97,7 +98,7 @@ pub were_not : {A : Type 0} → (held : List (Message A)) (ring : RingId) (n : �
 were_not {A} held ring n h xs e = each-weaker (λ (x : Message A). WasNew held x) (λ (x : Message A). IsNot ring n x)
     (λ x w. new_not held w.0 ring n x h w.1) xs e
 
--- what is numbered in a visit is above all that is held of the ring
+-- a number given in a visit is above all that is held of the ring
 numbered_not : {A : Type 0} → (held : List (Message A)) (t : Token) (me : ℕ) (fresh : List (Payload A))
     → highest held t.ring ≤ t.seq → (ring : RingId) (n : ℕ) →
     holds held ring n ≡ true → Each (λ (x : Message A). IsNot ring n x) (reverse (numbered t.ring me t.seq fresh))
@@ -113,9 +114,9 @@ numbered_not {A} held t me fresh ahead ring n h =
     let up : t.seq < x.number = f.above in
     omega (arith, top, up, k, ahead))))
 
--- What is kept
+-- The facts that are kept
 
--- all that is known of a ring
+-- all facts of a ring
 pub record IsSameOf {A : Type 0} (ring : RingId) (c d : Core A) : Type 0 where
   pub found_is : (n : ℕ) → found d.held ring n ≡ found c.held ring n
   pub front_is : front d ring ≡ front c ring
@@ -127,21 +128,21 @@ pub record Keeps {A : Type 0} (c d : Core A) : Type 0 where
   pub finds : (ring : RingId) (n : ℕ) → holds c.held ring n ≡ true → found d.held ring n ≡ found c.held ring n
   pub fronts : (ring : RingId) → front c ring ≤ front d ring
   pub marks : (ring : RingId) → mark c ring ≤ mark d ring
-  -- of rings before the installed one
+  -- facts of rings before the installed one
   pub left : (ring : RingId) → ring.seq < c.installed.ring.seq → IsSameOf ring c d
   -- and the reports by which it and they were installed
   pub entries : (ring : RingId) → ring.seq ≤ c.installed.ring.seq → entries_for ring d.plans ≡ entries_for ring c.plans
 
--- a move that is no installation
+-- a move that isn't an installation
 abbrev pub IsStill : {A : Type 0} → Move A → Type 0
-IsStill (Idles state gathering shown queue sends) = Unit {0}
+IsStill (Idles state gathering last_sent queue sends) = Unit {0}
 IsStill (Enters k) = Unit {0}
 IsStill (Learns k) = Unit {0}
 IsStill (Visits t fresh requests again queue) = Unit {0}
 IsStill (Takes x) = Unit {0}
 IsStill Installs = ⊥
 
--- a ring below the installed one is another
+-- a ring below the installed one is a different one
 below_other : (ring other : RingId) → ring.seq < other.seq → ring ≡ other → ⊥
 below_other ring other l e = (let q : ring.seq ≡ other.seq = ap (λ (r : RingId). r.seq) e in omega (arith, l, q))
 
@@ -149,7 +150,7 @@ pub all_same : {A : Type 0} → (ring : RingId) (c d : Core A) → d.held ≡ c.
 all_same {A} ring c d e m =
     record { found_is = λ n. ap (λ (xs : List (Message A)). found xs ring n) e; front_is = ap (λ (xs : List (Message A)). front_of xs ring) e; mark_is = m }
 
--- a visit adds nothing of another ring
+-- a visit adds no fact of another ring
 pub visited_same : {A : Type 0} → (c : Core A) (t : Token) (fresh : List (Payload A)) (requests : List ℕ)
     (again : List (Message A)) (queue : List (Payload A)) (r : RingId) →
     (t.ring ≡ r → ⊥) → IsSameOf r c (moved c (Visits t fresh requests again queue))
@@ -165,8 +166,8 @@ visited_same {A} c t fresh requests again queue r other =
       mark_is = turns_other (turn_with c t fresh requests) c.turns c.raises r other;
     }
 
-pub moved_keeps : {A : Type 0} → (came : Frame A → Type 0) (c : Core A) (m : Move A) → MayMove came c m → Ordered c → IsStill m → Keeps c (moved c m)
-moved_keeps came c (Idles state gathering shown queue sends) h o s =
+pub moved_keeps : {A : Type 0} → (received : Frame A → Type 0) (c : Core A) (m : Move A) → MayMove received c m → Ordered c → IsStill m → Keeps c (moved c m)
+moved_keeps received c (Idles state gathering last_sent queue sends) h o s =
     record {
       installed = refl;
       installs = refl;
@@ -176,7 +177,7 @@ moved_keeps came c (Idles state gathering shown queue sends) h o s =
       left = λ r l. all_same r c _ refl refl;
       entries = λ r l. refl;
     }
-moved_keeps came c (Enters k) h o s =
+moved_keeps received c (Enters k) h o s =
     record {
       installed = refl;
       installs = refl;
@@ -186,7 +187,7 @@ moved_keeps came c (Enters k) h o s =
       left = λ r l. all_same r c _ refl refl;
       entries = λ r l. refl;
     }
-moved_keeps {A} came c (Learns k) h o s =
+moved_keeps {A} received c (Learns k) h o s =
     record {
       installed = refl;
       installs = refl;
@@ -204,7 +205,7 @@ moved_keeps {A} came c (Learns k) h o s =
             q,
           )))));
     }
-moved_keeps {A} came c (Visits t fresh requests again queue) h o s =
+moved_keeps {A} received c (Visits t fresh requests again queue) h o s =
     let new = reverse (numbered t.ring c.me t.seq fresh) in
     let other : (r : RingId) → r.seq < c.installed.ring.seq → t.ring ≡ r
     → ⊥ = λ r l e. (let a : c.installed.ring.seq ≤ floor c = o.below in let b : t.ring.seq ≡ floor c = ap
@@ -224,8 +225,8 @@ moved_keeps {A} came c (Visits t fresh requests again queue) h o s =
       left = λ r l. visited_same c t fresh requests again queue r (other r l);
       entries = λ r l. refl;
     }
-moved_keeps {A} came c (Takes x) h o s =
-    let more = gives_old c.state c x in
+moved_keeps {A} received c (Takes x) h o s =
+    let more = old_ring_messages c.state c x in
     let other : (r : RingId) → r.seq < c.installed.ring.seq → x.ring ≡ r → ⊥ =
     λ r l e. elim (h.ring) [
       | inl f ↦ (let a : c.installed.ring.seq ≤ floor c = o.below in let b : x.ring.seq ≡ floor c = ap
@@ -255,9 +256,9 @@ moved_keeps {A} came c (Takes x) h o s =
       };
       entries = λ r l. refl;
     }
-moved_keeps came c Installs h o s = absurd s
+moved_keeps received c Installs h o s = absurd s
 
--- one after another
+-- a list of moves
 same_then : {A : Type 0} → (ring : RingId) (c d e : Core A) → IsSameOf ring c d → IsSameOf ring d e → IsSameOf ring c e
 same_then ring c d e a b =
     record { found_is = λ n. b.found_is n ∙ a.found_is n; front_is = b.front_is ∙ a.front_is; mark_is = b.mark_is ∙ a.mark_is }
@@ -275,19 +276,19 @@ keeps_then {A} c d e a b =
       entries = λ r l. b.entries r (omega (arith, l, seq)) ∙ a.entries r l;
     }
 
--- each act moves so
-pub still_of : {A : Type 0} → (c : Core A) (a : Act A) → IsStill (move_of c a)
+-- each transition is such a move
+pub still_of : {A : Type 0} → (c : Core A) (a : Transition A) → IsStill (move_of c a)
 still_of c Ignore = tt
 still_of c (Enqueue p) = tt
 still_of c Repeat = tt
 still_of c Announce = tt
 still_of c Invite = tt
 still_of c GiveUp = tt
-still_of c Regather = tt
+still_of c EnterGather = tt
 still_of c (Agree j) = tt
-still_of c (Widen j) = tt
-still_of c (RegatherAndAgree j) = tt
-still_of c (RegatherAndWiden j) = tt
+still_of c (MergeJoin j) = tt
+still_of c (EnterGatherAndAgree j) = tt
+still_of c (EnterGatherAndMergeJoin j) = tt
 still_of c (Take x) = tt
 still_of c (Visit t) = tt
 still_of c (Fill k) = tt

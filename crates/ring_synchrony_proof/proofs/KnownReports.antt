@@ -1,6 +1,6 @@
--- Reports are exact, and of what mates report, what is known reaches no further.
+-- Reports are exact, and the known numbers reach no further than the reports of the transitional members.
 
--- A core's own report says what it holds of its last installed ring and nothing past the window.
+-- A core's own report has what it holds of its last installed ring, and nothing past the window.
 use Rattle.std.proofs.Common.{◌≡◌, ℕ, ◌+◌, ◌-◌, ◌<◌, ◌≤◌, inl, inr, true, ◌&&◌, ◌==◌, List, [], ◌∷◌, map, Option}
 use Rattle.std.proofs.Common.{Some, None, refl, ap, sym, ◌∙◌, subst, arith}
 use Rattle.std.specs.Prelude.{filter, nat_lt, nat_le, nat_eq, max}
@@ -11,21 +11,21 @@ use Rattle.ring_base.specs.Rings.{same_ring}
 use Rattle.ring_base.specs.declared.ring_id.RingId.{RingId}
 use Rattle.ring_wire.specs.Entries.{bit_of}
 use Rattle.ring_wire.specs.declared.entries.CommitEntry.{CommitEntry}
-use Rattle.ring_core.specs.Windows.{holds, front_of, held_bits}
-use Rattle.ring_core.proofs.Windows.{held_bit, front_is}
+use Rattle.ring_core_spec.specs.Windows.{holds, front_of, held_bits}
+use Rattle.ring_core_spec.proofs.Windows.{held_bit, front_is}
 use Rattle.ring_base.proofs.SameRing.{ring_same, same-self}
-use Rattle.ring_core.specs.Tokens.{Turn, Raise, raised_to, safe_mark, mark_by, forwarded_in}
-use Rattle.ring_core.specs.Commits.{same_entry, reports_of, safe_of, is_own}
-use Rattle.ring_core.specs.Recoveries.{Plan, safe, is_reported, is_known}
-use Rattle.ring_core.specs.State.{Core}
-use Rattle.ring_core.specs.Views.{front, mark, own_entry}
+use Rattle.ring_core_spec.specs.Tokens.{TokenVisit, Raise, raised_to, safe_mark, mark_by, forwarded_in}
+use Rattle.ring_core_spec.specs.Commits.{same_entry, reports_of, safe_of, is_own}
+use Rattle.ring_core_spec.specs.Recoveries.{Plan, safe, is_reported, is_known}
+use Rattle.ring_core_spec.specs.State.{Core}
+use Rattle.ring_core_spec.specs.Views.{front, mark, own_entry}
 use Rattle.ring_core_proof.specs.FactWords.{IsIn}
-use Rattle.ring_core_proof.proofs.WithinWindow.{Fit, mark_below, held_below}
+use Rattle.ring_core_proof.proofs.WithinWindow.{IsCoreInWindow, mark_below, held_below}
 use Rattle.ring_core_proof.proofs.InLists.{any-in, any-some}
 
 -- The own report
 
--- the same entries are one
+-- equal entries are one
 entry_is : (e own : CommitEntry) → same_entry e own ≡ true → e ≡ own
 entry_is e own h =
     let a = and_parts ((same_ring e.old own.old && (e.front == own.front)) && (e.mark == own.mark)) (pointwise nat_eq e.held own.held) h in
@@ -41,11 +41,11 @@ pub own_is : (own : CommitEntry) (o : Option CommitEntry) → is_own own o ≡ t
 own_is own None h = absurd (false≢true h)
 own_is own (Some e) h = ap Some (entry_is e own h)
 
--- nothing is reported past the window after the mark
+-- no number past the window after the mark is reported
 abbrev pub IsReach : CommitEntry → Type 0
 IsReach e = (n : ℕ) → is_reported n e ≡ true → n ≤ e.mark + window_size
 
-module _ {A : Type 0} (c : Core A) (fit : Fit c) where
+module _ {A : Type 0} (c : Core A) (fit : IsCoreInWindow c) where
   abbrev ring : RingId
   ring = c.installed.ring
 
@@ -81,7 +81,7 @@ module _ {A : Type 0} (c : Core A) (fit : Fit c) where
             held_below c ring n fit (sym (bit_is n (ltb-true (front c ring) n q.0) (leb-true n (front c ring + window_size) q.1)) ∙ p.1))
       ]
 
--- Reports together
+-- All reports together
 
 pub safe_most : (e : CommitEntry) (reports : List CommitEntry) → IsIn e reports → e.mark ≤ safe_of reports
 safe_most e [] h = absurd h
@@ -113,8 +113,8 @@ known_reach p reach n h =
     let b : (s.0).mark ≤ safe p = safe_most s.0 p.reports s.1 in
     omega (arith, a, b)
 
--- a raise that no mark is above is the mark
-pub raised_is : {A : Type 0} → (x : Raise) (turns : List (Turn A)) (raises : List Raise)
+-- a raise is the mark where no mark is above it
+pub raised_is : {A : Type 0} → (x : Raise) (turns : List (TokenVisit A)) (raises : List Raise)
     → safe_mark turns raises x.ring ≤ x.mark → safe_mark turns (x ∷ raises) x.ring ≡ x.mark
 raised_is {A} x turns raises l =
     let rest = filter (λ (y : Raise). same_ring y.ring x.ring) raises in

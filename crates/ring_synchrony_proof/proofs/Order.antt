@@ -1,8 +1,8 @@
--- All that a core knows of what it sent and of the Ends that it holds: each move keeps it.
+-- The facts that a core knows of the messages that it sent and of the Ends that it holds: each move keeps them.
 use Rattle.std.proofs.Common.{◌≡◌, ℕ, List}
 use Rattle.ring_base.specs.declared.state.State.TheVariants.{Gather, Commit, Recovery, Operational}
 use Rattle.ring_wire.specs.declared.frame.Frame.{Frame}
-use Rattle.ring_core.specs.State.{Core, opening}
+use Rattle.ring_core_spec.specs.State.{Core, opening}
 use Rattle.ring_core_proof.specs.declared.event.RingEvent.{RingEvent}
 use Rattle.ring_core_proof.specs.Worlds.{run, unformed}
 use Rattle.ring_core_proof.specs.Moves.{Move, Idles, Enters, Learns, Visits, Takes, Installs, moved, MayMove, AllAreUsers}
@@ -13,10 +13,10 @@ use Rattle.ring_core_proof.proofs.OwnRings.{opening_rings}
 use Rattle.ring_synchrony_proof.specs.Recovery.{HoldsEnds}
 use Rattle.ring_synchrony_proof.proofs.Unwrapped.{moved_ends, opening_ends}
 use Rattle.ring_synchrony_proof.specs.Ends.{KeepsOrder}
-use Rattle.ring_synchrony_proof.proofs.Sent.{moved_last}
+use Rattle.ring_synchrony_proof.proofs.SendsAfterEnd.{moved_last}
 use Rattle.ring_synchrony_proof.proofs.Ends.{IsBegun, moved_begun, moved_users, moved_reports}
-use Rattle.ring_synchrony_proof.proofs.Own.{KnowsOwn, moved_own}
-use Rattle.ring_synchrony_proof.proofs.Handed.{moved_handed}
+use Rattle.ring_synchrony_proof.proofs.OwnPlanReport.{KnowsOwn, moved_own}
+use Rattle.ring_synchrony_proof.proofs.WrapsBeforeEnd.{moved_handed}
 
 pub record IsOrderly {A : Type 0} (c : Core A) : Type 0 where
   pub local : Holds c
@@ -27,29 +27,29 @@ pub record IsOrderly {A : Type 0} (c : Core A) : Type 0 where
   pub own : KnowsOwn c
   pub order : KeepsOrder c
 
-moved_queue : {A : Type 0} → (came : Frame A → Type 0) (c : Core A) (m : Move A) → MayMove came c m → AllAreUsers c.queue → AllAreUsers (moved c m).queue
-moved_queue came c (Idles state gathering shown queue sends) h q = h.queued q
-moved_queue came c (Enters k) h q = q
-moved_queue came c (Learns k) h q = q
-moved_queue came c (Visits t fresh requests again queue) h q = h.queued q
-moved_queue came c (Takes x) h q = q
-moved_queue came c Installs h q = q
+moved_queue : {A : Type 0} → (received : Frame A → Type 0) (c : Core A) (m : Move A) → MayMove received c m → AllAreUsers c.queue → AllAreUsers (moved c m).queue
+moved_queue received c (Idles state gathering last_sent queue sends) h q = h.queued q
+moved_queue received c (Enters k) h q = q
+moved_queue received c (Learns k) h q = q
+moved_queue received c (Visits t fresh requests again queue) h q = h.queued q
+moved_queue received c (Takes x) h q = q
+moved_queue received c Installs h q = q
 
-pub moved_orderly : {A : Type 0} → (came : Frame A → Type 0) (c : Core A) (m : Move A) → MayMove came c m → IsOrderly c → IsOrderly (moved c m)
-moved_orderly came c m h p =
+pub moved_orderly : {A : Type 0} → (received : Frame A → Type 0) (c : Core A) (m : Move A) → MayMove received c m → IsOrderly c → IsOrderly (moved c m)
+moved_orderly received c m h p =
     let rings = (p.local).rings in
     record {
-      local = moved_holds came c m h p.local;
-      over = ending.moves came c m h p.over;
-      queued = moved_queue came c m h p.queued;
-      held_ends = moved_ends came c m h p.held_ends;
-      begun = moved_begun came c m h rings p.begun;
-      own = moved_own came c m h (p.local).fit (p.local).messages p.own;
+      local = moved_holds received c m h p.local;
+      over = ending.moves received c m h p.over;
+      queued = moved_queue received c m h p.queued;
+      held_ends = moved_ends received c m h p.held_ends;
+      begun = moved_begun received c m h rings p.begun;
+      own = moved_own received c m h (p.local).fit (p.local).messages p.own;
       order = record {
-        last = moved_last came c m h (p.local).own p.queued (p.over).ended (p.order).last;
-        users = moved_users came c m h rings p.held_ends p.begun (p.order).users;
-        reports = moved_reports came c m h rings p.held_ends (p.order).reports;
-        ends = moved_handed came c m h p.own p.queued (p.order).ends;
+        last = moved_last received c m h (p.local).own p.queued (p.over).ended (p.order).last;
+        users = moved_users received c m h rings p.held_ends p.begun (p.order).users;
+        reports = moved_reports received c m h rings p.held_ends (p.order).reports;
+        ends = moved_handed received c m h p.own p.queued (p.order).ends;
       };
     }
 

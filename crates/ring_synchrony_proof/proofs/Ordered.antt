@@ -1,10 +1,11 @@
--- The rings that a core installed, the last one first: their numbers fall, and none is above the ring that runs or that is entered.
+-- The rings that a core installed, the last one first: their numbers fall, and none is above the running ring or the
+-- one that is entered.
 use Rattle.std.proofs.Common.{◌≡◌, ℕ, ◌<◌, ◌≤◌, ◌⊎◌, inl, inr, List, [], ◌∷◌, refl, ap, sym, ◌∙◌, subst, arith}
 use Rattle.ring_base.specs.declared.state.State.{State}
 use Rattle.ring_base.specs.declared.state.State.TheVariants.{Gather, Commit, Recovery, Operational, Stopped}
 use Rattle.ring_wire.specs.declared.frame.Frame.{Frame}
-use Rattle.ring_core.specs.Commits.{Configuration}
-use Rattle.ring_core.specs.State.{Core, floor, opening}
+use Rattle.ring_core_spec.specs.Commits.{Configuration}
+use Rattle.ring_core_spec.specs.State.{Core, floor, opening}
 use Rattle.ring_core_proof.specs.LawWords.{IsFalling}
 use Rattle.ring_core_proof.specs.Moves.{Move, Idles, Enters, Learns, Visits, Takes, Installs, moved, MayMove}
 use Rattle.ring_core_proof.proofs.KeptByMoves.{IsKeptByMoves}
@@ -34,8 +35,8 @@ operates_not : (s : State) → s ≡ Operational → IsWaiting s → ⊥
 operates_not s e (inl w) = (let q : Operational ≡ Commit = sym e ∙ w in let n : ⊥ = cc in n)
 operates_not s e (inr w) = (let q : Operational ≡ Recovery = sym e ∙ w in let n : ⊥ = cc in n)
 
-pub moved_ordered : {A : Type 0} → (came : Frame A → Type 0) (c : Core A) (m : Move A) → MayMove came c m → Ordered c → Ordered (moved c m)
-moved_ordered came c (Idles state gathering shown queue sends) h o =
+pub moved_ordered : {A : Type 0} → (received : Frame A → Type 0) (c : Core A) (m : Move A) → MayMove received c m → Ordered c → Ordered (moved c m)
+moved_ordered received c (Idles state gathering last_sent queue sends) h o =
     record {
       older = o.older;
       newest = o.newest;
@@ -46,20 +47,20 @@ moved_ordered came c (Idles state gathering shown queue sends) h o =
         | inr other ↦ elim other [ inl g ↦ absurd (gathers_not state g w) | inr s ↦ absurd (stops_not state s w) ]
       ];
     }
-moved_ordered came c (Enters k) h o =
+moved_ordered received c (Enters k) h o =
     let a : c.installed.ring.seq ≤ floor c = o.below in
     let b : floor c < k.ring.seq = h.above in
     record { older = o.older; newest = o.newest; falls = o.falls; below = omega (arith, a, b); apart = λ w. omega (arith, a, b) }
-moved_ordered came c (Learns k) h o = record { older = o.older; newest = o.newest; falls = o.falls; below = o.below; apart = λ w. o.apart (inl h.state) }
-moved_ordered came c (Visits t fresh requests again queue) h o = record {
+moved_ordered received c (Learns k) h o = record { older = o.older; newest = o.newest; falls = o.falls; below = o.below; apart = λ w. o.apart (inl h.state) }
+moved_ordered received c (Visits t fresh requests again queue) h o = record {
   older = o.older;
   newest = o.newest;
   falls = o.falls;
   below = o.below;
   apart = o.apart;
 }
-moved_ordered came c (Takes x) h o = record { older = o.older; newest = o.newest; falls = o.falls; below = o.below; apart = o.apart }
-moved_ordered came c Installs h o =
+moved_ordered received c (Takes x) h o = record { older = o.older; newest = o.newest; falls = o.falls; below = o.below; apart = o.apart }
+moved_ordered received c Installs h o =
     record {
       older = c.installed ∷ o.older;
       newest = ap (λ xs. c.running ∷ xs) o.newest;

@@ -1,7 +1,7 @@
--- The plan by which a core goes from one ring to another is among the core's, with the core as a mate, its mark, and what it holds.
+-- The plan by which a core goes from one ring to another is one of the core's plans.
 
--- The core is one of its mates, the core's mark of the old ring is the greatest reported, and what the core holds of
--- it one of the mates reported.
+-- The core is one of its transitional members, the core's mark of the old ring is the greatest reported, and one of
+-- these members reported each number that the core holds of it.
 use Rattle.std.proofs.Common.{◌≡◌, ℕ, ◌+◌, ◌≤◌, inl, inr, Bool, true, ◌&&◌, ◌==◌, List, [], ◌∷◌, Some, refl, ap, sym, ◌∙◌, subst, arith}
 use Rattle.std.specs.Prelude.{slice_get, is_some, nat_le}
 use Rattle.std.specs.List.{list_all}
@@ -16,18 +16,18 @@ use Rattle.ring_wire.specs.declared.commit.CommitToken.{CommitToken}
 use Rattle.ring_wire.specs.declared.entries.CommitEntry.{CommitEntry}
 use Rattle.ring_wire.specs.declared.frame.Frame.{Frame}
 use Rattle.ring_wire.specs.declared.message.Message.{Message}
-use Rattle.ring_core.specs.Windows.{is_numbered, found, holds, front_of}
-use Rattle.ring_core.specs.Commits.{safe_of, position_of_hop, Configuration}
-use Rattle.ring_core.specs.Recoveries.{Plan, plan_of, safe, low, is_known, known_above_safe, is_complete}
-use Rattle.ring_core.specs.State.{Core}
-use Rattle.ring_core.specs.Views.{mark, own_entry, entries_for}
-use Rattle.ring_core.proofs.Recoveries.{safe_low}
+use Rattle.ring_core_spec.specs.Windows.{is_numbered, found, holds, front_of}
+use Rattle.ring_core_spec.specs.Commits.{safe_of, position_of_hop, Configuration}
+use Rattle.ring_core_spec.specs.Recoveries.{Plan, plan_of, safe, low, is_known, known_above_safe, is_complete}
+use Rattle.ring_core_spec.specs.State.{Core}
+use Rattle.ring_core_spec.specs.Views.{mark, own_entry, entries_for}
+use Rattle.ring_core_spec.proofs.Recoveries.{safe_low}
 use Rattle.ring_core_proof.specs.FactWords.{IsIn}
 use Rattle.ring_core_proof.specs.Moves.{Learns, moved, MayLearn}
-use Rattle.ring_core_proof.proofs.WithinWindow.{Fit}
-use Rattle.ring_synchrony_proof.specs.Tales.{plan_into}
+use Rattle.ring_core_proof.proofs.WithinWindow.{IsCoreInWindow}
+use Rattle.ring_synchrony_proof.specs.LifeOfCore.{plan_into}
 use Rattle.ring_synchrony_proof.proofs.Keeps.{IsSameOf}
-use Rattle.ring_synchrony_proof.proofs.MatesReported.{is_mate, got_in}
+use Rattle.ring_synchrony_proof.proofs.TransitionalMembersReported.{is_transitional_member, got_in}
 use Rattle.ring_synchrony_proof.proofs.KnownReports.{own_is, IsReach, held_reported, safe_most, in_reports, reports_in, known_by, known_reach, raised_is}
 
 pub record HasPlan {A : Type 0} (c : Core A) (next old : Configuration) : Type 0 where
@@ -36,15 +36,15 @@ pub record HasPlan {A : Type 0} (c : Core A) (next old : Configuration) : Type 0
   pub ring : commit.ring ≡ next.ring
   pub members : commit.members ≡ next.members
   pub entries : entries_for next.ring c.plans ≡ commit.entries
-  pub mate : has (plan_into c next old).mates c.me ≡ true
+  pub transitional_member : has (plan_into c next old).transitional_members c.me ≡ true
   pub marked : mark c old.ring ≡ safe (plan_into c next old)
   pub within : (n : ℕ) → holds c.held old.ring n ≡ true → is_known (plan_into c next old) n ≡ true
   pub reach : (n : ℕ) → is_known (plan_into c next old) n ≡ true → n ≤ safe (plan_into c next old) + window_size
   pub sound : safe (plan_into c next old) ≤ low (plan_into c next old)
 
--- As recovery begins
+-- When Recovery begins
 
-module _ {A : Type 0} (c : Core A) (came : Frame A → Type 0) (k : CommitToken) (h : MayLearn came c k) (fit : Fit c) (me : 1 ≤ c.me) where
+module _ {A : Type 0} (c : Core A) (received : Frame A → Type 0) (k : CommitToken) (h : MayLearn received c k) (fit : IsCoreInWindow c) (me : 1 ≤ c.me) where
   abbrev own : CommitEntry
   own = own_entry c
 
@@ -78,8 +78,8 @@ module _ {A : Type 0} (c : Core A) (came : Frame A → Type 0) (k : CommitToken)
         ring = h.ring;
         members = h.members;
         entries = newest_entries;
-        mate = subst (λ (q : Plan). has q.mates c.me ≡ true) (sym plan_is)
-            (is_mate c.installed.ring c.running.members k.entries (position_of_hop k) c.me own
+        transitional_member = subst (λ (q : Plan). has q.transitional_members c.me ≡ true) (sym plan_is)
+            (is_transitional_member c.installed.ring c.running.members k.entries (position_of_hop k) c.me own
             (subst (λ m. at m (position_of_hop k) ≡ c.me) h.members h.here) me own_there (same-self c.installed.ring));
         marked = mark_is ∙ ap safe (sym plan_is);
         within = λ n t. subst (λ (q : Plan). is_known q n ≡ true) (sym plan_is)
@@ -99,9 +99,9 @@ module _ {A : Type 0} (c : Core A) (came : Frame A → Type 0) (k : CommitToken)
             | inr e ↦ held_low held ring n (λ y i. f y (inr i)) e
           ]
 
--- As the core goes on
+-- While the core goes on
 
--- what is found tells what is held
+-- a message that is found is held
 holds_is : {A : Type 0} → (held : List (Message A)) (ring : RingId) (n : ℕ) → holds held ring n ≡ is_some (found held ring n)
 holds_is [] ring n = refl
 holds_is {A} (x ∷ held) ring n =
@@ -115,7 +115,7 @@ pub plan_same : {A : Type 0} → (c d : Core A) (next old : Configuration) → e
     ≡ entries_for next.ring c.plans → plan_into d next old ≡ plan_into c next old
 plan_same c d next old e = ap (plan_of old.ring next.members) e
 
--- of a ring of which nothing changes, the plan stays
+-- for a ring for which nothing changes, the plan stays
 pub plan_stays : {A : Type 0} → (c d : Core A) (next old : Configuration) → d.me ≡ c.me → ((k : CommitToken) → IsIn k c.plans → IsIn k d.plans) →
     entries_for next.ring d.plans ≡ entries_for next.ring c.plans → IsSameOf old.ring c d → HasPlan c next old → HasPlan d next old
 plan_stays {A} c d next old me more e s h =
@@ -126,7 +126,7 @@ plan_stays {A} c d next old me more e s h =
       ring = h.ring;
       members = h.members;
       entries = e ∙ h.entries;
-      mate = subst (λ (p : Plan). has p.mates d.me ≡ true) (sym q) (subst (λ i. has (plan_into c next old).mates i ≡ true) (sym me) h.mate);
+      transitional_member = subst (λ (p : Plan). has p.transitional_members d.me ≡ true) (sym q) (subst (λ i. has (plan_into c next old).transitional_members i ≡ true) (sym me) h.transitional_member);
       marked = s.mark_is ∙ h.marked ∙ ap safe (sym q);
       within = λ n t. subst (λ (p : Plan). is_known p n ≡ true) (sym q) (h.within n (sym (holds_same d.held c.held old.ring s.found_is n) ∙ t));
       reach = subst (λ (p : Plan). (n : ℕ) → is_known p n ≡ true → n ≤ safe p + window_size) (sym q) h.reach;
@@ -145,7 +145,7 @@ complete_stays {A} c d next old e s h =
     ∙ ap (λ (f : ℕ → Bool). nat_le (safe p) (front_of c.held old.ring) && list_all f (known_above_safe p)) same in
     ap (λ (p : Plan). is_complete p d.held) q ∙ there ∙ h
 
--- Each change that a core went through
+-- Each ring change of a core
 
 pub record HasChanged {A : Type 0} (c : Core A) (next old : Configuration) : Type 0 where
   pub plan : HasPlan c next old

@@ -1,4 +1,4 @@
--- Tests over lists decide facts over what stands in them.
+-- Tests over lists decide facts about their items.
 use Rattle.std.proofs.Common.{◌≡◌, ℕ, zero, suc, ◌+◌, ◌<◌, ◌≤◌, inl, inr, Bool, true, false, ◌&&◌, List, [], ◌∷◌, refl, sym, subst, arith}
 use Rattle.std.specs.Prelude.{if◌then◌else◌, nat_le}
 use Rattle.std.specs.Bool.{Decides}
@@ -33,7 +33,7 @@ pub when_decides : (b t : Bool) {P Q : Type 0} → Decides b P → Decides t Q �
 when_decides true t d e = (λ h p. e.0 h, λ f. e.1 (f (d.0 refl)))
 when_decides false t d e = (λ h p. absurd (false≢true (d.1 p)), λ f. refl)
 
--- Numbers in a row
+-- Consecutive numbers
 
 pub numbers_in : (i first count : ℕ) → IsIn i (numbers_from first count) → (first ≤ i) × (i < first + count)
 numbers_in i first zero h = absurd h

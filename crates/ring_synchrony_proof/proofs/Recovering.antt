@@ -1,7 +1,7 @@
--- In every world a core in Recovery has a plan, and of each change of rings that a core went through all is held that was reported.
+-- In every world a core in Recovery has a plan, and after each ring change a core holds all that was reported.
 
--- In Recovery what it holds of the old ring one of the mates reported, and what is wrapped was planned; of each
--- change that stays so.
+-- In Recovery a transitional member reported each number that the core holds of the old ring, and each wrapped number
+-- is in the plan; after each ring change that stays so.
 use Rattle.std.proofs.Common.{◌≡◌, ℕ, zero, suc, ◌<◌, ◌≤◌, ◌⊎◌, inl, inr, true, ◌&&◌, ◌==◌, List, [], ◌∷◌, ◌++◌, Some, refl, ap, sym, ◌∙◌, subst, arith}
 use Rattle.std.specs.Prelude.{slice_get, reverse}
 use Rattle.ring_base.specs.Members.{has_member, only_members}
@@ -23,24 +23,24 @@ use Rattle.ring_wire.specs.declared.frame.Frame.{Frame}
 use Rattle.ring_wire.specs.declared.frame.Frame.TheVariants.{Message as MessageFrame}
 use Rattle.ring_wire.specs.declared.message.Message.{Message}
 use Rattle.ring_wire.specs.declared.token.Token.{Token}
-use Rattle.ring_core.specs.Windows.{is_numbered, holds, is_new}
+use Rattle.ring_core_spec.specs.Windows.{is_numbered, holds, is_new}
 use Rattle.ring_base.proofs.SameRing.{ring_same}
-use Rattle.ring_core.specs.Tokens.{Turn, turns_of, VisitBy, numbered}
-use Rattle.ring_core.specs.Commits.{position_of_hop, Configuration}
-use Rattle.ring_core.specs.Recoveries.{Plan, plan_of, is_known, unwrapped, inner_message}
-use Rattle.ring_core.specs.State.{Core, Report, floor, opening, alone}
-use Rattle.ring_core.specs.Views.{mark}
-use Rattle.ring_core.specs.Acting.{gives_old, took}
-use Rattle.ring_core.specs.Giving.{install}
+use Rattle.ring_core_spec.specs.Tokens.{TokenVisit, turns_of, VisitBy, numbered}
+use Rattle.ring_core_spec.specs.Commits.{position_of_hop, Configuration}
+use Rattle.ring_core_spec.specs.Recoveries.{Plan, plan_of, is_known, inner_messages, inner_message}
+use Rattle.ring_core_spec.specs.State.{Core, Report, floor, opening, alone}
+use Rattle.ring_core_spec.specs.Views.{mark}
+use Rattle.ring_core_spec.specs.Transitions.{old_ring_messages, message_taken}
+use Rattle.ring_core_spec.specs.Giving.{install}
 use Rattle.ring_core_proof.specs.FactWords.{IsIn, SomeIs}
 use Rattle.ring_core_proof.specs.LawWords.{IsFalling}
-use Rattle.ring_core_proof.specs.Worlds.{Carried, put, carried_from, run, unformed}
+use Rattle.ring_core_proof.specs.Worlds.{Transmission, put, transmissions_from, run, unformed}
 use Rattle.ring_core_proof.specs.declared.event.RingEvent.{RingEvent}
 use Rattle.ring_core_proof.specs.Moves.{Move, Idles, Enters, Learns, Visits, Takes, Installs, moved, sends_of, MayMove}
-use Rattle.ring_core_proof.specs.Moves.{MayVisit, MayTake, CameTo, AllAreUsers, IsWrapping}
+use Rattle.ring_core_proof.specs.Moves.{MayVisit, MayTake, IsReceivedFrame, AllAreUsers, IsWrapping}
 use Rattle.ring_core_proof.proofs.InLists.{in-each, each-in, in-left, in-right, in-reverse, in-filtered}
 use Rattle.ring_core_proof.proofs.Rises.{Rising, moved_rises, runs_in, alone_rises}
-use Rattle.ring_core_proof.proofs.WithinWindow.{Fit, moved_fits}
+use Rattle.ring_core_proof.proofs.WithinWindow.{IsCoreInWindow, moved_fits}
 use Rattle.ring_core_proof.proofs.Lifting.{IsKeptInWorlds, kept_run}
 use Rattle.ring_chain_proof.specs.ChainWords.{IsGenuine}
 use Rattle.ring_chain_proof.proofs.FactsGrow.{put-each, moved_grows}
@@ -49,52 +49,52 @@ use Rattle.ring_chain_proof.proofs.OneText.{numbered_in}
 use Rattle.ring_chain_proof.proofs.Safety.{in_picked}
 use Rattle.ring_chain_proof.proofs.AllLayers.{Holds}
 use Rattle.ring_chain_proof.proofs.Plans.{IsPlan, HoldsPlans, learned_plan as learned_plan_is, plans_moved, one_plan, plans_hold}
-use Rattle.ring_core.proofs.Windows.{found-holds}
-use Rattle.ring_synchrony_proof.specs.Tales.{plan_into}
+use Rattle.ring_core_spec.proofs.Windows.{found-holds}
+use Rattle.ring_synchrony_proof.specs.LifeOfCore.{plan_into}
 use Rattle.ring_synchrony_proof.proofs.Ordered.{Ordered, moved_ordered, opening_ordered}
 use Rattle.ring_synchrony_proof.proofs.Keeps.{Keeps, IsStill, all_same, visited_same, moved_keeps}
-use Rattle.ring_synchrony_proof.proofs.MatesReported.{has_at}
+use Rattle.ring_synchrony_proof.proofs.TransitionalMembersReported.{has_at}
 use Rattle.ring_synchrony_proof.proofs.KnownReports.{IsReach, own_reach}
 use Rattle.ring_synchrony_proof.proofs.Planned.{HasPlan, learned_plan, plan_stays, complete_stays, HasChanged, HaveChanged, AllChanged}
 
 -- Facts of one core
 
 pub record IsLocal {A : Type 0} (c : Core A) : Type 0 where
-  pub fit : Fit c
+  pub fit : IsCoreInWindow c
   pub ordered : Ordered c
   pub rises : Rising c
-  -- what was installed was taken part in, and the core is a member of all that
+  -- each installed ring was taken part in, and the core is a member of each
   pub among : (x : Configuration) → IsIn x c.installs → IsIn x c.rings
   pub member : (x : Configuration) → IsIn x c.rings → has x.members c.me ≡ true
   -- no report reaches past the window
   pub reports : Each (λ (x : Report). IsReach x.entry) c.reports
-  -- what it numbered it holds
-  pub sent : Each (λ (v : Turn A). Each (λ (x : Message A). IsIn x c.held) (numbered v.came.ring c.me v.came.seq v.fresh)) c.turns
+  -- the core holds what it numbered
+  pub sent : Each (λ (v : TokenVisit A). Each (λ (x : Message A). IsIn x c.held) (numbered v.received.ring c.me v.received.seq v.fresh)) c.turns
 
-held_more : {A : Type 0} → (me : ℕ) (more held : List (Message A)) (turns : List (Turn A)) →
-    Each (λ (v : Turn A). Each (λ (x : Message A). IsIn x held) (numbered v.came.ring me v.came.seq v.fresh)) turns →
-    Each (λ (v : Turn A). Each (λ (x : Message A). IsIn x (more ++ held)) (numbered v.came.ring me v.came.seq v.fresh)) turns
+held_more : {A : Type 0} → (me : ℕ) (more held : List (Message A)) (turns : List (TokenVisit A)) →
+    Each (λ (v : TokenVisit A). Each (λ (x : Message A). IsIn x held) (numbered v.received.ring me v.received.seq v.fresh)) turns →
+    Each (λ (v : TokenVisit A). Each (λ (x : Message A). IsIn x (more ++ held)) (numbered v.received.ring me v.received.seq v.fresh)) turns
 held_more {A} me more held turns h =
-    each-weaker _ _ (λ (v : Turn A) k. each-weaker (λ (x : Message A). IsIn x held)
+    each-weaker _ _ (λ (v : TokenVisit A) k. each-weaker (λ (x : Message A). IsIn x held)
     (λ (x : Message A). IsIn x (more ++ held)) (λ x i. in-right x more held i)
-    (numbered v.came.ring me v.came.seq v.fresh) k) turns h
+    (numbered v.received.ring me v.received.seq v.fresh) k) turns h
 
-moved_local : {A : Type 0} → (came : Frame A → Type 0) (c : Core A) (m : Move A) → MayMove came c m → 1 ≤ c.me → IsLocal c → IsLocal (moved c m)
-moved_local came c (Idles state gathering shown queue sends) h me p =
+moved_local : {A : Type 0} → (received : Frame A → Type 0) (c : Core A) (m : Move A) → MayMove received c m → 1 ≤ c.me → IsLocal c → IsLocal (moved c m)
+moved_local received c (Idles state gathering last_sent queue sends) h me p =
     record {
       fit = p.fit;
-      ordered = moved_ordered came c (Idles state gathering shown queue sends) h p.ordered;
+      ordered = moved_ordered received c (Idles state gathering last_sent queue sends) h p.ordered;
       rises = p.rises;
       among = p.among;
       member = p.member;
       reports = p.reports;
       sent = p.sent;
     }
-moved_local came c (Enters k) h me p =
+moved_local received c (Enters k) h me p =
     record {
-      fit = moved_fits came c (Enters k) h p.fit;
-      ordered = moved_ordered came c (Enters k) h p.ordered;
-      rises = moved_rises came c (Enters k) h p.rises;
+      fit = moved_fits received c (Enters k) h p.fit;
+      ordered = moved_ordered received c (Enters k) h p.ordered;
+      rises = moved_rises received c (Enters k) h p.rises;
       among = λ x i. inr (p.among x i);
       member = λ x i. elim i [
         | inl e ↦ subst (λ (x : Configuration). has x.members c.me ≡ true) (sym e)
@@ -104,21 +104,21 @@ moved_local came c (Enters k) h me p =
       reports = (own_reach c p.fit, p.reports);
       sent = p.sent;
     }
-moved_local came c (Learns k) h me p =
+moved_local received c (Learns k) h me p =
     record {
-      fit = moved_fits came c (Learns k) h p.fit;
-      ordered = moved_ordered came c (Learns k) h p.ordered;
+      fit = moved_fits received c (Learns k) h p.fit;
+      ordered = moved_ordered received c (Learns k) h p.ordered;
       rises = p.rises;
       among = p.among;
       member = p.member;
       reports = p.reports;
       sent = p.sent;
     }
-moved_local {A} came c (Visits t fresh requests again queue) h me p =
+moved_local {A} received c (Visits t fresh requests again queue) h me p =
     let ns = numbered t.ring c.me t.seq fresh in
     record {
-      fit = moved_fits came c (Visits t fresh requests again queue) h p.fit;
-      ordered = moved_ordered came c (Visits t fresh requests again queue) h p.ordered;
+      fit = moved_fits received c (Visits t fresh requests again queue) h p.fit;
+      ordered = moved_ordered received c (Visits t fresh requests again queue) h p.ordered;
       rises = p.rises;
       among = p.among;
       member = p.member;
@@ -129,20 +129,20 @@ moved_local {A} came c (Visits t fresh requests again queue) h me p =
         held_more c.me (reverse ns) c.held c.turns p.sent,
       );
     }
-moved_local came c (Takes x) h me p =
+moved_local received c (Takes x) h me p =
     record {
-      fit = moved_fits came c (Takes x) h p.fit;
-      ordered = moved_ordered came c (Takes x) h p.ordered;
+      fit = moved_fits received c (Takes x) h p.fit;
+      ordered = moved_ordered received c (Takes x) h p.ordered;
       rises = p.rises;
       among = p.among;
       member = p.member;
       reports = p.reports;
-      sent = held_more c.me (gives_old c.state c x) (x ∷ c.held) c.turns (held_more c.me (x ∷ []) c.held c.turns p.sent);
+      sent = held_more c.me (old_ring_messages c.state c x) (x ∷ c.held) c.turns (held_more c.me (x ∷ []) c.held c.turns p.sent);
     }
-moved_local came c Installs h me p =
+moved_local received c Installs h me p =
     record {
       fit = p.fit;
-      ordered = moved_ordered came c Installs h p.ordered;
+      ordered = moved_ordered received c Installs h p.ordered;
       rises = p.rises;
       among = λ x i. elim i [ inl e ↦ subst (λ x. IsIn x c.rings) (sym e) (runs_in c p.rises) | inr j ↦ p.among x j ];
       member = p.member;
@@ -150,16 +150,16 @@ moved_local came c Installs h me p =
       sent = p.sent;
     }
 
--- What is wrapped
+-- Wrapped messages
 
--- what a payload of the ring wraps is known by a plan of the core
+-- a number that a payload of the ring wraps is known by a plan of the core
 abbrev pub IsPlannedIn : {A : Type 0} → Core A → RingId → Payload A → Type 0
 IsPlannedIn {A} c ring p =
     (w : WrappedMessage A) → p ≡ Wrapped w → (k : CommitToken) × IsIn k c.plans × (k.ring ≡ ring)
     × (is_known (plan_of w.ring k.members k.entries) w.number ≡ true)
 
 abbrev pub Planned : {A : Type 0} → Core A → Type 0
-Planned {A} c = Each (λ (v : Turn A). Each (IsPlannedIn c v.came.ring) v.fresh) c.turns
+Planned {A} c = Each (λ (v : TokenVisit A). Each (IsPlannedIn c v.received.ring) v.fresh) c.turns
 
 abbrev pub Recovers : {A : Type 0} → Core A → Type 0
 Recovers c = c.state ≡ Recovery → HasPlan c c.running c.installed
@@ -184,10 +184,10 @@ wrapping_planned {A} c t ring h p (w, e, on) v f =
     let there : is_known (plan_of w.ring k.members k.entries) w.number ≡ true = subst (λ (q : Plan). is_known q w.number ≡ true) plan_is known in
     (k, h.there, h.ring ∙ sym ring, subst (λ (v : WrappedMessage A). is_known (plan_of v.ring k.members k.entries) v.number ≡ true) same there)
 
-visit_planned : {A : Type 0} → (came : Frame A → Type 0) (c : Core A) (t : Token) (fresh : List (Payload A))
+visit_planned : {A : Type 0} → (received : Frame A → Type 0) (c : Core A) (t : Token) (fresh : List (Payload A))
     (again : List (Message A)) (queue : List (Payload A)) →
-    MayVisit came c t fresh again queue → AllAreUsers c.queue → Recovers c → Each (IsPlannedIn c t.ring) fresh
-visit_planned {A} came c t fresh again queue h users rec =
+    MayVisit received c t fresh again queue → AllAreUsers c.queue → Recovers c → Each (IsPlannedIn c t.ring) fresh
+visit_planned {A} received c t fresh again queue h users rec =
     elim (h.state) [
       | inl r ↦ (let ws = h.wraps r in
           subst (Each (IsPlannedIn c t.ring)) (sym ws.parts)
@@ -201,19 +201,19 @@ visit_planned {A} came c t fresh again queue h users rec =
       | inr o ↦ each-weaker (λ (p : Payload A). is_user p ≡ true) (IsPlannedIn c t.ring) (user_planned c t.ring) fresh (h.users o users)
     ]
 
-moved_planned : {A : Type 0} → (came : Frame A → Type 0) (c : Core A) (m : Move A) → MayMove came c m
+moved_planned : {A : Type 0} → (received : Frame A → Type 0) (c : Core A) (m : Move A) → MayMove received c m
     → AllAreUsers c.queue → Recovers c → Planned c → Planned (moved c m)
-moved_planned came c (Idles state gathering shown queue sends) h u r p = p
-moved_planned came c (Enters k) h u r p = p
-moved_planned {A} came c (Learns k) h u r p =
-    each-weaker _ _ (λ (v : Turn A) e. each-weaker (IsPlannedIn c v.came.ring)
-    (IsPlannedIn (moved c (Learns k)) v.came.ring) (λ q f w g. (let s = f w g in (s.0, inr s.1, s.2, s.3)))
+moved_planned received c (Idles state gathering last_sent queue sends) h u r p = p
+moved_planned received c (Enters k) h u r p = p
+moved_planned {A} received c (Learns k) h u r p =
+    each-weaker _ _ (λ (v : TokenVisit A) e. each-weaker (IsPlannedIn c v.received.ring)
+    (IsPlannedIn (moved c (Learns k)) v.received.ring) (λ q f w g. (let s = f w g in (s.0, inr s.1, s.2, s.3)))
     v.fresh e) c.turns p
-moved_planned came c (Visits t fresh requests again queue) h u r p = (visit_planned came c t fresh again queue h u r, p)
-moved_planned came c (Takes x) h u r p = p
-moved_planned came c Installs h u r p = p
+moved_planned received c (Visits t fresh requests again queue) h u r p = (visit_planned received c t fresh again queue h u r, p)
+moved_planned received c (Takes x) h u r p = p
+moved_planned received c Installs h u r p = p
 
--- What is unwrapped
+-- Inner messages
 
 pub record IsInner {A : Type 0} (ring : RingId) (payload : Payload A) (y : Message A) : Type 0 where
   pub wrapped : WrappedMessage A
@@ -221,7 +221,7 @@ pub record IsInner {A : Type 0} (ring : RingId) (payload : Payload A) (y : Messa
   pub ring_is : wrapped.ring ≡ ring
   pub inner_is : y ≡ inner_message wrapped
 
-inner_of : {A : Type 0} → (old : RingId) (m : ℕ) (held : List (Message A)) (p : Payload A) → Each (IsInner old p) (unwrapped old m held p)
+inner_of : {A : Type 0} → (old : RingId) (m : ℕ) (held : List (Message A)) (p : Payload A) → Each (IsInner old p) (inner_messages old m held p)
 inner_of {A} old m held (Wrapped w) =
     cond_both (same_ring w.ring old && is_new held m old w.number) (inner_message w ∷ []) [] (Each (IsInner old (Wrapped w)))
     (λ e. (
@@ -241,14 +241,14 @@ inner_of old m held (Part part) = tt
 inner_of old m held (Pack pack) = tt
 inner_of old m held (Snap snap) = tt
 
-pub gives_inner : {A : Type 0} → (s : State) (c : Core A) (x : Message A) → Each (IsInner c.installed.ring x.payload) (gives_old s c x)
+pub gives_inner : {A : Type 0} → (s : State) (c : Core A) (x : Message A) → Each (IsInner c.installed.ring x.payload) (old_ring_messages s c x)
 gives_inner Recovery c x = inner_of c.installed.ring (mark c c.installed.ring) c.held x.payload
 gives_inner Gather c x = tt
 gives_inner Commit c x = tt
 gives_inner Operational c x = tt
 gives_inner Stopped c x = tt
 
--- a number held among more is one of these, or was held
+-- a number held among more messages is one of these, or was held
 holds-parts : {A : Type 0} → (xs ys : List (Message A)) (ring : RingId) (n : ℕ) → holds (xs ++ ys) ring n ≡ true →
     ((x : Message A) × IsIn x xs × (x.ring ≡ ring) × (x.number ≡ n)) ⊎ (holds ys ring n ≡ true)
 holds-parts [] ys ring n h = inr h
@@ -258,47 +258,47 @@ holds-parts {A} (x ∷ xs) ys ring n h =
       | inr e ↦ elim (holds-parts xs ys ring n e) [ inl (y, i, r, m) ↦ inl (y, inr i, r, m) | inr k ↦ inr k ]
     ]
 
--- who numbered a genuine message
+-- the processor that numbered a genuine message
 some_of : {X : Type 0} (P : X → Type 0) (xs : List X) → SomeIs P xs → (x : X) × IsIn x xs × P x
 some_of P [] h = absurd h
 some_of P (x ∷ xs) (inl p) = (x, inl refl, p)
 some_of P (x ∷ xs) (inr h) = (let r = some_of P xs h in (r.0, inr r.1, r.2))
 
 pub record IsNumberedBy {A : Type 0} (cores : ℕ → Core A) (x : Message A) : Type 0 where
-  pub turn : Turn A
+  pub turn : TokenVisit A
   pub there : IsIn turn (cores x.sender).turns
-  pub ring_is : turn.came.ring ≡ x.ring
-  pub numbered_there : IsIn x (numbered turn.came.ring x.sender turn.came.seq turn.fresh)
+  pub ring_is : turn.received.ring ≡ x.ring
+  pub numbered_there : IsIn x (numbered turn.received.ring x.sender turn.received.seq turn.fresh)
 
-pub numbered_by : {A : Type 0} → (cores : ℕ → Core A) (frames : List (Carried A)) (h : Holds cores frames)
+pub numbered_by : {A : Type 0} → (cores : ℕ → Core A) (frames : List (Transmission A)) (h : Holds cores frames)
     (x : Message A) → IsGenuine h.visits x → IsNumberedBy cores x
 numbered_by {A} cores frames h x g =
-    let s = some_of (λ (v : VisitBy A). IsIn x (numbered x.ring v.who v.turn.came.seq v.turn.fresh)) (h.visits x.ring) g in
+    let s = some_of (λ (v : VisitBy A). IsIn x (numbered x.ring v.who v.turn.received.seq v.turn.fresh)) (h.visits x.ring) g in
     let v = s.0 in
-    let f = numbered_in x.ring v.who v.turn.came.seq v.turn.fresh x s.2 in
+    let f = numbered_in x.ring v.who v.turn.received.seq v.turn.fresh x s.2 in
     let picked_there : IsIn v.turn (turns_of x.ring (cores v.who).turns) =
-    subst (λ (ts : List (Turn A)). IsIn v.turn ts) (sym (h.chains.turns v.who x.ring))
+    subst (λ (ts : List (TokenVisit A)). IsIn v.turn ts) (sym (h.chains.turns v.who x.ring))
     (in_picked v (h.visits x.ring) s.1) in
-    let own = in-filtered (λ (u : Turn A). same_ring u.came.ring x.ring) v.turn (cores v.who).turns picked_there in
-    let ring_is : v.turn.came.ring ≡ x.ring = ring_same v.turn.came.ring x.ring own.1 in
+    let own = in-filtered (λ (u : TokenVisit A). same_ring u.received.ring x.ring) v.turn (cores v.who).turns picked_there in
+    let ring_is : v.turn.received.ring ≡ x.ring = ring_same v.turn.received.ring x.ring own.1 in
     record {
       turn = v.turn;
       there = subst (λ q. IsIn v.turn (cores q).turns) (sym f.sender_is) own.0;
       ring_is = ring_is;
-      numbered_there = subst (λ (r : RingId). IsIn x (numbered r x.sender v.turn.came.seq v.turn.fresh)) (sym ring_is)
-          (subst (λ q. IsIn x (numbered x.ring q v.turn.came.seq v.turn.fresh)) (sym f.sender_is) s.2);
+      numbered_there = subst (λ (r : RingId). IsIn x (numbered r x.sender v.turn.received.seq v.turn.fresh)) (sym ring_is)
+          (subst (λ q. IsIn x (numbered x.ring q v.turn.received.seq v.turn.fresh)) (sym f.sender_is) s.2);
     }
 
 -- All cores
 
-pub record Recovered {A : Type 0} (cores : ℕ → Core A) (frames : List (Carried A)) : Type 0 where
+pub record Recovered {A : Type 0} (cores : ℕ → Core A) (frames : List (Transmission A)) : Type 0 where
   pub all : HoldsPlans cores frames
   pub local : (q : ℕ) → IsLocal (cores q)
   pub planned : (q : ℕ) → Planned (cores q)
   pub recovers : (q : ℕ) → Recovers (cores q)
   pub changed : (q : ℕ) → AllChanged (cores q) (cores q).installs
 
-module _ {A : Type 0} (cores : ℕ → Core A) (frames : List (Carried A)) (r : Recovered cores frames) (i : ℕ) (low : 1 ≤ i) where
+module _ {A : Type 0} (cores : ℕ → Core A) (frames : List (Transmission A)) (r : Recovered cores frames) (i : ℕ) (low : 1 ≤ i) where
   abbrev h : Holds cores frames
   h = (r.all).all
 
@@ -308,14 +308,14 @@ module _ {A : Type 0} (cores : ℕ → Core A) (frames : List (Carried A)) (r : 
   me : 1 ≤ c.me
   me = (let e : c.me ≡ i = (h.rings).me i in omega (arith, e, low))
 
-  -- a genuine message of the running ring wraps what the own plan knows
+  -- a genuine message of the running ring wraps a number that the core's own plan knows
   pub wrapped_known : HasPlan c c.running c.installed → (x : Message A) → IsGenuine h.visits x
       → x.ring ≡ c.running.ring → (w : WrappedMessage A) → x.payload ≡ Wrapped w →
       w.ring ≡ c.installed.ring → is_known (plan_into c c.running c.installed) w.number ≡ true
   wrapped_known p x g ring w e old =
       let b = numbered_by cores frames h x g in
-      let f = numbered_in b.turn.came.ring x.sender b.turn.came.seq b.turn.fresh x b.numbered_there in
-      let q = in-each (IsPlannedIn (cores x.sender) b.turn.came.ring) x.payload b.turn.fresh
+      let f = numbered_in b.turn.received.ring x.sender b.turn.received.seq b.turn.fresh x b.numbered_there in
+      let q = in-each (IsPlannedIn (cores x.sender) b.turn.received.ring) x.payload b.turn.fresh
       (in-each _ b.turn (cores x.sender).turns (r.planned x.sender) b.there) f.payload_in w e in
       let k = q.0 in
       let m = p.commit in
@@ -333,7 +333,7 @@ module _ {A : Type 0} (cores : ℕ → Core A) (frames : List (Carried A)) (r : 
       let b : floor c ≡ c.installed.ring.seq = ap (λ (r : RingId). r.seq) e in
       omega (arith, a, b)
 
-  take_plan : (x : Message A) → MayTake (CameTo frames i) c x → c.state ≡ Recovery → HasPlan (took c x) c.running c.installed
+  take_plan : (x : Message A) → MayTake (IsReceivedFrame frames i) c x → c.state ≡ Recovery → HasPlan (message_taken c x) c.running c.installed
   take_plan x may s =
       let p = r.recovers i s in
       let f = came_right h.visits cores frames i (MessageFrame x) ((h.sent).right) may.from in
@@ -345,10 +345,10 @@ module _ {A : Type 0} (cores : ℕ → Core A) (frames : List (Carried A)) (r : 
         ring = p.ring;
         members = p.members;
         entries = p.entries;
-        mate = p.mate;
+        transitional_member = p.transitional_member;
         marked = p.marked;
-        within = λ n t. elim (holds-parts (gives_old c.state c x) (x ∷ c.held) c.installed.ring n t) [
-          | inl (y, j, yr, yn) ↦ (let inner = in-each (IsInner c.installed.ring x.payload) y (gives_old c.state c x) (gives_inner c.state c x) j in
+        within = λ n t. elim (holds-parts (old_ring_messages c.state c x) (x ∷ c.held) c.installed.ring n t) [
+          | inl (y, j, yr, yn) ↦ (let inner = in-each (IsInner c.installed.ring x.payload) y (old_ring_messages c.state c x) (gives_inner c.state c x) j in
               let w = inner.wrapped in
               let known : is_known (plan_into c c.running c.installed) w.number ≡ true = wrapped_known p x f.3 from w inner.payload_is inner.ring_is in
               let number : w.number ≡ n = sym (ap (λ (z : Message A). z.number) inner.inner_is) ∙ yn in
@@ -366,7 +366,7 @@ module _ {A : Type 0} (cores : ℕ → Core A) (frames : List (Carried A)) (r : 
   positive x j =
       let g = in-each (IsGenuine h.visits) x c.held ((h.texts).held i) j in
       let b = numbered_by cores frames h x g in
-      let above = (numbered_in b.turn.came.ring x.sender b.turn.came.seq b.turn.fresh x b.numbered_there).above in
+      let above = (numbered_in b.turn.received.ring x.sender b.turn.received.seq b.turn.fresh x b.numbered_there).above in
       omega (arith, above)
 
   entry_reach : (k : CommitToken) → IsPlan cores k → (e : CommitEntry) → IsIn e k.entries → IsReach e
@@ -380,9 +380,9 @@ module _ {A : Type 0} (cores : ℕ → Core A) (frames : List (Carried A)) (r : 
       in_got (x ∷ xs) e (inl q) = (0, ap Some (sym q))
       in_got (x ∷ xs) e (inr j) = (let t = in_got xs e j in (suc t.0, t.1))
 
-  moved_recovers : (m : Move A) → MayMove (CameTo frames i) c m
-      → (came_plan : (k : CommitToken) → MayMove (CameTo frames i) c (Learns k) → IsPlan cores k) → Recovers (moved c m)
-  moved_recovers (Idles state gathering shown queue sends) may cp s =
+  moved_recovers : (m : Move A) → MayMove (IsReceivedFrame frames i) c m
+      → (came_plan : (k : CommitToken) → MayMove (IsReceivedFrame frames i) c (Learns k) → IsPlan cores k) → Recovers (moved c m)
+  moved_recovers (Idles state gathering last_sent queue sends) may cp s =
       elim (may.leaves) [
         | inl e ↦ (let p = r.recovers i (sym e ∙ s) in record {
           commit = p.commit;
@@ -390,7 +390,7 @@ module _ {A : Type 0} (cores : ℕ → Core A) (frames : List (Carried A)) (r : 
           ring = p.ring;
           members = p.members;
           entries = p.entries;
-          mate = p.mate;
+          transitional_member = p.transitional_member;
           marked = p.marked;
           within = p.within;
           reach = p.reach;
@@ -400,14 +400,14 @@ module _ {A : Type 0} (cores : ℕ → Core A) (frames : List (Carried A)) (r : 
         | inr (inr e) ↦ absurd (let q : Stopped ≡ Recovery = sym e ∙ s in let n : ⊥ = cc in n)
       ]
   moved_recovers (Enters k) may cp s = absurd (let q : Commit ≡ Recovery = s in let n : ⊥ = cc in n)
-  moved_recovers (Learns k) may cp s = learned_plan c (CameTo frames i) k may ((r.local i).fit) me positive (entry_reach k (cp k may))
+  moved_recovers (Learns k) may cp s = learned_plan c (IsReceivedFrame frames i) k may ((r.local i).fit) me positive (entry_reach k (cp k may))
   moved_recovers (Visits t fresh requests again queue) may cp s =
       plan_stays c (moved c (Visits t fresh requests again queue)) c.running c.installed refl (λ k j. j) refl
       (visited_same c t fresh requests again queue c.installed.ring (λ e. not_installed s (sym may.ring ∙ e))) (r.recovers i s)
   moved_recovers (Takes x) may cp s = take_plan x may s
   moved_recovers Installs may cp s = absurd (let q : Operational ≡ Recovery = s in let n : ⊥ = cc in n)
 
-  -- changes that were gone through stay as they are
+  -- earlier ring changes stay as they are
   changes_stay : (d : Core A) → Keeps c d → d.me ≡ c.me → ((k : CommitToken) → IsIn k c.plans → IsIn k d.plans)
       → (next : Configuration) (older : List Configuration) →
       next.ring.seq ≤ c.installed.ring.seq → IsFalling (next ∷ older) → HaveChanged c next older → HaveChanged d next older
@@ -421,17 +421,17 @@ module _ {A : Type 0} (cores : ℕ → Core A) (frames : List (Carried A)) (r : 
         changes_stay d k e more old older (omega (arith, under)) f.1 x.1,
       )
 
-  still_changed : (m : Move A) → MayMove (CameTo frames i) c m → IsStill m → AllChanged (moved c m) (moved c m).installs
+  still_changed : (m : Move A) → MayMove (IsReceivedFrame frames i) c m → IsStill m → AllChanged (moved c m) (moved c m).installs
   still_changed m may still =
       let o = (r.local i).ordered in
-      let k = moved_keeps (CameTo frames i) c m may o still in
+      let k = moved_keeps (IsReceivedFrame frames i) c m may o still in
       let g = moved_grows c m in
       let before : HaveChanged c c.installed o.older = subst (AllChanged c) o.newest (r.changed i) in
       let after : HaveChanged (moved c m) c.installed o.older = changes_stay (moved c m) k g.me g.plans c.installed o.older (omega arith) o.falls before in
       subst (AllChanged (moved c m)) (sym (k.installs ∙ o.newest)) after
 
-  moved_changed : (m : Move A) → MayMove (CameTo frames i) c m → AllChanged (moved c m) (moved c m).installs
-  moved_changed (Idles state gathering shown queue sends) may = still_changed (Idles state gathering shown queue sends) may tt
+  moved_changed : (m : Move A) → MayMove (IsReceivedFrame frames i) c m → AllChanged (moved c m) (moved c m).installs
+  moved_changed (Idles state gathering last_sent queue sends) may = still_changed (Idles state gathering last_sent queue sends) may tt
   moved_changed (Enters k) may = still_changed (Enters k) may tt
   moved_changed (Learns k) may = still_changed (Learns k) may tt
   moved_changed (Visits t fresh requests again queue) may = still_changed (Visits t fresh requests again queue) may tt
@@ -450,14 +450,14 @@ module _ {A : Type 0} (cores : ℕ → Core A) (frames : List (Carried A)) (r : 
       all_so f next [] x = tt
       all_so f next (old ∷ older) x = (f next old x.0, all_so f old older x.1)
 
-  moved_all : (m : Move A) → MayMove (CameTo frames i) c m → Recovered (put cores i (moved c m)) (frames ++ carried_from i (sends_of c m))
+  moved_all : (m : Move A) → MayMove (IsReceivedFrame frames i) c m → Recovered (put cores i (moved c m)) (frames ++ transmissions_from i (sends_of c m))
   moved_all m may =
       let d = moved c m in
       record {
         all = plans_moved cores frames i m low may r.all;
-        local = put-each (λ q (x : Core A). IsLocal x) cores i d (λ q n. r.local q) (moved_local (CameTo frames i) c m may me (r.local i));
+        local = put-each (λ q (x : Core A). IsLocal x) cores i d (λ q n. r.local q) (moved_local (IsReceivedFrame frames i) c m may me (r.local i));
         planned = put-each (λ q (x : Core A). Planned x) cores i d (λ q n. r.planned q)
-            (moved_planned (CameTo frames i) c m may ((h.texts).queued i) (r.recovers i) (r.planned i));
+            (moved_planned (IsReceivedFrame frames i) c m may ((h.texts).queued i) (r.recovers i) (r.planned i));
         recovers = put-each (λ q (x : Core A). Recovers x) cores i d (λ q n. r.recovers q)
             (moved_recovers m may (λ k learns. learned_plan_is cores frames i k h learns));
         changed = put-each (λ q (x : Core A). AllChanged x x.installs) cores i d (λ q n. r.changed q) (moved_changed m may);

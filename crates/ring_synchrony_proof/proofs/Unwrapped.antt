@@ -1,6 +1,7 @@
--- Each ring is installed behind every member's End; and in Recovery what is wrapped of the old ring is held there.
+-- Each installed ring has every member's End in the front; and in Recovery each inner message of the old ring is
+-- held.
 
--- It is taken with what wraps it, since what is known lies within the window after the greatest mark.
+-- It is taken with its Wrapped, since the known numbers lie within the window after the greatest mark.
 use Rattle.std.proofs.Common.{◌≡◌, ℕ, ◌+◌, ◌<◌, ◌≤◌, inl, inr, true, ◌||◌, ◌==◌, List, ap, sym, subst, arith}
 use Rattle.std.specs.List.{AllByRecursion as Each}
 use Rattle.std.proofs.lemmas.Bool.{and_parts, eqb-true}
@@ -11,11 +12,11 @@ use Rattle.ring_base.proofs.Each.{each-filter_map}
 use Rattle.ring_payload.specs.Kinds.{is_end}
 use Rattle.ring_wire.specs.declared.frame.Frame.{Frame}
 use Rattle.ring_wire.specs.declared.message.Message.{Message}
-use Rattle.ring_core.specs.Windows.{found, front_of}
-use Rattle.ring_core.specs.Commits.{Configuration}
-use Rattle.ring_core.specs.Recoveries.{in_front, ends, has_end_of, all_ended, is_covered, has_user, is_ready}
-use Rattle.ring_core.specs.State.{Core, opening}
-use Rattle.ring_core.specs.Views.{front, mark}
+use Rattle.ring_core_spec.specs.Windows.{found, front_of}
+use Rattle.ring_core_spec.specs.Commits.{Configuration}
+use Rattle.ring_core_spec.specs.Recoveries.{in_front, ends, has_end_of, all_ended, is_covered, has_user, is_ready}
+use Rattle.ring_core_spec.specs.State.{Core, opening}
+use Rattle.ring_core_spec.specs.Views.{front, mark}
 use Rattle.ring_core_proof.specs.FactWords.{IsIn}
 use Rattle.ring_core_proof.specs.declared.event.RingEvent.{RingEvent}
 use Rattle.ring_core_proof.specs.Worlds.{run, unformed}
@@ -26,9 +27,9 @@ use Rattle.ring_core_proof.proofs.OwnMessages.{held_stays}
 use Rattle.ring_chain_proof.proofs.FactsGrow.{moved_grows}
 use Rattle.ring_synchrony_proof.proofs.Quantified.{all_decides, numbers_in}
 use Rattle.ring_synchrony_proof.specs.Recovery.{HoldsEnd, HoldsEnds}
-use Rattle.ring_synchrony_proof.proofs.Heard.{found_as}
+use Rattle.ring_synchrony_proof.proofs.UserMessages.{found_as}
 
--- Ends under an installed ring
+-- Ends of an installed ring
 
 end_stays : {A : Type 0} → (c : Core A) (m : Move A) (ring : RingId) (i : ℕ) → HoldsEnd c ring i → HoldsEnd (moved c m) ring i
 end_stays c m ring i e =
@@ -43,7 +44,7 @@ end_stays c m ring i e =
       within = omega (arith, g, w);
     }
 
--- what stands in the front is held there
+-- a message in the front is held
 front_held : {A : Type 0} → (held : List (Message A)) (ring : RingId)
     → Each (λ (x : Message A). IsIn x held × (x.ring ≡ ring) × (x.number ≤ front_of held ring)) (in_front held ring)
 front_held {A} held ring =
@@ -66,16 +67,16 @@ ready_ends {A} c ready i j =
     × (x.number ≤ front c c.running.ring)) s.0 xs (front_held c.held c.running.ring) e.0 in
     record { message = s.0; held = h.0; ring_is = h.1; sender = eqb-true (s.0).sender i s.2; ended = e.1; within = h.2 }
 
-pub moved_ends : {A : Type 0} → (came : Frame A → Type 0) (c : Core A) (m : Move A) → MayMove came c m → HoldsEnds c → HoldsEnds (moved c m)
-moved_ends came c (Idles state gathering shown queue sends) may h at j l i k = end_stays c (Idles state gathering shown queue sends) at.ring i (h at j l i k)
-moved_ends came c (Enters q) may h at j l i k = end_stays c (Enters q) at.ring i (h at j l i k)
-moved_ends came c (Learns q) may h at j l i k = end_stays c (Learns q) at.ring i (h at j l i k)
-moved_ends came c (Visits t fresh requests again queue) may h at j l i k = end_stays c (Visits t fresh requests again queue) at.ring i (h at j l i k)
-moved_ends came c (Takes x) may h at j l i k = end_stays c (Takes x) at.ring i (h at j l i k)
-moved_ends {A} came c Installs may h at (inl e) l i k =
+pub moved_ends : {A : Type 0} → (received : Frame A → Type 0) (c : Core A) (m : Move A) → MayMove received c m → HoldsEnds c → HoldsEnds (moved c m)
+moved_ends received c (Idles state gathering last_sent queue sends) may h at j l i k = end_stays c (Idles state gathering last_sent queue sends) at.ring i (h at j l i k)
+moved_ends received c (Enters q) may h at j l i k = end_stays c (Enters q) at.ring i (h at j l i k)
+moved_ends received c (Learns q) may h at j l i k = end_stays c (Learns q) at.ring i (h at j l i k)
+moved_ends received c (Visits t fresh requests again queue) may h at j l i k = end_stays c (Visits t fresh requests again queue) at.ring i (h at j l i k)
+moved_ends received c (Takes x) may h at j l i k = end_stays c (Takes x) at.ring i (h at j l i k)
+moved_ends {A} received c Installs may h at (inl e) l i k =
     let here = ready_ends c may.ready i (subst (λ (x : Configuration). IsIn i (elements x.members)) e k) in
     subst (λ (x : Configuration). HoldsEnd (moved c Installs) x.ring i) (sym e) (end_stays c Installs c.running.ring i here)
-moved_ends came c Installs may h at (inr j) l i k = end_stays c Installs at.ring i (h at j l i k)
+moved_ends received c Installs may h at (inr j) l i k = end_stays c Installs at.ring i (h at j l i k)
 
 pub opening_ends : (A : Type 0) → (n me : ℕ) → HoldsEnds (opening {A = A} n me)
 opening_ends A n me at (inl e) l i k = absurd (let q : at.ring.seq ≡ 0 = ap (λ (x : Configuration). x.ring.seq) e in omega (arith, q, l))

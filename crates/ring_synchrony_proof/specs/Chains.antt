@@ -1,3 +1,3 @@
--- Words of the chain of visits, passed on to the proof of the one order.
-pub use Rattle.ring_chain_proof.specs.ChainTold.{NameSameMembers, SafeIsSafe, ToldIsHeld, MarksAreSafe}
-pub use Rattle.ring_chain_proof.specs.ChainWords.{picked, IsRingOf, IsGenuine}
+-- Definitions of the chain of visits, re-exported for the proof of the one order.
+pub use Rattle.ring_chain_proof.specs.ChainFacts.{NameSameMembers, SafeOutputsAreSafe, OutputsAreHeld, MarksAreSafe}
+pub use Rattle.ring_chain_proof.specs.ChainWords.{visits_taken_by, IsRingOf, IsGenuine}

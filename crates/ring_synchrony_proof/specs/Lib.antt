@@ -3,9 +3,9 @@ pub mod Synchrony
 pub mod Same
 pub mod Tests
 pub mod WrongLives
-pub mod Tales
+pub mod LifeOfCore
 pub mod Installed
 pub mod Recovery
 pub mod Ends
-pub mod Ready
+pub mod InstallReadiness
 pub mod Chains

@@ -1,6 +1,7 @@
--- What holds of recovery in every run: Recovery, rules 1, 3, 6 and 7 of docs/PROTOCOL.md. Each installed ring was
--- installed behind every member's End; and in Recovery the safe mark of the old ring is the greatest reported, what is
--- held of it one of the mates reported, and what was wrapped of it is held there.
+-- Facts about recovery in every run. Each installed ring has every member's End in the front. In Recovery the safe
+-- mark of the old ring is the greatest reported, a transitional member reported each number held of it, and the core
+-- holds each inner message of it.
+-- Rules: Recovery 1, 3, 6 and 7
 use Rattle.std.specs.Prelude.{◌≡◌, ℕ, ◌<◌, ◌≤◌, true}
 use Rattle.ring_base.specs.Processors.{has, elements}
 use Rattle.ring_base.specs.declared.ring_id.RingId.{RingId}
@@ -8,14 +9,14 @@ use Rattle.ring_payload.specs.Kinds.{is_end}
 use Rattle.ring_payload.specs.declared.content.Payload.TheVariants.{Wrapped}
 use Rattle.ring_payload.specs.declared.content.Wrapped.{Wrapped as WrappedMessage}
 use Rattle.ring_wire.specs.declared.message.Message.{Message}
-use Rattle.ring_core.specs.Windows.{holds}
-use Rattle.ring_core.specs.Commits.{Configuration}
-use Rattle.ring_core.specs.Recoveries.{safe, is_known}
-use Rattle.ring_core.specs.State.{Core}
-use Rattle.ring_core.specs.Views.{front, mark, plan}
+use Rattle.ring_core_spec.specs.Windows.{holds}
+use Rattle.ring_core_spec.specs.Commits.{Configuration}
+use Rattle.ring_core_spec.specs.Recoveries.{safe, is_known}
+use Rattle.ring_core_spec.specs.State.{Core}
+use Rattle.ring_core_spec.specs.Views.{front, mark, plan}
 use Rattle.ring_core_proof.specs.FactWords.{IsIn}
 
--- a processor's End of the ring lies within the front
+-- an End of processor i of the ring lies within the front
 pub record HoldsEnd {A : Type 0} (c : Core A) (ring : RingId) (i : ℕ) : Type 0 where
   pub message : Message A
   pub held : IsIn message c.held
@@ -24,20 +25,20 @@ pub record HoldsEnd {A : Type 0} (c : Core A) (ring : RingId) (i : ℕ) : Type 0
   pub ended : is_end message.payload ≡ true
   pub within : message.number ≤ front c ring
 
--- so each member's, of each ring that was installed after the opening
+-- each member's End does so, for each ring installed after the opening
 abbrev pub HoldsEnds : {A : Type 0} → Core A → Type 0
 HoldsEnds c = (at : Configuration) → IsIn at c.installs → 0 < at.ring.seq → (i : ℕ) → IsIn i (elements at.members) → HoldsEnd c at.ring i
 
--- what the messages of the running ring wrap of the old one is held
+-- the core holds the inner messages that the running ring's messages wrap of the old ring
 abbrev pub HoldsInner : {A : Type 0} → Core A → Type 0
 HoldsInner {A} c =
     (x : Message A) → IsIn x c.held → x.ring ≡ c.running.ring → (w : WrappedMessage A) → x.payload ≡ Wrapped w → w.ring ≡ c.installed.ring →
     holds c.held c.installed.ring w.number ≡ true
 
--- what holds of a core in Recovery: it is one of the mates, the safe mark of the old ring is the greatest that they report, what it
--- holds of that ring one of them reported, and what was wrapped of it is held
+-- the facts of a core in Recovery: it is a transitional member, the safe mark of the old ring is the greatest that
+-- they report, one of them reported each number that it holds of that ring, and it holds each inner message
 pub record IsRecovering {A : Type 0} (c : Core A) : Type 0 where
-  pub mate : has (plan c).mates c.me ≡ true
+  pub transitional_member : has (plan c).transitional_members c.me ≡ true
   pub marked : mark c c.installed.ring ≡ safe (plan c)
   pub within : (n : ℕ) → holds c.held c.installed.ring n ≡ true → is_known (plan c) n ≡ true
-  pub unwrapped : HoldsInner c
+  pub inner_messages : HoldsInner c

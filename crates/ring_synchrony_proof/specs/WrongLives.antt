@@ -1,17 +1,19 @@
--- Lives that are wrong, each in one thing: what two processors gave, and held, in the first ring and on the way to the second. They are no lives of a run.
-use Rattle.std.specs.Prelude.{ℕ, List, [], ◌∷◌, ◌++◌, map}
+-- Wrong lives, each wrong in one thing: the outputs of two processors in the first ring and on the way to the second,
+-- what they held, and the rings that they took part in. They are no lives of a run.
+use Rattle.std.specs.Prelude.{ℕ, List, [], ◌∷◌, ◌++◌, map, filter_map, Option, Some, None, reverse}
 use Rattle.std.specs.declared.alloc.Global.{Global}
 use Rattle.ring_base.specs.Processors.{only}
 use Rattle.ring_base.specs.declared.ring_id.RingId.{RingId}
 use Rattle.ring_payload.specs.declared.content.Payload.TheVariants.{End}
 use Rattle.ring_wire.specs.declared.message.Message.{Message}
-use Rattle.ring_core.specs.declared.out.Out.{Out}
-use Rattle.ring_core.specs.declared.out.Out.TheVariants.{Agreed, Safe, Trans, Rest, Regular}
-use Rattle.ring_core.specs.State.{Core, opening}
+use Rattle.ring_core_spec.specs.Commits.{Configuration}
+use Rattle.ring_core_spec.specs.declared.out.Out.{Out}
+use Rattle.ring_core_spec.specs.declared.out.Out.TheVariants.{Send, Agreed, Safe, Trans, Rest, Regular}
+use Rattle.ring_core_spec.specs.State.{Core, alone, opening}
 use Rattle.ring_core_proof.specs.Worlds.{World, put}
 use Rattle.ring_core_proof.specs.Samples.{ring_of, first_ring, second_ring, call_at, message_of}
 
--- What both hold of the first ring: two Ends, and calls 3, 4 and 5 of processor 2
+-- The messages that both hold of the first ring: two Ends, and calls 3, 4 and 5 of processor 2
 
 -- the Ends
 abbrev pub two_ends : List (Message Global)
@@ -21,13 +23,13 @@ two_ends = message_of first_ring 2 2 End ∷ message_of first_ring 1 1 End ∷ [
 abbrev pub three_calls : List (Message Global)
 three_calls = call_at 2 5 ∷ call_at 2 4 ∷ call_at 2 3 ∷ []
 
--- one of the two that holds these
+-- processor i of two, which holds these messages
 abbrev pub holder : ℕ → List (Message Global) → Core Global
 holder i held = record (opening 2 i) { held = held }
 
--- What one gives
+-- Outputs of one processor
 
--- it installs a ring of both
+-- it installs a ring of these members after its opening ring
 abbrev pub into : ℕ → ℕ → RingId → List (Out Global)
 into members i ring = Trans (ring_of 0 i) ring (only i) ∷ Regular ring members ∷ []
 
@@ -35,30 +37,48 @@ into members i ring = Trans (ring_of 0 i) ring (only i) ∷ Regular ring members
 abbrev pub gets_third : List (Out Global)
 gets_third = Agreed first_ring 3 (call_at 2 3) ∷ Safe first_ring 3 ∷ []
 
--- the other two are agreed
+-- calls 4 and 5 are agreed
 abbrev pub gets_two : List (Out Global)
 gets_two = Agreed first_ring 4 (call_at 2 4) ∷ Agreed first_ring 5 (call_at 2 5) ∷ []
 
--- these are the rest on the way to a ring of these members
+-- it goes to a ring of these members, with these numbers as the rest of the first ring
 abbrev pub on_to : RingId → ℕ → ℕ → List ℕ → List (Out Global)
-on_to ring mates members numbers = Trans first_ring ring mates ∷ (map (λ n. Rest first_ring n (call_at 2 n)) numbers ++ Regular ring members ∷ [])
+on_to ring transitional_members members numbers = Trans first_ring ring transitional_members ∷ (map (λ n. Rest first_ring n (call_at 2 n)) numbers ++ Regular ring members ∷ [])
 
--- all of it, with this rest and these members of the second ring
+-- its whole life, with these members of the second ring and this rest
 abbrev pub life_with : ℕ → List ℕ → ℕ → List (Out Global)
 life_with members numbers i = into 3 i first_ring ++ (gets_third ++ (gets_two ++ on_to second_ring 3 members numbers))
 
 -- Both
 
--- what one gave, with its number
+-- outputs with the number of their processor
 abbrev pub given_by : ℕ → List (Out Global) → List (ℕ × Out Global)
 given_by i outs = map (λ o. (i, o)) outs
 
--- a world of two, with these cores, and what each gave
-abbrev pub world_with : Core Global → Core Global → List (Out Global) → List (Out Global) → World Global
-world_with one two first second =
+-- the configuration that an output installs
+abbrev pub installed_by : Out Global → Option Configuration
+installed_by (Regular ring members) = Some (record { ring = ring; members = members })
+installed_by (Send to frame) = None
+installed_by (Agreed ring n x) = None
+installed_by (Safe ring upto) = None
+installed_by (Trans old new members) = None
+installed_by (Rest ring n x) = None
+
+-- the core of processor i, which took part in its opening ring and in these, oldest first
+abbrev pub with_rings : ℕ → List Configuration → Core Global → Core Global
+with_rings i rings c = record c { rings = reverse (alone i ∷ rings) }
+
+-- a world of two with these cores and these outputs
+abbrev pub world_of_cores : Core Global → Core Global → List (Out Global) → List (Out Global) → World Global
+world_of_cores one two first second =
     record { total = 2; cores = put (put (opening 2) 1 one) 2 two; frames = []; outs = given_by 1 first ++ given_by 2 second }
 
--- both hold all of it
+-- the same, where each took part in the rings that its outputs install
+abbrev pub world_with : Core Global → Core Global → List (Out Global) → List (Out Global) → World Global
+world_with one two first second =
+    world_of_cores (with_rings 1 (filter_map installed_by first) one) (with_rings 2 (filter_map installed_by second) two) first second
+
+-- the same, where both hold all messages
 abbrev pub both_with : List (Out Global) → List (Out Global) → World Global
 both_with first second = world_with (holder 1 (three_calls ++ two_ends)) (holder 2 (three_calls ++ two_ends)) first second
 
@@ -66,7 +86,7 @@ both_with first second = world_with (holder 1 (three_calls ++ two_ends)) (holder
 abbrev pub right_lives : World Global
 right_lives = both_with (life_with 3 (4 ∷ 5 ∷ []) 1) (life_with 3 (4 ∷ 5 ∷ []) 2)
 
--- one companion lacks a delivery that the other has
+-- one transitional member lacks a delivery that the other has
 abbrev pub lacks_delivery : World Global
 lacks_delivery = both_with (life_with 3 (4 ∷ []) 1) (life_with 3 (4 ∷ 5 ∷ []) 2)
 
@@ -78,37 +98,37 @@ rest_out_of_order = both_with (life_with 3 (5 ∷ 4 ∷ []) 1) (life_with 3 (5 �
 abbrev pub own_message_lost : World Global
 own_message_lost = both_with (life_with 3 (4 ∷ []) 1) (life_with 3 (4 ∷ []) 2)
 
--- processor 2 is no member of the second ring that both install
+-- processor 2 is no member of the second ring, which both install
 abbrev pub without_own_node : World Global
 without_own_node = both_with (life_with 1 (4 ∷ 5 ∷ []) 1) (life_with 1 (4 ∷ 5 ∷ []) 2)
 
--- call 3 is safe at processor 1, and processor 2 never got it
+-- call 3 is safe at processor 1, and processor 2 never received it
 abbrev pub never_got : World Global
 never_got = world_with (holder 1 (call_at 2 3 ∷ two_ends)) (holder 2 two_ends) (into 3 1 first_ring ++ gets_third) (into 3 2 first_ring)
 
--- processor 2 got it, and never installed the first ring
+-- processor 2 received it, and never installed the first ring
 abbrev pub never_installed : World Global
 never_installed = world_with (holder 1 (call_at 2 3 ∷ two_ends)) (holder 2 (call_at 2 3 ∷ two_ends)) (into 3 1 first_ring ++ gets_third) []
 
--- processor 1 got it, and went on alone without delivering it
+-- processor 1 received it, and went on alone without delivering it
 abbrev pub left_without : World Global
 left_without =
     world_with (holder 1 (call_at 2 3 ∷ two_ends)) (holder 2 (call_at 2 3 ∷ two_ends))
     (into 3 1 first_ring ++ (Agreed first_ring 3 (call_at 2 3) ∷ on_to second_ring 1 1 [])) (into 3 2 first_ring ++ gets_third)
 
--- a call that was agreed is left out
+-- an agreed call is left out
 abbrev pub agreed_left_out : World Global
 agreed_left_out =
     world_with (holder 1 (call_at 2 4 ∷ call_at 2 3 ∷ two_ends)) (holder 2 (call_at 2 4 ∷ call_at 2 3 ∷ two_ends))
     (into 3 1 first_ring ++ (Agreed first_ring 4 (call_at 2 4) ∷ [])) (into 3 2 first_ring)
 
--- What a life tells of itself
+-- Numbers of outputs
 
--- both hold call 3 of the first ring
+-- a world where both hold call 3 of the first ring, with these outputs
 abbrev pub third_with : List (Out Global) → List (Out Global) → World Global
 third_with first second = world_with (holder 1 (call_at 2 3 ∷ two_ends)) (holder 2 (call_at 2 3 ∷ two_ends)) first second
 
--- call 3 is safe, and then the ring up to number 2 alone
+-- `Safe` first covers call 3, and then only number 2
 abbrev pub safe_falls : World Global
 safe_falls = third_with (into 3 1 first_ring ++ (gets_third ++ Safe first_ring 2 ∷ [])) (into 3 2 first_ring ++ gets_third)
 
@@ -116,37 +136,57 @@ safe_falls = third_with (into 3 1 first_ring ++ (gets_third ++ Safe first_ring 2
 abbrev pub agreed_as_another : World Global
 agreed_as_another = third_with (into 3 1 first_ring ++ (Agreed first_ring 4 (call_at 2 3) ∷ [])) (into 3 2 first_ring ++ gets_third)
 
--- it is the rest of the first ring as number 4
+-- call 3 is the rest of the first ring as number 4
 abbrev pub rest_as_another : World Global
 rest_as_another =
     third_with (into 3 1 first_ring ++ (Agreed first_ring 3 (call_at 2 3) ∷ Trans first_ring second_ring 1 ∷ Rest first_ring 4 (call_at 2 3) ∷ Regular second_ring 1 ∷ []))
     (into 3 2 first_ring ++ (Agreed first_ring 3 (call_at 2 3) ∷ []))
 
--- Whom configurations name
+-- Members of configurations
 
--- neither holds anything
+-- a world where neither holds anything, with these outputs
 abbrev pub silent_with : List (Out Global) → List (Out Global) → World Global
 silent_with first second = world_with (holder 1 []) (holder 2 []) first second
 
--- processor 1 names itself alone, processor 2 both
+-- processor 1 names itself alone as member, processor 2 names both
 abbrev pub named_apart : World Global
 named_apart = silent_with (into 1 1 first_ring) (into 3 2 first_ring)
 
--- both name a third, which is none of the group
+-- both name a third member, which isn't of the group
 abbrev pub names_a_stranger : World Global
 names_a_stranger = silent_with (into 7 1 first_ring) (into 7 2 first_ring)
 
--- processor 1 goes on with processor 2, which was not in the first ring
+-- processor 1 goes on with processor 2, which wasn't in the first ring
 abbrev pub joined_by_an_outsider : World Global
 joined_by_an_outsider =
     silent_with (into 1 1 first_ring ++ (Trans first_ring second_ring 3 ∷ Regular second_ring 3 ∷ [])) (into 3 2 second_ring)
 
--- it goes on with processor 2, which was in a ring alone between the two
+-- processor 1 goes on with processor 2, which was alone in a ring between the two
 abbrev pub joined_after_another : World Global
 joined_after_another =
     silent_with (into 3 1 first_ring ++ (Trans first_ring (ring_of 3 1) 3 ∷ Regular (ring_of 3 1) 3 ∷ []))
     (into 3 2 first_ring ++ (Trans first_ring (ring_of 2 2) 2 ∷ Regular (ring_of 2 2) 2 ∷ Trans (ring_of 2 2) (ring_of 3 1) 2 ∷ Regular (ring_of 3 1) 3 ∷ []))
 
--- it goes on alone, though processor 2 came from the first ring too
+-- processor 1 goes on alone, though processor 2 came from the first ring too
 abbrev pub companion_left_out : World Global
 companion_left_out = silent_with (into 3 1 first_ring ++ (Trans first_ring second_ring 1 ∷ Regular second_ring 3 ∷ [])) (into 3 2 first_ring)
+
+-- Configurations of no ring that a processor took part in
+
+-- both took part in the first ring; processor 1, which holds a call that processor 2 lacks, names itself alone as its member,
+-- and delivers the call as safe; processor 2 never installed the ring
+abbrev pub named_alone : World Global
+named_alone =
+    let both = record { ring = first_ring; members = 3 } ∷ [] in
+    world_of_cores (with_rings 1 both (holder 1 (call_at 2 3 ∷ two_ends))) (with_rings 2 both (holder 2 two_ends)) (into 1 1 first_ring ++ gets_third) []
+
+-- a ring of processor 2 alone is named as one of both, and its End is safe
+abbrev pub named_as_shared : World Global
+named_as_shared =
+    let ring = ring_of 3 2 in
+    world_of_cores (holder 1 []) (with_rings 2 (record { ring = ring; members = 2 } ∷ []) (holder 2 (message_of ring 1 2 End ∷ [])))
+    [] (into 3 2 ring ++ Safe ring 1 ∷ [])
+
+-- the first ring is the newest that processor 1 installed, and its life ends on the way to another, with a third processor
+abbrev pub ends_on_the_way : World Global
+ends_on_the_way = silent_with (into 3 1 first_ring ++ (Trans first_ring second_ring 7 ∷ [])) (into 3 2 first_ring)

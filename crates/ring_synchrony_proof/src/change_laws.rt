@@ -1,5 +1,6 @@
-//! Three of the five facts of virtual synchrony, of every run from the opening in Gather, whatever events happen; and
-//! from what the other two follow.
+//! Laws of every run from the opening: three of the five facts of virtual synchrony, and the fact from which the
+//! other two follow.
+//! Rules: Outputs 11; Recovery 3, 6 and 7
 
 ghost use Rattle.std.specs.Prelude.{◌≡◌, ℕ, List};
 ghost use Rattle.ring_base.specs.declared.state.State.TheVariants.{Recovery};
@@ -9,14 +10,17 @@ ghost use Rattle.ring_core_proof.specs.declared.event.RingEvent.{RingEvent};
 ghost use Rattle.ring_core_proof.specs.Worlds.{run, unformed};
 ghost use Rattle.ring_synchrony_proof.specs.Changes.{IsNode};
 ghost use Rattle.ring_synchrony_proof.specs.Synchrony.{DeliversAlike, DeliversOwn, HasConfigurations, IsVirtuallySynchronous};
-ghost use Rattle.ring_synchrony_proof.specs.Installed.{HeardIsInstalled};
+ghost use Rattle.ring_synchrony_proof.specs.Installed.{HoldersHaveInstalled};
 
 use std::alloc::{Allocator, Global};
 
-/// Two lives that go from one regular configuration to the same next one have the same members in all three
-/// configurations and the same deliveries, divided alike before and after the transitional one. A processor is a
-/// member of its configurations; regular and transitional ones alternate; the numbers of regular rings rise. And its
-/// own users' messages of a ring are delivered before its next regular configuration.
+/// States three of the five facts of virtual synchrony, for every run from the opening.
+/// Suppose that two lives go from one regular configuration to the same next one. Then all three configurations have
+/// the same members in both, and the deliveries are the same, divided alike before and after the transitional one.
+/// A processor is a member of its configurations. Regular and transitional ones alternate, and the numbers of regular
+/// rings rise.
+/// A processor's own user messages of a ring are delivered before its next regular configuration.
+/// Rules: Outputs 11
 pub fn changes_law<A: Allocator + Copy>()
     ensures same_deliveries { (n : ℕ) (events : List (RingEvent A)) → DeliversAlike (run (unformed n) events) }
     ensures configurations { (n : ℕ) (events : List (RingEvent A)) (i : ℕ) → IsNode (run (unformed n) events) i
@@ -24,23 +28,29 @@ pub fn changes_law<A: Allocator + Copy>()
     ensures own_delivery { (n : ℕ) (events : List (RingEvent A)) → DeliversOwn (run (unformed n) events) }
 {}
 
-/// Each ring is installed behind every member's End: each lies within the front. And in Recovery the processor is one
-/// of its plan's mates, its safe mark of the old ring is the greatest that a mate reported, what it holds of that ring
-/// one of the mates reported, and what the new ring's messages wrap of it is held there.
+/// States the facts of recovery, for every core of every run from the opening.
+/// The front of each installed ring covers every member's End. In Recovery the processor is one of its plan's
+/// transitional members, and its safe mark in the old ring is the greatest that one of them reported. Every number that
+/// it holds of that ring was reported by one of them, and it holds the inner messages of the running ring's messages.
+/// Rules: Recovery 1, 3, 6 and 7
 pub fn recovery_law<A: Allocator + Copy>()
     ensures ends { (n : ℕ) (events : List (RingEvent A)) (q : ℕ) → HoldsEnds ((run (unformed n) events).cores q) }
     ensures recovers { (n : ℕ) (events : List (RingEvent A)) (q : ℕ) → ((run (unformed n) events).cores q).state
         ≡ Recovery → IsRecovering ((run (unformed n) events).cores q) }
 {}
 
-/// Virtual synchrony is whole where one fact more holds: who holds a users' message of a ring within its front has
-/// installed that ring. `ring_synchrony_proof` proves that it holds in every run.
+/// States that a run from the opening is virtually synchronous where one more fact holds: a processor that holds a user
+/// message of a ring within its front has installed that ring.
+/// `ready_law` states that this fact holds for every run.
+/// Rules: Recovery 7; Outputs 11
 pub fn whole_law<A: Allocator + Copy>()
-    ensures { (n : ℕ) (events : List (RingEvent A)) → HeardIsInstalled (run (unformed n) events) → IsVirtuallySynchronous (run (unformed n) events) }
+    ensures { (n : ℕ) (events : List (RingEvent A)) → HoldersHaveInstalled (run (unformed n) events) → IsVirtuallySynchronous (run (unformed n) events) }
 {}
 
-/// The laws at the allocator that programs use; of one of them it says what it gives. Nothing calls it: a law is proved of all
-/// allocators that meet its bounds, and this shows one that does.
+/// States for the allocator that programs use that deliveries are the same (the first fact of `changes_law`). Nothing
+/// calls this function.
+/// A law is proved for all allocators that meet its bounds, and this function shows one that does.
+/// Rules: Outputs 11
 pub fn changes_at_global()
     ensures { (n : ℕ) (events : List (RingEvent Heap)) → DeliversAlike (run (unformed n) events) }
 {

@@ -1,5 +1,6 @@
-//! Worked changes of rings, of which all five facts are computed, and wrong lives, each refused by the fact that it
-//! breaks while the others hold.
+//! Worked ring changes, for which all five facts are computed, and wrong lives: each breaks one fact and meets the
+//! others.
+//! Rules: Outputs 11
 
 ghost use Rattle.std.specs.Prelude.{◌≡◌, true, ◌&&◌};
 ghost use Rattle.ring_core_proof.specs.ChangedRing.{changed};
@@ -14,8 +15,12 @@ ghost use Rattle.ring_synchrony_proof.specs.WrongLives.{agreed_left_out};
 ghost use Rattle.ring_synchrony_proof.specs.WrongLives.{safe_falls, agreed_as_another, rest_as_another};
 ghost use Rattle.ring_synchrony_proof.specs.WrongLives.{named_apart, names_a_stranger};
 ghost use Rattle.ring_synchrony_proof.specs.WrongLives.{companion_left_out, joined_by_an_outsider, joined_after_another};
+ghost use Rattle.ring_synchrony_proof.specs.WrongLives.{named_alone, named_as_shared, ends_on_the_way};
 
-/// Two that change rings with a call on the way, three that gather and install their first ring, and one alone.
+/// States worked examples: runs that are virtually synchronous. Two processors change rings with a call in flight,
+/// three gather and install their first ring, and one is alone. The lives from which the wrong examples below are made
+/// pass too.
+/// Rules: Outputs 11
 pub fn worked_changes()
     ensures two { is_virtually_synchronous changed ≡ true }
     ensures three { is_virtually_synchronous (three_after 40) ≡ true }
@@ -23,7 +28,9 @@ pub fn worked_changes()
     ensures right { is_virtually_synchronous right_lives ≡ true }
 {}
 
-/// One companion lacks a delivery that the other has.
+/// States an example of wrong lives: one transitional member lacks a delivery that the other has. They break
+/// `same_deliveries` and meet the other four facts of virtual synchrony.
+/// Rules: Outputs 11
 pub fn a_companion_lacks_a_delivery()
     ensures refused { DeliversAlike lacks_delivery → ⊥ }
     ensures others { (has_same_text lacks_delivery
@@ -31,7 +38,9 @@ pub fn a_companion_lacks_a_delivery()
         ≡ true }
 {}
 
-/// The rest of the old ring comes out of order.
+/// States an example of a wrong life: the `Rest` messages of the old ring come out of order. It breaks `same_text` and
+/// meets the other four facts of virtual synchrony.
+/// Rules: Outputs 5 and 11
 pub fn the_rest_is_out_of_order()
     ensures refused { HasSameText rest_out_of_order → ⊥ }
     ensures others { (delivers_safely rest_out_of_order
@@ -39,7 +48,9 @@ pub fn the_rest_is_out_of_order()
         && delivers_own rest_out_of_order))) ≡ true }
 {}
 
-/// A call that the front covers is left out of what is agreed.
+/// States an example of a wrong life: a call within the front isn't given as `Agreed`. It breaks `same_text` and meets
+/// the other four facts of virtual synchrony.
+/// Rules: Outputs 3 and 11
 pub fn an_agreed_call_is_left_out()
     ensures refused { HasSameText agreed_left_out → ⊥ }
     ensures others { (delivers_safely agreed_left_out
@@ -47,8 +58,10 @@ pub fn an_agreed_call_is_left_out()
         ≡ true }
 {}
 
-/// What one delivered as safe another member never got; or got without installing the ring; or left the ring
-/// without delivering it.
+/// States examples of wrong lives: a member of the ring misses a message that another has delivered as safe. It never
+/// received the message, or never installed the ring, or left the ring without delivering the message.
+/// The lives break `safe_delivery`, one of the five facts of virtual synchrony.
+/// Rules: Outputs 11
 pub fn a_safe_delivery_is_missed()
     ensures never_got { DeliversSafely never_got → ⊥ }
     ensures never_installed { DeliversSafely never_installed → ⊥ }
@@ -58,7 +71,9 @@ pub fn a_safe_delivery_is_missed()
         && (delivers_alike left_without && (have_configurations left_without && delivers_own left_without))) ≡ true }
 {}
 
-/// A processor's own message is lost at a change of rings, at all alike.
+/// States an example of wrong lives: a processor's own message is lost at a ring change, at all processors alike. They
+/// break `own_delivery` and meet the other four facts of virtual synchrony.
+/// Rules: Outputs 11
 pub fn an_own_message_is_lost()
     ensures refused { DeliversOwn own_message_lost → ⊥ }
     ensures others { (has_same_text own_message_lost
@@ -66,7 +81,9 @@ pub fn an_own_message_is_lost()
         && (delivers_alike own_message_lost && have_configurations own_message_lost))) ≡ true }
 {}
 
-/// A processor installs a ring of which it is no member.
+/// States an example of a wrong life: a processor installs a ring of which it isn't a member. It breaks
+/// `configurations` and meets the other four facts of virtual synchrony.
+/// Rules: Outputs 11
 pub fn a_configuration_lacks_its_own_node()
     ensures refused { (IsNode without_own_node 2 → HasConfigurations without_own_node 2) → ⊥ }
     ensures others { (has_same_text without_own_node
@@ -74,13 +91,17 @@ pub fn a_configuration_lacks_its_own_node()
         ≡ true }
 {}
 
-/// What is safe falls: a later output tells a lower number.
+/// States an example of a wrong life: a later `Safe` of a ring has a lower number. It breaks `configurations` and meets
+/// the other four facts of virtual synchrony.
+/// Rules: Outputs 9 and 11
 pub fn what_is_safe_falls()
     ensures refused { (IsNode safe_falls 1 → HasConfigurations safe_falls 1) → ⊥ }
     ensures others { (has_same_text safe_falls && (delivers_safely safe_falls && (delivers_alike safe_falls && delivers_own safe_falls))) ≡ true }
 {}
 
-/// A call is told under a number that isn't its own, as agreed, or as the rest of the old ring.
+/// States examples of wrong lives: a call is given, as `Agreed` or as `Rest`, under a number that isn't its own. They
+/// break `configurations` and meet the other four facts of virtual synchrony.
+/// Rules: Outputs 9 and 11
 pub fn a_call_is_told_as_another()
     ensures agreed { (IsNode agreed_as_another 1 → HasConfigurations agreed_as_another 1) → ⊥ }
     ensures rest { (IsNode rest_as_another 1 → HasConfigurations rest_as_another 1) → ⊥ }
@@ -91,7 +112,9 @@ pub fn a_call_is_told_as_another()
         && (delivers_safely rest_as_another && (delivers_alike rest_as_another && delivers_own rest_as_another))) ≡ true }
 {}
 
-/// Two lives name one ring with other members; or both name one that is none of the group.
+/// States examples of wrong lives: two lives name one ring with different members, or both name a member outside the
+/// group. They break `configurations` and meet the other four facts of virtual synchrony.
+/// Rules: Outputs 11
 pub fn members_are_named_wrong()
     ensures apart { (IsNode named_apart 1 → HasConfigurations named_apart 1) → ⊥ }
     ensures stranger { (IsNode names_a_stranger 1 → HasConfigurations names_a_stranger 1) → ⊥ }
@@ -101,7 +124,10 @@ pub fn members_are_named_wrong()
         && (delivers_safely names_a_stranger && (delivers_alike names_a_stranger && delivers_own names_a_stranger))) ≡ true }
 {}
 
-/// Among those who go on together one comes from elsewhere, or was in another ring between; or one of them is left out.
+/// States examples of wrong lives: a transitional configuration has a member that comes from another ring or was in
+/// another ring in between, or leaves a member out. They break `configurations` and meet the other four facts of
+/// virtual synchrony.
+/// Rules: Outputs 11
 pub fn companions_are_told_wrong()
     ensures outsider { (IsNode joined_by_an_outsider 1 → HasConfigurations joined_by_an_outsider 1) → ⊥ }
     ensures between { (IsNode joined_after_another 1 → HasConfigurations joined_after_another 1) → ⊥ }
@@ -112,4 +138,20 @@ pub fn companions_are_told_wrong()
         && (delivers_safely joined_after_another && (delivers_alike joined_after_another && delivers_own joined_after_another))) ≡ true }
     ensures others_of_left_out { (has_same_text companion_left_out
         && (delivers_safely companion_left_out && (delivers_alike companion_left_out && delivers_own companion_left_out))) ≡ true }
+{}
+
+/// States examples of wrong lives: a configuration has other members than the ring that its processor took part in, with
+/// fewer members or with more; or a life ends with a transitional configuration. Each life agrees with all others. They break
+/// `configurations` and meet the other four facts of virtual synchrony.
+/// Rules: Outputs 11
+pub fn rings_are_named_wrong()
+    ensures alone { (IsNode named_alone 1 → HasConfigurations named_alone 1) → ⊥ }
+    ensures shared { (IsNode named_as_shared 2 → HasConfigurations named_as_shared 2) → ⊥ }
+    ensures on_the_way { (IsNode ends_on_the_way 1 → HasConfigurations ends_on_the_way 1) → ⊥ }
+    ensures others_of_alone { (has_same_text named_alone
+        && (delivers_safely named_alone && (delivers_alike named_alone && delivers_own named_alone))) ≡ true }
+    ensures others_of_shared { (has_same_text named_as_shared
+        && (delivers_safely named_as_shared && (delivers_alike named_as_shared && delivers_own named_as_shared))) ≡ true }
+    ensures others_of_on_the_way { (has_same_text ends_on_the_way
+        && (delivers_safely ends_on_the_way && (delivers_alike ends_on_the_way && delivers_own ends_on_the_way))) ≡ true }
 {}

@@ -1,4 +1,5 @@
-//! What the tests mean.
+//! The meaning of the tests: each is passed exactly where its fact holds.
+//! Rules: Outputs 11
 
 ghost use Rattle.std.specs.Prelude.{ℕ};
 ghost use Rattle.std.specs.Bool.{Decides};
@@ -10,7 +11,10 @@ ghost use Rattle.ring_synchrony_proof.specs.Tests.{has_same_text, delivers_safel
 
 use std::alloc::{Allocator, Global};
 
-/// Each fact holds exactly where its test is passed, in any world, whatever was given in it; so all five together.
+/// States for each of the five facts of virtual synchrony that its test is passed exactly where the fact holds, and so
+/// for all five together.
+/// It holds for every world of ring cores, with any outputs.
+/// Rules: Outputs 11
 pub fn tests_law<A: Allocator + Copy>()
     ensures same_text { (w : World A) → Decides (has_same_text w) (HasSameText w) }
     ensures safe_delivery { (w : World A) → Decides (delivers_safely w) (DeliversSafely w) }
@@ -20,8 +24,10 @@ pub fn tests_law<A: Allocator + Copy>()
     ensures all { (w : World A) → Decides (is_virtually_synchronous w) (IsVirtuallySynchronous w) }
 {}
 
-/// The same at the allocator that programs use. Nothing calls it: a law is proved of all allocators that meet its bounds, and
-/// this shows one that does.
+/// States for the allocator that programs use that the test of all five facts decides them. Nothing calls this
+/// function.
+/// A law is proved for all allocators that meet its bounds, and this function shows one that does.
+/// Rules: Outputs 11
 pub fn tests_at_global()
     ensures { (w : World Heap) → Decides (is_virtually_synchronous w) (IsVirtuallySynchronous w) }
 {

@@ -1,6 +1,8 @@
-//! Virtual synchrony: what the lives of all processors have to do with each other, in five facts; a test for each that is
-//! passed exactly where the fact holds, worked changes of rings that pass, and wrong lives that don't. And its proof: lives are
-//! what cores tell, recovery and changes of rings, and that a ring that is ready is complete and installed.
+//! Virtual synchrony: five facts that relate the lives of all processors, and the proof that every run meets them.
+//! There is a test for each fact, passed exactly where the fact holds, with worked ring changes that pass and wrong
+//! lives that don't. The proof shows that a life is what the core's facts say, and that a ring that is ready is
+//! complete and installed.
+//! Rules: Outputs 8 to 11; Recovery 1 and 3 to 8
 #![tactic(auto)]
 
 pub mod change_laws;

@@ -1,40 +1,48 @@
-//! Laws of every run from the opening in Gather, whatever events happen.
+//! Laws of every run from the opening: when a ring is ready, and virtual synchrony.
+//! Rules: Recovery 4 to 8; Outputs 11
 
 ghost use Rattle.std.specs.Prelude.{◌≡◌, ℕ, List};
 ghost use Rattle.std.specs.declared.alloc.Global.{Global as Heap};
 ghost use Rattle.ring_core_proof.specs.declared.event.RingEvent.{RingEvent};
 ghost use Rattle.ring_core_proof.specs.Worlds.{run, unformed};
 ghost use Rattle.ring_synchrony_proof.specs.Synchrony.{IsVirtuallySynchronous};
-ghost use Rattle.ring_synchrony_proof.specs.Installed.{HeardIsInstalled};
+ghost use Rattle.ring_synchrony_proof.specs.Installed.{HoldersHaveInstalled};
 ghost use Rattle.ring_synchrony_proof.specs.Ends.{KeepsOrder};
-ghost use Rattle.ring_synchrony_proof.specs.Ready.{ReadyIsComplete, ReadyIsInstalled};
+ghost use Rattle.ring_synchrony_proof.specs.InstallReadiness.{ReadyIsComplete, ReadyIsInstalled};
 
 use std::alloc::{Allocator, Global};
 
-/// Behind its own End in a ring a processor sends users' messages alone, and each of these behind every member's End;
-/// the front that it reports of a ring covers every member's End; and before its End it has handed on all that it
-/// reported above the least front.
+/// States the order of a processor's messages in a ring, in every run from the opening.
+/// After its own End it sends user messages alone, and they have greater numbers than every member's End. The front
+/// that it reports of an installed ring covers every member's End. Its own End has a greater number than the Wrapped of
+/// each user message above the least front that it reported as held.
+/// Rules: Recovery 4 and 7
 pub fn order_law<A: Allocator + Copy>()
     ensures { (n : ℕ) (events : List (RingEvent A)) (q : ℕ) → KeepsOrder ((run (unformed n) events).cores q) }
 {}
 
-/// Where recovery is ready, all is held that one of those who come from the old ring held: so the test of it never
-/// refuses. After each event a ring that is ready is installed. And who holds a users' message of a ring within its
-/// front has installed that ring.
+/// States three facts of every run from the opening.
+/// A core whose recovery is ready holds every number that a transitional member holds, so the test for that never
+/// refuses. After each event every ring that is ready has been installed. A processor that holds a user message of a
+/// ring within its front has installed that ring.
+/// Rules: Recovery 7 and 8
 pub fn ready_law<A: Allocator + Copy>()
     ensures complete { (n : ℕ) (events : List (RingEvent A)) (q : ℕ) → ReadyIsComplete ((run (unformed n) events).cores q) }
     ensures installed { (n : ℕ) (events : List (RingEvent A)) (q : ℕ) → ReadyIsInstalled ((run (unformed n) events).cores q) }
-    ensures heard { (n : ℕ) (events : List (RingEvent A)) → HeardIsInstalled (run (unformed n) events) }
+    ensures heard { (n : ℕ) (events : List (RingEvent A)) → HoldersHaveInstalled (run (unformed n) events) }
 {}
 
-/// Every run is virtually synchronous: one text of each ring, safe delivery, the same deliveries for those who go on
-/// together, configurations that alternate, and each processor's own messages.
+/// States that every run from the opening is virtually synchronous.
+/// Each ring has one text, and delivery is safe. Processors that go on together have the same deliveries.
+/// Configurations alternate. Each processor delivers its own messages.
+/// Rules: Outputs 11
 pub fn virtual_synchrony_law<A: Allocator + Copy>()
     ensures { (n : ℕ) (events : List (RingEvent A)) → IsVirtuallySynchronous (run (unformed n) events) }
 {}
 
-/// The laws at the allocator that programs use; of one of them it says what it gives. Nothing calls it: a law is proved of all
-/// allocators that meet its bounds, and this shows one that does.
+/// States `virtual_synchrony_law` for the allocator that programs use. Nothing calls this function.
+/// A law is proved for all allocators that meet its bounds, and this function shows one that does.
+/// Rules: Outputs 11
 pub fn laws_at_global()
     ensures { (n : ℕ) (events : List (RingEvent Heap)) → IsVirtuallySynchronous (run (unformed n) events) }
 {

@@ -1,11 +1,11 @@
--- Appended: What is appended piece by piece stands behind what was there.
--- NamesAsked: What stands behind the code of an operation on a set of names is a name, and is asked with.
--- NamesPlaces: Where a name stands among ascending names.
--- NamesRead: Names that are read one after the other.
--- NumbersRead: Numbers that were read into a list are those that the bytes hold.
--- OperationsRead: The bytes of an operation are read as that operation.
--- QueueSteps: A queue after a push and after a pop is a queue.
--- ShelfTexts: Texts behind their lengths, as they are cut out and put in.
+-- Appended: Appending piece by piece appends the whole.
+-- NamesAsked: The rest of an operation on a set of names, after its code, is a name.
+-- NamesPlaces: The position of a name among ascending names.
+-- NamesRead: Decoding names one after the other.
+-- NumbersRead: Numbers read into a list are those that the bytes hold.
+-- OperationsRead: The bytes of an operation decode to it.
+-- QueueSteps: A queue is still a queue after a push and after a pop.
+-- ShelfTexts: Texts after their lengths, split off and appended.
 pub mod Appended
 pub mod NamesAsked
 pub mod NamesPlaces
@@ -14,3 +14,4 @@ pub mod NumbersRead
 pub mod OperationsRead
 pub mod QueueSteps
 pub mod ShelfTexts
+pub mod KeyedRead

@@ -1,17 +1,17 @@
--- What stands behind the code of an operation on a set of names is a name, and is asked with.
+-- The rest of an operation on a set of names, after its code, is a name.
 use Rattle.std.proofs.Common.{◌≡◌, ℕ, ◌-◌, ◌≤◌, ◌==◌, false, if◌then◌else◌, List, [], ◌∷◌, length, get_or, take, drop, None, refl}
 use Rattle.std.proofs.Common.{sym, ◌∙◌, subst, arith}
 use Rattle.std.proofs.lemmas.Bool.{cond-true, eqb-false, le-leb, and_from}
 use Rattle.std.proofs.lemmas.List.{take_rest}
 use Rattle.ring_object.specs.Bytes.{AreBytes}
 use Rattle.ring_things.specs.Replies.{AreBytes-drop}
-use Rattle.ring_things.specs.Names.{IsName, is_name, asking, reading}
+use Rattle.ring_things.specs.Names.{IsName, is_name, name_operation, decoding}
 
--- what stands behind the code
+-- The bytes after the code.
 abbrev behind : List ℕ → List ℕ
 behind op = take (length op - 1) (drop 1 op)
 
--- a code, and behind it no more bytes than a name may have
+-- A code, and after it no more bytes than a name may have.
 pub record IsNamed (op : List ℕ) : Type 0 where
   pub code : 1 ≤ length op
   pub some : false ≡ (length (behind op) == 0)
@@ -23,12 +23,12 @@ named {op} op_is is =
     let none = eqb-false (length (behind op)) 0 (sym op_is.some) in
     subst IsName (sym is) (record { some = omega (arith, none); short = op_is.short; bytes = rw take_rest (AreBytes-drop 1 op op_is.bytes) })
 
-parts : (op : List ℕ) → 1 ≤ length op → reading op ≡ (if is_name (drop 1 op) then asking (get_or op 0 0) (drop 1 op) else None)
+parts : (op : List ℕ) → 1 ≤ length op → decoding op ≡ (if is_name (drop 1 op) then name_operation (get_or op 0 0) (drop 1 op) else None)
 parts [] code = absurd (omega arith)
 parts (code ∷ name) some = refl
 
-pub asked : {op name : List ℕ} → IsNamed op → name ≡ behind op → reading op ≡ asking (get_or op 0 0) name
+pub asked : {op name : List ℕ} → IsNamed op → name ≡ behind op → decoding op ≡ name_operation (get_or op 0 0) name
 asked {op} {name} op_is is =
     let fits = named op_is is in
-    subst (λ xs. reading op ≡ (if is_name xs then asking (get_or op 0 0) xs else None)) (sym (is ∙ take_rest op 1)) (parts op op_is.code)
+    subst (λ xs. decoding op ≡ (if is_name xs then name_operation (get_or op 0 0) xs else None)) (sym (is ∙ take_rest op 1)) (parts op op_is.code)
     ∙ cond-true (is_name name) _ _ (and_from _ _ (le-leb _ _ fits.some) (le-leb _ _ fits.short))

@@ -1,4 +1,4 @@
--- Where a name stands among ascending names.
+-- The position of a name among ascending names.
 use Rattle.std.proofs.Common.{◌≡◌, ℕ, zero, suc, ◌<◌, ◌≤◌, false, true, not, List, [], ◌∷◌, length, get_or, filter}
 use Rattle.std.proofs.Common.{insert, remove, Result, Ok, Err, IfOk, IfErr, refl, sym, ap, ◌∙◌, subst, arith, inl, inr}
 use Rattle.std.specs.Fn.{Called, ReturnsEach, AlwaysReturns}
@@ -17,7 +17,7 @@ use Rattle.ring_base.proofs.Cases.{Less-from}
 use Rattle.ring_things.specs.Names.{by_bytes, AreAscending, same, has, below, without, IsFound, IsMissing}
 use Rattle.ring_things.specs.NamesLaws.{above, All-above}
 
--- a function that stays the same answers P each time
+-- A function that stays unchanged satisfies P at each call.
 returns_each : {F X R : Type 0} (g : Mut F X R) (P : X → R → Type 0) (f : F)
     → ((a : X) (r : R) (f' : F) → Called g f a r f' → P a r × (f' ≡ f)) → (xs : List X) → ReturnsEach g P f xs
 returns_each g P f says [] = tt
@@ -29,7 +29,7 @@ pub answers_alike : {F X R : Type 0} (g : Mut F X R) (P : X → R → Type 0) (f
     → ((a : X) (r : R) (f' : F) → Called g f a r f' → P a r × (f' ≡ f)) → AlwaysReturns g P f
 answers_alike g P f says = record { at = returns_each g P f says }
 
--- names before a place are below the name, and the one at the place isn't
+-- The names before a position are below the name, and the one at the position isn't.
 below_is : (names : List (List ℕ)) (name : List ℕ) (i : ℕ) → i ≤ length names → ((k : ℕ) → k < i → by_bytes (get_or names k []) name ≡ Less) →
     (i < length names → is_lt (by_bytes (get_or names i []) name) ≡ false) → i ≡ below name names
 unfolding below
@@ -46,7 +46,7 @@ order_rises Less Greater less equal = omega arith
 order_rises Equal Greater less equal = omega arith
 order_rises Greater Greater less equal = omega arith
 
--- against any name, ascending names rise
+-- Compared with any name, ascending names give ascending results.
 rises : (names : List (List ℕ)) (name : List ℕ) → AreAscending names → IsNonDecreasingBy (λ other. ordering_index (by_bytes other name)) names
 rises names name ascending i j d le within =
     elim (cases_eq i j) [
@@ -63,7 +63,7 @@ Equal-from Less is = absurd cc
 Equal-from Equal is = refl
 Equal-from Greater is = absurd cc
 
--- a name above another one isn't that one
+-- A name above another one differs from it.
 differs : (name other : List ℕ) → by_bytes name other ≡ Less → same name other ≡ false
 differs name other above_it = ap is_eq (nat_list_cmp_total.antisymm other name ∙ ap ordering_reverse above_it)
 
@@ -102,7 +102,7 @@ remove-below name (x ∷ xs) ascending there =
     ] in
     sym (cond-false (not (same name x)) _ _ (ap not here) ∙ all_differ name xs (above_same name x xs (Equal-from _ here) ascending.0)))
 
--- a name that isn't there can be left out
+-- Removing a name that isn't there changes nothing.
 without-missing : (name : List ℕ) (names : List (List ℕ)) → has name names ≡ false → without name names ≡ names
 without-missing name [] missing = refl
 without-missing name (x ∷ xs) missing =
@@ -130,7 +130,7 @@ place_is names name (Err i) ascending within at =
     (λ less. ap is_lt (parts.1 i [] (omega arith) less)) in
     record { nowhere = nowhere; within = within; with_it = ap (λ place. insert names place name) is; others = sym (without-missing name names nowhere) }
 
--- the two sides of what is known of a result
+-- The two cases of a property of a result.
 pub if_ok : {A B : Type 0} (P : A → Type 0) (Q : B → Type 0) (r : Result A B) → MatchResult r P Q → IfOk r P
 if_ok P Q (Ok x) holds = holds
 if_ok P Q (Err e) holds = tt

@@ -1,10 +1,10 @@
--- Numbers that were read into a list are those that the bytes hold.
+-- Numbers read into a list are those that the bytes hold.
 use Rattle.std.proofs.Common.{◌≡◌, ℕ, zero, suc, ◌+◌, ◌*◌, ◌<◌, List, ◌++◌, length, get_or, take, drop, sym, ap, ◌∙◌, arith}
 use Rattle.std.proofs.lemmas.List.{same_lists, get_or_default, drop-drop, take_at}
 use Rattle.byteorder.specs.Endian.{IsRead, big_number}
 use Rattle.ring_things.specs.Numbers.{numbers_of, length-numbers_of}
 
--- the number at a place
+-- The number at a position.
 get_or-numbers_of : (width count : ℕ) (bytes : List ℕ) (k d : ℕ) → k < count → get_or (numbers_of width count bytes)
     k d ≡ big_number width (drop (width * k) bytes)
 unfolding numbers_of
@@ -20,7 +20,7 @@ numbers_of-read width count bytes numbers len read =
     same_lists numbers (numbers_of width count bytes) (len ∙ sym (length-numbers_of width count bytes)) (λ k d within.
     get_or_default numbers k d 0 within ∙ read k within ∙ sym (get_or-numbers_of width count bytes k d (omega arith)))
 
--- the same where the list that they were read into was written over
+-- The same if the list that they are read into is overwritten.
 pub numbers_of-overwritten : (width count : ℕ) (bytes numbers old : List ℕ) (len : ℕ) → len ≡ count → len ≡ length old → length numbers ≡ len →
     IsRead (λ n xs. big_number n xs) width bytes numbers → take len (numbers ++ drop (length numbers) old) ≡ numbers_of width count bytes
 numbers_of-overwritten width count bytes numbers old len is_count is_old is_new read =

@@ -1,15 +1,15 @@
--- A queue after a push and after a pop is a queue.
+-- A queue is still a queue after a push and after a pop.
 use Rattle.std.proofs.Common.{◌≡◌, ℕ, ◌^◌, ◌<◌, ◌==◌, List, [], ◌∷◌, ◌++◌, length, drop, Some, refl, ap, ◌∙◌, subst, arith}
 use Rattle.std.proofs.lemmas.Bool.{cond-false, ne_eqb}
 use Rattle.std.proofs.lemmas.List.{length-append, drop_at}
 use Rattle.std.proofs.lemmas.List.Elements.{All-drop}
 use Rattle.ring_object.specs.Bytes.{AreBytes}
 use Rattle.ring_things.specs.Numbers.{AreNumbers}
-use Rattle.ring_things.specs.Queue.{most, IsQueue, reading, after}
+use Rattle.ring_things.specs.Queue.{most, IsQueue, decoding, after}
 use Rattle.ring_things.specs.QueueLaws.{next_kept}
-use Rattle.ring_things.specs.declared.queue.Asked.TheVariants.{Push}
+use Rattle.ring_things.specs.declared.queue.QueueOperation.TheVariants.{Push}
 
-pub pushed : (items op : List ℕ) (value : ℕ) → AreBytes op → reading op ≡ Some (Push value) → (length items ≡ most → ⊥)
+pub pushed : (items op : List ℕ) (value : ℕ) → AreBytes op → decoding op ≡ Some (Push value) → (length items ≡ most → ⊥)
     → IsQueue items → IsQueue (items ++ value ∷ [])
 pushed items op value are asked room is =
     let kept : IsQueue (after items (Some (Push value))) = subst (λ a. IsQueue (after items a)) asked (next_kept items op are is) in

@@ -13,3 +13,7 @@ pub mod Replies
 pub mod Shelf
 pub mod ShelfLaws
 pub mod Table
+pub mod KeyedOperation
+pub mod KeyedLaws
+pub mod Reads
+pub mod Typed

@@ -1,4 +1,5 @@
--- A set of names keeps its laws.
+-- A set of names satisfies the laws of objects.
+-- Rules: Objects 1 to 3
 use Rattle.std.proofs.Common.{◌≡◌, ℕ, zero, suc, ◌+◌, ◌<◌, ◌≤◌, false, true, ◌==◌, nat_le, ◌&&◌, not, List, [], ◌∷◌}
 use Rattle.std.proofs.Common.{◌++◌, length, take, drop, insert, All, Option, Some, None, refl, sym, ap, ◌∙◌, subst}
 use Rattle.std.proofs.Common.{arith, eqb-true}
@@ -19,38 +20,40 @@ use Rattle.byteorder.specs.Endian.{big_number}
 use Rattle.ring_base.proofs.Cases.{none_of, map_some, Less-from}
 use Rattle.ring_object.specs.Bytes.{AreBytes}
 use Rattle.ring_object.specs.Operations.{IsReply, unreadable}
-use Rattle.ring_object.specs.Snapshots.{Restores}
+use Rattle.ring_object.specs.Snapshots.{HasExactSnapshots}
 use Rattle.ring_base.proofs.Cases.{guarded_some, and_then_some}
 use Rattle.ring_things.specs.Numbers.{exact_2, apart, together}
 use Rattle.ring_things.specs.Replies.{code_fits, AreBytes-rest, AreBytes-drop, AreBytes-take}
 use Rattle.ring_things.specs.Names.{most, IsName, is_name, by_bytes, AreAscending, IsSet, same, has, below, with_name}
-use Rattle.ring_things.specs.Names.{without, asking, reading, is_readable, reply, next, reply_to, after, spelled}
+use Rattle.ring_things.specs.Names.{without, name_operation, decoding, is_readable, reply, next, reply_to, after, list_encoding}
 use Rattle.ring_things.specs.Names.{snapshot_of, next_name, names_of, set_of}
-use Rattle.ring_things.specs.declared.names.Asked.{Asked}
-use Rattle.ring_things.specs.declared.names.Asked.TheVariants.{Insert, Remove, Has}
+use Rattle.ring_things.specs.declared.names.NameOperation.{NameOperation}
+use Rattle.ring_things.specs.declared.names.NameOperation.TheVariants.{Insert, Remove, Has}
 
+-- The empty list is a set.
 pub empty_IsSet : IsSet []
 unfolding IsStrictlySortedBy
 empty_IsSet = record { few = omega arith; each = All-nil IsName; ascending = tt }
 
--- what is asked for is a name
-abbrev pub Fits : Option Asked → Type 0
+-- The operand of a decoded operation is a name.
+abbrev pub Fits : Option NameOperation → Type 0
 Fits (Some (Insert name)) = IsName name
 Fits (Some (Remove name)) = IsName name
 Fits (Some (Has name)) = IsName name
 Fits None = Unit {0}
 
-asking_fits : (code : ℕ) (name : List ℕ) → IsName name → Fits (asking code name)
-asking_fits code name is =
+name_operation_fits : (code : ℕ) (name : List ℕ) → IsName name → Fits (name_operation code name)
+name_operation_fits code name is =
     cond_both (code == 1) _ _ Fits (λ _. is) (λ _. cond_both (code == 2) _ _ Fits (λ _. is) (λ _. cond_both (code == 3) _ _ Fits (λ _. is) (λ _. tt)))
 
-pub reading_fits : (op : List ℕ) → AreBytes op → Fits (reading op)
-reading_fits [] are = tt
-reading_fits (code ∷ name) are =
+-- The operand of every operation decoded from bytes is a name.
+pub decoding_fits : (op : List ℕ) → AreBytes op → Fits (decoding op)
+decoding_fits [] are = tt
+decoding_fits (code ∷ name) are =
     cond_both (is_name name) _ _ Fits
     (λ holds.
     let parts = and_parts (nat_le 1 (length name)) _ holds in
-    asking_fits code name (record { some = leb-true _ _ parts.0; short = leb-true _ _ parts.1; bytes = AreBytes-rest code name are }))
+    name_operation_fits code name (record { some = leb-true _ _ parts.0; short = leb-true _ _ parts.1; bytes = AreBytes-rest code name are }))
     (λ _. tt)
 
 above_by : (o p : Ordering) → is_lt o ≡ false → is_eq o ≡ false → p ≡ ordering_reverse o → p ≡ Less
@@ -58,11 +61,11 @@ above_by Less p not_less not_equal is = absurd cc
 above_by Equal p not_less not_equal is = absurd cc
 above_by Greater p not_less not_equal is = is
 
--- a name that is neither below nor the same is above
+-- A name that is neither below another nor equal to it is above it.
 pub above : (other name : List ℕ) → is_lt (by_bytes other name) ≡ false → same name other ≡ false → by_bytes name other ≡ Less
 above other name not_below differs = above_by (by_bytes other name) (by_bytes name other) not_below differs (nat_list_cmp_total.antisymm name other)
 
--- all names of a list are above a name that is below the first
+-- A name below the first of ascending names is below all of them.
 pub All-above : (name other : List ℕ) (names : List (List ℕ)) → by_bytes name other ≡ Less
     → AllByRecursion (λ y. by_bytes other y ≡ Less) names → AllByRecursion (λ y. by_bytes name y ≡ Less) names
 All-above name other [] before each = tt
@@ -72,6 +75,7 @@ All-insert : (P : List ℕ → Type 0) (names : List (List ℕ)) (i : ℕ) (name
 All-insert P names i name each this = All-append P (take i names) (name ∷ drop i names) (All-take P i names each)
     (All-cons P name (drop i names) this (All-drop P i names each))
 
+-- A set stays ascending with a name inserted at its position.
 pub AreAscending-with_name : (name : List ℕ) (names : List (List ℕ)) → has name names ≡ false → AreAscending names → AreAscending (with_name name names)
 unfolding IsStrictlySortedBy below
 AreAscending-with_name name [] missing ascending = (tt, tt)
@@ -97,6 +101,7 @@ length-without name (x ∷ xs) =
     let others = length-without name xs in
     cond_both (not (same name x)) (x ∷ without name xs) (without name xs) (λ ys. length ys ≤ length (x ∷ xs)) (λ _. omega arith) (λ _. omega arith)
 
+-- A set with room is still a set with a name inserted.
 pub IsSet-with_name : (name : List ℕ) (names : List (List ℕ)) → IsName name → has name names ≡ false
     → length names < most → IsSet names → IsSet (with_name name names)
 IsSet-with_name name names fits missing room is = record {
@@ -105,6 +110,7 @@ IsSet-with_name name names fits missing room is = record {
   ascending = AreAscending-with_name name names missing is.ascending;
 }
 
+-- A set is still a set with a name removed.
 pub IsSet-without : (name : List ℕ) (names : List (List ℕ)) → IsSet names → IsSet (without name names)
 IsSet-without name names is = record {
   few = omega (arith, length-without name names, is.few);
@@ -112,7 +118,7 @@ IsSet-without name names is = record {
   ascending = IsStrictlySortedBy-filter by_bytes (λ other. not (same name other)) names is.ascending;
 }
 
-after_kept : (names : List (List ℕ)) (op : Option Asked) → Fits op → IsSet names → IsSet (after names op)
+after_kept : (names : List (List ℕ)) (op : Option NameOperation) → Fits op → IsSet names → IsSet (after names op)
 after_kept names (Some (Insert name)) fits is =
     cond_both (has name names) _ _ IsSet (λ _. is)
     (λ missing. cond_both (length names == most) _ _ IsSet (λ _. is) (λ room. IsSet-with_name name names fits missing
@@ -121,10 +127,11 @@ after_kept names (Some (Remove name)) fits is = IsSet-without name names is
 after_kept names (Some (Has name)) fits is = is
 after_kept names None fits is = is
 
+-- After every operation the content is a set.
 pub next_kept : (names : List (List ℕ)) (op : List ℕ) → AreBytes op → IsSet names → IsSet (next names op)
-next_kept names op are is = after_kept names (reading op) (reading_fits op are) is
+next_kept names op are is = after_kept names (decoding op) (decoding_fits op are) is
 
-reply_fits : (names : List (List ℕ)) (op : Option Asked) → IsReply (reply_to names op)
+reply_fits : (names : List (List ℕ)) (op : Option NameOperation) → IsReply (reply_to names op)
 reply_fits names (Some (Insert name)) =
     cond_both (has name names) _ _ IsReply (λ _. code_fits 1 (omega arith))
     (λ _. cond_both (length names == most) _ _ IsReply (λ _. code_fits 2 (omega arith)) (λ _. code_fits 0 (omega arith)))
@@ -132,13 +139,15 @@ reply_fits names (Some (Remove name)) = cond_both (has name names) _ _ IsReply (
 reply_fits names (Some (Has name)) = cond_both (has name names) _ _ IsReply (λ _. code_fits 0 (omega arith)) (λ _. code_fits 1 (omega arith))
 reply_fits names None = code_fits 255 (omega arith)
 
+-- Every reply has at most 64 bytes.
 pub replies_fit : (names : List (List ℕ)) (op : List ℕ) → AreBytes op → IsSet names → IsReply (reply names op)
-replies_fit names op are is = reply_fits names (reading op)
+replies_fit names op are is = reply_fits names (decoding op)
 
+-- Bytes that are no operation get the reply `FF` and change nothing.
 pub ignored : (names : List (List ℕ)) (op : List ℕ) → is_readable op ≡ false → (reply names op ≡ unreadable) × (next names op ≡ names)
-ignored names op none = rw (none_of (reading op) none) (refl, refl)
+ignored names op none = rw (none_of (decoding op) none) (refl, refl)
 
--- a name and what stands behind it
+-- The encoding of a name, with any bytes after it, decodes to that name.
 next_first : (last name rest : List ℕ) → IsName name → by_bytes last name ≡ Less → next_name last (length name ∷ (name ++ rest)) ≡ Some name
 next_first last name rest is up =
     let front : take (length name) (name ++ rest) ≡ name = take_at name rest (length name) refl in
@@ -148,17 +157,17 @@ next_first last name rest is up =
     and_from _ _ (and_from _ _ (le-leb _ _ is.some) (le-leb _ _ is.short)) (and_from _ _ (le-leb _ _ long) (rw (front, up) refl)) in
     cond-true _ _ _ test ∙ ap Some front
 
--- ascending names, from above the last one on, are read where they are spelled
-again : (last : List ℕ) (names : List (List ℕ)) → All IsName names → AreAscending (last ∷ names) → names_of (length names) last (spelled names) ≡ Some names
+-- The encoding of ascending names above the last one decodes to these names.
+again : (last : List ℕ) (names : List (List ℕ)) → All IsName names → AreAscending (last ∷ names) → names_of (length names) last (list_encoding names) ≡ Some names
 unfolding names_of IsStrictlySortedBy
 again last [] each ascending = refl
 again last (x ∷ xs) each ascending =
-    let first : next_name last (length x ∷ (x ++ spelled xs)) ≡ Some x = next_first last x (spelled xs) (All-head IsName x xs each) ascending.0.0 in
-    let rest : drop (length x) (x ++ spelled xs) ≡ spelled xs = drop_at x (spelled xs) (length x) refl in
-    let others : names_of (length xs) x (spelled xs) ≡ Some xs = again x xs (All-tail IsName x xs each) ascending.1 in
+    let first : next_name last (length x ∷ (x ++ list_encoding xs)) ≡ Some x = next_first last x (list_encoding xs) (All-head IsName x xs each) ascending.0.0 in
+    let rest : drop (length x) (x ++ list_encoding xs) ≡ list_encoding xs = drop_at x (list_encoding xs) (length x) refl in
+    let others : names_of (length xs) x (list_encoding xs) ≡ Some xs = again x xs (All-tail IsName x xs each) ascending.1 in
     rw (flat_map-cons (λ (name : List ℕ). length name ∷ name) x xs, first, rest, others) refl
 
--- what was read: a name, above the last one, that stands at the front
+-- A decoded name: a name above the last one, whose encoding the bytes begin with.
 record IsNext (last bytes name : List ℕ) : Type 0 where
   is : IsName name
   up : by_bytes last name ≡ Less
@@ -183,12 +192,12 @@ next_exact last (len ∷ rest) name are is =
       text = rw size (ap (λ xs. len ∷ xs) (take-append-drop len rest));
     })
 
--- what was read: just so many names, ascending from above the last one on, and nothing behind them
+-- Decoded names: exactly `count` of them, ascending, above the last one, and the bytes are their encoding.
 record AreNext (count : ℕ) (last bytes : List ℕ) (names : List (List ℕ)) : Type 0 where
   many : length names ≡ count
   each : All IsName names
   ascending : AreAscending (last ∷ names)
-  text : spelled names ≡ bytes
+  text : list_encoding names ≡ bytes
 
 exact : (count : ℕ) (last bytes : List ℕ) (names : List (List ℕ)) → AreBytes bytes → names_of count last bytes ≡ Some names → AreNext count last bytes names
 unfolding names_of IsStrictlySortedBy
@@ -215,7 +224,7 @@ nothing_below : (name : List ℕ) → IsName name → by_bytes [] name ≡ Less
 nothing_below [] is = absurd (omega (arith, is.some))
 nothing_below (x ∷ xs) is = refl
 
--- the empty text is below every name
+-- The empty text is below every name.
 AreAscending-from_nothing : (names : List (List ℕ)) → All IsName names → AreAscending names → AreAscending ([] ∷ names)
 unfolding IsStrictlySortedBy
 AreAscending-from_nothing names each ascending = (
@@ -224,8 +233,9 @@ AreAscending-from_nothing names each ascending = (
   ascending,
 )
 
+-- Names decoded from a snapshot are a set.
 pub IsSet-names_of : (count : ℕ) (bytes : List ℕ) (names : List (List ℕ)) → count ≤ most → AreBytes bytes
-    → names_of count [] bytes ≡ Some names → IsSet names × (length names ≡ count) × (spelled names ≡ bytes)
+    → names_of count [] bytes ≡ Some names → IsSet names × (length names ≡ count) × (list_encoding names ≡ bytes)
 unfolding IsStrictlySortedBy
 IsSet-names_of count bytes names few are is =
     let read = exact count [] bytes names are is in
@@ -233,7 +243,7 @@ IsSet-names_of count bytes names few are is =
 
 restored : (names : List (List ℕ)) → IsSet names → set_of (snapshot_of names) ≡ Some names
 restored names is =
-    let parts = apart 2 (length names) (spelled names) (omega (arith, is.few)) in
+    let parts = apart 2 (length names) (list_encoding names) (omega (arith, is.few)) in
     let long : 2 ≤ length (snapshot_of names) = omega arith in
     let few : big_number 2 (snapshot_of names) ≤ most = rw parts.0 is.few in
     let whole : names_of (big_number 2 (snapshot_of names)) [] (drop 2 (snapshot_of names)) ≡ Some names =
@@ -245,7 +255,8 @@ only bytes names are is =
     let g = guarded_some (nat_le 2 (length bytes) && nat_le (big_number 2 bytes) most) _ names is in
     let a = and_parts (nat_le 2 (length bytes)) _ g.0 in
     let read = IsSet-names_of (big_number 2 bytes) (drop 2 bytes) names (leb-true _ _ a.1) (AreBytes-drop 2 bytes are) g.1 in
-    (read.0, together 2 exact_2 bytes (leb-true _ _ a.0) are (length names) (spelled names) read.1 read.2)
+    (read.0, together 2 exact_2 bytes (leb-true _ _ a.0) are (length names) (list_encoding names) read.1 read.2)
 
-pub sets_restore : Restores IsSet snapshot_of set_of
+-- Exactly the snapshots of sets are restored, each to its set.
+pub sets_restore : HasExactSnapshots IsSet snapshot_of set_of
 sets_restore = record { same = λ names is short. restored names is; only = only }

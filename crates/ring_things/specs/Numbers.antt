@@ -1,4 +1,4 @@
--- Numbers of a width in bytes, big-endian, one after the other; and that they read back.
+-- Lists of numbers of a width in bytes, big-endian: their encoding, their decoding, and that the two are inverse.
 use Rattle.std.proofs.Common.{◌≡◌, ℕ, zero, suc, ◌*◌, ◌^◌, ◌<◌, ◌≤◌, List, [], ◌∷◌, ◌++◌, length, take, drop, All, refl, sym, ap, ◌∙◌, arith}
 use Rattle.std.proofs.Common.{append-nil}
 use Rattle.std.specs.List.{flat_map}
@@ -10,62 +10,66 @@ use Rattle.byteorder.specs.Endian.{big_bytes, big_number}
 use Rattle.byteorder.specs.Numbers.{big_number-reads_back, big_from-append, big_from-lt, length-bytes_high_first}
 use Rattle.ring_object.specs.Bytes.{AreBytes, bytes_everywhere}
 
--- the bytes of the numbers
-abbrev pub spelled : ℕ → List ℕ → List ℕ
-spelled width numbers = flat_map (λ number. big_bytes width number) numbers
+-- The bytes of the numbers.
+abbrev pub list_encoding : ℕ → List ℕ → List ℕ
+list_encoding width numbers = flat_map (λ number. big_bytes width number) numbers
 
--- the first count numbers
+-- The first `count` numbers of the bytes.
 unfoldable pub numbers_of : ℕ → ℕ → List ℕ → List ℕ
 numbers_of width zero bytes = []
 numbers_of width (suc count) bytes = big_number width bytes ∷ numbers_of width count (drop width bytes)
 
--- numbers of the width
+-- The numbers fit the width.
 abbrev pub AreNumbers : ℕ → List ℕ → Type 0
 AreNumbers width numbers = All (λ number. number < 256 ^ width) numbers
 
--- the number that bytes make fits them
+-- A number decoded from bytes fits the width.
 pub big_number-lt : (width : ℕ) (bytes : List ℕ) → AreBytes bytes → big_number width bytes < 256 ^ width
 big_number-lt width bytes are = big_from-lt 0 width bytes (bytes_everywhere bytes are)
 
--- only the first bytes count
+-- Only the first `width` bytes count.
 pub big_number-take : (width : ℕ) (bytes : List ℕ) → width ≤ length bytes → big_number width bytes ≡ big_number width (take width bytes)
 big_number-take width bytes long =
     ap (big_number width) (sym (take-append-drop width bytes)) ∙ big_from-append width (take width bytes)
     (drop width bytes) (omega (arith, length-take width bytes))
 
--- the bytes of the number that they make are they
+-- The width is exact: a decoded number encodes to its bytes.
 abbrev pub IsExact : ℕ → Type 0
 IsExact width = (bytes : List ℕ) → length bytes ≡ width → AreBytes bytes → big_bytes width (big_number width bytes) ≡ bytes
 
--- this holds of 8 bytes, and of 2
+-- 8 bytes are an exact width.
 pub exact_8 : IsExact 8
 exact_8 bytes len are = be_bytes_8 bytes _ len (bytes_everywhere bytes are) (omega arith)
 
+-- 2 bytes are an exact width.
 pub exact_2 : IsExact 2
 exact_2 bytes len are = be_bytes_2 bytes _ len (bytes_everywhere bytes are) (omega arith)
 
--- a number at the front is its bytes
+-- The number at the start of the bytes encodes to them.
 pub big_bytes-big_number : (width : ℕ) → IsExact width → (bytes : List ℕ) → width ≤ length bytes → AreBytes bytes
     → big_bytes width (big_number width bytes) ++ drop width bytes ≡ bytes
 big_bytes-big_number width exact bytes long are =
     let front = exact (take width bytes) (omega (arith, length-take width bytes)) (All-take (λ byte. byte < 256) width bytes are) in
     rw (big_number-take width bytes long, front) (take-append-drop width bytes)
 
-pub length-spelled : (width : ℕ) (numbers : List ℕ) → length (spelled width numbers) ≡ width * length numbers
-length-spelled width [] = omega arith
-length-spelled width (x ∷ xs) =
+-- The encoding has `width` bytes for each number.
+pub length-list_encoding : (width : ℕ) (numbers : List ℕ) → length (list_encoding width numbers) ≡ width * length numbers
+length-list_encoding width [] = omega arith
+length-list_encoding width (x ∷ xs) =
     rw (
       flat_map-cons (λ number. big_bytes width number) x xs,
-      length-append (big_bytes width x) (spelled width xs),
+      length-append (big_bytes width x) (list_encoding width xs),
       length-bytes_high_first width x,
-      length-spelled width xs,
+      length-list_encoding width xs,
     ) (omega arith)
 
+-- `count` numbers are decoded.
 pub length-numbers_of : (width count : ℕ) (bytes : List ℕ) → length (numbers_of width count bytes) ≡ count
 unfolding numbers_of
 length-numbers_of width zero bytes = refl
 length-numbers_of width (suc count) bytes = ap suc (length-numbers_of width count (drop width bytes))
 
+-- Decoded numbers fit the width.
 pub AreNumbers-numbers_of : (width count : ℕ) (bytes : List ℕ) → AreBytes bytes → AreNumbers width (numbers_of width count bytes)
 unfolding numbers_of
 AreNumbers-numbers_of width zero bytes are = All-nil (λ number. number < 256 ^ width)
@@ -73,23 +77,25 @@ AreNumbers-numbers_of width (suc count) bytes are =
     All-cons (λ number. number < 256 ^ width) (big_number width bytes) (numbers_of width count (drop width bytes)) (big_number-lt width bytes are)
     (AreNumbers-numbers_of width count (drop width bytes) (All-drop (λ byte. byte < 256) width bytes are))
 
-pub numbers_of-spelled : (width : ℕ) (numbers : List ℕ) → AreNumbers width numbers → numbers_of width (length numbers) (spelled width numbers) ≡ numbers
+-- Encoded numbers decode to themselves.
+pub numbers_of-list_encoding : (width : ℕ) (numbers : List ℕ) → AreNumbers width numbers → numbers_of width (length numbers) (list_encoding width numbers) ≡ numbers
 unfolding numbers_of
-numbers_of-spelled width [] are = refl
-numbers_of-spelled width (x ∷ xs) are =
-    let rest : drop width (big_bytes width x ++ spelled width xs) ≡ spelled width xs = drop_at (big_bytes width x)
-    (spelled width xs) width (length-bytes_high_first width x) in
-    let first : big_number width (big_bytes width x ++ spelled width xs) ≡ x = big_number-reads_back width x
-    (spelled width xs) (All-head (λ number. number < 256 ^ width) x xs are) in
-    let others : numbers_of width (length xs) (spelled width xs) ≡ xs = numbers_of-spelled width xs (All-tail (λ number. number < 256 ^ width) x xs are) in
+numbers_of-list_encoding width [] are = refl
+numbers_of-list_encoding width (x ∷ xs) are =
+    let rest : drop width (big_bytes width x ++ list_encoding width xs) ≡ list_encoding width xs = drop_at (big_bytes width x)
+    (list_encoding width xs) width (length-bytes_high_first width x) in
+    let first : big_number width (big_bytes width x ++ list_encoding width xs) ≡ x = big_number-reads_back width x
+    (list_encoding width xs) (All-head (λ number. number < 256 ^ width) x xs are) in
+    let others : numbers_of width (length xs) (list_encoding width xs) ≡ xs = numbers_of-list_encoding width xs (All-tail (λ number. number < 256 ^ width) x xs are) in
     rw (flat_map-cons (λ number. big_bytes width number) x xs, first, rest, others) refl
 
-pub spelled-numbers_of : (width : ℕ) → IsExact width → (count : ℕ) (bytes : List ℕ) → length bytes ≡ width * count
-    → AreBytes bytes → spelled width (numbers_of width count bytes) ≡ bytes
+-- Decoded numbers encode to the bytes.
+pub list_encoding-numbers_of : (width : ℕ) → IsExact width → (count : ℕ) (bytes : List ℕ) → length bytes ≡ width * count
+    → AreBytes bytes → list_encoding width (numbers_of width count bytes) ≡ bytes
 unfolding numbers_of
-spelled-numbers_of width exact zero bytes len are = sym (nil_from_length bytes (omega arith))
-spelled-numbers_of width exact (suc count) bytes len are =
-    let others = spelled-numbers_of width exact count (drop width bytes) (omega (arith, length-drop width bytes))
+list_encoding-numbers_of width exact zero bytes len are = sym (nil_from_length bytes (omega arith))
+list_encoding-numbers_of width exact (suc count) bytes len are =
+    let others = list_encoding-numbers_of width exact count (drop width bytes) (omega (arith, length-drop width bytes))
     (All-drop (λ byte. byte < 256) width bytes are) in
     rw (
       flat_map-cons (λ number. big_bytes width number) (big_number width bytes)
@@ -97,18 +103,18 @@ spelled-numbers_of width exact (suc count) bytes len are =
       others,
     ) (big_bytes-big_number width exact bytes (omega arith) are)
 
--- the number that its bytes make is it
+-- An encoded number decodes to itself.
 pub big_number-whole : (width number : ℕ) → number < 256 ^ width → big_number width (big_bytes width number) ≡ number
 big_number-whole width number fits =
     ap (big_number width) (sym (append-nil (big_bytes width number))) ∙ big_number-reads_back width number [] fits
 
--- a number and the text behind it stand apart
+-- An encoded number and the text after it are recovered from their concatenation.
 pub apart : (width number : ℕ) (text : List ℕ) → number < 256 ^ width →
     (big_number width (big_bytes width number ++ text) ≡ number) × (drop width (big_bytes width number ++ text) ≡ text)
 apart width number text fits =
     (big_number-reads_back width number text fits, drop_at (big_bytes width number) text width (length-bytes_high_first width number))
 
--- and what was read as such stands there
+-- A decoded number and the rest concatenate to the bytes.
 pub together : (width : ℕ) → IsExact width → (bytes : List ℕ) → width ≤ length bytes → AreBytes bytes → (number : ℕ) (text : List ℕ) →
     number ≡ big_number width bytes → text ≡ drop width bytes → big_bytes width number ++ text ≡ bytes
 together width exact bytes long are number text is_number is_text =

@@ -1,72 +1,74 @@
--- A queue as a table: how an operation is read, what is replied to it, and which values stand after it.
--- Objects, of docs/PROTOCOL.md; Operations and replies, and Snapshots, of docs/FORMATS.md.
+-- A queue as a table: how an operation is decoded, the reply to it, and the values after it.
+-- Rules: Objects 1 to 3 and 5
+-- Formats: Operations and replies, Snapshots
 use Rattle.std.specs.Prelude.{ℕ, ◌*◌, ◌≤◌, Bool, ◌==◌, nat_le, ◌&&◌, if◌then◌else◌, List, [], ◌∷◌, ◌++◌, length, drop, Option, Some, None, is_some}
 use Rattle.byteorder.specs.Endian.{big_bytes, big_number}
 use Rattle.ring_object.specs.Operations.{unreadable}
-use Rattle.ring_things.specs.Numbers.{spelled, numbers_of, AreNumbers}
-use Rattle.ring_things.specs.declared.queue.Asked.{Asked}
-use Rattle.ring_things.specs.declared.queue.Asked.TheVariants.{Push, Pop, Count}
+use Rattle.ring_things.specs.Numbers.{list_encoding, numbers_of, AreNumbers}
+use Rattle.ring_things.specs.declared.queue.QueueOperation.{QueueOperation}
+use Rattle.ring_things.specs.declared.queue.QueueOperation.TheVariants.{Push, Pop, Count}
 
--- the most values that a queue may hold
+-- The most values in a queue.
 abbrev pub most : ℕ
 most = 1024
 
--- a queue's content: at most 1,024 values of 8 bytes, the first first
+-- A queue's content: at most 1,024 values of 8 bytes, first in first.
 pub record IsQueue (items : List ℕ) : Type 0 where
   pub few : length items ≤ most
   pub numbers : AreNumbers 8 items
 
--- the operation that these bytes are: a code, and the value that it asks for
-abbrev pub reading : List ℕ → Option Asked
-reading (code ∷ rest) =
+-- The operation that the bytes encode, if any: a code, and its operand.
+abbrev pub decoding : List ℕ → Option QueueOperation
+decoding (code ∷ rest) =
     if code == 1 && length rest == 8 then Some (Push (big_number 8 rest))
     else if code == 2 && length rest == 0 then Some Pop
     else if code == 3 && length rest == 0 then Some Count
     else None
-reading [] = None
+decoding [] = None
 
--- the bytes of an operation
-abbrev pub spelling : Asked → List ℕ
-spelling (Push value) = 1 ∷ big_bytes 8 value
-spelling Pop = 2 ∷ []
-spelling Count = 3 ∷ []
+-- The bytes of an operation.
+abbrev pub encoding : QueueOperation → List ℕ
+encoding (Push value) = 1 ∷ big_bytes 8 value
+encoding Pop = 2 ∷ []
+encoding Count = 3 ∷ []
 
--- whether these bytes are an operation
+-- Whether the bytes are an operation.
 abbrev pub is_readable : List ℕ → Bool
-is_readable op = is_some (reading op)
+is_readable op = is_some (decoding op)
 
--- what is replied to the operation that was read: push, `00`, or `01` at 1,024 values; pop, `00` and the first value, or `01` where there
--- is none; length, `00` and how many there are. Where none was read, `FF`
-abbrev pub reply_to : List ℕ → Option Asked → List ℕ
+-- The reply to a decoded operation. Push: `00`, or `01` with 1,024 values. Pop: `00` and the first value, or `01` if there
+-- is none. Length: `00` and the number of values. Bytes that are no operation: `FF`.
+abbrev pub reply_to : List ℕ → Option QueueOperation → List ℕ
 reply_to items (Some (Push value)) = if length items == most then 1 ∷ [] else 0 ∷ []
 reply_to [] (Some Pop) = 1 ∷ []
 reply_to (item ∷ items) (Some Pop) = 0 ∷ big_bytes 8 item
 reply_to items (Some Count) = 0 ∷ big_bytes 8 (length items)
 reply_to items None = unreadable
 
--- the values after it: a push puts its value last where there is room, a pop takes the first out; else they are unchanged
-abbrev pub after : List ℕ → Option Asked → List ℕ
+-- The values after a decoded operation. A push appends its value if there is room, a pop removes the first; all else is
+-- unchanged.
+abbrev pub after : List ℕ → Option QueueOperation → List ℕ
 after items (Some (Push value)) = if length items == most then items else items ++ value ∷ []
 after items (Some Pop) = drop 1 items
 after items (Some Count) = items
 after items None = items
 
--- the reply to these bytes
+-- The reply to the bytes of an operation.
 abbrev pub reply : List ℕ → List ℕ → List ℕ
-reply items op = reply_to items (reading op)
+reply items op = reply_to items (decoding op)
 
--- the values after these bytes
+-- The values after the bytes of an operation.
 abbrev pub next : List ℕ → List ℕ → List ℕ
-next items op = after items (reading op)
+next items op = after items (decoding op)
 
--- how many values there are, in 2 bytes, and the values, the first first
+-- The snapshot of a queue: the number of values in 2 bytes, and the values, first in first.
 abbrev pub snapshot_of : List ℕ → List ℕ
-snapshot_of items = big_bytes 2 (length items) ++ spelled 8 items
+snapshot_of items = big_bytes 2 (length items) ++ list_encoding 8 items
 
--- whether just as many values as are announced stand there
+-- Whether the bytes have exactly as many values as their head says.
 abbrev pub is_snapshot : List ℕ → Bool
 is_snapshot bytes = nat_le 2 (length bytes) && (nat_le (big_number 2 bytes) most && length (drop 2 bytes) == 8 * big_number 2 bytes)
 
--- the values that these bytes are the snapshot of
+-- The values of which the bytes are the snapshot, if any.
 abbrev pub queue_of : List ℕ → Option (List ℕ)
 queue_of bytes = if is_snapshot bytes then Some (numbers_of 8 (big_number 2 bytes) (drop 2 bytes)) else None

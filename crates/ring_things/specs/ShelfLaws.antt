@@ -1,4 +1,5 @@
--- Four objects keep their laws together.
+-- A shelf satisfies the laws of objects if its four objects do.
+-- Rules: Objects 1 to 3
 use Rattle.std.proofs.Common.{◌≡◌, ℕ, ◌+◌, ◌^◌, ◌<◌, ◌≤◌, Bool, false, true, ◌==◌, nat_le, ◌&&◌, if◌then◌else◌, List}
 use Rattle.std.proofs.Common.{[], ◌∷◌, ◌++◌, length, take, drop, Option, Some, None, refl, sym, ap, ◌∙◌, subst, arith}
 use Rattle.std.proofs.Common.{eqb-true, append_assoc}
@@ -10,31 +11,31 @@ use Rattle.byteorder.specs.Numbers.{big_number-reads_back, length-bytes_high_fir
 use Rattle.ring_object.specs.Bytes.{AreBytes}
 use Rattle.ring_object.specs.Operations.{IsReply, unreadable}
 use Rattle.ring_object.specs.Sized.{sized}
-use Rattle.ring_object.specs.Snapshots.{Restores}
+use Rattle.ring_object.specs.Snapshots.{HasExactSnapshots}
 use Rattle.ring_base.proofs.Cases.{guarded_some, and_then_some}
 use Rattle.ring_things.specs.Numbers.{IsExact, exact_8, big_bytes-big_number}
 use Rattle.ring_things.specs.Replies.{code_fits, AreBytes-rest, AreBytes-drop, AreBytes-take}
 use Rattle.ring_things.specs.Shelf.{shelf_readable, shelf_reply, shelf_next, first_text, texts_of}
 use Rattle.ring_things.specs.Shelf.{shelf_snapshot, both_of, four_of, objects_of, shelf_of}
 
--- what holds of each object
+-- Each object has a content of its type.
 abbrev pub AreContents : {P Q R S : Type 0} → (P → Type 0) → (Q → Type 0) → (R → Type 0) → (S → Type 0) → P × Q × R × S → Type 0
 AreContents p q r s objects = p objects.0 × q objects.1 × r objects.2 × s objects.3
 
--- the contents of an object stay contents under every operation
+-- An object's content is a content after every operation.
 abbrev Keeps : {O : Type 0} → (O → Type 0) → (O → List ℕ → O) → Type 0
 Keeps {O} IsContent next = (o : O) (op : List ℕ) → AreBytes op → IsContent o → IsContent (next o op)
 
--- each reply of an object has at most 64 bytes
+-- Each reply of an object has at most 64 bytes.
 abbrev Replies : {O : Type 0} → (O → Type 0) → (O → List ℕ → List ℕ) → Type 0
 Replies {O} IsContent reply = (o : O) (op : List ℕ) → AreBytes op → IsContent o → IsReply (reply o op)
 
--- an operation that can't be read is replied `FF`, and changes nothing
+-- Bytes that are no operation get the reply `FF` and change nothing.
 abbrev Ignores : {O : Type 0} → (List ℕ → Bool) → (O → List ℕ → List ℕ) → (O → List ℕ → O) → Type 0
 Ignores {O} is_readable reply next = (o : O) (op : List ℕ) → is_readable op ≡ false → (reply o op ≡ unreadable) × (next o op ≡ o)
 
 module _ {P Q R S : Type 0} (IsP : P → Type 0) (IsQ : Q → Type 0) (IsR : R → Type 0) (IsS : S → Type 0) where
-  -- the contents of four objects stay such, where those of each do
+  -- The shelf's content is a content after every operation, if that holds of each object.
   pub shelf_kept : (p : P → List ℕ → P) (q : Q → List ℕ → Q) (r : R → List ℕ → R) (s : S → List ℕ → S) → Keeps IsP p → Keeps IsQ q → Keeps IsR r → Keeps IsS s →
       (objects : P × Q × R × S) (op : List ℕ) → AreBytes op → AreContents IsP IsQ IsR IsS objects → AreContents IsP IsQ IsR IsS (shelf_next p q r s objects op)
   shelf_kept p q r s kp kq kr ks objects [] are is = is
@@ -46,7 +47,7 @@ module _ {P Q R S : Type 0} (IsP : P → Type 0) (IsQ : Q → Type 0) (IsR : R �
       (λ _. cond_both (which == 2) _ _ Holds (λ _. (is.0, is.1, kr objects.2 op bytes is.2, is.3))
       (λ _. cond_both (which == 3) _ _ Holds (λ _. (is.0, is.1, is.2, ks objects.3 op bytes is.3)) (λ _. is))))
 
-  -- each reply of four objects has at most 64 bytes, where those of each have
+  -- Each reply of the shelf has at most 64 bytes, if that holds of each object.
   pub shelf_replies : (p : P → List ℕ → List ℕ) (q : Q → List ℕ → List ℕ) (r : R → List ℕ → List ℕ)
       (s : S → List ℕ → List ℕ) → Replies IsP p → Replies IsQ q → Replies IsR r → Replies IsS s →
       (objects : P × Q × R × S) (op : List ℕ) → AreBytes op → AreContents IsP IsQ IsR IsS objects → IsReply (shelf_reply p q r s objects op)
@@ -58,7 +59,7 @@ module _ {P Q R S : Type 0} (IsP : P → Type 0) (IsQ : Q → Type 0) (IsR : R �
       (λ _. cond_both (which == 2) _ _ IsReply (λ _. rr objects.2 op bytes is.2)
       (λ _. cond_both (which == 3) _ _ IsReply (λ _. rs objects.3 op bytes is.3) (λ _. code_fits 255 (omega arith)))))
 
--- of a choice, what can't be read is ignored where each part ignores it
+-- A choice between four objects ignores what it can't read, if each object does.
 ignored_by : {O : Type 0} (a b c d p q r s : Bool) (reply_p reply_q reply_r reply_s : List ℕ) (next_p next_q next_r next_s o : O) →
     (p ≡ false → (reply_p ≡ unreadable) × (next_p ≡ o)) → (q ≡ false → (reply_q ≡ unreadable) × (next_q ≡ o)) →
     (r ≡ false → (reply_r ≡ unreadable) × (next_r ≡ o)) → (s ≡ false → (reply_s ≡ unreadable) × (next_s ≡ o)) →
@@ -74,7 +75,7 @@ ignored_by false false false false p q r s reply_p reply_q reply_r reply_s next_
 module _ {P Q R S : Type 0} (rp : P → List ℕ → List ℕ) (rq : Q → List ℕ → List ℕ) (rr : R → List ℕ → List ℕ)
     (rs : S → List ℕ → List ℕ) (np : P → List ℕ → P) (nq : Q → List ℕ → Q) (nr : R → List ℕ → R)
     (ns : S → List ℕ → S) where
-  -- four objects ignore what can't be read, where each does
+  -- The shelf ignores bytes that are no operation, if each object does.
   pub shelf_ignores : (p q r s : List ℕ → Bool) → Ignores p rp np → Ignores q rq nq → Ignores r rr nr → Ignores s rs ns →
       (objects : P × Q × R × S) (op : List ℕ) → shelf_readable p q r s op ≡ false
       → (shelf_reply rp rq rr rs objects op ≡ unreadable) × (shelf_next np nq nr ns objects op ≡ objects)
@@ -90,7 +91,7 @@ module _ {P Q R S : Type 0} (rp : P → List ℕ → List ℕ) (rq : Q → List 
       (λ e. let i = is objects.3 op e in (i.0, ap (λ (x : S). (objects.0, objects.1, objects.2, x)) i.1))
       none
 
--- a text behind its length is read
+-- A text after its length is read from the start of the bytes.
 first_text-sized : (width : ℕ) (text rest : List ℕ) → length text < 256 ^ width → first_text width (sized width text ++ rest) ≡ Some (text, rest)
 unfolding first_text sized
 first_text-sized width text rest fits =
@@ -104,7 +105,7 @@ first_text-sized width text rest fits =
     cond-true _ _ _ (and_from _ _ (le-leb _ _ long) (le-leb _ _ fit))
     ∙ rw (number, behind, take_at text rest (length text) refl, drop_at text rest (length text) refl) refl
 
--- what was read is the text behind its length
+-- What is read from the start of the bytes is a text after its length.
 record IsFirst (width : ℕ) (bytes : List ℕ) (parts : List ℕ × List ℕ) : Type 0 where
   whole : sized width parts.0 ++ parts.1 ≡ bytes
   text : AreBytes parts.0
@@ -129,7 +130,7 @@ first_text-exact width exact bytes parts are is =
       rest = AreBytes-drop number behind behind_bytes;
     })
 
--- four texts behind their lengths
+-- Four texts, each after its length.
 abbrev all_sized : List ℕ → List ℕ → List ℕ → List ℕ → List ℕ
 all_sized a b c d = sized 8 a ++ (sized 8 b ++ (sized 8 c ++ sized 8 d))
 
@@ -155,7 +156,7 @@ texts_of-sized a b c d short =
     let fourth : first_text 8 (sized 8 d) ≡ Some (d, []) = subst Holds (append-nil (sized 8 d)) (first_text-sized 8 d [] (omega arith)) in
     rw (first, second, third, fourth) refl
 
--- the bytes are these texts behind their lengths
+-- The bytes are exactly these texts, each after its length.
 record AreTexts (bytes : List ℕ) (texts : List ℕ × List ℕ × List ℕ × List ℕ) : Type 0 where
   whole : all_sized texts.0 texts.1 texts.2 texts.3 ≡ bytes
   first : AreBytes texts.0
@@ -194,7 +195,7 @@ both_some None b x is = absurd cc
 module _ {P Q R S : Type 0} (IsP : P → Type 0) (IsQ : Q → Type 0) (IsR : R → Type 0) (IsS : S → Type 0)
     (sp : P → List ℕ) (sq : Q → List ℕ) (sr : R → List ℕ) (ss : S → List ℕ)
     (rp : List ℕ → Option P) (rq : List ℕ → Option Q) (rr : List ℕ → Option R) (rs : List ℕ → Option S)
-    (lp : Restores IsP sp rp) (lq : Restores IsQ sq rq) (lr : Restores IsR sr rr) (ls : Restores IsS ss rs) where
+    (lp : HasExactSnapshots IsP sp rp) (lq : HasExactSnapshots IsQ sq rq) (lr : HasExactSnapshots IsR sr rr) (ls : HasExactSnapshots IsS ss rs) where
   four_some : (pairs : Option ((P × Q) × (R × S))) (objects : P × Q × R × S) → four_of pairs ≡ Some objects
       → pairs ≡ Some ((objects.0, objects.1), (objects.2, objects.3))
   four_some (Some x) objects is = ap Some (ap (λ (y : P × Q × R × S). ((y.0, y.1), (y.2, y.3))) (same_Some _ _ is))
@@ -238,6 +239,6 @@ module _ {P Q R S : Type 0} (IsP : P → Type 0) (IsQ : Q → Type 0) (IsR : R �
       let s = ls.only texts.3 objects.3 read.fourth back.1 in
       ((p.0, q.0, r.0, s.0), rw (p.1, q.1, r.1, s.1) read.whole)
 
-  -- exactly the snapshots of four contents are restored, where each object restores exactly its own
-  pub shelves_restore : Restores (AreContents IsP IsQ IsR IsS) (shelf_snapshot sp sq sr ss) (shelf_of rp rq rr rs)
+  -- Exactly the snapshots of four contents are restored, if each object restores exactly its own.
+  pub shelves_restore : HasExactSnapshots (AreContents IsP IsQ IsR IsS) (shelf_snapshot sp sq sr ss) (shelf_of rp rq rr rs)
   shelves_restore = record { same = same; only = only }

@@ -1,4 +1,6 @@
--- A table of numbers, one for each of n keys, and that it is restored from its snapshot.
+-- A table: a number for each of n keys, and that exactly its snapshot restores it.
+-- Rules: Objects 3
+-- Formats: Snapshots
 use Rattle.std.proofs.Common.{◌≡◌, ℕ, ◌*◌, ◌^◌, ◌<◌, ◌==◌, slice_set, length-set, if◌then◌else◌, List, length}
 use Rattle.std.proofs.Common.{replicate, Option, Some, None, sym, ap, ◌∙◌, subst, arith, eqb-true, eq-eqb}
 use Rattle.std.proofs.lemmas.Bool.{cond-true}
@@ -6,58 +8,60 @@ use Rattle.std.proofs.lemmas.List.{length-replicate}
 use Rattle.std.proofs.lemmas.Option.{same_Some}
 use Rattle.std.proofs.lemmas.List.Elements.{All-set, All-replicate}
 use Rattle.ring_object.specs.Bytes.{AreBytes}
-use Rattle.ring_object.specs.Snapshots.{Restores}
+use Rattle.ring_object.specs.Snapshots.{HasExactSnapshots}
 use Rattle.ring_base.proofs.Cases.{guarded_some}
-use Rattle.ring_things.specs.Numbers.{spelled, numbers_of, AreNumbers, exact_8, length-spelled, length-numbers_of}
-use Rattle.ring_things.specs.Numbers.{AreNumbers-numbers_of, numbers_of-spelled, spelled-numbers_of}
+use Rattle.ring_things.specs.Numbers.{list_encoding, numbers_of, AreNumbers, exact_8, length-list_encoding, length-numbers_of}
+use Rattle.ring_things.specs.Numbers.{AreNumbers-numbers_of, numbers_of-list_encoding, list_encoding-numbers_of}
 
--- how many keys the tables have that the code keeps: a key is a byte
+-- The number of keys of the tables in the code: a key is one byte.
 abbrev pub keys : ℕ
 keys = 256
 
--- a number of 8 bytes for each of n keys
+-- A table's content: a number of 8 bytes for each of n keys.
 pub record IsTable (n : ℕ) (table : List ℕ) : Type 0 where
   pub all_keys : length table ≡ n
   pub numbers : AreNumbers 8 table
 
--- the table at the start: 0 for each of n keys
+-- The table at the start: all zeros.
 abbrev pub zeros : ℕ → List ℕ
 zeros n = replicate n 0
 
--- the bytes of a table
+-- The snapshot of a table.
 abbrev pub snapshot_of : List ℕ → List ℕ
-snapshot_of numbers = spelled 8 numbers
+snapshot_of numbers = list_encoding 8 numbers
 
--- the table that these bytes are the snapshot of
+-- The table of which the bytes are the snapshot, if any.
 abbrev pub table_of : ℕ → List ℕ → Option (List ℕ)
 table_of n bytes = if length bytes == 8 * n then Some (numbers_of 8 n bytes) else None
 
--- the table at the start is one
+-- The table at the start is a table.
 pub zeros_IsTable : (n : ℕ) → IsTable n (zeros n)
 zeros_IsTable n = record { all_keys = length-replicate {A = ℕ} n 0; numbers = All-replicate (λ number. number < 256 ^ 8) n 0 (omega arith) }
 
+-- A table is still a table with a number stored.
 pub IsTable-set : (n : ℕ) (numbers : List ℕ) (key number : ℕ) → number < 256 ^ 8 → IsTable n numbers → IsTable n (slice_set numbers key number)
 IsTable-set n numbers key number fits is = record {
   all_keys = length-set numbers key number ∙ is.all_keys;
   numbers = All-set (λ number. number < 256 ^ 8) numbers key number fits is.numbers;
 }
 
+-- Numbers decoded from bytes are a table.
 pub IsTable-numbers_of : (n : ℕ) (bytes : List ℕ) → AreBytes bytes → IsTable n (numbers_of 8 n bytes)
 IsTable-numbers_of n bytes are = record { all_keys = length-numbers_of 8 n bytes; numbers = AreNumbers-numbers_of 8 n bytes are }
 
-restored : (n : ℕ) (numbers : List ℕ) → IsTable n numbers → table_of n (spelled 8 numbers) ≡ Some numbers
+restored : (n : ℕ) (numbers : List ℕ) → IsTable n numbers → table_of n (list_encoding 8 numbers) ≡ Some numbers
 restored n numbers is =
-    let len : length (spelled 8 numbers) ≡ 8 * n = length-spelled 8 numbers ∙ ap (λ m. 8 * m) is.all_keys in
-    let whole : numbers_of 8 n (spelled 8 numbers) ≡ numbers = ap (λ m. numbers_of 8 m (spelled 8 numbers))
-    (sym is.all_keys) ∙ numbers_of-spelled 8 numbers is.numbers in
-    cond-true (length (spelled 8 numbers) == 8 * n) _ _ (eq-eqb _ _ len) ∙ ap Some whole
+    let len : length (list_encoding 8 numbers) ≡ 8 * n = length-list_encoding 8 numbers ∙ ap (λ m. 8 * m) is.all_keys in
+    let whole : numbers_of 8 n (list_encoding 8 numbers) ≡ numbers = ap (λ m. numbers_of 8 m (list_encoding 8 numbers))
+    (sym is.all_keys) ∙ numbers_of-list_encoding 8 numbers is.numbers in
+    cond-true (length (list_encoding 8 numbers) == 8 * n) _ _ (eq-eqb _ _ len) ∙ ap Some whole
 
-only : (n : ℕ) (bytes numbers : List ℕ) → AreBytes bytes → table_of n bytes ≡ Some numbers → IsTable n numbers × (spelled 8 numbers ≡ bytes)
+only : (n : ℕ) (bytes numbers : List ℕ) → AreBytes bytes → table_of n bytes ≡ Some numbers → IsTable n numbers × (list_encoding 8 numbers ≡ bytes)
 only n bytes numbers are is =
     let g = guarded_some (length bytes == 8 * n) (Some (numbers_of 8 n bytes)) numbers is in
-    let P : List ℕ → Type 0 = λ v. IsTable n v × (spelled 8 v ≡ bytes) in
-    subst P (same_Some _ _ g.1) (IsTable-numbers_of n bytes are, spelled-numbers_of 8 exact_8 n bytes (eqb-true _ _ g.0) are)
+    let P : List ℕ → Type 0 = λ v. IsTable n v × (list_encoding 8 v ≡ bytes) in
+    subst P (same_Some _ _ g.1) (IsTable-numbers_of n bytes are, list_encoding-numbers_of 8 exact_8 n bytes (eqb-true _ _ g.0) are)
 
--- exactly the snapshots of tables are restored
-pub tables_restore : (n : ℕ) → Restores (IsTable n) snapshot_of (table_of n)
+-- Exactly the snapshots of tables are restored, each to its table.
+pub tables_restore : (n : ℕ) → HasExactSnapshots (IsTable n) snapshot_of (table_of n)
 tables_restore n = record { same = λ numbers is short. restored n numbers is; only = only n }

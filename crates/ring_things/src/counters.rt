@@ -1,9 +1,11 @@
-//! Counters: a count for each of 256 keys, that is added to and read.
+//! Counters: a count for each of 256 keys, with the operations add and read.
+//! Rules: Objects 2 to 5
+//! Formats: Operations and replies, Snapshots
 
 ghost use Rattle.std.specs.Prelude.{◌≡◌, Some};
-ghost use Rattle.ring_things.specs.Counters.{reading, spelling};
+ghost use Rattle.ring_things.specs.Counters.{decoding, encoding};
 
-use crate::operations::{Operation, keyed, keyed_with};
+use crate::operations::{Operation, key_operation, key_value_operation};
 use crate::replies::{Outcome, reply, reply_with};
 use crate::table::Table;
 use byteorder::{BigEndian, ByteOrder};
@@ -12,14 +14,16 @@ use ring_object::{Object, Reply};
 use std::alloc::{Allocator, Global};
 use std::marker::Model;
 
-/// 256 counts of 64 bits under the keys 0 to 255, at the start all 0. No operation takes memory.
+/// 256 counts of 64 bits under the keys 0 to 255, all 0 at the start. No operation takes memory.
 ///
 /// | Operation | Bytes | Reply |
 /// |---|---|---|
-/// | add | `01` key amount | `00` and the new count; `01` where it would pass 2^64 - 1, and nothing changes |
+/// | add | `01` key amount | `00` and the new count; `01`, and no change, if the new count would be above 2^64 - 1 |
 /// | read | `02` key | `00` count |
 ///
 /// The snapshot is the counts in the order of their keys, 2,048 bytes.
+/// Rules: Objects 5
+/// Formats: Operations and replies, Snapshots
 #[derive(Drop)]
 pub struct Counters<A: Allocator + Copy = Global> {
     counts: Table<A>,
@@ -62,15 +66,19 @@ impl<A: Allocator + Copy + Drop> Object for Counters<A> {
     }
 
     fn apply(&mut self, op: &[u8]) -> Result<Reply, Fault> {
-        Ok(match Asked::read(op) {
-            Some(Asked::Add(key, amount)) => match self.counts.get(key).checked_add(amount) {
+        Ok(match CounterOperation::read(op) {
+            Some(CounterOperation::Add(key, amount)) => match self
+                .counts
+                .get(key)
+                .checked_add(amount)
+            {
                 Some(count) => {
                     self.counts.set(key, count);
                     reply_with(Outcome::Done, count)
                 }
                 None => reply(Outcome::NotDone),
             },
-            Some(Asked::Read(key)) => reply_with(Outcome::Done, self.counts.get(key)),
+            Some(CounterOperation::Read(key)) => reply_with(Outcome::Done, self.counts.get(key)),
             None => reply(Outcome::Unreadable),
         })
     }
@@ -85,46 +93,48 @@ impl<A: Allocator + Copy + Drop> Object for Counters<A> {
     }
 }
 
-/// The operations of counters.
+/// The operations of counters, as bytes.
 impl Counters {
-    ghost use Rattle.ring_things.specs.declared.counters.Asked.TheVariants.{Add, Read};
+    ghost use Rattle.ring_things.specs.declared.counters.CounterOperation.TheVariants.{Add, Read};
 
-    /// Add this amount to the count under this key: `01`, the key, and the amount in 8 bytes.
+    /// Returns the operation that adds an amount to the count under a key: `01`, the key, and the amount in 8 bytes.
+    /// Formats: Operations and replies
     #[tactic(auto, using(crate::proofs::OperationsRead::add_read))]
     pub fn add(key: u8, amount: u64) -> Operation
-        ensures bytes { result ≡ spelling (Add key amount) }
-        ensures read { reading result ≡ Some (Add key amount) }
+        ensures bytes { result ≡ encoding (Add key amount) }
+        ensures read { decoding result ≡ Some (Add key amount) }
     {
-        keyed_with(1, key, amount)
+        key_value_operation(1, key, amount)
     }
 
-    /// Read the count under this key: `02` and the key.
+    /// Returns the operation that reads the count under a key: `02` and the key.
+    /// Formats: Operations and replies
     pub fn read(key: u8) -> Operation
-        ensures bytes { result ≡ spelling (Read key) }
-        ensures read { reading result ≡ Some (Read key) }
+        ensures bytes { result ≡ encoding (Read key) }
+        ensures read { decoding result ≡ Some (Read key) }
     {
-        keyed(2, key)
+        key_operation(2, key)
     }
 }
 
-/// What may be asked of counters.
-enum Asked {
-    /// To the count under this key, this amount.
+/// An operation of counters.
+enum CounterOperation {
+    /// The key and the amount to add to its count.
     Add(u8, u64),
-    /// Under this key.
+    /// The key whose count is read.
     Read(u8),
 }
 
-impl Asked {
-    fn read(op: &[u8]) -> Option<Asked>
-        ensures { result ≡ reading op.now }
+impl CounterOperation {
+    fn read(op: &[u8]) -> Option<CounterOperation>
+        ensures { result ≡ decoding op.now }
     {
         let [code, key, rest @ ..] = op else {
             return None;
         };
         match (*code, rest.len()) {
-            (1, 8) => Some(Asked::Add(*key, BigEndian::read_u64(rest))),
-            (2, 0) => Some(Asked::Read(*key)),
+            (1, 8) => Some(CounterOperation::Add(*key, BigEndian::read_u64(rest))),
+            (2, 0) => Some(CounterOperation::Read(*key)),
             _ => None,
         }
     }

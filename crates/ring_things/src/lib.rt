@@ -1,12 +1,16 @@
 //! Objects to replicate: registers, counters, a queue, a set of names, and a shelf of any four.
 //!
-//! Operations, replies and snapshots are bytes, told at each type in hexadecimal. Keys are a byte, values 8
-//! bytes, and all numbers are big-endian. Other bytes are no operation: they change nothing and are replied
-//! `FF`. In `specs/` each object is told by rows: how an operation is read, what is replied to it, and what the
-//! content is after it. [`Table`] is the content of registers and counters, for objects of one's own too.
+//! Operations, replies and snapshots are bytes; each type lists its own in hexadecimal. A key is one byte, a value 8 bytes,
+//! and all numbers are big-endian. Bytes that aren't an operation change nothing, and the reply to them is `FF`. In `specs/`
+//! each object is a table: how an operation is decoded, the reply to it, and the content after it. [`Table`] is the content
+//! of registers and counters; user-defined objects may use it too.
+//!
+//! Rules: Objects 1 to 6
+//! Formats: Operations and replies, Snapshots
 #![tactic(auto)]
 
 mod counters;
+mod keyed;
 mod names;
 mod numbers;
 mod operations;
@@ -15,12 +19,15 @@ mod registers;
 mod replies;
 mod shelf;
 mod table;
+mod typed_replies;
 
 pub use counters::Counters;
+pub use keyed::KeyedOperation;
 pub use names::Names;
 pub use operations::{Operation, ShelfOperation};
 pub use queue::Queue;
 pub use registers::Registers;
-pub use replies::{Outcome, Replied, reply, reply_with};
-pub use shelf::{Place, Shelf, Things};
+pub use replies::{Outcome, ReplyParts, reply, reply_with};
+pub use shelf::{Shelf, ShelfPlace, StandardObjects};
 pub use table::Table;
+pub use typed_replies::{done, done_with, refused_with, reply_of};

@@ -1,39 +1,43 @@
-//! A set of names.
+//! A set of names, with the operations insert, remove and has.
+//! Rules: Objects 2 to 5
+//! Formats: Operations and replies, Snapshots
 
 ghost use Rattle.std.specs.Prelude.{◌≡◌, ◌<◌, ◌≤◌, true, suc, [], ◌∷◌, ◌++◌, length, take, drop, All, vec_len};
 ghost use Rattle.std.specs.Prelude.{Some, is_some, IfSome, IfOk, IfErr, OnOk, OnErr};
 ghost use Rattle.std.specs.Ordering.{is_lt};
-ghost use Rattle.ring_things.specs.Names.{most, reading, spelling, by_bytes, AreAscending, IsName, IsFound, IsMissing};
+ghost use Rattle.ring_things.specs.Names.{most, decoding, encoding, by_bytes, AreAscending, IsName, IsFound, IsMissing};
 ghost use Rattle.ring_things.specs.Names.{next_name as name_at, names_of, snapshot_of};
 ghost use Rattle.ring_things.specs.NamesLaws.{Fits};
 
-use crate::operations::{Operation, headed};
+use crate::operations::{Operation, with_head_byte};
 use crate::replies::{Outcome, reply};
 use byteorder::{BigEndian, ByteOrder};
 use ring_base::Fault;
-use ring_object::{Object, Reply, Short};
+use ring_object::{Object, Reply, ShortBytes};
 use std::alloc::{Allocator, Global};
 use std::marker::Model;
 
-/// How many names a set may hold.
-const MOST: usize = 1024;
+/// The most names that a set holds.
+const MAX_NAMES: usize = 1024;
 
-/// The greatest length of a name.
-const LONGEST: usize = 64;
+/// The greatest length of a name in bytes.
+const MAX_NAME_LENGTH: usize = 64;
 
 /// A name, 1 to 64 bytes.
-type Name = Short<LONGEST>;
+type Name = ShortBytes<MAX_NAME_LENGTH>;
 
-/// A set of at most 1,024 names of 1 to 64 bytes, at the start none. A name is found in logarithmic time.
+/// A set of at most 1,024 names of 1 to 64 bytes, empty at the start. A name is found in logarithmic time.
 ///
 /// | Operation | Bytes | Reply |
 /// |---|---|---|
-/// | insert | `01` name | `01` where it was there; else `02` at 1,024 names; else `00`, and it is there |
-/// | remove | `02` name | `00`, and it is gone; or `01` where it wasn't there |
-/// | has | `03` name | `00` where it is there, `01` where it isn't |
+/// | insert | `01` name | `01` if the name is present; else `02` if there are 1,024 names; else `00`, and the name is added |
+/// | remove | `02` name | `00`, and the name is removed; `01` if it is absent |
+/// | has | `03` name | `00` if the name is present, `01` if it is absent |
 ///
-/// The snapshot is how many names there are, in 2 bytes, and the names, ascending by their bytes, each
-/// behind its length in a byte.
+/// The snapshot is the number of names in 2 bytes, then the names, ascending by their bytes, each after its length in
+/// one byte.
+/// Rules: Objects 5
+/// Formats: Operations and replies, Snapshots
 #[derive(Drop)]
 pub struct Names<A: Allocator + Copy = Global> {
     names: Vec<Name, A>,
@@ -80,13 +84,13 @@ impl<A: Allocator + Copy + Drop> Object for Names<A> {
     }
 
     fn apply(&mut self, op: &[u8]) -> Result<Reply, Fault> {
-        let Some(operation) = Asked::read(op) else {
+        let Some(operation) = NameOperation::read(op) else {
             return Ok(reply(Outcome::Unreadable));
         };
         match operation {
-            Asked::Insert(name) => self.put_in(name),
-            Asked::Remove(name) => Ok(self.take_out(&name)),
-            Asked::Has(name) => Ok(self.reply_of(&name)),
+            NameOperation::Insert(name) => self.insert_name(name),
+            NameOperation::Remove(name) => Ok(self.remove_name(&name)),
+            NameOperation::Has(name) => Ok(self.reply_of(&name)),
         }
     }
 
@@ -105,7 +109,7 @@ impl<A: Allocator + Copy + Drop> Object for Names<A> {
         }
         let count = BigEndian::read_u16(bytes) as usize;
         let rest = &bytes[2..];
-        if count > MOST || !are_names(count, rest) {
+        if count > MAX_NAMES || !are_names(count, rest) {
             return Err(Fault::BadSnapshot);
         }
         let names = read_names(alloc, count, rest)?;
@@ -115,10 +119,10 @@ impl<A: Allocator + Copy + Drop> Object for Names<A> {
 
 impl<A: Allocator + Copy + Drop> Names<A> {
     ghost use Rattle.ring_things.specs.Names.{reply_to, after};
-    ghost use Rattle.ring_things.specs.declared.names.Asked.TheVariants.{Insert, Remove, Has};
+    ghost use Rattle.ring_things.specs.declared.names.NameOperation.TheVariants.{Insert, Remove, Has};
 
-    /// Puts the name into the set, if there is room.
-    fn put_in(&mut self, name: Name) -> Result<Reply, Fault>
+    /// Adds the name to the set if there is room.
+    fn insert_name(&mut self, name: Name) -> Result<Reply, Fault>
         requires { IsName name }
         ensures reply { IfOk result (λ r. r ≡ reply_to self.old (Some (Insert name))) }
         ensures ok { OnOk result (self.new ≡ after self.old (Some (Insert name))) }
@@ -128,7 +132,7 @@ impl<A: Allocator + Copy + Drop> Names<A> {
         match place_of(self.names.as_slice(), &name) {
             Ok(_) => Ok(reply(Outcome::NotDone)),
             Err(place) => {
-                if self.names.len() == MOST {
+                if self.names.len() == MAX_NAMES {
                     return Ok(reply(Outcome::Full));
                 }
                 self.names.insert(place, name)?;
@@ -137,8 +141,7 @@ impl<A: Allocator + Copy + Drop> Names<A> {
         }
     }
 
-    /// Takes the name out of the set.
-    fn take_out(&mut self, name: &Name) -> Reply
+    fn remove_name(&mut self, name: &Name) -> Reply
         ensures reply { result ≡ reply_to self.old (Some (Remove name.now)) }
         ensures after { self.new ≡ after self.old (Some (Remove name.now)) }
     {
@@ -151,7 +154,7 @@ impl<A: Allocator + Copy + Drop> Names<A> {
         }
     }
 
-    /// Whether the name is in the set.
+    /// Replies whether the name is in the set.
     fn reply_of(&self, name: &Name) -> Reply
         ensures { result ≡ reply_to self.now (Some (Has name.now)) }
     {
@@ -162,40 +165,52 @@ impl<A: Allocator + Copy + Drop> Names<A> {
     }
 }
 
-/// The operations of a set of names. A name has 1 to 64 bytes: exactly one of more is refused, with `OpTooLong`.
+/// The operations of a set of names, as bytes. A name has 1 to 64 bytes; that it has at least one is the caller's condition.
 impl Names {
-    ghost use Rattle.ring_things.specs.declared.names.Asked.TheVariants.{Insert, Remove, Has};
+    ghost use Rattle.ring_things.specs.declared.names.NameOperation.TheVariants.{Insert, Remove, Has};
 
-    /// Put this name into the set: `01` and the name.
+    /// Returns the operation that adds a name to the set: `01` and the name.
+    /// The name has 1 to 64 bytes; that it isn't empty is the caller's condition.
+    ///
+    /// Errors: `OpTooLong` for a name of more than 64 bytes.
+    /// Formats: Operations and replies
     #[tactic(auto, using(crate::proofs::OperationsRead::named_read))]
     pub fn insert(name: &[u8]) -> Result<Operation, Fault>
         requires { 1 ≤ length name.now }
-        ensures bytes { IfOk result (λ op. op ≡ spelling (Insert name.now)) }
-        ensures read { IfOk result (λ op. reading op ≡ Some (Insert name.now)) }
+        ensures bytes { IfOk result (λ op. op ≡ encoding (Insert name.now)) }
+        ensures read { IfOk result (λ op. decoding op ≡ Some (Insert name.now)) }
         ensures short { OnOk result (length name.now ≤ 64) }
         ensures long { IfErr result (λ fault. (64 < length name.now) × (fault ≡ Fault.OpTooLong)) }
     {
         named(1, name)
     }
 
-    /// Take this name out of the set: `02` and the name.
+    /// Returns the operation that removes a name from the set: `02` and the name.
+    /// The name has 1 to 64 bytes; that it isn't empty is the caller's condition.
+    ///
+    /// Errors: `OpTooLong` for a name of more than 64 bytes.
+    /// Formats: Operations and replies
     #[tactic(auto, using(crate::proofs::OperationsRead::named_read))]
     pub fn remove(name: &[u8]) -> Result<Operation, Fault>
         requires { 1 ≤ length name.now }
-        ensures bytes { IfOk result (λ op. op ≡ spelling (Remove name.now)) }
-        ensures read { IfOk result (λ op. reading op ≡ Some (Remove name.now)) }
+        ensures bytes { IfOk result (λ op. op ≡ encoding (Remove name.now)) }
+        ensures read { IfOk result (λ op. decoding op ≡ Some (Remove name.now)) }
         ensures short { OnOk result (length name.now ≤ 64) }
         ensures long { IfErr result (λ fault. (64 < length name.now) × (fault ≡ Fault.OpTooLong)) }
     {
         named(2, name)
     }
 
-    /// Ask whether this name is in the set: `03` and the name.
+    /// Returns the operation that asks whether a name is in the set: `03` and the name.
+    /// The name has 1 to 64 bytes; that it isn't empty is the caller's condition.
+    ///
+    /// Errors: `OpTooLong` for a name of more than 64 bytes.
+    /// Formats: Operations and replies
     #[tactic(auto, using(crate::proofs::OperationsRead::named_read))]
     pub fn has(name: &[u8]) -> Result<Operation, Fault>
         requires { 1 ≤ length name.now }
-        ensures bytes { IfOk result (λ op. op ≡ spelling (Has name.now)) }
-        ensures read { IfOk result (λ op. reading op ≡ Some (Has name.now)) }
+        ensures bytes { IfOk result (λ op. op ≡ encoding (Has name.now)) }
+        ensures read { IfOk result (λ op. decoding op ≡ Some (Has name.now)) }
         ensures short { OnOk result (length name.now ≤ 64) }
         ensures long { IfErr result (λ fault. (64 < length name.now) × (fault ≡ Fault.OpTooLong)) }
     {
@@ -203,47 +218,50 @@ impl Names {
     }
 }
 
-/// A code and a name; `OpTooLong` where the name is too long.
+/// Returns the operation of a code and a name.
+///
+/// Errors: `OpTooLong` for a name of more than 64 bytes.
 fn named(code: u8, name: &[u8]) -> Result<Operation, Fault>
     ensures bytes { IfOk result (λ op. op ≡ code ∷ name.now) }
     ensures short { OnOk result (length name.now ≤ 64) }
     ensures long { IfErr result (λ fault. (64 < length name.now) × (fault ≡ Fault.OpTooLong)) }
 {
-    if name.len() > LONGEST {
+    if name.len() > MAX_NAME_LENGTH {
         return Err(Fault::OpTooLong);
     }
-    Ok(headed(code, name))
+    Ok(with_head_byte(code, name))
 }
 
-/// What may be asked of a set of names.
-enum Asked {
+/// An operation of a set of names.
+enum NameOperation {
     Insert(Name),
     Remove(Name),
     Has(Name),
 }
 
-impl Asked {
-    fn read(op: &[u8]) -> Option<Asked>
-        ensures value { result ≡ reading op.now }
+impl NameOperation {
+    fn read(op: &[u8]) -> Option<NameOperation>
+        ensures value { result ≡ decoding op.now }
         ensures fits { Fits result }
     {
         let [code, name @ ..] = op else {
             return None;
         };
-        if name.is_empty() || name.len() > LONGEST {
+        if name.is_empty() || name.len() > MAX_NAME_LENGTH {
             return None;
         }
         let name = Name::from_slice(name);
         match *code {
-            1 => Some(Asked::Insert(name)),
-            2 => Some(Asked::Remove(name)),
-            3 => Some(Asked::Has(name)),
+            1 => Some(NameOperation::Insert(name)),
+            2 => Some(NameOperation::Remove(name)),
+            3 => Some(NameOperation::Has(name)),
             _ => None,
         }
     }
 }
 
-/// Where the name stands among ascending names, or where it would stand.
+/// Returns the position of a name among ascending names, counted from 0.
+/// As `Err` it returns the position at which to insert a name that is absent.
 fn place_of(names: &[Name], name: &Name) -> Result<usize, usize>
     requires { AreAscending names.now }
     ensures found { IfOk result (IsFound name.now names.now) }
@@ -258,7 +276,7 @@ fn is_below(name: &Name, other: &Name) -> bool
     name.as_slice().cmp(other.as_slice()).is_lt()
 }
 
-/// The name that stands at the front of the bytes, if it is above the last one.
+/// Decodes the name at the start of the bytes. `None` if there is none, or if it isn't above `last`.
 fn next_name(last: &Name, bytes: &[u8]) -> Option<Name>
     ensures value { result ≡ name_at last.now bytes.now }
     ensures within { IfSome result (λ name. length name < length bytes.now) }
@@ -267,7 +285,7 @@ fn next_name(last: &Name, bytes: &[u8]) -> Option<Name>
         return None;
     };
     let len = *len as usize;
-    if len < 1 || len > LONGEST || len > rest.len() {
+    if len < 1 || len > MAX_NAME_LENGTH || len > rest.len() {
         return None;
     }
     let name = Name::from_slice(&rest[..len]);
@@ -277,7 +295,7 @@ fn next_name(last: &Name, bytes: &[u8]) -> Option<Name>
     Some(name)
 }
 
-/// What stands behind the name at the front of the bytes.
+/// Returns the bytes after the encoding of this name, which begins the bytes.
 fn behind<'a>(name: &Name, bytes: &'a [u8]) -> &'a [u8]
     requires { length name.now < length bytes.now }
     ensures { result.now ≡ drop (suc (length name.now)) bytes.now }
@@ -285,7 +303,7 @@ fn behind<'a>(name: &Name, bytes: &'a [u8]) -> &'a [u8]
     &bytes[name.len() + 1..]
 }
 
-/// Whether the bytes are just so many names, ascending.
+/// Returns whether the bytes are exactly `count` names, ascending.
 fn are_names(count: usize, bytes: &[u8]) -> bool
     ensures { result ≡ is_some (names_of count [] bytes.now) }
 {
@@ -301,7 +319,7 @@ fn are_names(count: usize, bytes: &[u8]) -> bool
     rest.is_empty()
 }
 
-/// The names that the bytes are, or `Memory`.
+/// Decodes `count` names, which the bytes are known to be. The only refusal is `Memory`.
 fn read_names<A: Allocator + Copy + Drop>(
     alloc: A,
     count: usize,
@@ -323,7 +341,7 @@ fn read_names<A: Allocator + Copy + Drop>(
     Ok(names)
 }
 
-/// Appends how many names there are and the names; or a front of that, for want of memory.
+/// Appends the number of names and the names. `Memory` may leave a prefix of them appended.
 fn append_names<A: Allocator + Copy + Drop>(
     out: &mut Vec<u8, A>,
     names: &[Name],

@@ -1,16 +1,17 @@
-//! Numbers of 8 bytes each, big-endian, one after the other.
+//! Lists of numbers of 8 bytes each, big-endian.
 
 ghost use Rattle.std.specs.Prelude.{◌≡◌, ◌+◌, ◌*◌, ◌≤◌, ◌++◌, length, IfOk, IfErr, vec_len, vec_capacity};
-ghost use Rattle.ring_things.specs.Numbers.{spelled, numbers_of};
+ghost use Rattle.ring_things.specs.Numbers.{list_encoding, numbers_of};
 
 use byteorder::{BigEndian, ByteOrder};
 use ring_base::Fault;
 use std::alloc::Allocator;
 
-/// Appends the numbers, in the room that there is.
+/// Appends the numbers to `out`, in order, in 8 bytes each, big-endian.
+/// That `out` has room for them is the caller's condition.
 pub(crate) fn append_numbers<A: Allocator>(out: &mut Vec<u8, A>, numbers: &[u64])
     requires { vec_len out.old + 8 * length numbers.now ≤ vec_capacity out.old }
-    ensures items { out.new.items ≡ out.old.items ++ spelled 8 numbers.now }
+    ensures items { out.new.items ≡ out.old.items ++ list_encoding 8 numbers.now }
     ensures len { vec_len out.new ≡ vec_len out.old + 8 * length numbers.now }
     ensures room { vec_capacity out.old ≤ vec_capacity out.new }
 {
@@ -21,7 +22,10 @@ pub(crate) fn append_numbers<A: Allocator>(out: &mut Vec<u8, A>, numbers: &[u64]
     }
 }
 
-/// The numbers that the bytes hold, 8 bytes each, big-endian; or `Memory`.
+/// Decodes `count` numbers of 8 bytes each, big-endian, into a new vector.
+/// That `bytes` has exactly 8 * `count` bytes is the caller's condition.
+///
+/// Errors: `Memory`.
 pub(crate) fn read_numbers<A: Allocator + Copy + Drop>(
     alloc: A,
     count: usize,

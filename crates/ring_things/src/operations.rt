@@ -1,26 +1,32 @@
-//! Operations of the objects: their bytes, kept in place.
+//! Operations of the objects as byte strings stored inline.
 
 ghost use Rattle.std.specs.Prelude.{◌≡◌, ◌<◌, [], ◌∷◌, length};
 ghost use Rattle.byteorder.specs.Endian.{big_bytes};
 
 use byteorder::{BigEndian, ByteOrder};
-use ring_object::Short;
+use ring_object::ShortBytes;
 
-/// An operation of an object that stands alone: 1 to 65 bytes, that [`apply`](ring_object::Object::apply) takes.
-pub type Operation = Short<65>;
+/// An operation of an object that isn't on a shelf, 1 to 65 bytes, for the object's
+/// [`apply`](ring_object::Object::apply).
+/// Formats: Operations and replies
+pub type Operation = ShortBytes<65>;
 
-/// An operation of an object on a shelf: 2 to 66 bytes, that the shelf's [`apply`](ring_object::Object::apply) takes.
-pub type ShelfOperation = Short<66>;
+/// An operation of an object on a shelf, 2 to 66 bytes, for the shelf's [`apply`](ring_object::Object::apply).
+/// The first byte is the object's number, 0 to 3.
+/// Formats: Operations and replies
+pub type ShelfOperation = ShortBytes<66>;
 
-/// A code and the key that it is asked of.
-pub fn keyed(code: u8, key: u8) -> Operation
+/// Returns the operation of two bytes, the code and the key.
+/// Formats: Operations and replies
+pub fn key_operation(code: u8, key: u8) -> Operation
     ensures { result ≡ code ∷ key ∷ [] }
 {
     Operation::from_slice(&[code, key])
 }
 
-/// A code, the key that it is asked of, and a value.
-pub fn keyed_with(code: u8, key: u8, value: u64) -> Operation
+/// Returns the operation of ten bytes: the code, the key, and the value in 8 bytes, big-endian.
+/// Formats: Operations and replies
+pub fn key_value_operation(code: u8, key: u8, value: u64) -> Operation
     ensures { result ≡ code ∷ key ∷ big_bytes 8 value }
 {
     let mut bytes = [code; 10];
@@ -29,13 +35,14 @@ pub fn keyed_with(code: u8, key: u8, value: u64) -> Operation
     Operation::from_slice(&bytes)
 }
 
-/// A byte, and the text behind it.
-pub fn headed<const N: usize>(head: u8, text: &[u8]) -> Short<N>
+/// Returns the byte `head` followed by the bytes `text`.
+/// That `text` has fewer than `N` bytes is the caller's condition.
+pub fn with_head_byte<const N: usize>(head: u8, text: &[u8]) -> ShortBytes<N>
     requires { length text.now < N }
     ensures { result ≡ head ∷ text.now }
 {
     let mut bytes = [head; N];
     let places = &mut bytes[..];
     places[1..=text.len()].copy_from_slice(text);
-    Short::from_slice(&places[..=text.len()])
+    ShortBytes::from_slice(&places[..=text.len()])
 }

@@ -1,7 +1,9 @@
-//! A queue: values that come out in the order in which they went in.
+//! A first-in first-out queue of values, with the operations push, pop and length.
+//! Rules: Objects 2 to 5
+//! Formats: Operations and replies, Snapshots
 
 ghost use Rattle.std.specs.Prelude.{◌≡◌, ◌+◌, ◌*◌, ◌≤◌, ◌++◌, length, Some, IfOk, IfErr, OnOk};
-ghost use Rattle.ring_things.specs.Queue.{reading, spelling};
+ghost use Rattle.ring_things.specs.Queue.{decoding, encoding};
 
 use crate::numbers::{append_numbers, read_numbers};
 use crate::operations::Operation;
@@ -13,18 +15,21 @@ use std::alloc::{Allocator, Global};
 use std::collections::VecDeque;
 use std::marker::Model;
 
-/// How many values a queue may hold.
-const MOST: usize = 1024;
+/// The most values that a queue holds.
+const MAX_ITEMS: usize = 1024;
 
-/// At most 1,024 values of 64 bits, the first in first, at the start none.
+/// A queue of at most 1,024 values of 64 bits, first in first out, empty at the start.
 ///
 /// | Operation | Bytes | Reply |
 /// |---|---|---|
-/// | push | `01` value | `00`, and the value is last; `01` at 1,024 values, and nothing changes |
-/// | pop | `02` | `00` and the first value, which is taken out; `01` where there is none |
-/// | length | `03` | `00` and how many values there are, in 8 bytes |
+/// | push | `01` value | `00`, and the value is last; `01`, and no change, if there are 1,024 values |
+/// | pop | `02` | `00` and the first value, which is removed; `01` if there is none |
+/// | length | `03` | `00` and the number of values, in 8 bytes |
 ///
-/// The snapshot is how many values there are, in 2 bytes, and the values, the first first.
+/// The snapshot is the number of values in 2 bytes, then the values in 8 bytes each, oldest first. All numbers are
+/// big-endian.
+/// Rules: Objects 5
+/// Formats: Operations and replies, Snapshots
 #[derive(Drop)]
 pub struct Queue<A: Allocator + Copy = Global> {
     items: VecDeque<u64, A>,
@@ -71,19 +76,19 @@ impl<A: Allocator + Copy + Drop> Object for Queue<A> {
     }
 
     fn apply(&mut self, op: &[u8]) -> Result<Reply, Fault> {
-        Ok(match Asked::read(op) {
-            Some(Asked::Push(value)) => {
-                if self.items.len() == MOST {
+        Ok(match QueueOperation::read(op) {
+            Some(QueueOperation::Push(value)) => {
+                if self.items.len() == MAX_ITEMS {
                     return Ok(reply(Outcome::NotDone));
                 }
                 self.items.push_back(value)?;
                 reply(Outcome::Done)
             }
-            Some(Asked::Pop) => match self.items.pop_front() {
+            Some(QueueOperation::Pop) => match self.items.pop_front() {
                 Some(value) => reply_with(Outcome::Done, value),
                 None => reply(Outcome::NotDone),
             },
-            Some(Asked::Count) => reply_with(Outcome::Done, self.items.len() as u64),
+            Some(QueueOperation::Count) => reply_with(Outcome::Done, self.items.len() as u64),
             None => reply(Outcome::Unreadable),
         })
     }
@@ -106,7 +111,7 @@ impl<A: Allocator + Copy + Drop> Object for Queue<A> {
         }
         let count = BigEndian::read_u16(bytes) as usize;
         let rest = &bytes[2..];
-        if count > MOST || rest.len() != 8 * count {
+        if count > MAX_ITEMS || rest.len() != 8 * count {
             return Err(Fault::BadSnapshot);
         }
         let items = VecDeque::from_vec(read_numbers(alloc, count, rest)?);
@@ -114,57 +119,60 @@ impl<A: Allocator + Copy + Drop> Object for Queue<A> {
     }
 }
 
-/// The operations of a queue.
+/// The operations of a queue, as bytes.
 impl Queue {
-    ghost use Rattle.ring_things.specs.declared.queue.Asked.TheVariants.{Push, Pop, Count};
+    ghost use Rattle.ring_things.specs.declared.queue.QueueOperation.TheVariants.{Push, Pop, Count};
 
-    /// Put this value last: `01` and the value in 8 bytes.
+    /// Returns the operation that appends a value to the queue: `01` and the value in 8 bytes.
+    /// Formats: Operations and replies
     #[tactic(auto, using(crate::proofs::OperationsRead::push_read))]
     pub fn push(value: u64) -> Operation
-        ensures bytes { result ≡ spelling (Push value) }
-        ensures read { reading result ≡ Some (Push value) }
+        ensures bytes { result ≡ encoding (Push value) }
+        ensures read { decoding result ≡ Some (Push value) }
     {
         let mut bytes = [1; 9];
         BigEndian::write_u64(&mut bytes[1..], value);
         Operation::from_slice(&bytes)
     }
 
-    /// Take the first value out: `02`.
+    /// Returns the operation that removes the oldest value and replies with it: `02`.
+    /// Formats: Operations and replies
     pub fn pop() -> Operation
-        ensures bytes { result ≡ spelling Pop }
-        ensures read { reading result ≡ Some Pop }
+        ensures bytes { result ≡ encoding Pop }
+        ensures read { decoding result ≡ Some Pop }
     {
         Operation::from_slice(&[2])
     }
 
-    /// How many values there are: `03`.
+    /// Returns the operation that asks for the number of values in the queue: `03`.
+    /// Formats: Operations and replies
     pub fn length() -> Operation
-        ensures bytes { result ≡ spelling Count }
-        ensures read { reading result ≡ Some Count }
+        ensures bytes { result ≡ encoding Count }
+        ensures read { decoding result ≡ Some Count }
     {
         Operation::from_slice(&[3])
     }
 }
 
-/// What may be asked of a queue.
-enum Asked {
-    /// This value.
+/// An operation of a queue.
+enum QueueOperation {
+    /// The value to append.
     Push(u64),
     Pop,
     Count,
 }
 
-impl Asked {
-    fn read(op: &[u8]) -> Option<Asked>
-        ensures { result ≡ reading op.now }
+impl QueueOperation {
+    fn read(op: &[u8]) -> Option<QueueOperation>
+        ensures { result ≡ decoding op.now }
     {
         let [code, rest @ ..] = op else {
             return None;
         };
         match (*code, rest.len()) {
-            (1, 8) => Some(Asked::Push(BigEndian::read_u64(rest))),
-            (2, 0) => Some(Asked::Pop),
-            (3, 0) => Some(Asked::Count),
+            (1, 8) => Some(QueueOperation::Push(BigEndian::read_u64(rest))),
+            (2, 0) => Some(QueueOperation::Pop),
+            (3, 0) => Some(QueueOperation::Count),
             _ => None,
         }
     }

@@ -1,9 +1,11 @@
-//! Registers: a value for each of 256 keys, that is read, put, or put where it is as expected.
+//! Registers: a value for each of 256 keys, with the operations get, put and compare-and-set.
+//! Rules: Objects 2 to 5
+//! Formats: Operations and replies, Snapshots
 
 ghost use Rattle.std.specs.Prelude.{◌≡◌, Some};
-ghost use Rattle.ring_things.specs.Registers.{reading, spelling};
+ghost use Rattle.ring_things.specs.Registers.{decoding, encoding};
 
-use crate::operations::{Operation, keyed, keyed_with};
+use crate::operations::{Operation, key_operation, key_value_operation};
 use crate::replies::{Outcome, reply, reply_with};
 use crate::table::Table;
 use byteorder::{BigEndian, ByteOrder};
@@ -12,15 +14,17 @@ use ring_object::{Object, Reply};
 use std::alloc::{Allocator, Global};
 use std::marker::Model;
 
-/// 256 values of 64 bits under the keys 0 to 255, at the start all 0. No operation takes memory.
+/// 256 values of 64 bits under the keys 0 to 255, all 0 at the start. No operation takes memory.
 ///
 /// | Operation | Bytes | Reply |
 /// |---|---|---|
 /// | get | `01` key | `00` value |
 /// | put | `02` key value | `00` |
-/// | compare and set | `03` key expected new | `00` where the expected value stood, and the new one stands; else `01` value, and nothing changes |
+/// | compare and set | `03` key expected new | `00`, and new is stored, if the value is expected; else `01` value |
 ///
 /// The snapshot is the values in the order of their keys, 2,048 bytes.
+/// Rules: Objects 5
+/// Formats: Operations and replies, Snapshots
 #[derive(Drop)]
 pub struct Registers<A: Allocator + Copy = Global> {
     values: Table<A>,
@@ -63,13 +67,13 @@ impl<A: Allocator + Copy + Drop> Object for Registers<A> {
     }
 
     fn apply(&mut self, op: &[u8]) -> Result<Reply, Fault> {
-        Ok(match Asked::read(op) {
-            Some(Asked::Get(key)) => reply_with(Outcome::Done, self.values.get(key)),
-            Some(Asked::Put(key, value)) => {
+        Ok(match RegisterOperation::read(op) {
+            Some(RegisterOperation::Get(key)) => reply_with(Outcome::Done, self.values.get(key)),
+            Some(RegisterOperation::Put(key, value)) => {
                 self.values.set(key, value);
                 reply(Outcome::Done)
             }
-            Some(Asked::CompareAndSet(key, expected, new)) => {
+            Some(RegisterOperation::CompareAndSet(key, expected, new)) => {
                 let value = self.values.get(key);
                 if value != expected {
                     return Ok(reply_with(Outcome::NotDone, value));
@@ -91,32 +95,36 @@ impl<A: Allocator + Copy + Drop> Object for Registers<A> {
     }
 }
 
-/// The operations of registers.
+/// The operations of registers, as bytes.
 impl Registers {
-    ghost use Rattle.ring_things.specs.declared.registers.Asked.TheVariants.{Get, Put, CompareAndSet};
+    ghost use Rattle.ring_things.specs.declared.registers.RegisterOperation.TheVariants.{Get, Put, CompareAndSet};
 
-    /// Get the value under this key: `01` and the key.
+    /// Returns the operation that reads the value under a key: `01` and the key.
+    /// Formats: Operations and replies
     pub fn get(key: u8) -> Operation
-        ensures bytes { result ≡ spelling (Get key) }
-        ensures read { reading result ≡ Some (Get key) }
+        ensures bytes { result ≡ encoding (Get key) }
+        ensures read { decoding result ≡ Some (Get key) }
     {
-        keyed(1, key)
+        key_operation(1, key)
     }
 
-    /// Put this value under this key: `02`, the key, and the value in 8 bytes.
+    /// Returns the operation that stores a value under a key: `02`, the key, and the value in 8 bytes.
+    /// Formats: Operations and replies
     #[tactic(auto, using(crate::proofs::OperationsRead::put_read))]
     pub fn put(key: u8, value: u64) -> Operation
-        ensures bytes { result ≡ spelling (Put key value) }
-        ensures read { reading result ≡ Some (Put key value) }
+        ensures bytes { result ≡ encoding (Put key value) }
+        ensures read { decoding result ≡ Some (Put key value) }
     {
-        keyed_with(2, key, value)
+        key_value_operation(2, key, value)
     }
 
-    /// Put the new value under this key where the expected one stands: `03`, the key, and both values in 8 bytes each.
+    /// Returns the operation that stores `new` under a key if the value there is `expected`: `03`, the key, and both
+    /// values in 8 bytes each. Otherwise the value stays, and the reply has it.
+    /// Formats: Operations and replies
     #[tactic(auto, using(crate::proofs::OperationsRead::compare_and_set_read))]
     pub fn compare_and_set(key: u8, expected: u64, new: u64) -> Operation
-        ensures bytes { result ≡ spelling (CompareAndSet key expected new) }
-        ensures read { reading result ≡ Some (CompareAndSet key expected new) }
+        ensures bytes { result ≡ encoding (CompareAndSet key expected new) }
+        ensures read { decoding result ≡ Some (CompareAndSet key expected new) }
     {
         let mut bytes = [3; 18];
         bytes[1] = key;
@@ -126,30 +134,30 @@ impl Registers {
     }
 }
 
-/// What may be asked of registers.
-enum Asked {
-    /// Under this key.
+/// An operation of registers.
+enum RegisterOperation {
+    /// The key whose value is read.
     Get(u8),
-    /// Under this key, this value.
+    /// The key and the value to store.
     Put(u8, u64),
-    /// Under this key, the expected value and the new one.
+    /// The key, the expected value and the new value.
     CompareAndSet(u8, u64, u64),
 }
 
-impl Asked {
-    fn read(op: &[u8]) -> Option<Asked>
-        ensures { result ≡ reading op.now }
+impl RegisterOperation {
+    fn read(op: &[u8]) -> Option<RegisterOperation>
+        ensures { result ≡ decoding op.now }
     {
         let [code, key, rest @ ..] = op else {
             return None;
         };
         match (*code, rest.len()) {
-            (1, 0) => Some(Asked::Get(*key)),
-            (2, 8) => Some(Asked::Put(*key, BigEndian::read_u64(rest))),
+            (1, 0) => Some(RegisterOperation::Get(*key)),
+            (2, 8) => Some(RegisterOperation::Put(*key, BigEndian::read_u64(rest))),
             (3, 16) => {
                 let expected = BigEndian::read_u64(rest);
                 let new = BigEndian::read_u64(&rest[8..]);
-                Some(Asked::CompareAndSet(*key, expected, new))
+                Some(RegisterOperation::CompareAndSet(*key, expected, new))
             }
             _ => None,
         }

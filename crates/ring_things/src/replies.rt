@@ -1,28 +1,30 @@
-//! The replies of the objects: a byte that says how it went, alone or before a value of 8 bytes.
+//! The replies of the objects: an outcome in one byte, alone or followed by a value of 8 bytes.
+//! Formats: Operations and replies
 
 ghost use Rattle.std.specs.Prelude.{◌≡◌, [], ◌∷◌, Some, IfSome};
 ghost use Rattle.byteorder.specs.Endian.{big_bytes};
-ghost use Rattle.ring_things.specs.Outcome.{code_of, outcome_of, spelling, reading, ValueFits};
-ghost use Rattle.ring_things.specs.declared.replies.Replied.{Replied as OneReplied};
+ghost use Rattle.ring_things.specs.Outcome.{code_of, outcome_of, encoding, decoding, ValueFits};
+ghost use Rattle.ring_things.specs.declared.replies.ReplyParts.{ReplyParts as OneReplied};
 
 use byteorder::{BigEndian, ByteOrder};
 use ring_object::Reply;
 
-/// How an operation went.
+/// The outcome of an operation: the first byte of the reply. The discriminant is that byte.
+/// Formats: Operations and replies
 #[derive(Clone, Copy, Debug, PartialEq, Eq)]
 pub enum Outcome {
-    /// It was done.
+    /// The operation was done. A value follows in the reply if the operation reads one.
     Done = 0,
-    /// It couldn't be done, as the object is.
+    /// The content of the object didn't allow the operation. Nothing changed.
     NotDone = 1,
-    /// There is no room for it.
+    /// The object is full. Nothing changed.
     Full = 2,
-    /// The bytes are no operation.
+    /// The bytes aren't an operation of the object. Nothing changed.
     Unreadable = 255,
 }
 
 impl Outcome {
-    /// How it went, where the byte says so.
+    /// Decodes an outcome; `None` for other bytes.
     fn of(code: u8) -> Option<Outcome>
         ensures { result ≡ outcome_of code }
     {
@@ -36,27 +38,31 @@ impl Outcome {
     }
 }
 
-/// What a reply says: how the operation went, and the value that the object tells with it, if it tells one.
+/// A decoded reply: the outcome of the operation, and a value if the object replied with one.
+/// Formats: Operations and replies
 #[derive(Clone, Copy, Debug, PartialEq, Eq)]
-pub struct Replied {
+pub struct ReplyParts {
+    /// The outcome of the operation, which the first byte of the reply encodes.
     pub outcome: Outcome,
+    /// The value that the object replied with, or `None` for a reply of one byte.
     pub value: Option<u64>,
 }
 
-impl Replied {
-    /// What the bytes of a reply say: a byte that is an outcome's, alone or before a value of 8 bytes. None of other bytes.
-    pub fn read(reply: &[u8]) -> Option<Replied>
-        ensures value { result ≡ reading reply.now }
-        ensures found { IfSome result (λ replied. spelling replied ≡ reply.now) }
-        ensures only { (replied : OneReplied) → ValueFits replied.value → spelling replied ≡ reply.now → result ≡ Some replied }
+impl ReplyParts {
+    /// Decodes a reply: the byte of an outcome, alone or followed by a value of 8 bytes, big-endian.
+    /// Returns `None` for all other bytes.
+    /// Formats: Operations and replies
+    pub fn read(reply: &[u8]) -> Option<ReplyParts>
+        ensures value { result ≡ decoding reply.now }
+        ensures found { IfSome result (λ replied. encoding replied ≡ reply.now) }
+        ensures only { (replied : OneReplied) → ValueFits replied.value → encoding replied ≡ reply.now → result ≡ Some replied }
     {
         reply_in(reply)
     }
 }
 
-/// The reply that these bytes are.
-fn reply_in(bytes: &[u8]) -> Option<Replied>
-    ensures { result ≡ reading bytes.now }
+fn reply_in(bytes: &[u8]) -> Option<ReplyParts>
+    ensures { result ≡ decoding bytes.now }
 {
     let [code, rest @ ..] = bytes else {
         return None;
@@ -67,17 +73,19 @@ fn reply_in(bytes: &[u8]) -> Option<Replied>
         8 => Some(BigEndian::read_u64(rest)),
         _ => return None,
     };
-    Some(Replied { outcome, value })
+    Some(ReplyParts { outcome, value })
 }
 
-/// A reply of one byte.
+/// Returns the reply of one byte, which encodes the outcome.
+/// Formats: Operations and replies
 pub fn reply(outcome: Outcome) -> Reply
     ensures { result ≡ code_of outcome ∷ [] }
 {
     Reply::from_slice(&[outcome as u8])
 }
 
-/// A reply of a byte and a value.
+/// Returns the reply of nine bytes: the byte of the outcome, and the value in 8 bytes, big-endian.
+/// Formats: Operations and replies
 pub fn reply_with(outcome: Outcome, value: u64) -> Reply
     ensures { result ≡ code_of outcome ∷ big_bytes 8 value }
 {

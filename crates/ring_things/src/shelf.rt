@@ -1,14 +1,16 @@
-//! Four objects as one.
+//! A shelf: four objects as one object.
+//! Rules: Objects 1 to 6
+//! Formats: Operations and replies, Snapshots
 
 ghost use Rattle.std.specs.Prelude.{◌≡◌, ◌∷◌, ◌++◌, take, Option, IfErr, OnOk, OnErr, vec_len};
 ghost use Rattle.std.specs.Option.{option_map};
-ghost use Rattle.ring_object.specs.Snapshots.{IsRestored};
+ghost use Rattle.ring_object.specs.Snapshots.{IsRestoreResult};
 ghost use Rattle.ring_things.specs.Shelf.{number_of, first_text, texts_of, shelf_snapshot, both_of};
 ghost use Rattle.ring_things.specs.ShelfLaws.{AreContents};
 
 use crate::counters::Counters;
 use crate::names::Names;
-use crate::operations::{Operation, ShelfOperation, headed};
+use crate::operations::{Operation, ShelfOperation, with_head_byte};
 use crate::queue::Queue;
 use crate::registers::Registers;
 use crate::replies::{Outcome, reply};
@@ -17,9 +19,12 @@ use ring_base::Fault;
 use ring_object::{Object, Reply, append_sized};
 use std::marker::Model;
 
-/// Four objects of any types side by side. The first byte of an operation, 0 to 3, names the object,
-/// and the rest is that object's operation. The snapshot is four times the length, in 8 bytes, and the
-/// snapshot of an object.
+/// A composite object: four objects of any types as one object.
+/// The first byte of an operation, 0 to 3, is the number of an object. The rest is an operation of that object, whose
+/// reply is the reply. Other first bytes are unreadable, and so is an operation without bytes. The snapshot is, for
+/// each object in turn, the length of its snapshot in 8 bytes and that snapshot.
+/// Rules: Objects 5
+/// Formats: Operations and replies, Snapshots
 #[derive(Drop)]
 pub struct Shelf<P: Drop, Q: Drop, R: Drop, S: Drop> {
     first: P,
@@ -28,8 +33,9 @@ pub struct Shelf<P: Drop, Q: Drop, R: Drop, S: Drop> {
     fourth: S,
 }
 
-/// The objects of the program, on one shelf.
-pub type Things<A> = Shelf<Registers<A>, Counters<A>, Queue<A>, Names<A>>;
+/// The program's object: a shelf of registers, counters, a queue and names, with the numbers 0 to 3 in this order.
+/// Rules: Objects 6
+pub type StandardObjects<A> = Shelf<Registers<A>, Counters<A>, Queue<A>, Names<A>>;
 
 impl<P: Drop, Q: Drop, R: Drop, S: Drop> Model for Shelf<P, Q, R, S> {
     ghost Value = { P × Q × R × S };
@@ -139,25 +145,32 @@ impl<
     }
 }
 
-/// Where an object stands on a shelf.
+/// The place of an object on a shelf. Its discriminant is the object's number, 0 to 3.
+/// Formats: Operations and replies
 #[derive(Clone, Copy, Debug, PartialEq, Eq)]
-pub enum Place {
+pub enum ShelfPlace {
+    /// The place of the shelf's first object, number 0.
     First = 0,
+    /// The place of the shelf's second object, number 1.
     Second = 1,
+    /// The place of the shelf's third object, number 2.
     Third = 2,
+    /// The place of the shelf's fourth object, number 3.
     Fourth = 3,
 }
 
-impl Place {
-    /// This operation of the object that stands here: the object's number in a byte, and its operation.
+impl ShelfPlace {
+    /// Returns the shelf's operation that applies `operation` to the object at this place: the object's number in one
+    /// byte, then the bytes of `operation`.
+    /// Formats: Operations and replies
     pub fn operation(self, operation: &Operation) -> ShelfOperation
         ensures { result ≡ number_of self ∷ operation.now }
     {
-        headed(self as u8, operation.as_slice())
+        with_head_byte(self as u8, operation.as_slice())
     }
 }
 
-/// Appends four snapshots, each behind its length; or a front of that, for want of memory.
+/// Appends four snapshots, each after its length. `Memory` may leave a prefix of them appended.
 fn append_all<
     P: Object,
     Q: Object<Alloc = P::Alloc>,
@@ -179,7 +192,7 @@ fn append_all<
     append_sized(fourth, out)
 }
 
-/// The text at the front of the bytes, behind its length, and what stands behind it.
+/// Splits the bytes into a text after its length, and the rest.
 fn split_text(bytes: &[u8]) -> Option<(&[u8], &[u8])>
     ensures { option_map (λ parts. (parts.0.now, parts.1.now)) result ≡ first_text 8 bytes.now }
 {
@@ -194,7 +207,7 @@ fn split_text(bytes: &[u8]) -> Option<(&[u8], &[u8])>
     Some(rest.split_at(len as usize))
 }
 
-/// The four texts that the bytes are, each behind its length.
+/// Splits the bytes into exactly four texts, each after its length.
 fn split_all(bytes: &[u8]) -> Option<(&[u8], &[u8], &[u8], &[u8])>
     ensures { option_map (λ texts. (texts.0.now, texts.1.now, texts.2.now, texts.3.now)) result
         ≡ texts_of bytes.now }
@@ -209,13 +222,13 @@ fn split_all(bytes: &[u8]) -> Option<(&[u8], &[u8], &[u8], &[u8])>
     Some((first, second, third, fourth))
 }
 
-/// Both that were restored; else why not, and a bad snapshot before want of memory.
+/// Returns both restored objects, else the refusal: `BadSnapshot` before `Memory`.
 fn both<X: Drop, Y: Drop>(
     first: Result<X, Fault>,
     second: Result<Y, Fault>,
 ) -> Result<(X, Y), Fault>
-    ensures { (x : Option X) (y : Option Y) → IsRestored x first → IsRestored y second
-        → IsRestored (both_of x y) result }
+    ensures { (x : Option X) (y : Option Y) → IsRestoreResult x first → IsRestoreResult y second
+        → IsRestoreResult (both_of x y) result }
 {
     match (first, second) {
         (Ok(first), Ok(second)) => Ok((first, second)),

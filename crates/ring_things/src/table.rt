@@ -1,19 +1,21 @@
-//! A number for each of 256 keys.
+//! A table: a number for each of 256 keys.
+//! Formats: Snapshots
 
 ghost use Rattle.std.specs.Prelude.{◌≡◌, ◌++◌, slice_index, slice_set, Some, IfOk, IfErr, OnOk, OnErr};
-ghost use Rattle.ring_things.specs.Numbers.{spelled};
+ghost use Rattle.ring_things.specs.Numbers.{list_encoding};
 
 use crate::numbers::{append_numbers, read_numbers};
 use ring_base::Fault;
 use std::alloc::{Allocator, Global};
 use std::marker::Model;
 
-/// How many keys there are: a key is a byte.
+/// The number of keys: a key is one byte.
 const KEYS: usize = 256;
 
-/// 256 numbers of 64 bits under the keys 0 to 255, at the start all 0. In clauses it is the list of them.
+/// 256 numbers of 64 bits under the keys 0 to 255, all 0 at the start. Contracts see the list of them.
 ///
 /// The snapshot is the numbers in the order of their keys, 8 bytes each, big-endian: 2,048 bytes.
+/// Formats: Snapshots
 #[derive(Drop)]
 pub struct Table<A: Allocator + Copy = Global> {
     numbers: Vec<u64, A>,
@@ -32,9 +34,12 @@ impl<A: Allocator + Copy> Model for Table<A> {
 
 impl<A: Allocator + Copy + Drop> Table<A> {
     ghost use Rattle.ring_things.specs.Table.{IsTable, keys, zeros, table_of};
-    ghost use Rattle.ring_object.specs.Snapshots.{Refuses};
+    ghost use Rattle.ring_object.specs.Snapshots.{IsSnapshotRefusal};
 
-    /// All zero, or `Memory`.
+    /// Returns a table with the number 0 under each of the 256 keys, in memory of `alloc`.
+    ///
+    /// Errors: `Memory`.
+    /// Rules: Objects 5
     pub fn zeros(alloc: A) -> Result<Table<A>, Fault>
         ensures ok { IfOk result (λ table. table ≡ zeros keys) }
         ensures refused { IfErr result (λ fault. fault ≡ Fault.Memory) }
@@ -43,24 +48,27 @@ impl<A: Allocator + Copy + Drop> Table<A> {
         Ok(Table { numbers })
     }
 
-    /// The number under a key.
+    /// Returns the number that the table has under a key. In a new table it is 0.
     pub fn get(&self, key: u8) -> u64
         ensures { result ≡ slice_index self.now key }
     {
         self.numbers[key as usize]
     }
 
-    /// Puts a number under a key.
+    /// Stores a number under a key, in place of the number there. The call takes no memory.
     pub fn set(&mut self, key: u8, number: u64)
         ensures { self.new ≡ slice_set self.old key number }
     {
         self.numbers[key as usize] = number;
     }
 
-    /// Appends the snapshot to `out`. `Memory` leaves `out` as it was.
+    /// Appends the snapshot, 2,048 bytes, to `out`, and changes nothing before it.
+    ///
+    /// Errors: `Memory`; `out` is then unchanged.
+    /// Formats: Snapshots
     pub fn snapshot(&self, out: &mut Vec<u8, A>) -> Result<(), Fault>
         ensures content { OnOk result (IsTable keys self.now) }
-        ensures ok { OnOk result (out.new.items ≡ out.old.items ++ spelled 8 self.now) }
+        ensures ok { OnOk result (out.new.items ≡ out.old.items ++ list_encoding 8 self.now) }
         ensures err { OnErr result (out.new.items ≡ out.old.items) }
         ensures refused { IfErr result (λ fault. fault ≡ Fault.Memory) }
     {
@@ -69,10 +77,13 @@ impl<A: Allocator + Copy + Drop> Table<A> {
         Ok(())
     }
 
-    /// The table whose snapshot the bytes are. `BadSnapshot` exactly where they are none, else the table or `Memory`.
+    /// Returns the table whose snapshot is `bytes`, in memory of `alloc`.
+    ///
+    /// Errors: `BadSnapshot`, exactly if `bytes` hasn't 2,048 bytes; `Memory`, only if it has.
+    /// Formats: Snapshots
     pub fn restore(alloc: A, bytes: &[u8]) -> Result<Table<A>, Fault>
         ensures ok { IfOk result (λ table. table_of keys bytes.now ≡ Some table) }
-        ensures refused { IfErr result (Refuses (table_of keys bytes.now)) }
+        ensures refused { IfErr result (IsSnapshotRefusal (table_of keys bytes.now)) }
     {
         if bytes.len() != 8 * KEYS {
             return Err(Fault::BadSnapshot);

@@ -1,16 +1,16 @@
--- What one visit makes of the token's aru.
+-- The effect of one visit on the token's `aru`.
 use Rattle.std.proofs.Common.{◌≡◌, ℕ, ◌<◌, ◌≤◌, true, false, ◌⊎◌, inl, inr, Option, Some, None, ◌∙◌, arith, eqb-true, nat_lt, ltb-false, ltb-true, ne_eqb}
 use Rattle.std.proofs.lemmas.Bool.{cases_Bool, or_parts, cond-true, cond-false, true≢false, or_cases, eqb-false as eqb-ne}
 use Rattle.ring_wire.specs.declared.token.Token.{Token}
 use Rattle.ring_token.specs.Visits.{is_mine, may_set, aru_after, aru_id_after}
 
--- the member set the aru to its front
+-- The member set the `aru` to its front.
 pub record Sets (me f seq : ℕ) (t : Token) (aru : ℕ) (id : Option ℕ) : Type 0 where
   pub aru_is : aru ≡ f
   pub id_is : f < seq → id ≡ Some me
   pub may : (x : ℕ) → t.aru_id ≡ Some x → (x ≡ me → ⊥) → f < t.aru
 
--- the aru stayed, as another's, and the member's front is at least that
+-- The `aru` stayed another member's, and the member's front is at least the `aru`.
 pub record Stays (me f : ℕ) (t : Token) (aru : ℕ) (id : Option ℕ) : Type 0 where
   pub aru_is : aru ≡ t.aru
   pub id_is : id ≡ t.aru_id

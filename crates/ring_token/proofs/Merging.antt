@@ -10,16 +10,16 @@ use Rattle.ring_base.proofs.ListFronts.{take-nil}
 use Rattle.ring_token.specs.Requesting.{least_first, after}
 use Rattle.ring_wire.specs.Ascending.{IsStrictlyIncreasing-rest}
 
--- all are above a number
+-- All are above a number.
 abbrev pub AllAbove : ℕ → List ℕ → Type 0
 AllAbove x xs = AllByRecursion (λ y. x < y) xs
 
--- each is below all that follow
+-- Each is below all that follow.
 abbrev pub Ascends : List ℕ → Type 0
 Ascends [] = Unit {0}
 Ascends (x ∷ xs) = AllAbove x xs × Ascends xs
 
--- the first, if there is one, is above a number
+-- The first, if there is one, is above a number.
 abbrev pub FirstAbove : ℕ → List ℕ → Type 0
 FirstAbove x [] = Unit {0}
 FirstAbove x (y ∷ ys) = x < y
@@ -36,7 +36,7 @@ pub ascending : (xs : List ℕ) → IsStrictlyIncreasing xs → Ascends xs
 ascending [] h = tt
 ascending (x ∷ xs) h = (above_first x xs h, ascending xs (IsStrictlyIncreasing-rest x xs h))
 
--- where a number goes
+-- Inserting a number.
 
 first_put : (x : ℕ) (ys : List ℕ) → FirstAbove x ys → insert_ascending x ys ≡ x ∷ ys
 first_put x [] h = refl
@@ -48,7 +48,7 @@ same_put x ys = cond-false (nat_lt x x) _ _ (le-ltb x x (omega arith)) ∙ cond-
 later_put : (x y : ℕ) (ys : List ℕ) → y < x → insert_ascending x (y ∷ ys) ≡ y ∷ insert_ascending x ys
 later_put x y ys l = cond-false (nat_lt x y) _ _ (le-ltb x y (omega arith)) ∙ cond-false (x == y) _ _ (ne_eqb x y (λ e. omega arith))
 
--- the least of both comes first
+-- The least of both comes first.
 
 pub second_first : (xs : List ℕ) (y : ℕ) (ys : List ℕ) → AllAbove y xs → merged xs (y ∷ ys) ≡ y ∷ merged xs ys
 second_first [] y ys h = refl
@@ -70,11 +70,11 @@ first_first x xs ys h k = first_put x (merged xs ys) (both_above x xs ys h k)
 pub same_first : (x : ℕ) (xs ys : List ℕ) → AllAbove x xs → merged (x ∷ xs) (x ∷ ys) ≡ x ∷ merged xs ys
 same_first x xs ys h = ap (insert_ascending x) (second_first xs x ys h) ∙ same_put x (merged xs ys)
 
--- all above a number are above each below it
+-- All that are above a number are above each below it.
 pub second_below : (x y : ℕ) (xs : List ℕ) → y < x → AllAbove x xs → AllAbove y (x ∷ xs)
 second_below x y xs l h = (l, weaker y x xs l h)
 
--- The first n of what both have need the first n of the second alone
+-- The first n of both together need only the first n of the second
 
 take_again : (n : ℕ) (xs : List ℕ) → take n (take n xs) ≡ take n xs
 take_again zero xs = refl
@@ -111,7 +111,7 @@ take_merged n [] ys = take_again n ys
 take_merged n (x ∷ xs) ys =
     sym (take_put n x (merged xs (take n ys))) ∙ ap (λ l. take n (insert_ascending x l)) (take_merged n xs ys) ∙ take_put n x (merged xs ys)
 
--- One number more is taken
+-- One more number is taken
 
 pub taken_more : (n x : ℕ) (sofar rest : List ℕ) → length sofar < n → sofar ++ take (n - length sofar) (x ∷ rest)
     ≡ (sofar ++ x ∷ []) ++ take (n - length (sofar ++ x ∷ [])) rest
@@ -123,7 +123,7 @@ taken_more n x sofar rest l =
 
 -- The lesser first number is the first of both
 
--- what is left once the first is taken
+-- The rest, after the first is taken.
 pub record IsStep (n : ℕ) (xs ys : List ℕ) : Type 0 where
   pub is : merged xs ys ≡ n ∷ merged (after n xs) (after n ys)
   pub ascends : Ascends (after n xs)
@@ -185,7 +185,7 @@ nothing_left (x ∷ xs) (y ∷ ys) e = absurd cc
 
 -- So far, and in the end
 
--- those taken so far, and what is left of both
+-- Those taken so far, and the rest of both.
 pub record AreTaken (sofar xs ys all : List ℕ) : Type 0 where
   pub few : length sofar ≤ 32
   pub ascends : Ascends xs
@@ -201,9 +201,9 @@ taken sofar xs ys all n l e t =
       is = sym (taken_more 32 n sofar (merged (after n xs) (after n ys)) l) ∙ ap (λ k. sofar ++ take (32 - length sofar) k) (sym s.is) ∙ t.is;
     }
 
--- the first 32 numbers that are lacking serve as well as all
-pub whole : (sofar stays missing lacking : List ℕ) → sofar ≡ take 32 (merged stays missing) → missing ≡ take 32 lacking → sofar ≡ take 32 (merged stays lacking)
-whole sofar stays missing lacking e m = e ∙ ap (λ l. take 32 (merged stays l)) m ∙ take_merged 32 stays lacking
+-- The first 32 missing numbers serve as well as all.
+pub whole : (sofar remaining_requests missing lacking : List ℕ) → sofar ≡ take 32 (merged remaining_requests missing) → missing ≡ take 32 lacking → sofar ≡ take 32 (merged remaining_requests lacking)
+whole sofar remaining_requests missing lacking e m = e ∙ ap (λ l. take 32 (merged remaining_requests l)) m ∙ take_merged 32 remaining_requests lacking
 
 pub all_taken : (sofar xs ys all : List ℕ) → 32 ≤ length sofar → AreTaken sofar xs ys all → sofar ≡ all
 all_taken sofar xs ys all l t =
@@ -215,5 +215,5 @@ none_left sofar xs ys all e t =
     sym (append-nil sofar) ∙ ap (λ k. sofar ++ k) (sym (take-nil (32 - length sofar)))
     ∙ ap (λ k. sofar ++ take (32 - length sofar) k) (sym (nothing_left xs ys e)) ∙ t.is
 
-pub begun : (stays missing : List ℕ) → IsStrictlyIncreasing stays → AreTaken [] stays missing (take 32 (merged stays missing))
-begun stays missing h = record { few = omega arith; ascends = ascending stays h; is = refl }
+pub begun : (remaining_requests missing : List ℕ) → IsStrictlyIncreasing remaining_requests → AreTaken [] remaining_requests missing (take 32 (merged remaining_requests missing))
+begun remaining_requests missing h = record { few = omega arith; ascends = ascending remaining_requests h; is = refl }

@@ -1,2 +1,2 @@
--- What a queue's messages are, passed on to the ring core.
-pub use Rattle.ring_wire.proofs.Packing.{length-packed}
+-- The messages of a queue, re-exported for the ring core.
+pub use Rattle.ring_wire.proofs.Packing.{length-packed_payloads}

@@ -1,8 +1,9 @@
--- The safe lemma: what a visit forwarded as an aru, and a whole round did not lower, all fronts reach.
+-- The safe lemma: every front reaches an `aru` that a visit forwarded and a whole round did not lower.
+-- Rules: Token and window 13
 
--- After a visit that forwarded an aru of at least s, either all fronts since reach s and so does the aru, or the aru
--- is below s and is held back by a member that had its turn since. In the second case nobody else may raise it, so
--- after a whole round it is still below s: where it is not, all fronts reach s.
+-- After a visit that forwarded an `aru` of at least s there are two cases. Either all fronts of later visits reach s, and
+-- so does the `aru`. Or the `aru` is below s, and a member that visited since holds it back. In the second case no other
+-- member may raise it, so after a whole round it is still below s. If it isn't below s then, all fronts reach s.
 use Rattle.std.proofs.Common.{◌≡◌, ℕ, suc, ◌+◌, ◌-◌, ◌<◌, ◌≤◌, min, ◌==◌, ◌⊎◌, inl, inr, Option, Some, List, [], ◌∷◌}
 use Rattle.std.proofs.Common.{◌++◌, length, length-append, refl, sym, ap, subst, arith, ◌∙◌, eqb-true}
 use Rattle.std.specs.List.{AllByRecursion}
@@ -12,23 +13,23 @@ use Rattle.ring_base.specs.declared.ring_id.RingId.{RingId}
 use Rattle.ring_wire.specs.declared.token.Token.{Token}
 use Rattle.ring_token.specs.Turns.{mark_by, mark_after}
 use Rattle.ring_token.specs.Visits.{aru_after, aru_id_after}
-use Rattle.ring_token.specs.Rounds.{VisitBy, arrived, IsNext, AreVisits, forwarded_by, HaveGrown, MarksAreSafe, PairsAreSafe}
+use Rattle.ring_token.specs.Rounds.{VisitBy, token_arrived, IsNext, AreVisits, forwarded_by, HaveGrown, MarksAreSafe, PairsAreSafe}
 use Rattle.ring_base.proofs.TurnsRound.{member_of, turns_differ, turns_differ_at, turns_return, turns_reach}
 use Rattle.ring_token.proofs.Arus.{Sets, Stays, aru_step}
 
--- none of these members lacked a number up to s
+-- None of these members lacked a number up to s.
 record Covered {A : Type 0} (s aru : ℕ) (ws : List (VisitBy A)) : Type 0 where
   pub aru_covers : s ≤ aru
   pub fronts : AllByRecursion (λ (v : VisitBy A). s ≤ v.turn.front) ws
 
--- or the aru is below s, and is that of the member of one of the n turns from a on
+-- The other case: the `aru` is below s, and set by the member of one of the n turns from a on.
 record Lacks (members a n s aru : ℕ) (id : Option ℕ) : Type 0 where
   pub aru_below : aru < s
   pub turn : ℕ
   pub turn_in : turn < n
   pub id_is : id ≡ Some (member_of members (a + turn))
 
--- one more visit
+-- One more visit.
 covered_step : {A : Type 0} → (members a s : ℕ) (v : VisitBy A) (ws : List (VisitBy A)) (t o : Token)
     → 0 < size members → length ws < size members → v.who ≡ member_of members (a + length ws) → s ≤ o.seq →
     Sets v.who v.turn.front o.seq t o.aru o.aru_id ⊎ Stays v.who v.turn.front t o.aru o.aru_id →
@@ -46,70 +47,70 @@ covered_step members a s v ws t o some short who large (inl sets) (inr c) =
           (length ws) c.turn some c.turn_in short (sym (e ∙ who)) in
           let k : v.turn.front < t.aru = sets.may _ c.id_is other in let b : t.aru < s = c.aru_below in absurd (omega arith))
     ]
-covered_step members a s v ws t o some short who large (inr stays) (inl c) =
+covered_step members a s v ws t o some short who large (inr remaining_requests) (inl c) =
     inl (record {
-      aru_covers = rw stays.aru_is c.aru_covers;
+      aru_covers = rw remaining_requests.aru_is c.aru_covers;
       fronts = (
-        (let b : t.aru ≤ v.turn.front = stays.below in let q : s ≤ t.aru = c.aru_covers in omega arith),
+        (let b : t.aru ≤ v.turn.front = remaining_requests.below in let q : s ≤ t.aru = c.aru_covers in omega arith),
         c.fronts,
       );
     })
-covered_step members a s v ws t o some short who large (inr stays) (inr c) =
-    inr (record { aru_below = rw stays.aru_is c.aru_below; turn = c.turn; turn_in = omega arith; id_is = stays.id_is ∙ c.id_is })
+covered_step members a s v ws t o some short who large (inr remaining_requests) (inr c) =
+    inr (record { aru_below = rw remaining_requests.aru_is c.aru_below; turn = c.turn; turn_in = omega arith; id_is = remaining_requests.id_is ∙ c.id_is })
 
--- what a visit forwards
+-- The effect of a visit on the token.
 
 seq_is : {A : Type 0} → (members : ℕ) (ring : RingId) (v : VisitBy A) (vs : List (VisitBy A))
-    → IsNext members ring v vs → v.turn.went.seq ≡ v.turn.came.seq + length v.turn.fresh
+    → IsNext members ring v vs → v.turn.forwarded.seq ≡ v.turn.received.seq + length v.turn.fresh
 seq_is members ring v vs h = ap (λ (t : Token). t.seq) h.goes
 
 step_at : {A : Type 0} → (members : ℕ) (ring : RingId) (v : VisitBy A) (vs : List (VisitBy A)) → IsNext members ring v vs →
-    Sets v.who v.turn.front v.turn.went.seq v.turn.came v.turn.went.aru v.turn.went.aru_id
-    ⊎ Stays v.who v.turn.front v.turn.came v.turn.went.aru v.turn.went.aru_id
+    Sets v.who v.turn.front v.turn.forwarded.seq v.turn.received v.turn.forwarded.aru v.turn.forwarded.aru_id
+    ⊎ Stays v.who v.turn.front v.turn.received v.turn.forwarded.aru v.turn.forwarded.aru_id
 step_at members ring v vs h =
-    let aru : v.turn.went.aru ≡ aru_after v.who v.turn.front v.turn.came = ap (λ (t : Token). t.aru) h.goes in
-    let seq : v.turn.went.seq ≡ v.turn.came.seq + length v.turn.fresh = seq_is members ring v vs h in
-    let id : v.turn.went.aru_id ≡ aru_id_after v.who v.turn.front (v.turn.came.seq + length v.turn.fresh) v.turn.came = ap (λ (t : Token). t.aru_id) h.goes in
-    let id_by_seq : v.turn.went.aru_id ≡ aru_id_after v.who v.turn.front v.turn.went.seq v.turn.came = id
-    ∙ ap (λ n. aru_id_after v.who v.turn.front n v.turn.came) (sym seq) in
-    elim (aru_step v.who v.turn.front v.turn.went.seq v.turn.came) [
+    let aru : v.turn.forwarded.aru ≡ aru_after v.who v.turn.front v.turn.received = ap (λ (t : Token). t.aru) h.goes in
+    let seq : v.turn.forwarded.seq ≡ v.turn.received.seq + length v.turn.fresh = seq_is members ring v vs h in
+    let id : v.turn.forwarded.aru_id ≡ aru_id_after v.who v.turn.front (v.turn.received.seq + length v.turn.fresh) v.turn.received = ap (λ (t : Token). t.aru_id) h.goes in
+    let id_by_seq : v.turn.forwarded.aru_id ≡ aru_id_after v.who v.turn.front v.turn.forwarded.seq v.turn.received = id
+    ∙ ap (λ n. aru_id_after v.who v.turn.front n v.turn.received) (sym seq) in
+    elim (aru_step v.who v.turn.front v.turn.forwarded.seq v.turn.received) [
       | inl s ↦ inl (record { aru_is = aru ∙ s.aru_is; id_is = λ l. id_by_seq ∙ s.id_is l; may = s.may })
       | inr s ↦ inr (record { aru_is = aru ∙ s.aru_is; id_is = id_by_seq ∙ s.id_is; below = s.below; other = s.other })
     ]
 
-aru_within : {A : Type 0} → (members : ℕ) (ring : RingId) (vs : List (VisitBy A)) → AreVisits members ring vs → (arrived ring vs).aru ≤ (arrived ring vs).seq
+aru_within : {A : Type 0} → (members : ℕ) (ring : RingId) (vs : List (VisitBy A)) → AreVisits members ring vs → (token_arrived ring vs).aru ≤ (token_arrived ring vs).seq
 aru_within members ring [] h = omega arith
 aru_within members ring (v ∷ vs) h =
-    let f : v.turn.front ≤ v.turn.went.seq = h.0.within in
-    let t : v.turn.came.aru ≤ v.turn.came.seq = rw h.0.comes (aru_within members ring vs h.1) in
-    let q : v.turn.went.seq ≡ v.turn.came.seq + length v.turn.fresh = seq_is members ring v vs h.0 in
+    let f : v.turn.front ≤ v.turn.forwarded.seq = h.0.within in
+    let t : v.turn.received.aru ≤ v.turn.received.seq = rw h.0.comes (aru_within members ring vs h.1) in
+    let q : v.turn.forwarded.seq ≡ v.turn.received.seq + length v.turn.fresh = seq_is members ring v vs h.0 in
     elim (step_at members ring v vs h.0) [
-      | inl s ↦ (let e : v.turn.went.aru ≡ v.turn.front = s.aru_is in omega arith)
-      | inr s ↦ (let e : v.turn.went.aru ≡ v.turn.came.aru = s.aru_is in omega arith)
+      | inl s ↦ (let e : v.turn.forwarded.aru ≡ v.turn.front = s.aru_is in omega arith)
+      | inr s ↦ (let e : v.turn.forwarded.aru ≡ v.turn.received.aru = s.aru_is in omega arith)
     ]
 
--- the visits after one that forwarded an aru of s or more
+-- The visits after one that forwarded an `aru` of s or more.
 round : {A : Type 0} → (members : ℕ) (ring : RingId) (s : ℕ) (w : VisitBy A) (zs ws : List (VisitBy A))
-    → 0 < size members → AreVisits members ring (ws ++ w ∷ zs) → s ≤ w.turn.went.aru → length ws ≤ size members →
-    (s ≤ (arrived ring (ws ++ w ∷ zs)).seq) × (Covered s (arrived ring (ws ++ w ∷ zs)).aru ws
-    ⊎ Lacks members (suc (length zs)) (length ws) s (arrived ring (ws ++ w ∷ zs)).aru
-    (arrived ring (ws ++ w ∷ zs)).aru_id)
+    → 0 < size members → AreVisits members ring (ws ++ w ∷ zs) → s ≤ w.turn.forwarded.aru → length ws ≤ size members →
+    (s ≤ (token_arrived ring (ws ++ w ∷ zs)).seq) × (Covered s (token_arrived ring (ws ++ w ∷ zs)).aru ws
+    ⊎ Lacks members (suc (length zs)) (length ws) s (token_arrived ring (ws ++ w ∷ zs)).aru
+    (token_arrived ring (ws ++ w ∷ zs)).aru_id)
 round members ring s w zs [] some h large short = (
-  let q : w.turn.went.aru ≤ w.turn.went.seq = aru_within members ring
+  let q : w.turn.forwarded.aru ≤ w.turn.forwarded.seq = aru_within members ring
       (w ∷ zs) h in omega arith,
   inl (record { aru_covers = large; fronts = tt }),
 )
 round members ring s w zs (v ∷ ws) some h large short =
     let before = round members ring s w zs ws some h.1 large (omega arith) in
-    let seq : s ≤ v.turn.came.seq = rw h.0.comes before.0 in
-    let q : v.turn.went.seq ≡ v.turn.came.seq + length v.turn.fresh = seq_is members ring v (ws ++ w ∷ zs) h.0 in
+    let seq : s ≤ v.turn.received.seq = rw h.0.comes before.0 in
+    let q : v.turn.forwarded.seq ≡ v.turn.received.seq + length v.turn.fresh = seq_is members ring v (ws ++ w ∷ zs) h.0 in
     let who : v.who ≡ member_of members (suc (length zs) + length ws) = h.0.turn ∙ ap (member_of members) (length-append ws (w ∷ zs) ∙ omega arith) in (
       omega arith,
-      covered_step members (suc (length zs)) s v ws v.turn.came v.turn.went some (omega arith) who
+      covered_step members (suc (length zs)) s v ws v.turn.received v.turn.forwarded some (omega arith) who
           (omega arith) (step_at members ring v (ws ++ w ∷ zs) h.0) (rw h.0.comes before.1),
     )
 
--- the visit j turns above the rest is by that member
+-- The visit j turns after the rest is by that member.
 reached : {A : Type 0} → (members : ℕ) (ring : RingId) (s : ℕ) (front : ℕ → ℕ) (rest ws : List (VisitBy A))
     → AreVisits members ring (ws ++ rest) → HaveGrown front (ws ++ rest)
     → AllByRecursion (λ (v : VisitBy A). s ≤ v.turn.front) ws → (j : ℕ) → j < length ws
@@ -135,33 +136,33 @@ none_at members ring i rest (v ∷ ys) h f j l e =
       | inr p ↦ f.0 (h.0.turn ∙ ap (member_of members) (length-append ys rest ∙ omega arith) ∙ e)
     ]
 
--- where both of two visits of a member, one round apart, forwarded s or more, each member reaches it
+-- If two visits of a member, one round apart, both forwarded s or more, each member reaches s.
 pair_safe : {A : Type 0} → (members : ℕ) (ring : RingId) (s : ℕ) (front : ℕ → ℕ) (v w : VisitBy A)
     (ys zs : List (VisitBy A)) → 0 < size members → AreVisits members ring (v ∷ ys ++ w ∷ zs)
-    → HaveGrown front (v ∷ ys ++ w ∷ zs) → suc (length ys) ≡ size members → s ≤ w.turn.went.aru → s ≤ v.turn.went.aru
+    → HaveGrown front (v ∷ ys ++ w ∷ zs) → suc (length ys) ≡ size members → s ≤ w.turn.forwarded.aru → s ≤ v.turn.forwarded.aru
     → (p : ℕ) → IsProc p → IsMember members p → s ≤ front p
 pair_safe members ring s front v w ys zs some h k whole old new p proc m =
     let r = turns_reach members (suc (length zs)) p proc m in
     elim (round members ring s w zs (v ∷ ys) some h old (omega arith)).1 [
       | inl c ↦ subst (λ n. s ≤ front n) r.2 (reached members ring s front (w ∷ zs) (v ∷ ys) h k c.fronts r.0 (let q : r.0 < size members = r.1 in omega arith))
-      | inr c ↦ (let q : v.turn.went.aru < s = c.aru_below in absurd (omega arith))
+      | inr c ↦ (let q : v.turn.forwarded.aru < s = c.aru_below in absurd (omega arith))
     ]
 
--- the visit of a processor before
+-- The previous visit of a processor.
 record Before {A : Type 0} (i b : ℕ) (vs : List (VisitBy A)) : Type 0 where
   pub newer : List (VisitBy A)
   pub visit : VisitBy A
   pub older : List (VisitBy A)
   pub parts : vs ≡ newer ++ visit ∷ older
   pub who : visit.who ≡ i
-  pub aru : visit.turn.went.aru ≡ b
+  pub aru : visit.turn.forwarded.aru ≡ b
   pub others : AllByRecursion (λ (y : VisitBy A). y.who ≡ i → ⊥) newer
 
 found : {A : Type 0} → (i b : ℕ) (rest : List ℕ) (vs : List (VisitBy A)) → forwarded_by i vs ≡ b ∷ rest → Before i b vs
 found i b rest [] e = absurd (let q : ⊥ = cc in q)
 found i b rest (v ∷ vs) e =
     elim (cases_Bool (v.who == i)) [
-      | inl t ↦ (let q : v.turn.went.aru ∷ forwarded_by i vs ≡ b ∷ rest = sym (cond-true _ _ _ t) ∙ e in
+      | inl t ↦ (let q : v.turn.forwarded.aru ∷ forwarded_by i vs ≡ b ∷ rest = sym (cond-true _ _ _ t) ∙ e in
           record { newer = []; visit = v; older = vs; parts = refl; who = eqb-true _ _ t; aru = cc; others = tt })
       | inr t ↦ (let q : forwarded_by i vs ≡ b ∷ rest = sym (cond-false _ _ _ t) ∙ e in
           let r = found i b rest vs q in
@@ -181,7 +182,7 @@ older_turn : {A : Type 0} → (members : ℕ) (ring : RingId) (w : VisitBy A) (y
 older_turn members ring w [] zs h = h.0.turn
 older_turn members ring w (y ∷ ys) zs h = older_turn members ring w ys zs h.1
 
--- and it is one round before
+-- It is one round before.
 round_between : {A : Type 0} → (members : ℕ) (ring : RingId) (i : ℕ) (v w : VisitBy A) (ys zs : List (VisitBy A))
     → 0 < size members → AreVisits members ring (v ∷ ys ++ w ∷ zs) → v.who ≡ i → w.who ≡ i
     → AllByRecursion (λ (y : VisitBy A). y.who ≡ i → ⊥) ys → suc (length ys) ≡ size members
@@ -201,19 +202,19 @@ round_between members ring i v w ys zs some h mine its others =
 safe_from : {A : Type 0} → (members : ℕ) (ring : RingId) (front : ℕ → ℕ) (i p : ℕ) (v : VisitBy A)
     (vs : List (VisitBy A)) → 0 < size members → IsProc p → IsMember members p → AreVisits members ring (v ∷ vs)
     → HaveGrown front (v ∷ vs) → v.who ≡ i → (fs : List ℕ) → forwarded_by i vs ≡ fs → mark_by fs ≤ front p
-    → mark_after v.turn.went.aru fs ≤ front p
+    → mark_after v.turn.forwarded.aru fs ≤ front p
 safe_from members ring front i p v vs some proc m h k who [] e ih = omega arith
 safe_from {A} members ring front i p v vs some proc m h k who (b ∷ rest) e ih =
     let w = found i b rest vs e in
     let h' : AreVisits members ring (v ∷ w.newer ++ w.visit ∷ w.older) = subst (λ (us : List (VisitBy A)). AreVisits members ring (v ∷ us)) w.parts h in
     let k' : HaveGrown front (v ∷ w.newer ++ w.visit ∷ w.older) = subst (λ (us : List (VisitBy A)). HaveGrown front (v ∷ us)) w.parts k in
     let whole = round_between members ring i v w.visit w.newer w.older some h' who w.who w.others in
-    let a : w.visit.turn.went.aru ≡ b = w.aru in
-    let q : min v.turn.went.aru b ≤ front p = pair_safe members ring (min v.turn.went.aru b)
+    let a : w.visit.turn.forwarded.aru ≡ b = w.aru in
+    let q : min v.turn.forwarded.aru b ≤ front p = pair_safe members ring (min v.turn.forwarded.aru b)
     front v w.visit w.newer w.older some h' k' whole (omega arith) (omega arith) p proc m in
     omega arith
 
--- what a processor's safe mark covers, each member reaches
+-- Every member reaches each number up to a processor's safe mark.
 pub marks_safe : {A : Type 0} → MarksAreSafe A
 marks_safe members ring [] front some h k i p proc m = omega arith
 marks_safe members ring (v ∷ vs) front some h k i p proc m =
@@ -222,7 +223,7 @@ marks_safe members ring (v ∷ vs) front some h k i p proc m =
     (λ e. safe_from members ring front i p v vs some proc m h k (eqb-true _ _ e) (forwarded_by i vs) refl ih)
     (λ e. ih)
 
--- two neighbours of a list are below its mark
+-- The lesser of two neighbours of a list is at most its mark.
 pair_marked : (newer older : List ℕ) (later earlier : ℕ) → min later earlier ≤ mark_by (newer ++ later ∷ earlier ∷ older)
 pair_marked [] older later earlier = omega arith
 pair_marked (a ∷ []) older later earlier = omega arith

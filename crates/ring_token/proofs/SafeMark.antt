@@ -1,4 +1,4 @@
--- The safe mark: what it is read off, and that a visit or a raise more lowers none.
+-- The safe mark: what determines it, and that a further visit or raise lowers none.
 use Rattle.std.proofs.Common.{ℕ, ◌≤◌, max, List, [], ◌∷◌, map, filter, subst, arith}
 use Rattle.std.specs.List.{AllByRecursion}
 use Rattle.std.proofs.lemmas.Bool.{cond_both}
@@ -6,9 +6,9 @@ use Rattle.ring_base.specs.Rings.{same_ring}
 use Rattle.ring_base.specs.Numbers.{greatest}
 use Rattle.ring_base.specs.declared.ring_id.RingId.{RingId}
 use Rattle.ring_base.proofs.SameRing.{ring_same}
-use Rattle.ring_token.specs.Turns.{Turn, Raise, turns_of, mark_after, mark_by, forwarded_in, raised_to, safe_mark}
+use Rattle.ring_token.specs.Turns.{TokenVisit, Raise, turns_of, mark_after, mark_by, forwarded_in, raised_to, safe_mark}
 
--- each of a list is at most some bound: so is what is read off it
+-- Each element of a list is at most a bound; then so is the mark computed from the list.
 abbrev pub Below : ℕ → List ℕ → Type 0
 Below f xs = AllByRecursion (λ x. x ≤ f) xs
 
@@ -24,19 +24,19 @@ greatest-below : (f : ℕ) (xs : List ℕ) → Below f xs → greatest xs ≤ f
 greatest-below f [] h = omega arith
 greatest-below f (x ∷ xs) h = (let i : greatest xs ≤ f = greatest-below f xs h.1 in let j : x ≤ f = h.0 in omega arith)
 
--- a visit more lowers no mark
+-- A further visit lowers no mark.
 mark_by-more : (a : ℕ) (xs : List ℕ) → mark_by xs ≤ mark_by (a ∷ xs)
 mark_by-more a [] = omega arith
 mark_by-more a (b ∷ rest) = omega arith
 
--- all that was forwarded in a ring is at most how far the ring reaches
-turns-below : {A : Type 0} → (reach : RingId → ℕ) (r : RingId) (turns : List (Turn A))
-    → AllByRecursion (λ (v : Turn A). v.went.aru ≤ reach v.came.ring) turns → Below (reach r) (forwarded_in r turns)
+-- Each `aru` forwarded in a ring is at most the bound of that ring.
+turns-below : {A : Type 0} → (reach : RingId → ℕ) (r : RingId) (turns : List (TokenVisit A))
+    → AllByRecursion (λ (v : TokenVisit A). v.forwarded.aru ≤ reach v.received.ring) turns → Below (reach r) (forwarded_in r turns)
 turns-below reach r [] h = tt
 turns-below {A} reach r (v ∷ turns) h =
-    cond_both (same_ring v.came.ring r) (v ∷ turns_of r turns) (turns_of r turns)
-    (λ (vs : List (Turn A)). Below (reach r) (map (λ (v : Turn A). v.went.aru) vs))
-    (λ e. (subst (λ (q : RingId). v.went.aru ≤ reach q) (ring_same v.came.ring r e) h.0, turns-below reach r turns h.1))
+    cond_both (same_ring v.received.ring r) (v ∷ turns_of r turns) (turns_of r turns)
+    (λ (vs : List (TokenVisit A)). Below (reach r) (map (λ (v : TokenVisit A). v.forwarded.aru) vs))
+    (λ e. (subst (λ (q : RingId). v.forwarded.aru ≤ reach q) (ring_same v.received.ring r e) h.0, turns-below reach r turns h.1))
     (λ e. turns-below reach r turns h.1)
 
 raises-below : (reach : RingId → ℕ) (r : RingId) (raises : List Raise)
@@ -50,27 +50,27 @@ raises-below reach r (x ∷ raises) h =
     (λ e. (subst (λ (q : RingId). x.mark ≤ reach q) (ring_same x.ring r e) h.0, raises-below reach r raises h.1))
     (λ e. raises-below reach r raises h.1)
 
--- a mark is at most how far the ring reaches, since all that it is read off is
-pub safe_mark-below : {A : Type 0} → (reach : RingId → ℕ) (r : RingId) (turns : List (Turn A)) (raises : List Raise)
-    → AllByRecursion (λ (v : Turn A). v.went.aru ≤ reach v.came.ring) turns
+-- A mark is at most the bound of its ring, since all that determines it is.
+pub safe_mark-below : {A : Type 0} → (reach : RingId → ℕ) (r : RingId) (turns : List (TokenVisit A)) (raises : List Raise)
+    → AllByRecursion (λ (v : TokenVisit A). v.forwarded.aru ≤ reach v.received.ring) turns
     → AllByRecursion (λ (x : Raise). x.mark ≤ reach x.ring) raises → safe_mark turns raises r ≤ reach r
 safe_mark-below reach r turns raises h k =
     let i : mark_by (forwarded_in r turns) ≤ reach r = mark_by-below _ _ (turns-below reach r turns h) in
     let j : raised_to r raises ≤ reach r = greatest-below _ _ (raises-below reach r raises k) in
     omega arith
 
--- a visit or a raise more lowers no mark
+-- A further visit or raise lowers no mark.
 
-pub safe_mark-turn : {A : Type 0} → (v : Turn A) (turns : List (Turn A)) (raises : List Raise) (r : RingId)
+pub safe_mark-turn : {A : Type 0} → (v : TokenVisit A) (turns : List (TokenVisit A)) (raises : List Raise) (r : RingId)
     → safe_mark turns raises r ≤ safe_mark (v ∷ turns) raises r
 safe_mark-turn {A} v turns raises r =
-    cond_both (same_ring v.came.ring r) (v ∷ turns_of r turns) (turns_of r turns)
-    (λ (vs : List (Turn A)). safe_mark turns raises r ≤ max (mark_by (map (λ (v : Turn A). v.went.aru) vs))
+    cond_both (same_ring v.received.ring r) (v ∷ turns_of r turns) (turns_of r turns)
+    (λ (vs : List (TokenVisit A)). safe_mark turns raises r ≤ max (mark_by (map (λ (v : TokenVisit A). v.forwarded.aru) vs))
     (raised_to r raises))
-    (λ e. (let i : mark_by (forwarded_in r turns) ≤ mark_by (v.went.aru ∷ forwarded_in r turns) = mark_by-more v.went.aru _ in omega arith))
+    (λ e. (let i : mark_by (forwarded_in r turns) ≤ mark_by (v.forwarded.aru ∷ forwarded_in r turns) = mark_by-more v.forwarded.aru _ in omega arith))
     (λ e. omega arith)
 
-pub safe_mark-raise : {A : Type 0} → (x : Raise) (turns : List (Turn A)) (raises : List Raise) (r : RingId)
+pub safe_mark-raise : {A : Type 0} → (x : Raise) (turns : List (TokenVisit A)) (raises : List Raise) (r : RingId)
     → safe_mark turns raises r ≤ safe_mark turns (x ∷ raises) r
 safe_mark-raise {A} x turns raises r =
     cond_both (same_ring x.ring r) (x ∷ filter (λ (x : Raise). same_ring x.ring r) raises)

@@ -1,4 +1,4 @@
--- The three numbers that the code keeps of a member's visits stand for all that is read off them.
+-- The three numbers that the code keeps of a member's visits represent all that is computed from them.
 use Rattle.std.proofs.Common.{◌≡◌, ℕ, suc, ◌+◌, min, max, Bool, true, false, List, [], ◌∷◌, map, filter, refl, sym, ap, ◌∙◌, arith, inl, inr}
 use Rattle.std.specs.Prelude.{nat_lt, nat_le, ◌&&◌}
 use Rattle.std.specs.List.{AllByRecursion, list_all}
@@ -9,34 +9,34 @@ use Rattle.ring_base.specs.Numbers.{greatest, max_number}
 use Rattle.ring_base.specs.declared.ring_id.RingId.{RingId}
 use Rattle.ring_wire.specs.declared.token.Token.{Token}
 use Rattle.ring_base.proofs.SameRing.{ring_same, ring_itself}
-use Rattle.ring_token.specs.Turns.{Turn, Raise, turns_of, is_newer, is_accepted, mark_by, forwarded_in, raised_to, safe_mark}
+use Rattle.ring_token.specs.Turns.{TokenVisit, Raise, turns_of, is_newer, is_accepted, mark_by, forwarded_in, raised_to, safe_mark}
 use Rattle.ring_token.specs.Histories.{TokenHistory, with_turn, with_raise, next_number, last_aru, IsTokenKept}
 
 -- Of one ring
 
-abbrev AreOf : {A : Type 0} → RingId → List (Turn A) → Type 0
-AreOf r turns = AllByRecursion (λ (v : Turn _). v.came.ring ≡ r) turns
+abbrev AreOf : {A : Type 0} → RingId → List (TokenVisit A) → Type 0
+AreOf r turns = AllByRecursion (λ (v : TokenVisit _). v.received.ring ≡ r) turns
 
--- all of the visits are of the one ring
-turns_all : {A : Type 0} → (r : RingId) (turns : List (Turn A)) → AreOf r turns → turns_of r turns ≡ turns
+-- All of the visits are of the one ring.
+turns_all : {A : Type 0} → (r : RingId) (turns : List (TokenVisit A)) → AreOf r turns → turns_of r turns ≡ turns
 turns_all r [] h = refl
-turns_all r (v ∷ turns) h = cond-true (same_ring v.came.ring r) (v ∷ turns_of r turns) (turns_of r turns)
-    (ring_itself v.came.ring r h.0) ∙ ap (λ l. v ∷ l) (turns_all r turns h.1)
+turns_all r (v ∷ turns) h = cond-true (same_ring v.received.ring r) (v ∷ turns_of r turns) (turns_of r turns)
+    (ring_itself v.received.ring r h.0) ∙ ap (λ l. v ∷ l) (turns_all r turns h.1)
 
 -- Accepting
 
 test_next : (n m k : ℕ) → (nat_lt n k && nat_le m k) ≡ nat_le (max (suc n) m) k
 test_next n m k = grind (arith, nat_tests)
 
-newer_than : {A : Type 0} → (turns : List (Turn A)) (k : ℕ) → list_all (λ (v : Turn A). nat_lt v.came.number k) turns ≡ nat_le (next_number turns) k
+newer_than : {A : Type 0} → (turns : List (TokenVisit A)) (k : ℕ) → list_all (λ (v : TokenVisit A). nat_lt v.received.number k) turns ≡ nat_le (next_number turns) k
 newer_than [] k = sym (le-leb 0 k (omega arith))
-newer_than {A} (v ∷ turns) k = ap (λ b. nat_lt v.came.number k && b) (newer_than turns k) ∙ test_next v.came.number (next_number turns) k
+newer_than {A} (v ∷ turns) k = ap (λ b. nat_lt v.received.number k && b) (newer_than turns k) ∙ test_next v.received.number (next_number turns) k
 
 pub newer_by : {A : Type 0} → (h : TokenHistory A) (next aru safe : ℕ) (t : Token) → IsTokenKept h next aru safe
     → t.ring ≡ h.ring → is_newer h.turns t ≡ nat_le next t.number
 newer_by {A} h next aru safe t k e =
-    ap (λ (r : RingId). list_all (λ (v : Turn A). nat_lt v.came.number t.number) (turns_of r h.turns)) e
-    ∙ ap (λ (vs : List (Turn A)). list_all (λ (v : Turn A). nat_lt v.came.number t.number) vs) (turns_all h.ring h.turns k.turns_in)
+    ap (λ (r : RingId). list_all (λ (v : TokenVisit A). nat_lt v.received.number t.number) (turns_of r h.turns)) e
+    ∙ ap (λ (vs : List (TokenVisit A)). list_all (λ (v : TokenVisit A). nat_lt v.received.number t.number) vs) (turns_all h.ring h.turns k.turns_in)
     ∙ newer_than h.turns t.number
     ∙ ap (λ n. nat_le n t.number) (sym k.next_is)
 
@@ -55,30 +55,30 @@ accepted_by h next aru safe high t k =
 
 -- The safe mark
 
--- a visit more: the lesser of its aru and the last one
-pub mark_more : {A : Type 0} → (v : Turn A) (turns : List (Turn A))
-    → mark_by (v.went.aru ∷ map (λ (v : Turn A). v.went.aru) turns) ≡ max (min v.went.aru (last_aru turns))
-    (mark_by (map (λ (v : Turn A). v.went.aru) turns))
+-- A further visit: the lesser of its `aru` and the last one.
+pub mark_more : {A : Type 0} → (v : TokenVisit A) (turns : List (TokenVisit A))
+    → mark_by (v.forwarded.aru ∷ map (λ (v : TokenVisit A). v.forwarded.aru) turns) ≡ max (min v.forwarded.aru (last_aru turns))
+    (mark_by (map (λ (v : TokenVisit A). v.forwarded.aru) turns))
 mark_more v [] = omega arith
 mark_more v (w ∷ turns) = refl
 
-forwarded_all : {A : Type 0} → (r : RingId) (turns : List (Turn A)) → AreOf r turns → forwarded_in r turns ≡ map (λ (v : Turn A). v.went.aru) turns
-forwarded_all {A} r turns h = ap (λ (vs : List (Turn A)). map (λ (v : Turn A). v.went.aru) vs) (turns_all r turns h)
+forwarded_all : {A : Type 0} → (r : RingId) (turns : List (TokenVisit A)) → AreOf r turns → forwarded_in r turns ≡ map (λ (v : TokenVisit A). v.forwarded.aru) turns
+forwarded_all {A} r turns h = ap (λ (vs : List (TokenVisit A)). map (λ (v : TokenVisit A). v.forwarded.aru) vs) (turns_all r turns h)
 
-mark_with_turn : {A : Type 0} → (r : RingId) (v : Turn A) (turns : List (Turn A)) (raises : List Raise) → v.came.ring ≡ r → AreOf r turns →
-    safe_mark (v ∷ turns) raises r ≡ max (min v.went.aru (last_aru turns)) (safe_mark turns raises r)
+mark_with_turn : {A : Type 0} → (r : RingId) (v : TokenVisit A) (turns : List (TokenVisit A)) (raises : List Raise) → v.received.ring ≡ r → AreOf r turns →
+    safe_mark (v ∷ turns) raises r ≡ max (min v.forwarded.aru (last_aru turns)) (safe_mark turns raises r)
 mark_with_turn {A} r v turns raises e h =
-    let more : mark_by (forwarded_in r (v ∷ turns)) ≡ mark_by (v.went.aru ∷ map (λ (v : Turn A). v.went.aru) turns) =
+    let more : mark_by (forwarded_in r (v ∷ turns)) ≡ mark_by (v.forwarded.aru ∷ map (λ (v : TokenVisit A). v.forwarded.aru) turns) =
     ap mark_by (forwarded_all r (v ∷ turns) (e, h)) in
-    let less : mark_by (forwarded_in r turns) ≡ mark_by (map (λ (v : Turn A). v.went.aru) turns) = ap mark_by (forwarded_all r turns h) in
-    let step : mark_by (v.went.aru ∷ map (λ (v : Turn A). v.went.aru) turns) ≡ max (min v.went.aru (last_aru turns))
-    (mark_by (map (λ (v : Turn A). v.went.aru) turns)) = mark_more v turns in
+    let less : mark_by (forwarded_in r turns) ≡ mark_by (map (λ (v : TokenVisit A). v.forwarded.aru) turns) = ap mark_by (forwarded_all r turns h) in
+    let step : mark_by (v.forwarded.aru ∷ map (λ (v : TokenVisit A). v.forwarded.aru) turns) ≡ max (min v.forwarded.aru (last_aru turns))
+    (mark_by (map (λ (v : TokenVisit A). v.forwarded.aru) turns)) = mark_more v turns in
     regrouped _ _ _ _ _ (more ∙ step) less
   where
     regrouped : (one all p m raised : ℕ) → one ≡ max p m → all ≡ m → max one raised ≡ max p (max all raised)
     regrouped one all p m raised a b = omega arith
 
-mark_with_raise : {A : Type 0} → (r : RingId) (m : ℕ) (turns : List (Turn A)) (raises : List Raise)
+mark_with_raise : {A : Type 0} → (r : RingId) (m : ℕ) (turns : List (TokenVisit A)) (raises : List Raise)
     → safe_mark turns (record { ring = r; mark = m } ∷ raises) r ≡ max m (safe_mark turns raises r)
 mark_with_raise r m turns raises =
     let x : Raise = record { ring = r; mark = m } in
@@ -93,9 +93,9 @@ mark_with_raise r m turns raises =
 
 -- Keeping
 
-pub kept_turn : {A : Type 0} → (h : TokenHistory A) (v : Turn A) (next aru safe next_after aru_after safe_after : ℕ)
-    → IsTokenKept h next aru safe → v.came.ring ≡ h.ring →
-    next_after ≡ max next (v.came.number + 1) → aru_after ≡ v.went.aru → safe_after ≡ max safe (min aru v.went.aru)
+pub kept_turn : {A : Type 0} → (h : TokenHistory A) (v : TokenVisit A) (next aru safe next_after aru_after safe_after : ℕ)
+    → IsTokenKept h next aru safe → v.received.ring ≡ h.ring →
+    next_after ≡ max next (v.received.number + 1) → aru_after ≡ v.forwarded.aru → safe_after ≡ max safe (min aru v.forwarded.aru)
     → IsTokenKept (with_turn h v) next_after aru_after safe_after
 kept_turn h v next aru safe next_after aru_after safe_after k e n a s =
     let m = mark_with_turn h.ring v h.turns h.raises e k.turns_in in
@@ -107,9 +107,9 @@ kept_turn h v next aru safe next_after aru_after safe_after k e n a s =
       safe_is = (let f : aru ≡ last_aru h.turns = k.aru_is in let g : safe ≡ safe_mark h.turns h.raises h.ring = k.safe_is in joined _ _ _ _ _ _ _ s f g m);
     }
   where
-    joined : (after safe aru went last mark more : ℕ) → after ≡ max safe (min aru went) → aru ≡ last → safe ≡ mark
-        → more ≡ max (min went last) mark → after ≡ more
-    joined after safe aru went last mark more s f g m = omega arith
+    joined : (after safe aru forwarded last mark more : ℕ) → after ≡ max safe (min aru forwarded) → aru ≡ last → safe ≡ mark
+        → more ≡ max (min forwarded last) mark → after ≡ more
+    joined after safe aru forwarded last mark more s f g m = omega arith
 
 pub kept_raise : {A : Type 0} → (h : TokenHistory A) (mark next aru safe safe_after : ℕ) → IsTokenKept h next aru safe
     → safe_after ≡ max safe mark → IsTokenKept (with_raise h mark) next aru safe_after

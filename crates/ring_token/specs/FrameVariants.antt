@@ -1,2 +1,2 @@
--- The variants of frames, passed on to the ring core.
+-- The variants of frames, re-exported for the ring core.
 pub use Rattle.ring_wire.specs.declared.frame.Frame.TheVariants.{Join, Commit, Message, Token}

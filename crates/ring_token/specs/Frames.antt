@@ -1,4 +1,4 @@
--- Frames and what they carry, passed on to the ring core.
+-- Frames and their parts, re-exported for the ring core.
 pub use Rattle.ring_wire.specs.declared.entries.CommitEntry.{CommitEntry}
 pub use Rattle.ring_wire.specs.declared.message.Message.{Message}
 pub use Rattle.ring_wire.specs.declared.commit.CommitToken.{CommitToken}

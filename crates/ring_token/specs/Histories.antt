@@ -1,55 +1,55 @@
--- What a member did with the tokens of one ring, as contracts see it, and what its code keeps of that: Token and
--- window, rules 3, 6, 7 and 10 of docs/PROTOCOL.md.
+-- All that a member did with the tokens of one ring, as contracts see it, and the numbers that the code keeps of it.
+-- Rules: Token and window 3, 6, 7 and 10
 use Rattle.std.specs.Prelude.{◌≡◌, ℕ, suc, max, List, [], ◌∷◌, length}
 use Rattle.std.specs.List.{AllByRecursion}
 use Rattle.ring_base.specs.declared.ring_id.RingId.{RingId}
 use Rattle.ring_wire.specs.Messages.{Payload}
 use Rattle.ring_wire.specs.declared.token.Token.{Token}
-use Rattle.ring_token.specs.Turns.{Turn, Raise, safe_mark}
+use Rattle.ring_token.specs.Turns.{TokenVisit, Raise, safe_mark}
 use Rattle.ring_token.specs.Visits.{token_after}
 
--- a member, a ring, its visits and the marks that the ring was raised to, both newest first
+-- A member, a ring, its visits, and the marks to which its safe mark was raised; both lists newest first.
 pub record TokenHistory (A : Type 0) : Type 0 where
   pub me : ℕ
   pub ring : RingId
-  pub turns : List (Turn A)
+  pub turns : List (TokenVisit A)
   pub raises : List Raise
 
--- before any visit
-abbrev pub unvisited : {A : Type 0} → ℕ → RingId → TokenHistory A
-unvisited me ring = record { me = me; ring = ring; turns = []; raises = [] }
+-- The history before any visit.
+abbrev pub without_visits : {A : Type 0} → ℕ → RingId → TokenHistory A
+without_visits me ring = record { me = me; ring = ring; turns = []; raises = [] }
 
--- a visit of the token, with the front once the new messages are held, these, and the requests that it goes on with
-abbrev pub turn_by : {A : Type 0} → ℕ → ℕ → List (Payload A) → List ℕ → Token → Turn A
-turn_by me front fresh requests t = record { came = t; front = front; fresh = fresh; went = token_after me front (length fresh) requests t }
+-- A visit of the token, from the front with the new messages held, these messages, and the requests of the forwarded token.
+abbrev pub turn_by : {A : Type 0} → ℕ → ℕ → List (Payload A) → List ℕ → Token → TokenVisit A
+turn_by me front fresh requests t = record { received = t; front = front; fresh = fresh; forwarded = token_after me front (length fresh) requests t }
 
--- one more visit
-abbrev pub with_turn : {A : Type 0} → TokenHistory A → Turn A → TokenHistory A
+-- The history after one more visit.
+abbrev pub with_turn : {A : Type 0} → TokenHistory A → TokenVisit A → TokenHistory A
 with_turn h turn = record h { turns = turn ∷ h.turns }
 
--- the ring's mark is raised
+-- The history after the safe mark is raised.
 abbrev pub with_raise : {A : Type 0} → TokenHistory A → ℕ → TokenHistory A
 with_raise h mark = record h { raises = record { ring = h.ring; mark = mark } ∷ h.raises }
 
--- the safe mark
+-- The safe mark of the ring.
 abbrev pub mark_of : {A : Type 0} → TokenHistory A → ℕ
 mark_of h = safe_mark h.turns h.raises h.ring
 
--- What the code keeps of it
+-- What the code keeps
 
--- the least number that the next token may have: above that of each visited
-abbrev pub next_number : {A : Type 0} → List (Turn A) → ℕ
+-- The least number that the next accepted token may have: above that of each visited token.
+abbrev pub next_number : {A : Type 0} → List (TokenVisit A) → ℕ
 next_number [] = 0
-next_number (v ∷ turns) = max (suc v.came.number) (next_number turns)
+next_number (v ∷ turns) = max (suc v.received.number) (next_number turns)
 
--- the aru that the last visit forwarded, 0 before any
-abbrev pub last_aru : {A : Type 0} → List (Turn A) → ℕ
+-- The `aru` that the last visit forwarded, 0 before the first.
+abbrev pub last_aru : {A : Type 0} → List (TokenVisit A) → ℕ
 last_aru [] = 0
-last_aru (v ∷ turns) = v.went.aru
+last_aru (v ∷ turns) = v.forwarded.aru
 
--- it is all of one ring, and the three numbers kept are what they should be
+-- The visits and raises are all of one ring, and the three kept numbers are those of the history.
 pub record IsTokenKept {A : Type 0} (h : TokenHistory A) (next aru safe : ℕ) : Type 0 where
-  pub turns_in : AllByRecursion (λ (v : Turn A). v.came.ring ≡ h.ring) h.turns
+  pub turns_in : AllByRecursion (λ (v : TokenVisit A). v.received.ring ≡ h.ring) h.turns
   pub raises_in : AllByRecursion (λ (x : Raise). x.ring ≡ h.ring) h.raises
   pub next_is : next ≡ next_number h.turns
   pub aru_is : aru ≡ last_aru h.turns

@@ -1,2 +1,2 @@
--- Words of payloads, passed on to the ring core.
-pub use Rattle.ring_wire.specs.Payloads.{Payload, is_queued, packed, left_behind, is_user, Content, Call, most_snapshot, CallFits}
+-- Predicates and types of payloads, re-exported for the ring core.
+pub use Rattle.ring_wire.specs.Payloads.{Payload, is_queued, packed_payloads, unpacked_rest, is_user, Content, Call, max_snapshot, CallFits}

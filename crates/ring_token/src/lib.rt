@@ -1,5 +1,6 @@
-//! The token: which one a member accepts, what its visit does, and how far two successive visits make a ring
-//! safe.
+//! The token: which tokens a member accepts, what a visit does, and the safe mark that two successive visits give.
+//!
+//! Rules: Token and window 5 to 8, 10, 13 and 15
 #![tactic(auto)]
 
 mod laws;
@@ -7,6 +8,6 @@ mod requests;
 mod visit;
 
 pub use laws::safe_law;
-pub use requests::{left, requests_after};
+pub use requests::{requests_after, requests_left};
 pub use ring_wire::{Call, CommitEntry, Content, Frame, Message, Payload};
 pub use visit::{Visit, Visits};

@@ -1,4 +1,5 @@
-//! A member's visits of the token of one ring.
+//! A member's visits of one ring's token.
+//! Rules: Token and window 6 to 8, 10 and 15; Recovery 3
 
 ghost use Rattle.std.specs.Prelude.{◌≡◌, ℕ, ◌+◌, ◌<◌, ◌≤◌, ◌&&◌, List, length, nat_lt, nat_le, true};
 ghost use Rattle.ring_base.specs.Numbers.{max_number};
@@ -6,39 +7,42 @@ ghost use Rattle.ring_base.specs.Rings.{same_ring};
 ghost use Rattle.ring_wire.specs.Messages.{Payload as OnePayload};
 ghost use Rattle.ring_token.specs.Turns.{is_accepted};
 ghost use Rattle.ring_token.specs.Visits.{may_set, token_after};
-ghost use Rattle.ring_token.specs.Histories.{unvisited, turn_by, with_turn, with_raise, mark_of};
+ghost use Rattle.ring_token.specs.Histories.{without_visits, turn_by, with_turn, with_raise, mark_of};
 
-use ring_base::{MAX, Past, Proc, RingId, past_of};
+use ring_base::{Ghost, MAX, Proc, RingId, ghost_of};
 use ring_wire::{Requests, Token};
 use std::alloc::{AllocError, Allocator, Global};
 use std::marker::{Model, PhantomData};
 
-/// All that a member did with the tokens of one ring, as contracts see it. No value of it is made.
+/// All visits of one ring's token to a member, and each mark to which the member's safe mark was raised, as contracts
+/// see them. No value of this type is made.
+/// Rules: Token and window 10
 pub struct Visits<A: Allocator + Copy = Global> {
     allocator: PhantomData<A>,
 }
 
 impl<A: Allocator + Copy> Model for Visits<A> {
     ghost use Rattle.ring_base.specs.declared.ring_id.RingId.{RingId as OneRing};
-    ghost use Rattle.ring_token.specs.Histories.{TokenHistory, unvisited as none_visited};
+    ghost use Rattle.ring_token.specs.Histories.{TokenHistory, without_visits as none_visited};
 
     ghost Value = { TokenHistory A };
 
     ghost view = { λ _. none_visited 0 (record { seq = 0; rep = 0 }) };
 }
 
-/// A member's visits of the token of one ring, and how far they make the ring safe. Contracts see a
-/// `TokenHistory`: each visit, and each mark that the ring was raised to.
+/// A member's state for the token of one ring: the greatest token number accepted, the `aru` forwarded last, and the
+/// safe mark. Contracts see a `TokenHistory`: each visit, and each mark to which the safe mark was raised.
+/// Rules: Token and window 15
 #[derive(Drop)]
 pub struct Visit<A: Allocator + Copy = Global> {
     me: Proc,
     ring: RingId,
-    /// The least number that the next token may have.
+    /// The least number that the next accepted token may have.
     next: u64,
-    /// The `aru` that the last visit forwarded, 0 before any.
+    /// The `aru` that the last visit forwarded, 0 before the first.
     aru: u64,
     safe: u64,
-    past: Past<Visits<A>>,
+    history: Ghost<Visits<A>>,
 }
 
 impl<A: Allocator + Copy> Model for Visit<A> {
@@ -47,38 +51,44 @@ impl<A: Allocator + Copy> Model for Visit<A> {
 
     ghost Value = { OneHistory A };
 
-    ghost view = { λ v. v.past.value };
+    ghost view = { λ v. v.history.value };
 
-    ghost invariant = { λ v. (v.me ≡ v.past.value.me) × (v.ring ≡ v.past.value.ring) × IsTokenKept v.past.value v.next v.aru v.safe };
+    ghost invariant = { λ v. (v.me ≡ v.history.value.me) × (v.ring ≡ v.history.value.ring) × IsTokenKept v.history.value v.next v.aru v.safe };
 }
 
 impl<A: Allocator + Copy> Visit<A> {
-    /// A member of a ring that visited no token of it yet.
+    /// Returns the state of the member `me` before the first visit of the token of `ring`. The safe mark is 0.
+    /// Rules: Token and window 3 and 10
     pub fn new(me: Proc, ring: RingId) -> Visit<A>
-        ensures { result ≡ unvisited me ring }
+        ensures { result ≡ without_visits me ring }
     {
-        let past = past_of(&(&me, &ring));
+        let history = ghost_of(&(&me, &ring));
         Visit {
             me,
             ring,
             next: 0,
             aru: 0,
             safe: 0,
-            past,
+            history,
         }
     }
 
-    /// Whether a token is accepted where this is the greatest number held: it is of the ring, its number is above
-    /// that of each token visited and below the greatest, and its `seq` is not behind what is held.
+    /// Returns whether the member accepts the token.
+    /// `high` is the greatest message number that it holds. The token is accepted if it is of the ring, its number is
+    /// above the number of each token accepted and below `MAX`, and its `seq` is at least `high`. The state of the node
+    /// isn't asked for.
+    /// Rules: Token and window 6
     pub fn accepts(&self, token: &Token, high: u64) -> bool
         ensures { result ≡ is_accepted self.now.ring self.now.turns high token.now }
     {
         is_acceptable(&self.ring, self.next, high, token)
     }
 
-    /// Visits an accepted token, with the front and the count of new messages once these are held, and the numbers
-    /// that are asked for now. Answers the token as it goes on. The ring core keeps the token that it visits:
-    /// [`visit_into`](Visit::visit_into).
+    /// Does the visit of an accepted token and returns the token to forward.
+    /// `sent` is the number of new messages, `front` the front once the member holds these, and `requests` the requests
+    /// of the forwarded token. That the token is accepted, and its `seq` plus `sent` at most `MAX`, is the caller's
+    /// condition. The ring core visits a token that it keeps: [`visit_into`](Visit::visit_into).
+    /// Rules: Token and window 7, 8 and 10
     pub fn visit(&mut self, token: Token, front: u64, sent: u64, requests: Requests) -> Token
         ghost fresh: { List (OnePayload A) }
         requires ring { token.ring ≡ self.old.ring }
@@ -88,7 +98,7 @@ impl<A: Allocator + Copy> Visit<A> {
         ensures token { result ≡ token_after self.old.me front sent requests token }
         ensures visit { self.new ≡ with_turn self.old (turn_by self.old.me front fresh requests token) }
     {
-        let mut went = Token {
+        let mut forwarded = Token {
             ring: token.ring,
             number: token.number,
             seq: token.seq,
@@ -96,43 +106,48 @@ impl<A: Allocator + Copy> Visit<A> {
             aru_id: token.aru_id,
             requests,
         };
-        self.visit_into(&token, front, sent, &mut went);
-        went
+        self.visit_into(&token, front, sent, &mut forwarded);
+        forwarded
     }
 
-    /// The same for a token that the caller keeps. The token that goes on is written over another one, in which the numbers
-    /// stand that are asked for now.
-    pub fn visit_into(&mut self, token: &Token, front: u64, sent: u64, went: &mut Token)
+    /// Does [`visit`](Visit::visit) for a token that the caller keeps, under the same conditions.
+    /// Writes the token to forward over `forwarded`, but for its requests, which stay: the caller has made them.
+    /// Rules: Token and window 7, 8 and 10
+    pub fn visit_into(&mut self, token: &Token, front: u64, sent: u64, forwarded: &mut Token)
         ghost fresh: { List (OnePayload A) }
         requires ring { token.now.ring ≡ self.old.ring }
         requires number { token.now.number < max_number }
         requires seq { token.now.seq + sent ≤ max_number }
         requires count { length fresh ≡ sent }
-        ensures token { went.new ≡ token_after self.old.me front sent went.old.requests token.now }
-        ensures visit { self.new ≡ with_turn self.old (turn_by self.old.me front fresh went.old.requests token.now) }
+        ensures token { forwarded.new ≡ token_after self.old.me front sent forwarded.old.requests token.now }
+        ensures visit { self.new ≡ with_turn self.old (turn_by self.old.me front fresh forwarded.old.requests token.now) }
     {
-        let past = past_of(&(&self.past, token, front, &went.requests));
-        forward(self.me, token, front, sent, went);
+        let history = ghost_of(&(&self.history, token, front, &forwarded.requests));
+        forward(self.me, token, front, sent, forwarded);
         self.next = self.next.max(token.number + 1);
-        self.safe = self.safe.max(self.aru.min(went.aru));
-        self.aru = went.aru;
-        self.past = past;
+        self.safe = self.safe.max(self.aru.min(forwarded.aru));
+        self.aru = forwarded.aru;
+        self.history = history;
     }
 
-    /// The ring's messages up to here are held by each of its members: the safe mark.
+    /// Returns the safe mark: every member of the ring holds the messages up to it.
+    /// It is 0 until two visits or a plan have raised it, and never falls.
+    /// Rules: Token and window 3 and 10
     pub fn safe(&self) -> u64
         ensures { result ≡ mark_of self.now }
     {
         self.safe
     }
 
-    /// Raises the safe mark at least to a mark that a member reported.
+    /// Raises the safe mark to `mark`, which a member reported in a commit token.
+    /// A safe mark that is at least `mark` stays.
+    /// Rules: Recovery 3
     pub fn raise(&mut self, mark: u64)
         ensures { self.new ≡ with_raise self.old mark }
     {
-        let past = past_of(&(&self.past, mark));
+        let history = ghost_of(&(&self.history, mark));
         self.safe = self.safe.max(mark);
-        self.past = past;
+        self.history = history;
     }
 }
 
@@ -146,39 +161,43 @@ impl<A: Allocator + Copy> Clone for Visit<A> {
             next: self.next,
             aru: self.aru,
             safe: self.safe,
-            past: self.past.clone()?,
+            history: self.history.clone()?,
         })
     }
 }
 
-/// Whether a token is of this ring, from this number on but below the greatest, and not behind what is held.
+/// Returns whether a token is of this ring, has a number from `next` to below `MAX`, and a `seq` of at least `high`.
 fn is_acceptable(ring: &RingId, next: u64, high: u64, token: &Token) -> bool
     ensures { result ≡ (same_ring token.now.ring ring.now && nat_le next token.now.number && nat_lt token.now.number max_number && nat_le high token.now.seq) }
 {
     token.ring == *ring && next <= token.number && token.number < MAX && high <= token.seq
 }
 
-/// Whether a member may set `aru` to its front: where it is behind `aru`, or no other member holds `aru` back.
+/// Returns whether a member may set `aru` to its front: the front is behind `aru`, or no other member holds `aru` back.
 fn may_set(me: Proc, front: u64, token: &Token) -> bool
     ensures { result ≡ may_set me front token.now }
 {
     front < token.aru || token.aru_id.is_none_or(|holder| holder == me)
 }
 
-/// Makes another token the one that goes on, which asks for the numbers that stand in it.
-fn forward(me: Proc, token: &Token, front: u64, sent: u64, went: &mut Token)
+/// Makes `forwarded` the token to forward; its requests stay.
+fn forward(me: Proc, token: &Token, front: u64, sent: u64, forwarded: &mut Token)
     requires number { token.now.number < max_number }
     requires seq { token.now.seq + sent ≤ max_number }
-    ensures { went.new ≡ token_after me front sent went.old.requests token.now }
+    ensures { forwarded.new ≡ token_after me front sent forwarded.old.requests token.now }
 {
-    went.ring = token.ring;
-    went.number = token.number + 1;
-    went.seq = token.seq + sent;
+    forwarded.ring = token.ring;
+    forwarded.number = token.number + 1;
+    forwarded.seq = token.seq + sent;
     if may_set(me, front, token) {
-        went.aru = front;
-        went.aru_id = if front == went.seq { None } else { Some(me) };
+        forwarded.aru = front;
+        forwarded.aru_id = if front == forwarded.seq {
+            None
+        } else {
+            Some(me)
+        };
     } else {
-        went.aru = token.aru;
-        went.aru_id = token.aru_id;
+        forwarded.aru = token.aru;
+        forwarded.aru_id = token.aru_id;
     }
 }

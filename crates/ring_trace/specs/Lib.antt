@@ -1,3 +1,4 @@
 pub mod Selections
-pub mod Sendings
-pub mod Standings
+pub mod WrittenFrames
+pub mod NodeViews
+pub mod NodeReasons

@@ -1,15 +1,19 @@
-//! What each event of a script did, an event a line, and at the end why a call has no answer. The run is that of `ring_console`;
-//! a trace looks at it after each event.
+//! The command `trace`: the effect of each event of a script, and at the end why calls have no answer. The run is that of
+//! `ring_console`; a trace inspects it after each event.
+//! Formats: The command line
 #![tactic(auto)]
 
+mod details;
+mod event_subject;
+mod node_view;
+mod places;
 mod selection;
 mod sent;
+mod sent_frames;
 mod sides;
-mod sight;
-mod standing;
 mod tracer;
 mod tracing;
 
-pub use ring_trace_forms::{Format, Replies, ReplyForm};
+pub use ring_trace_formats::{Format, ReplyForm, ReplyVocabulary};
 pub use selection::Selection;
 pub use tracing::{TraceOptions, trace, trace_of};

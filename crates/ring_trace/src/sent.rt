@@ -1,4 +1,5 @@
-//! The frames that were sent in a run: which calls they carry, and as they are written.
+//! The frames sent in a run: the calls that they carry, and the file that they are written to.
+//! Formats: The command line
 
 ghost use Rattle.std.specs.Prelude.{OnOk};
 ghost use Rattle.std.specs.Io.KnownBytes.{Appends};
@@ -8,12 +9,14 @@ use ring_base::{Fault, Proc};
 use ring_console::{Failure, World};
 use ring_object::Object;
 use ring_payload::{Call, Payload};
-use ring_trace_forms::Waiting;
+use ring_trace_formats::WaitingCall;
 use ring_wire::Frame;
 use std::alloc::Allocator;
 use std::io::Write;
 
-/// Writes the frames that were sent, as they are spelled.
+/// Writes the encodings of all frames sent in the run, one after another, in the order of sending.
+/// Errors: `Output` where the writer fails. A part may be written.
+/// Formats: The command line
 pub(crate) fn write_frames<O: Object, F: Write>(
     world: &World<O>,
     frames: &mut F,
@@ -25,24 +28,14 @@ pub(crate) fn write_frames<O: Object, F: Write>(
         .map_err(|_| Failure::Output)
 }
 
-/// How many frames were sent, of which so many are known.
-pub(crate) fn frames_behind<O: Object>(world: &World<O>, known: u64) -> u64 {
-    let mut many = known;
-    for _ in 0..u64::MAX {
-        if world.frame(many.saturating_add(1)).is_none() {
-            return many;
-        }
-        many = many.saturating_add(1);
-    }
-    many
-}
-
-/// Of each call, whether its node has sent it since it was submitted: whether a frame by which it sent a message of its own since
-/// carries it.
+/// Returns for each of the calls, in their order, whether its node has sent it since it was submitted. A call is sent where
+/// a message of the node's own carries it, as a Call or in a Pack.
+/// Errors: only `Memory`.
+/// Formats: The command line
 pub(crate) fn sent_of<O: Object>(
     alloc: O::Alloc,
     world: &World<O>,
-    calls: &[Waiting],
+    calls: &[WaitingCall],
 ) -> Result<Vec<bool, O::Alloc>, Fault> {
     let mut are_sent = Vec::new(alloc);
     for _ in calls {
@@ -50,7 +43,7 @@ pub(crate) fn sent_of<O: Object>(
     }
     let mut place = None;
     let noted = note_frames(alloc, world, calls, &mut are_sent, &mut place);
-    // By name, so that the frame is let go in a function of any type, and lives at no exit.
+    // Dropped explicitly, so it is dropped in a function generic over its type, and doesn't live until the exits.
     drop(place);
     match noted {
         Ok(()) => Ok(are_sent),
@@ -58,11 +51,11 @@ pub(crate) fn sent_of<O: Object>(
     }
 }
 
-/// Notes the calls that the frames of a world carry. Each frame is read over the one before it.
+/// Marks the calls that the frames of a world carry. Each frame is decoded in place of the one before it.
 fn note_frames<O: Object>(
     alloc: O::Alloc,
     world: &World<O>,
-    calls: &[Waiting],
+    calls: &[WaitingCall],
     are_sent: &mut [bool],
     place: &mut Option<Frame<O::Alloc>>,
 ) -> Result<(), Fault> {
@@ -84,12 +77,12 @@ fn note_frames<O: Object>(
     Ok(())
 }
 
-/// Notes the calls that a message carries, which this node sent as the frame of this number.
+/// Marks the calls that a message carries, which this node sent as the frame of this number.
 fn note_payload<A: Allocator + Copy>(
     payload: &Payload<A>,
     from: Proc,
     number: u64,
-    calls: &[Waiting],
+    calls: &[WaitingCall],
     are_sent: &mut [bool],
 ) {
     match payload {
@@ -103,12 +96,12 @@ fn note_payload<A: Allocator + Copy>(
     }
 }
 
-/// Notes a call that was sent.
+/// Marks a call that was sent.
 fn note_call<A: Allocator + Copy>(
     call: &Call<A>,
     from: Proc,
     number: u64,
-    calls: &[Waiting],
+    calls: &[WaitingCall],
     are_sent: &mut [bool],
 ) {
     for (waiting, is_sent) in calls.iter().zip(are_sent.iter_mut()) {
@@ -118,8 +111,13 @@ fn note_call<A: Allocator + Copy>(
     }
 }
 
-/// Whether a call that waits is this one, which its node sent as the frame of this number.
-fn is_in<A: Allocator + Copy>(waiting: &Waiting, call: &Call<A>, from: Proc, number: u64) -> bool {
+/// Whether a waiting call is this one, which its node sent as the frame of this number.
+fn is_in<A: Allocator + Copy>(
+    waiting: &WaitingCall,
+    call: &Call<A>,
+    from: Proc,
+    number: u64,
+) -> bool {
     waiting.node == from
         && waiting.client == call.client
         && waiting.number == call.number

@@ -1,10 +1,14 @@
 //! The sides of a cut.
+//! Formats: The command line
 
 use ring_base::{Fault, Fixed, Proc, ProcSet};
 use ring_console::Groups;
 use std::alloc::Allocator;
 
-/// The sides into which groups part all nodes: by their least members, and each node in one.
+/// Returns the sides into which a cut splits these nodes, ordered by their least members. Each node is in exactly one of
+/// them.
+/// Errors: only `Memory`.
+/// Formats: The command line
 pub(crate) fn sides_of<A: Allocator + Copy>(
     alloc: A,
     nodes: Fixed,
@@ -23,12 +27,12 @@ pub(crate) fn sides_of<A: Allocator + Copy>(
     Ok(sides)
 }
 
-/// The nodes that are together with this one.
+/// Returns the nodes that are connected with this one.
 fn side_of(nodes: Fixed, groups: Groups, node: Proc) -> Result<ProcSet, Fault> {
     let mut side = ProcSet::new();
     for before in 0..nodes.count() {
         let other = nodes.proc(before.saturating_add(1))?;
-        if groups.are_together(node, other) {
+        if groups.are_connected(node, other) {
             let _ = side.insert(other);
         }
     }

@@ -1,111 +1,140 @@
-//! A script under way, of which each event is told.
+//! A running script with a report of each event.
+//! Formats: The command line
 
 ghost use Rattle.std.specs.Prelude.{◌≡◌, ℕ, List, drop, Some, None, OnOk, IfOk};
 ghost use Rattle.std.specs.Io.KnownBytes.{Appends};
 ghost use Rattle.ring_console.specs.Worlds.{text_of, world_of};
 ghost use Rattle.ring_script.specs.Fits.{IsFit, AreFit};
-ghost use Rattle.ring_console.specs.Running.{run_opening, Does, Pumps, Runs};
+ghost use Rattle.ring_console.specs.Running.{run_opening, IsLineDone, IsPumpDone, AreLinesDone};
 
-use crate::selection::Selection;
-use crate::sent::{frames_behind, sent_of, write_frames};
+use crate::details::{input_of_line, input_of_turn, send_values};
+use crate::event_subject::{EventSubject, event_subject_of, write_turn, write_what};
+use crate::node_view::NodeView;
+use crate::places::print_places;
+use crate::selection::{Selection, SelectionFault};
+use crate::sent::{sent_of, write_frames};
+use crate::sent_frames::{SentFrames, add_sent_frames};
 use crate::sides::sides_of;
-use crate::sight::{Sight, sight_of, write_turn, write_what};
-use crate::standing::Standing;
 use ring_base::{Fault, Fixed, PROCESSORS, Proc, ProcSet};
-use ring_console::{Failure, Groups, Line, Pair, Run, Script};
+use ring_console::{Failure, Groups, OpenCopy, Script, ScriptLine, ScriptRun};
 use ring_object::Object;
-use ring_trace_forms::{
-    Change, Counts, Drawing, Fold, Format, Happening, Told, TraceForm, Waiting, WaitingCalls, Why,
-    Wording,
+use ring_trace_formats::{
+    Change, Counts, DeliveryKind, EventDetails, Fold, Format, InputValue, SendValue, Told,
+    TracePicture, TracePrinter, TraceVocabulary, TracedEvent, TurnValue, WaitReason, WaitingCall,
+    WaitingCalls,
 };
 use std::alloc::Allocator;
 use std::io::Write;
 use std::mem;
 
-/// A script under way, and what was seen of it.
+/// A running script, and the state of its trace: what was reported so far, and the picture.
+/// Formats: The command line
 #[derive(Drop)]
 pub(crate) struct Tracer<O: Object> {
     alloc: O::Alloc,
-    run: Run<O>,
-    form: TraceForm,
-    wording: Wording,
-    drawing: Drawing<O::Alloc>,
+    run: ScriptRun<O>,
+    form: TracePrinter,
+    trace_vocabulary: TraceVocabulary,
+    trace_picture: TracePicture<O::Alloc>,
     nodes: Fixed,
     /// The sides of the cut, if there is one.
     sides: Vec<ProcSet, O::Alloc>,
     selection: Selection,
-    standings: Vec<Standing, O::Alloc>,
-    /// How many frames were sent.
-    frames: u64,
+    node_views: Vec<NodeView, O::Alloc>,
+    sent: SentFrames<O::Alloc>,
     queue: WaitingCalls<O::Alloc>,
     changes: Vec<Change, O::Alloc>,
-    /// How much of what the world told was told.
+    /// The number of the world's reports already handled.
     told: usize,
-    /// How many events happened.
+    /// The number of events so far.
     events: u64,
     fold: Fold,
-    /// What happens, in words.
+    /// The description of the current event.
     what: String<O::Alloc>,
+    /// Its input, where it isn't a turn.
+    input: Option<InputValue>,
+    /// The length of its node's log, where it changed that.
+    log: Option<u64>,
+    /// The frames that it sent. It is empty in formats without details, as are the input and the turns.
+    sends: Vec<SendValue>,
+    /// The turns of the fold.
+    turns: Vec<TurnValue>,
 }
 
 impl<O: Object> Tracer<O> {
-    /// The nodes of a script at their opening.
+    /// Creates the trace of a script, with all nodes at their opening and nothing reported. `form` has the format, and
+    /// `selection` the events to report.
+    /// Errors: only `Memory`.
     pub fn new(
         alloc: O::Alloc,
-        form: TraceForm,
-        wording: Wording,
+        form: TracePrinter,
+        trace_vocabulary: TraceVocabulary,
         script: &Script<O::Alloc>,
         selection: Selection,
     ) -> Result<Tracer<O>, Fault>
         ensures { IfOk result (λ tracer. tracer.run ≡ run_opening script.now.nodes) }
     {
-        let mut standings = Vec::new(alloc);
+        let mut node_views = Vec::new(alloc);
         for before in 0..script.nodes.count() {
             let node = script.nodes.proc(before.saturating_add(1))?;
-            standings.push(Standing::opening(node))?;
+            node_views.push(NodeView::opening(node))?;
         }
         Ok(Tracer {
             alloc,
-            run: Run::new(alloc, script.nodes)?,
+            run: ScriptRun::new(alloc, script.nodes)?,
             form,
-            wording,
-            drawing: Drawing::new(alloc, script.nodes, selection.node),
+            trace_vocabulary,
+            trace_picture: TracePicture::new(alloc, script.nodes, selection.node),
             nodes: script.nodes,
             sides: Vec::new(alloc),
             selection,
-            standings,
-            frames: 0,
+            node_views,
+            sent: SentFrames::new(alloc),
             queue: WaitingCalls::new(alloc),
             changes: Vec::new(alloc),
             told: 0,
             events: 0,
             fold: Fold::new(),
             what: String::new(alloc),
+            input: None,
+            log: None,
+            sends: Vec::new(form.alloc),
+            turns: Vec::new(form.alloc),
         })
     }
 
-    /// Does what all lines ask for, and tells what comes of it; then which calls wait, and why. Writes the frames that were sent.
-    pub fn tell<W: Write, F: Write>(
+    /// Carries out all lines, and reports the selected events on `out`. Then reports the counts and the waiting calls, and
+    /// prints the picture, as the format has them. At the end it writes the frames that were sent to `frames`.
+    /// Errors: `Refused` with `Memory`; `Output` where `out` or `frames` fails, and where the selection begins behind the last
+    /// event, which is then stored in `fault`. The reports before are then on `out`, and perhaps a part of the next.
+    /// Formats: The command line
+    pub fn trace_run<W: Write, F: Write>(
         &mut self,
         script: Script<O::Alloc>,
         out: &mut W,
         frames: &mut F,
+        fault: &mut Option<SelectionFault>,
     ) -> Result<(), Failure>
         requires { AreFit script.lines.items }
-        ensures runs { OnOk result ((text : List ℕ) × Runs O.sequential script.lines.items self.old.run self.new.run text) }
+        ensures runs { OnOk result ((text : List ℕ) × AreLinesDone O.sequential script.lines.items self.old.run self.new.run text) }
         ensures sends { OnOk result (Appends (F.contents frames.old) (F.contents frames.new)
-            (text_of (world_of O.sequential self.new.run.played).frames)) }
+            (text_of (world_of O.sequential self.new.run.world_view).frames)) }
     {
+        self.form.print_opening(out, self.nodes)?;
         self.take(script, out)?;
-        self.end_fold(out)?;
-        self.tell_end(out)?;
+        self.print_fold_end(out)?;
+        *fault = self.selection.fault_behind(self.events);
+        if fault.is_some() {
+            return Err(Failure::Output);
+        }
+        self.print_end(out)?;
         write_frames(self.run.world(), frames)
     }
 
-    /// Does what all lines ask for, and tells what comes of it. The run is that of the script.
+    /// Carries out all lines and reports their events. The run is that of the script.
     fn take<W: Write>(&mut self, script: Script<O::Alloc>, out: &mut W) -> Result<(), Failure>
         requires { AreFit script.lines.items }
-        ensures { OnOk result ((text : List ℕ) × Runs O.sequential script.lines.items self.old.run self.new.run text) }
+        ensures { OnOk result ((text : List ℕ) × AreLinesDone O.sequential script.lines.items self.old.run self.new.run text) }
     {
         for numbered in script.lines {
             self.take_line(numbered.line, out)?;
@@ -113,279 +142,459 @@ impl<O: Object> Tracer<O> {
         Ok(())
     }
 
-    /// Does what a line asks for, and tells what comes of it.
-    fn take_line<W: Write>(&mut self, line: Line<O::Alloc>, out: &mut W) -> Result<(), Failure>
+    /// Carries out a line and reports its events.
+    fn take_line<W: Write>(
+        &mut self,
+        line: ScriptLine<O::Alloc>,
+        out: &mut W,
+    ) -> Result<(), Failure>
         requires { IsFit line }
-        ensures { OnOk result (Does O.sequential line self.old.run self.new.run) }
+        ensures { OnOk result (IsLineDone O.sequential line self.old.run self.new.run) }
     {
         match line {
-            Line::Pump { turns } => self.pump(turns, out),
-            Line::Cut(groups) => self.cut(groups, out),
-            Line::Heal => self.heal(out),
-            line => self.happen(line, out),
+            ScriptLine::Pump { turns } => self.pump(turns, out),
+            ScriptLine::Cut(groups) => self.cut(groups, out),
+            ScriptLine::Heal => self.heal(out),
+            line => self.run_event(line, out),
         }
     }
 
-    /// The nodes are parted.
+    /// Cuts the nodes into these groups.
     fn cut<W: Write>(&mut self, groups: Groups, out: &mut W) -> Result<(), Failure>
         ensures { self.new.run ≡ record self.old.run { groups = Some groups } }
     {
         self.run.cut(groups);
-        self.end_fold(out)?;
+        self.print_fold_end(out)?;
         self.sides = sides_of(self.alloc, self.run.world().fixed(), groups)?;
         if self.selection.has(self.events, None) {
             self.form.print_cut(out, self.sides.as_slice())?;
-            if self.draws() {
-                self.drawing.add_cut(self.events, self.sides.as_slice())?;
+            if self.form.format.has_picture() {
+                self.trace_picture
+                    .add_cut(self.events, self.sides.as_slice())?;
             }
         }
         Ok(())
     }
 
-    /// There is no cut.
+    /// Removes the cut.
     fn heal<W: Write>(&mut self, out: &mut W) -> Result<(), Failure>
         ensures { self.new.run ≡ record self.old.run { groups = None } }
     {
         self.run.heal();
+        let is_cut = self.sides.len() > 1;
         self.sides.clear();
-        self.end_fold(out)?;
+        self.print_fold_end(out)?;
         if self.selection.has(self.events, None) {
             self.form.print_heal(out)?;
-            if self.draws() {
-                self.drawing.add_heal(self.events)?;
+            if self.form.format.has_picture() {
+                self.draw_heal(is_cut)?;
             }
         }
         Ok(())
     }
 
-    /// Does what a line asks of a node.
-    fn happen<W: Write>(&mut self, line: Line<O::Alloc>, out: &mut W) -> Result<(), Failure>
-        requires { IsFit line }
-        ensures { OnOk result (Does O.sequential line self.old.run self.new.run) }
+    /// Draws a heal: a wall where there was a cut, else an empty column.
+    fn draw_heal(&mut self, is_cut: bool) -> Result<(), Fault>
+        ensures { self.new.run ≡ self.old.run }
     {
-        let sight = sight_of(&line);
-        self.what.clear();
-        write_what(&mut self.what, &self.wording, &line).map_err(|_| Failure::Refused(
-            Fault::Memory,
-        ))?;
+        if is_cut {
+            self.trace_picture.add_heal(self.events)
+        } else {
+            self.trace_picture.add_nothing(self.events);
+            Ok(())
+        }
+    }
+
+    /// Runs the event of a line.
+    fn run_event<W: Write>(
+        &mut self,
+        line: ScriptLine<O::Alloc>,
+        out: &mut W,
+    ) -> Result<(), Failure>
+        requires { IsFit line }
+        ensures { OnOk result (IsLineDone O.sequential line self.old.run self.new.run) }
+    {
+        let event_subject = event_subject_of(&line);
+        let kind = self.kind_of(&event_subject);
+        self.describe(&line, kind)?;
         self.run.perform(line)?;
-        match sight {
-            Some(sight) => self.look(&sight, out),
+        match event_subject {
+            Some(event_subject) => self.trace_event(&event_subject, out),
             None => Ok(()),
         }
     }
 
-    /// Takes turns, fewer where no copy is open.
-    fn pump<W: Write>(&mut self, turns: u32, out: &mut W) -> Result<(), Failure>
-        ensures { OnOk result (Pumps O.sequential turns self.old.run self.new.run) }
+    /// Returns how the frame of an event comes to its node, where a line gives it.
+    fn kind_of(&self, event_subject: &Option<EventSubject>) -> DeliveryKind {
+        match event_subject {
+            Some(event_subject) => self.sent.kind_of(event_subject.frame, event_subject.node),
+            None => DeliveryKind::First,
+        }
+    }
+
+    /// Keeps the description of a line's event, and for programs its input.
+    fn describe(&mut self, line: &ScriptLine<O::Alloc>, kind: DeliveryKind) -> Result<(), Fault>
+        ensures { self.new.run ≡ self.old.run }
     {
-        for _ in 0..turns {
-            let Some(pair) = self.run.first_open() else {
-                return Ok(());
-            };
-            let is_heard = self.run.hears(pair.sender, pair.receiver);
-            self.run.perform(Line::Pump { turns: 1 })?;
-            self.look_at_turn(pair, is_heard, out)?;
+        self.what.clear();
+        write_what(&mut self.what, &self.trace_vocabulary, line, kind)?;
+        if self.form.format.has_details() {
+            self.input = input_of_line(self.form.alloc, &self.trace_vocabulary, line, kind)?;
         }
         Ok(())
     }
 
-    /// Tells what a turn did: this copy came, or was lost.
-    fn look_at_turn<W: Write>(
+    /// Takes this number of turns, fewer if no copy is open.
+    fn pump<W: Write>(&mut self, turns: u32, out: &mut W) -> Result<(), Failure>
+        ensures { OnOk result (IsPumpDone O.sequential turns self.old.run self.new.run) }
+    {
+        for _ in 0..turns {
+            let Some(pair) = self.run.first_open_copy() else {
+                return Ok(());
+            };
+            let is_heard = self.run.is_connected(pair.sender, pair.receiver);
+            self.run.perform(ScriptLine::Pump { turns: 1 })?;
+            self.trace_turn(pair, is_heard, out)?;
+        }
+        Ok(())
+    }
+
+    /// Reports the effect of a turn: this copy was delivered, or lost.
+    fn trace_turn<W: Write>(
         &mut self,
-        pair: Pair,
+        pair: OpenCopy,
         is_heard: bool,
         out: &mut W,
     ) -> Result<(), Failure>
         ensures { self.new.run ≡ self.old.run }
     {
         if is_heard {
-            let sight = Sight {
+            let event_subject = EventSubject {
                 node: pair.receiver,
+                frame: Some(pair.frame),
                 pair: Some(pair),
                 call: None,
             };
-            return self.look(&sight, out);
+            return self.trace_event(&event_subject, out);
         }
         if self.selection.has(self.events, Some(pair.receiver)) {
             self.fold.add_lost();
+            self.add_turn(pair, None)?;
         }
         Ok(())
     }
 
-    /// Tells what an event did.
-    fn look<W: Write>(&mut self, sight: &Sight, out: &mut W) -> Result<(), Failure>
+    /// Adds a turn to those of the fold, where the format has details. `event` is the number of its event, if the copy was
+    /// delivered.
+    fn add_turn(&mut self, pair: OpenCopy, event: Option<u64>) -> Result<(), Fault>
+        ensures { self.new.run ≡ self.old.run }
+    {
+        if !self.form.format.has_details() {
+            return Ok(());
+        }
+        let details = self.take_details(event.is_some());
+        self.turns.push(TurnValue {
+            event,
+            node: pair.receiver.number(),
+            frame: pair.frame,
+            from: pair.sender.number(),
+            log: details.log,
+            sends: details.sends,
+        })?;
+        Ok(())
+    }
+
+    /// Takes the details of the current event, if there is one. They are empty afterwards.
+    fn take_details(&mut self, is_event: bool) -> EventDetails
+        ensures { self.new.run ≡ self.old.run }
+    {
+        let input = mem::replace(&mut self.input, None);
+        let sends = mem::replace(&mut self.sends, Vec::new(self.form.alloc));
+        EventDetails {
+            input,
+            log: if is_event { self.log } else { None },
+            sends,
+        }
+    }
+
+    /// Reports the effect of an event.
+    fn trace_event<W: Write>(
+        &mut self,
+        event_subject: &EventSubject,
+        out: &mut W,
+    ) -> Result<(), Failure>
         ensures { self.new.run ≡ self.old.run }
     {
         self.begin_picture()?;
         self.events = self.events.saturating_add(1);
-        if let Some(call) = &sight.call {
-            self.queue.add(call.behind(self.frames))?;
+        if let Some(call) = &event_subject.call {
+            self.queue.add(call.behind(self.sent.count()))?;
         }
-        self.frames = frames_behind(self.run.world(), self.frames);
-        self.find_changes(sight)?;
+        self.note_given(event_subject);
+        self.note_sent()?;
+        self.find_changes(event_subject)?;
         let told = self.told;
-        self.take_told()?;
-        if !self.selection.has(self.events, Some(sight.node)) {
+        self.remove_answered()?;
+        if !self.selection.has(self.events, Some(event_subject.node)) {
             return Ok(());
         }
         let is_quiet = self.changes.is_empty() && self.told == told;
-        if is_quiet && sight.pair.is_some() {
-            self.fold.add_frame(self.events, sight.node);
-            return Ok(());
+        match event_subject.pair {
+            Some(pair) if is_quiet => {
+                self.fold.add_frame(self.events, event_subject.node);
+                self.add_turn(pair, Some(self.events))?;
+                Ok(())
+            }
+            _ => self.report_event(event_subject, told, out),
         }
-        self.end_fold(out)?;
-        if self.draws() {
-            self.draw_event(sight, told)?;
-        }
-        self.print_event(sight, told, out)
     }
 
-    /// Whether a picture is made.
-    fn draws(&self) -> bool {
-        self.form.format == Format::Svg
+    /// Draws and prints an event, with the reports from this index on.
+    fn report_event<W: Write>(
+        &mut self,
+        event_subject: &EventSubject,
+        told: usize,
+        out: &mut W,
+    ) -> Result<(), Failure>
+        ensures { self.new.run ≡ self.old.run }
+    {
+        self.print_fold_end(out)?;
+        if self.form.format.has_picture() {
+            self.draw_event(event_subject, told)?;
+        }
+        self.print_event(event_subject, told, out)
     }
 
-    /// Draws how all stands, where a picture begins with the next event and this is not the first.
+    /// Records that the event's node was given its frame, and the snapshot of which it has a piece.
+    fn note_given(&mut self, event_subject: &EventSubject)
+        ensures { self.new.run ≡ self.old.run }
+    {
+        let Some(number) = event_subject.frame else {
+            return;
+        };
+        self.sent.give(number, event_subject.node);
+        let Some(frame) = self.sent.frame(number) else {
+            return;
+        };
+        let place = usize::from(event_subject.node.number()) - 1;
+        if let Some(node_view) = self.node_views.get_mut(place)
+            && let Some(piece) = frame.snapshot_piece
+            && piece.ring == node_view.ring
+        {
+            node_view.snapshot = Some(piece.places);
+        }
+    }
+
+    /// Records the frames that the event sent.
+    fn note_sent(&mut self) -> Result<(), Fault>
+        ensures { self.new.run ≡ self.old.run }
+    {
+        let before = self.sent.count();
+        add_sent_frames(self.alloc, self.run.world(), &mut self.sent)?;
+        if self.form.format.has_details() {
+            self.sends = send_values(self.form.alloc, self.run.world(), &self.sent, before)?;
+        }
+        Ok(())
+    }
+
+    /// Draws the state of the run, if a picture begins with the next event and that is not the first.
     fn begin_picture(&mut self) -> Result<(), Fault>
         ensures { self.new.run ≡ self.old.run }
     {
         let next = self.events.saturating_add(1);
-        if !self.draws() || next == 1 || next != self.selection.from {
+        if !self.form.format.has_picture() || next == 1 || next != self.selection.from {
             return Ok(());
         }
-        self.draw_standings(next)?;
+        self.draw_node_views(next)?;
         self.draw_waiting(next)?;
         if self.sides.is_empty() {
             Ok(())
         } else {
-            self.drawing.add_cut(self.events, self.sides.as_slice())
+            self.trace_picture
+                .add_cut(self.events, self.sides.as_slice())
         }
     }
 
-    /// Draws how the nodes stand before this event, each that is told of then.
-    fn draw_standings(&mut self, event: u64) -> Result<(), Fault>
+    /// Draws the views of the selected nodes before this event.
+    fn draw_node_views(&mut self, event: u64) -> Result<(), Fault>
         ensures { self.new.run ≡ self.old.run }
     {
-        for (before, standing) in self.standings.iter().enumerate() {
+        for (before, node_view) in self.node_views.iter().enumerate() {
             if before < PROCESSORS && self.selection.has(event, Some(Proc::new(before as u8 + 1))) {
-                let changes = standing.changes(self.nodes);
-                self.drawing
-                    .add_standing(Proc::new(before as u8 + 1), changes.as_slice())?;
+                let changes = node_view.changes(self.nodes);
+                self.trace_picture
+                    .add_node_view(Proc::new(before as u8 + 1), changes.as_slice())?;
             }
         }
         Ok(())
     }
 
-    /// Draws the calls that wait before this event, each at a node that is told of then.
+    /// Draws the calls that wait at the selected nodes before this event.
     fn draw_waiting(&mut self, event: u64) -> Result<(), Fault>
         ensures { self.new.run ≡ self.old.run }
     {
         for call in self.queue.calls() {
             if self.selection.has(event, Some(call.node)) {
-                self.drawing.add_call(call)?;
+                self.trace_picture.add_call(call, "a call that waits")?;
             }
         }
         Ok(())
     }
 
-    /// Draws what an event did, and what was told by it: that behind so much.
-    fn draw_event(&mut self, sight: &Sight, told: usize) -> Result<(), Fault>
+    /// Draws an event, with the reports from this index on.
+    fn draw_event(&mut self, event_subject: &EventSubject, told: usize) -> Result<(), Fault>
         ensures { self.new.run ≡ self.old.run }
     {
-        let told = told_behind(self.run.world().told(), told);
-        let changes = self.changes.as_slice();
-        self.drawing
-            .add_event(self.events, sight.node, changes, &sight.call, told)
+        let told = told_since(self.run.world().told(), told);
+        let traced_event = TracedEvent {
+            event: self.events,
+            node: event_subject.node,
+            what: self.what.as_str(),
+        };
+        self.trace_picture.add_event(
+            &self.trace_vocabulary,
+            &traced_event,
+            self.changes.as_slice(),
+            &event_subject.call,
+            told,
+        )
     }
 
-    /// Finds what an event changed at its node, and keeps how it stands now.
-    fn find_changes(&mut self, sight: &Sight) -> Result<(), Fault>
+    /// Finds the changes of the event's node, and keeps the node's new view.
+    fn find_changes(&mut self, event_subject: &EventSubject) -> Result<(), Fault>
         ensures { self.new.run ≡ self.old.run }
     {
         self.changes.clear();
-        let place = usize::from(sight.node.number()) - 1;
-        let Some(standing) = self.standings.get_mut(place) else {
+        let place = usize::from(event_subject.node.number()) - 1;
+        let Some(node_view) = self.node_views.get_mut(place) else {
             return Ok(());
         };
         let world = self.run.world();
-        let node = world.node(world.fixed().proc(sight.node.number())?);
-        let now = Standing {
+        let node = world.node(world.fixed().proc(event_subject.node.number())?);
+        let now = NodeView {
             state: node.state(),
             ring: node.ring(),
             members: node.members(),
             committed: node.committed_len(),
             trimmed: node.trimmed(),
+            log: node.log_len(),
+            snapshot: if node.ring() == node_view.ring {
+                node_view.snapshot
+            } else {
+                None
+            },
         };
-        let before = mem::replace(standing, now);
+        let before = mem::replace(node_view, now);
+        self.log = if now.log == before.log {
+            None
+        } else {
+            Some(now.log)
+        };
         now.add_changes(&before, self.nodes, &mut self.changes)
     }
 
-    /// Takes the calls that were answered or refused from those that wait.
-    fn take_told(&mut self) -> Result<(), Fault>
+    /// Removes the calls that were answered or refused from the waiting ones.
+    fn remove_answered(&mut self) -> Result<(), Fault>
         ensures { self.new.run ≡ self.old.run }
     {
         let told = self.run.world().told();
         for one in told.iter().skip(self.told) {
             match one {
-                Told::Answer(node, call, _) => self.queue.take(Waiting::of(*node, call, 0)),
+                Told::Answer(node, call, _) => self.queue.take(WaitingCall::of(*node, call, 0)),
                 // Only the call that was just submitted can be refused.
-                Told::Refused(_, _, _) => self.queue.drop_newest(),
+                Told::Refused(_, _, _) => self.queue.remove_newest(),
             }
         }
         self.told = told.len();
         Ok(())
     }
 
-    /// Prints what an event did, and what was told by it: that behind so much.
+    /// Prints an event, with the reports from this index on.
     fn print_event<W: Write>(
         &mut self,
-        sight: &Sight,
+        event_subject: &EventSubject,
         told: usize,
         out: &mut W,
     ) -> Result<(), Failure>
         ensures { self.new.run ≡ self.old.run }
     {
-        if let Some(pair) = sight.pair {
+        if event_subject.pair.is_some() {
+            self.input = input_of_turn(event_subject);
+        }
+        if let Some(pair) = event_subject.pair {
             self.what.clear();
             write_turn(&mut self.what, pair).map_err(|_| Failure::Refused(Fault::Memory))?;
         }
-        let happening = Happening {
+        let details = self.take_details(true);
+        let traced_event = TracedEvent {
             event: self.events,
-            node: sight.node,
+            node: event_subject.node,
             what: self.what.as_str(),
         };
-        let told = told_behind(self.run.world().told(), told);
+        let told = told_since(self.run.world().told(), told);
         let changes = self.changes.as_slice();
-        self.form
-            .print_event(out, &self.wording, &happening, changes, told)
+        self.form.print_event(
+            out,
+            &self.trace_vocabulary,
+            &traced_event,
+            changes,
+            told,
+            details,
+        )
     }
 
-    /// Prints the events in which nothing changed, if there are any.
-    fn end_fold<W: Write>(&mut self, out: &mut W) -> Result<(), Failure>
+    /// Prints the fold of events in which nothing changed, if it has any.
+    fn print_fold_end<W: Write>(&mut self, out: &mut W) -> Result<(), Failure>
         ensures { self.new.run ≡ self.old.run }
     {
         let fold = self.fold;
+        let turns = mem::replace(&mut self.turns, Vec::new(self.form.alloc));
         self.fold = Fold::new();
         if fold.is_empty() {
             return Ok(());
         }
-        if self.draws() {
-            self.drawing.add_fold(&fold)?;
+        if self.form.format.has_picture() {
+            self.trace_picture.add_fold(&fold)?;
         }
-        self.form.print_fold(out, &fold)
+        self.form.print_fold(out, &fold, turns)
     }
 
-    /// Prints how much there was, and which calls wait, and why.
-    fn tell_end<W: Write>(&self, out: &mut W) -> Result<(), Failure> {
+    /// Prints what follows the events: the lines of the whole run, the picture, and what a page has around it.
+    fn print_end<W: Write>(&self, out: &mut W) -> Result<(), Failure> {
+        self.print_last_lines(out)?;
+        self.form.print_page_middle(out)?;
+        if self.form.format.has_picture() {
+            self.trace_picture
+                .print(out, self.events.min(self.selection.to))?;
+        }
+        self.form.print_page_tail(out)
+    }
+
+    /// Prints the lines of the whole run: the counts, the waiting calls, and for programs the committed places.
+    fn print_last_lines<W: Write>(&self, out: &mut W) -> Result<(), Failure> {
+        if self.form.format == Format::Svg {
+            return Ok(());
+        }
         let counts = Counts {
             events: self.events,
-            frames: self.frames,
+            frames: self.sent.count(),
         };
-        if self.draws() {
-            return self.drawing.print(out, self.events.min(self.selection.to));
-        }
         self.form.print_counts(out, counts)?;
+        self.print_waiting(out)?;
+        if self.form.format.has_details() {
+            print_places(
+                self.alloc,
+                self.form,
+                &self.trace_vocabulary,
+                self.run.world(),
+                out,
+            )?;
+        }
+        Ok(())
+    }
+
+    /// Prints the waiting calls, and why they wait.
+    fn print_waiting<W: Write>(&self, out: &mut W) -> Result<(), Failure> {
         let calls = self.queue.calls();
         if calls.is_empty() {
             return Ok(());
@@ -399,9 +608,9 @@ impl<O: Object> Tracer<O> {
         Ok(())
     }
 
-    /// Whether a call has a place in the log of its node, where the node is alone in its ring and these calls were submitted before:
-    /// what is not committed there are calls of its own, in the order in which they were submitted.
-    fn is_logged(&self, node: Proc, before: &[Waiting]) -> Result<bool, Fault> {
+    /// Whether a call is in the log of its node, where the node is alone in its ring and these calls were submitted before.
+    /// There, the places that are not committed are the node's own calls, in the order in which they were submitted.
+    fn is_logged(&self, node: Proc, before: &[WaitingCall]) -> Result<bool, Fault> {
         let world = self.run.world();
         let of = world.node(world.fixed().proc(node.number())?);
         let open = of.log_len().saturating_sub(of.committed_len());
@@ -414,21 +623,22 @@ impl<O: Object> Tracer<O> {
         Ok(many < open)
     }
 
-    /// Why a call waits at a node, which has sent it or not, and has it in its log or not, where that can be told.
-    fn reason(&self, node: Proc, is_sent: bool, is_logged: bool) -> Why {
+    /// Returns the reason why a call waits at a node, given whether the node has sent it, and whether it is in the log of a
+    /// node that is alone.
+    fn reason(&self, node: Proc, is_sent: bool, is_logged: bool) -> WaitReason {
         let place = usize::from(node.number()) - 1;
-        match self.standings.get(place) {
-            Some(standing) => standing.reason(
+        match self.node_views.get(place) {
+            Some(node_view) => node_view.reason(
                 self.nodes,
-                is_sent || (standing.is_alone() && is_logged),
+                is_sent || (node_view.is_alone() && is_logged),
             ),
-            None => Why::NotSent,
+            None => WaitReason::NotSent,
         }
     }
 }
 
-/// What was told behind so much.
-fn told_behind<A: Allocator + Copy>(told: &[Told<A>], before: usize) -> &[Told<A>]
+/// Returns the reports from this index on.
+fn told_since<A: Allocator + Copy>(told: &[Told<A>], before: usize) -> &[Told<A>]
     ensures { result.now ≡ drop before told.now }
 {
     match told.get(before..) {

@@ -1,37 +1,46 @@
-//! What the program prints of a trace.
+//! Tracing a script, and printing the trace.
+//! Formats: The command line
 
 ghost use Rattle.std.specs.Prelude.{◌≡◌, ◌≤◌, Ok, OnOk};
 ghost use Rattle.std.specs.declared.alloc.Global.{Global as Heap};
 ghost use Rattle.ring_script.specs.Fits.{AreFit};
-ghost use Rattle.ring_script.specs.Scripts.{AnswersInput, AnswersInputBy};
+ghost use Rattle.ring_script.specs.Scripts.{IsScriptOfInput, IsScriptOfInputBy};
 ghost use Rattle.ring_script.specs.declared.scripts.Script.{Script};
-ghost use Rattle.ring_trace.specs.Sendings.{Sends};
+ghost use Rattle.ring_trace.specs.WrittenFrames.{HasWrittenFrames};
 
-use crate::selection::Selection;
+use crate::selection::{Selection, SelectionFault};
 use crate::tracer::Tracer;
 use ring_base::Fault;
-use ring_console::{Failure, Script, ShelfWords, Things, Vocabulary, report};
+use ring_console::{Failure, Script, ShelfVocabulary, StandardObjects, Vocabulary, report};
+use ring_failure::{BorrowedWriter, FAILED, exit_status};
 use ring_object::Object;
-use ring_report::{Lent, exit_status};
-use ring_trace_forms::{Format, Replies, TraceForm, Wording};
+use ring_trace_formats::{Format, ReplyVocabulary, TracePrinter, TraceVocabulary};
 use std::alloc::Global;
 use std::io::{BufWriter, Write};
 
-/// What is asked of a trace: in which form, and which events.
+/// The options of a trace.
+/// Formats: The command line
 #[derive(Clone, Copy)]
 pub struct TraceOptions {
+    /// The format in which the trace is printed.
     pub format: Format,
+    /// The events to report.
     pub selection: Selection,
 }
 
-/// Reads the script that a text is, checks the whole of it, runs it, and prints in this format what each of the selected events did.
-/// Then writes to `frames` the frames that were sent. The exit status is 0, or else 1:
+/// Parses a text as a script over the program's object, runs it, and prints the effects of the selected events in the
+/// chosen format on `out`. After that it writes the frames that were sent to `frames`. Returns the exit status: 0 where all
+/// was done, else 1.
 ///
-/// - where the text is no script, `err` is told so, and nothing is printed;
-/// - where memory is refused, `err` is told so; what was printed before stands on `out`;
-/// - where `out` or `frames` fails, nothing is told.
+/// Errors:
+/// - `BadScript` where the text isn't a script: reported on `err`, and nothing is printed.
+/// - `Memory`: reported on `err`. The text printed before is on `out`.
+/// - The selection can hold nothing, or isn't for the format: reported on `err`, with what there is. Of a run, nothing but what
+///   comes before all events is printed.
+/// - `out` or `frames` fails: nothing is reported.
 ///
-/// Where the status is 0, the text is a script, it was run to its end, and `frames` has the frames of that run.
+/// At status 0, the text is a script, it was run to its end, and `frames` has the frames of that run.
+/// Formats: The command line
 pub fn trace<O: Write, F: Write, E: Write>(
     alloc: Global,
     text: &[u8],
@@ -42,72 +51,110 @@ pub fn trace<O: Write, F: Write, E: Write>(
 ) -> u8
     ensures status { result ≤ 1 }
     ensures quiet { result ≡ 0 → err.new ≡ err.old }
-    ensures whole { let object = ⟦<Things<Global> as Object>⟧ in
-        result ≡ 0 → (script : Script Heap) × AnswersInput (Ok script) text.now
-        × Sends object.sequential script (F.contents frames.old) (F.contents frames.new) }
+    ensures whole { let object = ⟦<StandardObjects<Global> as Object>⟧ in
+        result ≡ 0 → (script : Script Heap) × IsScriptOfInput (Ok script) text.now
+        × HasWrittenFrames object.sequential script (F.contents frames.old) (F.contents frames.new) }
 {
-    trace_of::<Things<Global>, ShelfWords, O, F, E>(alloc, text, asked, out, frames, err)
+    trace_of::<StandardObjects<Global>, ShelfVocabulary, O, F, E>(
+        alloc, text, asked, out, frames, err,
+    )
 }
 
-/// The same of any object, as [`trace`], with the words of its operations and its replies.
-pub fn trace_of<T: Object<Alloc = Global>, V: Vocabulary + Replies, O: Write, F: Write, E: Write>(
-    alloc: Global,
-    text: &[u8],
-    asked: TraceOptions,
-    out: &mut O,
-    frames: &mut F,
-    err: &mut E,
-) -> u8
+/// Traces a script as [`trace`] does, over this object, with the words that `V` has for operations and replies. Returns the
+/// exit status: 0 or 1.
+/// Errors: as for [`trace`].
+/// Formats: The command line
+pub fn trace_of<
+    T: Object<Alloc = Global>,
+    V: Vocabulary + ReplyVocabulary,
+    O: Write,
+    F: Write,
+    E: Write,
+>(alloc: Global, text: &[u8], asked: TraceOptions, out: &mut O, frames: &mut F, err: &mut E) -> u8
     ensures status { result ≤ 1 }
     ensures quiet { result ≡ 0 → err.new ≡ err.old }
-    ensures whole { result ≡ 0 → (script : Script Heap) × AnswersInputBy V.forms (Ok script) text.now
-        × Sends T.sequential script (F.contents frames.old) (F.contents frames.new) }
+    ensures whole { result ≡ 0 → (script : Script Heap) × IsScriptOfInputBy V.forms (Ok script) text.now
+        × HasWrittenFrames T.sequential script (F.contents frames.old) (F.contents frames.new) }
 {
-    match BufWriter::new(alloc, Lent { writer: out }) {
+    match BufWriter::new(alloc, BorrowedWriter { writer: out }) {
         Ok(mut buffer) => {
-            let done = trace_text::<T, V, _, F>(alloc, text, asked, &mut buffer, frames);
-            exit_status(&mut buffer, err, done)
+            let mut fault = None;
+            let done = trace_text::<T, V, _, F>(
+                alloc,
+                text,
+                asked,
+                &mut buffer,
+                frames,
+                &mut fault,
+            );
+            let status = exit_status(&mut buffer, err, done);
+            report_selection(err, status, fault)
         }
         Err(_) => report(err, Failure::Refused(Fault::Memory)),
     }
 }
 
-/// Runs the script that a text is, prints what its events did, and writes the frames that were sent.
-fn trace_text<T: Object<Alloc = Global>, V: Vocabulary + Replies, W: Write, F: Write>(
+/// Writes the line of a selection that can hold nothing, if there is one, to `err`. Returns the exit status: 1 with such a
+/// line, else this one. An error of `err` itself is ignored.
+fn report_selection<E: Write>(err: &mut E, status: u8, fault: Option<SelectionFault>) -> u8
+    requires { status ≤ 1 }
+    ensures status { result ≤ 1 }
+    ensures ok { result ≡ 0 → status ≡ 0 }
+    ensures quiet { result ≡ 0 → err.new ≡ err.old }
+{
+    match fault {
+        Some(fault) => {
+            let _ = writeln!(err, "{fault}");
+            FAILED
+        }
+        None => status,
+    }
+}
+
+/// Parses a text as a script, runs it, prints the effects of its events, and writes the frames that were sent. Where the
+/// selection can hold nothing, that is stored in `fault`, and the failure is `Output`, which has no line of its own.
+fn trace_text<T: Object<Alloc = Global>, V: Vocabulary + ReplyVocabulary, W: Write, F: Write>(
     alloc: Global,
     text: &[u8],
     asked: TraceOptions,
     out: &mut W,
     frames: &mut F,
+    fault: &mut Option<SelectionFault>,
 ) -> Result<(), Failure>
-    ensures { OnOk result ((script : Script Heap) × AnswersInputBy V.forms (Ok script) text.now
-        × Sends T.sequential script (F.contents frames.old) (F.contents frames.new)) }
+    ensures { OnOk result ((script : Script Heap) × IsScriptOfInputBy V.forms (Ok script) text.now
+        × HasWrittenFrames T.sequential script (F.contents frames.old) (F.contents frames.new)) }
 {
     let mut rest = text;
     let script = Script::read_by::<V, &[u8]>(alloc, &mut rest)?;
-    trace_script::<T, V, W, F>(alloc, script, asked, out, frames)?;
+    *fault = asked.selection.fault_of(script.nodes.count(), asked.format);
+    if fault.is_some() {
+        return Err(Failure::Output);
+    }
+    trace_script::<T, V, W, F>(alloc, script, asked, out, frames, fault)?;
     Ok(())
 }
 
-/// Runs a script, prints what its events did, and writes the frames that were sent.
-fn trace_script<O: Object<Alloc = Global>, V: Vocabulary + Replies, W: Write, F: Write>(
+/// Runs a script, prints the effects of its events, and writes the frames that were sent. Where the selection begins behind the
+/// last event, that is stored in `fault`, and the failure is `Output`.
+fn trace_script<O: Object<Alloc = Global>, V: Vocabulary + ReplyVocabulary, W: Write, F: Write>(
     alloc: Global,
     script: Script,
     asked: TraceOptions,
     out: &mut W,
     frames: &mut F,
+    fault: &mut Option<SelectionFault>,
 ) -> Result<(), Failure>
     requires { AreFit script.lines.items }
-    ensures { OnOk result (Sends O.sequential script (F.contents frames.old) (F.contents frames.new)) }
+    ensures { OnOk result (HasWrittenFrames O.sequential script (F.contents frames.old) (F.contents frames.new)) }
 {
-    let form = TraceForm {
+    let form = TracePrinter {
         alloc,
         format: asked.format,
     };
-    let wording = Wording::of::<V>();
-    let mut tracer = Tracer::<O>::new(alloc, form, wording, &script, asked.selection)?;
-    let told = tracer.tell(script, out, frames);
-    // By name, so that the run is let go in a function of any type, and lives at no exit.
+    let trace_vocabulary = TraceVocabulary::of::<V>();
+    let mut tracer = Tracer::<O>::new(alloc, form, trace_vocabulary, &script, asked.selection)?;
+    let told = tracer.trace_run(script, out, frames, fault);
+    // Dropped explicitly, so it is dropped in a function generic over its type, and doesn't live until the exits.
     drop(tracer);
     told
 }

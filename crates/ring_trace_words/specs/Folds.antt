@@ -1,14 +1,15 @@
--- Events in which nothing changes, told together.
--- Trace, of docs/FORMATS.md.
+-- Folds of events in which nothing changes.
+-- Formats: The command line
 use Rattle.std.specs.Prelude.{◌≡◌, ℕ, ◌==◌, if◌then◌else◌}
 use Rattle.ring_base.specs.Numbers.{following}
 use Rattle.ring_trace_words.specs.declared.fold.Fold.{Fold}
 
--- nothing came, and nothing was lost
+-- no frame was delivered, and no copy lost
 abbrev pub IsEmpty : Fold → Type 0
 IsEmpty fold = (fold.frames ≡ 0) × (fold.lost ≡ 0)
 
--- A frame comes to a node at this event: the first of them tells where the rounds are counted, and the last where the fold ends.
+-- A frame is delivered to a node in this event: the first frame fixes the node whose rounds are counted, and the last one the
+-- end of the fold.
 pub record HasFrame (event at : ℕ) (old new : Fold) : Type 0 where
   pub first : new.first ≡ (if old.frames == 0 then event else old.first)
   pub node : new.node ≡ (if old.frames == 0 then at else old.node)

@@ -1,14 +1,19 @@
 //! Arguments of operations and of replies, in words.
+//! Formats: The command line
 
 use ring_script::{Argument, is_name};
 use std::fmt;
 
-/// Arguments, with a space between them. They stand in these bytes.
+/// The arguments that bytes encode, displayed as words with a space between them: keys and values in decimal, names as they
+/// are.
+/// Formats: The command line
 #[derive(Clone, Copy)]
 pub(crate) struct ArgumentWords<'a> {
+    /// The kinds of the arguments, in order.
     pub arguments: &'a [Argument],
+    /// The bytes, which are exactly these arguments.
     pub bytes: &'a [u8],
-    /// Whether a space stands before the first, too.
+    /// Whether a space comes before the first argument, too.
     pub is_behind: bool,
 }
 
@@ -33,7 +38,8 @@ impl fmt::Display for ArgumentWords<'_> {
     }
 }
 
-/// Bytes that no form has, as a script says an operation by its bytes.
+/// Bytes that have no form, displayed as `raw` and two lower-case hex digits a byte.
+/// Formats: Scripts; The command line
 #[derive(Clone, Copy)]
 pub(crate) struct RawWords<'a>(pub &'a [u8]);
 
@@ -47,12 +53,12 @@ impl fmt::Display for RawWords<'_> {
     }
 }
 
-/// Whether bytes are these first ones, and then just these arguments.
+/// Returns whether the bytes are the prefix `first` and then exactly these arguments, with no byte left over.
 pub(crate) fn is_form(first: &[u8], arguments: &[Argument], bytes: &[u8]) -> bool {
     bytes.starts_with(first) && are_arguments(arguments, bytes.get(first.len()..).unwrap_or(&[]))
 }
 
-/// Whether bytes are just these arguments.
+/// Whether the bytes are exactly these arguments.
 fn are_arguments(arguments: &[Argument], bytes: &[u8]) -> bool {
     let mut rest = bytes;
     for argument in arguments {
@@ -65,7 +71,7 @@ fn are_arguments(arguments: &[Argument], bytes: &[u8]) -> bool {
     rest.is_empty()
 }
 
-/// How many bytes an argument has that these begin with: a name has all of them.
+/// Returns the length of an argument at the front of these bytes: a name has all of them.
 fn length_in(argument: Argument, bytes: &[u8]) -> usize {
     match argument {
         Argument::Key => 1,
@@ -74,7 +80,7 @@ fn length_in(argument: Argument, bytes: &[u8]) -> usize {
     }
 }
 
-/// The number that eight bytes or fewer spell, the greatest place first.
+/// Returns the number that eight bytes or fewer encode, big-endian.
 fn value_in(bytes: &[u8]) -> u64 {
     let mut value = 0u64;
     for byte in bytes {

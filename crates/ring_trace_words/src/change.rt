@@ -1,33 +1,37 @@
-//! What an event changed.
+//! The changes of a node in an event.
+//! Formats: The command line
 
-use crate::share::Share;
+use crate::share::VoteShare;
 use ring_base::{ProcSet, RingId, State};
-use ring_report::state_word;
+use ring_failure::state_name;
 use std::fmt;
 
-/// What an event changed at its node.
+/// One change of a node in an event, displayed in words that follow the node's name.
+/// Formats: The command line
 #[derive(Clone, Copy)]
 pub enum Change {
-    /// The node is in this state now.
+    /// The node is in this state now. A new ring already implies the state operational.
     State(State),
-    /// The node installed a ring.
+    /// The node installed this ring, with these members. `share` is the share of the members in all votes.
     Ring {
         ring: RingId,
         members: ProcSet,
-        share: Share,
+        share: VoteShare,
     },
-    /// So much of the node's log is committed now.
+    /// The node's committed length is this now, dropped places included.
     Committed(u64),
-    /// The node keeps so many places, the log's first, as a snapshot now: it dropped them, or restored the snapshot.
+    /// The node dropped first places of its log, which are this number now, and keeps their snapshot.
     Trimmed(u64),
+    /// The node restored a snapshot in place of this number of first places.
+    Restored(u64),
 }
 
-/// The change, in words that follow the node.
+/// Displays the change, in words that follow the node's name.
 impl fmt::Display for Change {
     fn fmt<W: fmt::Write>(&self, f: &mut fmt::Formatter<W>) -> fmt::Result {
         match *self {
             Change::State(State::Stopped) => write!(f, "has stopped"),
-            Change::State(state) => write!(f, "is in {}", state_word(state)),
+            Change::State(state) => write!(f, "is in {}", state_name(state)),
             Change::Ring {
                 ring,
                 members,
@@ -41,7 +45,8 @@ impl fmt::Display for Change {
                 write!(f, "installs ring {ring} of {members} with {share}, {kind}")
             }
             Change::Committed(length) => write!(f, "has committed {length}"),
-            Change::Trimmed(length) => write!(f, "keeps its first {length} as a snapshot"),
+            Change::Trimmed(length) => write!(f, "drops its first {length} places for a snapshot"),
+            Change::Restored(length) => write!(f, "restores a snapshot of {length} places"),
         }
     }
 }

@@ -1,4 +1,5 @@
-//! Events in which nothing changes but that frames go round.
+//! Folds of events in which frames are delivered and nothing else changes.
+//! Formats: The command line
 
 ghost use Rattle.std.specs.Prelude.{◌≡◌, ◌↔◌, IsTrue};
 ghost use Rattle.ring_base.specs.Numbers.{following};
@@ -7,23 +8,27 @@ ghost use Rattle.ring_trace_words.specs.Folds.{IsEmpty, HasFrame};
 use ring_base::Proc;
 use std::fmt;
 
-/// Events one behind another in which frames come and nothing changes that a trace shows, and copies that are lost among them.
+/// Consecutive events in which frames are delivered and nothing changes that a trace shows, with the copies lost among
+/// them. It is displayed as its line in a trace, without the line feed.
+/// Formats: The command line
 #[derive(Clone, Copy)]
 pub struct Fold {
-    /// The first event and the last.
+    /// The number of the first event, counted from 1. It has no meaning without a frame.
     pub first: u64,
+    /// The number of the last event, counted from 1. It has no meaning without a frame.
     pub last: u64,
-    /// How many frames came.
+    /// The number of delivered frames.
     pub frames: u64,
-    /// To whom the first of these came, and how many came to it.
+    /// The receiver of the first frame.
     node: Proc,
+    /// The number of frames delivered to the receiver of the first frame.
     pub rounds: u64,
-    /// How many copies were lost.
+    /// The number of copies that a cut lost.
     pub lost: u64,
 }
 
 impl Fold {
-    /// None yet.
+    /// Returns the empty fold, with no event and no lost copy.
     pub fn new() -> Fold
         ensures empty { IsEmpty result }
         ensures rounds { result.rounds ≡ 0 }
@@ -38,14 +43,15 @@ impl Fold {
         }
     }
 
-    /// Whether nothing is in it.
+    /// Returns whether the fold has no frame and no lost copy, so that a trace shows no line of it.
     pub fn is_empty(&self) -> bool
         ensures { IsTrue result ↔ IsEmpty self.now }
     {
         self.frames == 0 && self.lost == 0
     }
 
-    /// A frame comes to a node, at this event.
+    /// Adds a frame that is delivered to the node in the event of this number. Events are added in the order of their
+    /// numbers.
     pub fn add_frame(&mut self, event: u64, node: Proc)
         ensures { HasFrame event node self.old self.new }
     {
@@ -60,7 +66,7 @@ impl Fold {
         self.frames = self.frames.saturating_add(1);
     }
 
-    /// A copy is lost.
+    /// Adds a copy that a cut lost.
     pub fn add_lost(&mut self)
         ensures { self.new ≡ record self.old { lost = following self.old.lost } }
     {
@@ -68,21 +74,63 @@ impl Fold {
     }
 }
 
-/// The line, without its end.
+/// A number of things, displayed with their name.
+#[derive(Clone, Copy)]
+struct CountedThings {
+    number: u64,
+    /// The name of one.
+    one: &'static str,
+    /// The name of several.
+    many: &'static str,
+}
+
+impl fmt::Display for CountedThings {
+    fn fmt<W: fmt::Write>(&self, f: &mut fmt::Formatter<W>) -> fmt::Result {
+        let name = if self.number == 1 {
+            self.one
+        } else {
+            self.many
+        };
+        write!(f, "{} {name}", self.number)
+    }
+}
+
+/// Displays the line, without its line feed.
 impl fmt::Display for Fold {
     fn fmt<W: fmt::Write>(&self, f: &mut fmt::Formatter<W>) -> fmt::Result {
-        let (first, last, frames, lost) = (self.first, self.last, self.frames, self.lost);
-        if frames == 0 {
-            return write!(f, "copies lost: {lost}");
+        let lost = CountedThings {
+            number: self.lost,
+            one: "copy lost",
+            many: "copies lost",
+        };
+        if self.frames == 0 {
+            return write!(f, "{lost}");
         }
-        write!(
-            f,
-            "{first}-{last} x{} rounds, frames: {frames}",
-            self.rounds
-        )?;
-        if lost > 0 {
-            write!(f, ", copies lost: {lost}")?;
+        self.write_events(f)?;
+        if self.lost > 0 {
+            write!(f, ", {lost}")?;
         }
         Ok(())
+    }
+}
+
+impl Fold {
+    /// Writes the events, the rounds and the frames.
+    fn write_events<W: fmt::Write>(&self, f: &mut fmt::Formatter<W>) -> fmt::Result {
+        write!(f, "{}", self.first)?;
+        if self.first < self.last {
+            write!(f, "-{}", self.last)?;
+        }
+        let rounds = CountedThings {
+            number: self.rounds,
+            one: "round",
+            many: "rounds",
+        };
+        let frames = CountedThings {
+            number: self.frames,
+            one: "frame",
+            many: "frames",
+        };
+        write!(f, ": {rounds}, {frames}")
     }
 }

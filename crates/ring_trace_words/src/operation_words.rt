@@ -1,19 +1,23 @@
 //! Operations, in the words of a script.
+//! Formats: Scripts; The command line
 
 use crate::argument_words::{ArgumentWords, RawWords, is_form};
-use crate::wording::Wording;
+use crate::trace_vocabulary::TraceVocabulary;
 use std::fmt;
 
-/// An operation, as a script says it: by the word of the first form that it has, and else by its bytes.
+/// An operation, displayed as in a script: by the first form that reads all its bytes, or as `raw` and hex digits.
+/// Formats: Scripts; The command line
 #[derive(Clone, Copy)]
 pub struct OperationWords<'a> {
-    pub wording: &'a Wording,
+    /// The words of the object's operations.
+    pub trace_vocabulary: &'a TraceVocabulary,
+    /// The bytes of the operation.
     pub operation: &'a [u8],
 }
 
 impl fmt::Display for OperationWords<'_> {
     fn fmt<W: fmt::Write>(&self, f: &mut fmt::Formatter<W>) -> fmt::Result {
-        for form in self.wording.operations {
+        for form in self.trace_vocabulary.operations {
             if is_form(form.first, form.arguments, self.operation) {
                 let words = ArgumentWords {
                     arguments: form.arguments,

@@ -1,4 +1,6 @@
-//! Why calls are refused, in words.
+//! The reasons why calls are refused, in words.
+//! Rules: Refusals 1; Sessions 3
+//! Formats: The command line
 
 ghost use Rattle.std.specs.Prelude.{◌≡◌, IfSome};
 ghost use Rattle.ring_base.specs.Fault.{fault_number};
@@ -6,7 +8,10 @@ ghost use Rattle.ring_base.specs.Fault.{fault_number};
 use ring_base::Fault;
 use std::fmt;
 
-/// Why a node or the sessions refuse a call, by the refusal's number: printed as the refusal's text.
+/// The reason why a node or the sessions refuse a call, by the refusal's number. It is displayed as the refusal's text, or
+/// as `refused` where no call can be refused with this number.
+/// Rules: Refusals 1; Sessions 3
+/// Formats: The command line
 #[derive(Clone, Copy)]
 pub struct ReasonWords(pub u8);
 
@@ -19,7 +24,7 @@ impl fmt::Display for ReasonWords {
     }
 }
 
-/// The refusal of this number, where a call can be refused for it.
+/// Returns the refusal with this number, if a call can be refused with it.
 fn reason_of(number: u8) -> Option<Fault>
     ensures { IfSome result (λ fault. fault_number fault ≡ number) }
 {

@@ -1,20 +1,25 @@
 //! Replies, in words.
+//! Formats: The command line
 
 use crate::argument_words::{ArgumentWords, RawWords, is_form};
-use crate::wording::Wording;
+use crate::trace_vocabulary::TraceVocabulary;
 use std::fmt;
 
-/// What an object replies to an operation: by the first form that fits, and else by the reply's bytes.
+/// The reply to an operation, displayed by the first form that has the whole reply, or as `raw` and hex digits.
+/// Formats: The command line
 #[derive(Clone, Copy)]
 pub struct ReplyWords<'a> {
-    pub wording: &'a Wording,
+    /// The words of the object's replies.
+    pub trace_vocabulary: &'a TraceVocabulary,
+    /// The bytes of the operation that the reply is to.
     pub operation: &'a [u8],
+    /// The bytes of the reply.
     pub reply: &'a [u8],
 }
 
 impl fmt::Display for ReplyWords<'_> {
     fn fmt<W: fmt::Write>(&self, f: &mut fmt::Formatter<W>) -> fmt::Result {
-        for form in self.wording.replies {
+        for form in self.trace_vocabulary.replies {
             if self.operation.starts_with(form.operation)
                 && is_form(form.first, form.arguments, self.reply)
             {

@@ -1,4 +1,5 @@
-//! The votes of a set of nodes, of all votes.
+//! The share of a set of nodes in all votes.
+//! Rules: Processors and sets 4
 
 ghost use Rattle.std.specs.Prelude.{◌≡◌};
 ghost use Rattle.ring_trace_words.specs.Shares.{vote_share};
@@ -6,20 +7,26 @@ ghost use Rattle.ring_trace_words.specs.Shares.{vote_share};
 use ring_base::{Fixed, ProcSet};
 use std::fmt;
 
-/// How many votes of all a set has, and whether these are most of them.
+/// The share of a set of nodes in all votes, displayed as `V of W votes`.
+/// Rules: Processors and sets 4
+/// Formats: The command line
 #[derive(Clone, Copy)]
-pub struct Share {
+pub struct VoteShare {
+    /// The votes of the set's members, together.
     pub own: u32,
+    /// The votes of all nodes, together.
     pub all: u32,
+    /// Whether the set is primary: it has more than half of all votes.
     pub is_primary: bool,
 }
 
-impl Share {
-    /// What the votes of a set of these nodes come to.
-    pub fn of(nodes: Fixed, set: ProcSet) -> Share
+impl VoteShare {
+    /// Returns the share of the set in the votes of these nodes.
+    /// Rules: Processors and sets 4
+    pub fn of(nodes: Fixed, set: ProcSet) -> VoteShare
         ensures value { result ≡ vote_share nodes set }
     {
-        Share {
+        VoteShare {
             own: nodes.votes_in(set),
             all: nodes.all_votes(),
             is_primary: nodes.is_primary(set),
@@ -27,7 +34,7 @@ impl Share {
     }
 }
 
-impl fmt::Display for Share {
+impl fmt::Display for VoteShare {
     fn fmt<W: fmt::Write>(&self, f: &mut fmt::Formatter<W>) -> fmt::Result {
         let (own, all) = (self.own, self.all);
         write!(f, "{own} of {all} votes")

@@ -1,9 +1,10 @@
-//! The words of the replies of the program's object.
+//! The words for the replies of the program's object.
+//! Formats: The command line
 
-use crate::wording::{Replies, ReplyForm};
-use ring_script::{Argument, ShelfWords};
+use crate::trace_vocabulary::{ReplyForm, ReplyVocabulary};
+use ring_script::{Argument, ShelfVocabulary};
 
-impl Replies for ShelfWords {
+impl ReplyVocabulary for ShelfVocabulary {
     fn replies() -> &'static [ReplyForm] {
         use Argument::Value;
         &[

@@ -1,34 +1,45 @@
-//! What nodes tell, in words.
+//! The reports of nodes, in words.
+//! Formats: The command line
 
 use crate::call_words::{AnswerWords, CallWords};
 use crate::reason_words::ReasonWords;
-use crate::wording::Wording;
-use ring_rules::Told;
+use crate::trace_vocabulary::TraceVocabulary;
+use ring_node_spec::Told;
 use std::alloc::Allocator;
 use std::fmt;
 
-/// What a node told, in words that follow the node.
+/// A node's report on a call, displayed in words that follow the node's name: an answer, or that the node does not take the
+/// call.
+/// Formats: The command line
 #[derive(Drop)]
 pub struct ToldWords<'a, A: Allocator + Copy> {
-    pub wording: &'a Wording,
+    /// The words of the object's operations and replies.
+    pub trace_vocabulary: &'a TraceVocabulary,
+    /// The report.
     pub told: &'a Told<A>,
 }
 
 impl<A: Allocator + Copy> fmt::Display for ToldWords<'_, A> {
     fn fmt<W: fmt::Write>(&self, f: &mut fmt::Formatter<W>) -> fmt::Result {
-        let wording = self.wording;
+        let trace_vocabulary = self.trace_vocabulary;
         match self.told {
             Told::Answer(_, call, answer) => {
-                let asked = CallWords { wording, call };
+                let asked = CallWords {
+                    trace_vocabulary,
+                    call,
+                };
                 let answered = AnswerWords {
-                    wording,
+                    trace_vocabulary,
                     call,
                     answer,
                 };
                 write!(f, "answers {asked}: {answered}")
             }
             Told::Refused(_, call, reason) => {
-                let asked = CallWords { wording, call };
+                let asked = CallWords {
+                    trace_vocabulary,
+                    call,
+                };
                 write!(f, "refuses {asked}: {}", ReasonWords(*reason))
             }
         }

@@ -1,4 +1,5 @@
 //! Calls that wait for their answers.
+//! Formats: The command line
 
 ghost use Rattle.std.specs.Prelude.{◌≡◌, ◌-◌, [], ◌∷◌, ◌++◌, length, take, OnOk, OnErr, IfErr, position};
 ghost use Rattle.ring_base.specs.declared.fault.Fault.TheVariants.{Memory};
@@ -9,21 +10,26 @@ use ring_payload::Call;
 use std::alloc::Allocator;
 use std::marker::Model;
 
-/// A call that waits, the node at which it was submitted, and how many frames had been sent before.
+/// A call that its node took and has not answered.
+/// Formats: The command line
 #[derive(Clone, Copy)]
-pub struct Waiting {
+pub struct WaitingCall {
+    /// The node at which it was submitted.
     pub node: Proc,
+    /// The client that made it.
     pub client: u32,
+    /// The number that the client gave it.
     pub number: u64,
+    /// The number of frames that all nodes had sent before it was submitted.
     pub frames: u64,
 }
 
-impl Waiting {
-    /// The call at this node, behind so many frames.
-    pub fn of<A: Allocator + Copy>(node: Proc, call: &Call<A>, frames: u64) -> Waiting
+impl WaitingCall {
+    /// Returns the waiting call for a call that was submitted at this node after `frames` frames.
+    pub fn of<A: Allocator + Copy>(node: Proc, call: &Call<A>, frames: u64) -> WaitingCall
         ensures { result ≡ record { node = node; client = call.now.client; number = call.now.number; frames = frames } }
     {
-        Waiting {
+        WaitingCall {
             node,
             client: call.client,
             number: call.number,
@@ -31,11 +37,11 @@ impl Waiting {
         }
     }
 
-    /// The same call, behind so many frames.
-    pub fn behind(&self, frames: u64) -> Waiting
+    /// Returns the same call, but as submitted after `frames` frames.
+    pub fn behind(&self, frames: u64) -> WaitingCall
         ensures { result ≡ record self.now { frames = frames } }
     {
-        Waiting {
+        WaitingCall {
             node: self.node,
             client: self.client,
             number: self.number,
@@ -44,15 +50,16 @@ impl Waiting {
     }
 }
 
-/// The calls that wait, in the order in which they were submitted. Contracts see it as their list.
+/// The waiting calls of all nodes, in the order in which they were submitted. Contracts see their list.
+/// Formats: The command line
 #[derive(Drop)]
 pub struct WaitingCalls<A: Allocator> {
-    calls: Vec<Waiting, A>,
+    calls: Vec<WaitingCall, A>,
 }
 
 impl<A: Allocator> Model for WaitingCalls<A> {
     ghost use Rattle.std.specs.Prelude.{List};
-    ghost use Rattle.ring_trace_words.specs.declared.waiting.Waiting.{Waiting as OneWaiting};
+    ghost use Rattle.ring_trace_words.specs.declared.waiting.WaitingCall.{WaitingCall as OneWaiting};
 
     ghost Value = { List OneWaiting };
 
@@ -60,7 +67,7 @@ impl<A: Allocator> Model for WaitingCalls<A> {
 }
 
 impl<A: Allocator + Copy> WaitingCalls<A> {
-    /// None yet.
+    /// Returns an empty list, which takes no memory yet.
     pub fn new(alloc: A) -> WaitingCalls<A>
         ensures { result ≡ [] }
     {
@@ -69,15 +76,16 @@ impl<A: Allocator + Copy> WaitingCalls<A> {
         }
     }
 
-    /// All of them.
-    pub fn calls(&self) -> &[Waiting]
+    /// Returns all waiting calls, oldest first.
+    pub fn calls(&self) -> &[WaitingCall]
         ensures { result.now ≡ self.now }
     {
         self.calls.as_slice()
     }
 
-    /// A call waits. Or `Memory`: then it is not among them.
-    pub fn add(&mut self, call: Waiting) -> Result<(), Fault>
+    /// Adds a call at the end.
+    /// Errors: `Memory`; the call isn't added.
+    pub fn add(&mut self, call: WaitingCall) -> Result<(), Fault>
         ensures ok { OnOk result (self.new ≡ self.old ++ call ∷ []) }
         ensures err { OnErr result (self.new ≡ self.old) }
         ensures refused { IfErr result (λ fault. fault ≡ Memory) }
@@ -86,15 +94,15 @@ impl<A: Allocator + Copy> WaitingCalls<A> {
         Ok(())
     }
 
-    /// The call that was added last waits no longer.
-    pub fn drop_newest(&mut self)
+    /// Removes the call that was added last. An empty list stays empty.
+    pub fn remove_newest(&mut self)
         ensures { self.new ≡ take (length self.old - 1) self.old }
     {
         let _ = self.calls.pop();
     }
 
-    /// A call waits no longer. Where it was submitted twice at its node, the first of these.
-    pub fn take(&mut self, call: Waiting)
+    /// Removes the oldest call with the same node, client and number as this one. Nothing changes where there is none.
+    pub fn take(&mut self, call: WaitingCall)
         ensures { self.new ≡ without call self.old }
     {
         if let Some(place) = place_of(&self.calls, &call) {
@@ -103,15 +111,15 @@ impl<A: Allocator + Copy> WaitingCalls<A> {
     }
 }
 
-/// Where the call first stands, if it does.
-fn place_of(calls: &[Waiting], call: &Waiting) -> Option<usize>
+/// Returns the index of the first such call.
+fn place_of(calls: &[WaitingCall], call: &WaitingCall) -> Option<usize>
     ensures { result ≡ position (is_same call.now) calls.now }
 {
     calls.iter().position(|waiting| is_same(call, waiting))
 }
 
-/// Whether the one is the other: the same call, at the same node.
-fn is_same(one: &Waiting, other: &Waiting) -> bool
+/// Whether the two have the same node, client and number.
+fn is_same(one: &WaitingCall, other: &WaitingCall) -> bool
     ensures { result ≡ is_same one.now other.now }
 {
     one.node == other.node && one.client == other.client && one.number == other.number

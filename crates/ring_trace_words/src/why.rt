@@ -1,33 +1,53 @@
-//! Why a call has no answer.
+//! The reasons why calls have no answer.
+//! Formats: The command line
 
-use crate::share::Share;
+use crate::share::VoteShare;
 use ring_base::{ProcSet, State};
-use ring_report::state_word;
+use ring_failure::state_name;
 use std::fmt;
 
-/// Why a node has not answered a call.
+/// The reason why a node has not answered a call, displayed in words.
+/// Formats: The command line
 #[derive(Clone, Copy)]
-pub enum Why {
+pub enum WaitReason {
     /// The node has stopped.
     Stopped,
-    /// It has left its ring, and is in this state.
+    /// The node is in this state, which isn't operational.
     State(State),
-    /// Its ring is not primary.
-    Minority { members: ProcSet, share: Share },
-    /// No frame carries it yet.
+    /// The node's ring, with these members and this share of all votes, isn't primary.
+    Minority { members: ProcSet, share: VoteShare },
+    /// The node is operational in a primary ring and has not sent the call yet.
     NotSent,
-    /// A frame of its node carries it, and it is not known to be safe.
+    /// The node is operational in a primary ring and has sent the call, which isn't known to be safe. A node that is alone
+    /// in its ring sends no frame: there the call is in the log.
     NotSafe,
 }
 
-impl fmt::Display for Why {
+impl WaitReason {
+    /// Returns the name by which programs read the reason.
+    /// Formats: The command line
+    pub fn code(&self) -> &'static str {
+        match *self {
+            WaitReason::Stopped => "stopped",
+            WaitReason::State(state) => state_name(state),
+            WaitReason::Minority { .. } => "not primary",
+            WaitReason::NotSent => "not sent",
+            WaitReason::NotSafe => "not safe",
+        }
+    }
+}
+
+impl fmt::Display for WaitReason {
     fn fmt<W: fmt::Write>(&self, f: &mut fmt::Formatter<W>) -> fmt::Result {
         match *self {
-            Why::Stopped => write!(f, "its node has stopped"),
-            Why::State(state) => write!(f, "its node is in {}", state_word(state)),
-            Why::Minority { members, share } => write!(f, "its ring {{{members}}} has {share}"),
-            Why::NotSent => write!(f, "not sent yet"),
-            Why::NotSafe => write!(f, "sent, and not safe yet"),
+            WaitReason::Stopped => write!(f, "its node has stopped"),
+            WaitReason::State(state) => write!(f, "its node is in {}", state_name(state)),
+            WaitReason::Minority { members, share } => write!(
+                f,
+                "its ring {{{members}}} has {share}"
+            ),
+            WaitReason::NotSent => write!(f, "not sent yet"),
+            WaitReason::NotSafe => write!(f, "sent, and not safe yet"),
         }
     }
 }

@@ -1,4 +1,4 @@
--- The bits of an entry say exactly what is held after the front.
+-- The held bits of a commit entry are exactly what is held after the front.
 use Rattle.std.proofs.Common.{◌≡◌, ℕ, zero, suc, ◌+◌, ◌*◌, ◌/◌, ◌%◌, ◌<◌, Bool, true, false, cond, ap, ◌∙◌, arith}
 use Rattle.std.specs.Prelude.{◌==◌, List, slice_index}
 use Rattle.std.specs.Int.{bit_at}
@@ -10,7 +10,7 @@ use Rattle.ring_wire.specs.declared.message.Message.{Message}
 use Rattle.ring_window.specs.Bits.{bytes_of, held_bits}
 use Rattle.ring_window.specs.Held.{holds, front_of}
 
--- a word's lowest bit, and what is left without it
+-- The lowest bit of a word, and the word without it.
 
 lowest : (b w : ℕ) → b < 2 → bit_at (b + 2 * w) 0 ≡ b
 lowest b w l = (let e : bit_at (b + 2 * w) 0 ≡ (b + 2 * w) % 2 = bit_at_lowest (b + 2 * w) in let f : (b + 2 * w) % 2 ≡ b = omega arith in e ∙ f)

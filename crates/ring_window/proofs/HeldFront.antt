@@ -8,7 +8,8 @@ use Rattle.ring_base.specs.declared.ring_id.RingId.{RingId}
 use Rattle.ring_wire.specs.declared.message.Message.{Message}
 use Rattle.ring_window.specs.Held.{is_numbered, holds, of_ring, highest, front_of, IsFrontIn}
 
--- how far a test passes, of count numbers in a row: all before pass, and where it stops before the last the next fails
+-- The prefix of `count` successive numbers that pass a test: all in it pass, and if it ends before the last, the next
+-- number fails.
 record Run (p : ℕ → Bool) (first count k : ℕ) : Type 0 where
   below : (n : ℕ) → first ≤ n → n < first + k → p n ≡ true
   next : k < count → p (first + k) ≡ false
@@ -27,7 +28,7 @@ run p first (suc count) =
     })
     (λ e. record { below = λ n h l. absurd (omega arith); next = λ l. (let q : first ≡ first + 0 = omega arith in rw q at e); short = omega arith })
 
--- no number above the highest is held
+-- No number above the highest is held.
 pub highest_covers : {A : Type 0} → (held : List (Message A)) (ring : RingId) (n : ℕ) → holds held ring n ≡ true → n ≤ highest held ring
 highest_covers [] ring n h = absurd (false≢true h)
 highest_covers {A} (x ∷ held) ring n h =
@@ -54,7 +55,7 @@ front_is held ring =
       ];
     }
 
--- of two fronts none is greater
+-- Of two fronts none is greater.
 front_least : {A : Type 0} → (held : List (Message A)) (ring : RingId) (j k : ℕ) → IsFrontIn held ring j → IsFrontIn held ring k → j ≤ k
 front_least held ring j k f g =
     elim (cases_lt k j) [
@@ -68,7 +69,7 @@ front_only held ring k f =
     let b : front_of held ring ≤ k = front_least held ring (front_of held ring) k (front_is held ring) f in
     omega arith
 
--- where all that was held is held now, the front is no smaller
+-- If all that was held is held now, the front is no smaller.
 pub front_grows : {A : Type 0} → (old new : List (Message A)) (ring : RingId)
     → ((n : ℕ) → holds old ring n ≡ true → holds new ring n ≡ true) → front_of old ring ≤ front_of new ring
 front_grows old new ring more =
@@ -78,6 +79,6 @@ front_grows old new ring more =
       | inr l ↦ l
     ]
 
--- the front is no number above the highest
+-- The front is at most the highest number.
 pub front_short : {A : Type 0} → (held : List (Message A)) (ring : RingId) → front_of held ring ≤ highest held ring
 front_short held ring = (run (holds held ring) 1 (highest held ring)).short

@@ -1,10 +1,12 @@
--- Bits: The bits of an entry say exactly what is held after the front.
+-- Bits: The held bits of a commit entry are exactly what is held after the front.
 -- HeldFront: The front of what is held: each number up to it is held, the next is not, and with more held it is no smaller.
--- WordBits: Bits that lie across two words, and words as bits.
--- Windows: What is kept of a window, as it changes: nothing held, a message taken, numbers forgotten.
--- Missing: The numbers that are missing, counted from one clear bit to the next; and the bits of an entry, read off the words.
--- OfRing: A node keeps the messages of all rings in one list, and a window those of one ring: what is said of a ring is the same of both.
--- Finding: What is held under a number is found, what is found is held, and with more messages all is held that was.
+-- WordBits: Bits that span two words, and words as bits.
+-- Windows: The state kept of a window as it changes: nothing held, a message taken, numbers forgotten.
+-- Missing: The missing numbers, counted from one clear bit to the next; and the bits of a commit entry, computed from the
+-- words.
+-- OfRing: A node's messages of all rings are in one list, a window's of one ring; facts about one ring agree.
+-- Finding: A held number's message is found, a number with a found message is held, and what was held stays held with more
+-- messages.
 pub mod Bits
 pub mod HeldFront
 pub mod WordBits

@@ -1,4 +1,4 @@
--- The numbers that are missing, counted from one clear bit to the next; and the bits of an entry, read off the words.
+-- The missing numbers, counted from one clear bit to the next; and the bits of a commit entry, computed from the words.
 use Rattle.std.proofs.Common.{◌≡◌, ℕ, zero, suc, ◌+◌, ◌-◌, ◌*◌, ◌<◌, ◌≤◌, min, Bool, true, false, List, [], ◌∷◌, ◌++◌}
 use Rattle.std.proofs.Common.{length, take, filter, Option, refl, ap, ◌∙◌, sym, inl, inr, arith, append_assoc}
 use Rattle.std.specs.Prelude.{not, slice_index}
@@ -8,13 +8,13 @@ use Rattle.ring_base.specs.Numbers.{numbers_from, word_of}
 use Rattle.ring_wire.specs.declared.message.Message.{Message}
 use Rattle.ring_window.specs.Bits.{is_set, IsFirstClear, bytes_of, held_bits}
 use Rattle.ring_window.specs.Held.{holds, front_of}
-use Rattle.ring_window.specs.Windows.{Windowed, first_missing}
+use Rattle.ring_window.specs.Windows.{WindowHistory, first_missing}
 use Rattle.ring_window.specs.Places.{IsWindow}
 use Rattle.ring_window.proofs.Bits.{byte_at}
 use Rattle.ring_window.proofs.HeldFront.{front_is}
 use Rattle.ring_window.proofs.WordBits.{word_of-same}
 
--- numbers that don't pass are left out
+-- Numbers that fail the test are left out.
 passed : (p : ℕ → Bool) (first count k : ℕ) → k ≤ count → ((n : ℕ) → first ≤ n → n < first + k → p n ≡ false)
     → filter p (numbers_from first count) ≡ filter p (numbers_from (first + k) (count - k))
 passed p first count zero l h = (let a : first ≡ first + 0 = omega arith in let b : count
@@ -28,12 +28,12 @@ passed p first (suc count) (suc k) l h =
     ∙ passed p (suc first) count k (omega arith) (λ n x y. h n (omega arith) (omega arith))
     ∙ ap (λ n. filter p (numbers_from n (count - k))) a ∙ ap (λ n. filter p (numbers_from (first + suc k) n)) b
 
--- what is missing of count numbers, from one after the safe mark on
-abbrev pub lacks : {A : Type 0} → Windowed A → ℕ → ℕ → List ℕ
+-- The missing ones of `count` numbers from one after the safe mark on.
+abbrev pub lacks : {A : Type 0} → WindowHistory A → ℕ → ℕ → List ℕ
 lacks w offset count = filter (λ n. not (holds w.held w.ring n)) (numbers_from (w.mark + 1 + offset) count)
 
--- up to a limit, nothing is missing where all is held
-lacks_to : {A : Type 0} (w : Windowed A) (a b end : ℕ) → a ≤ b → ((j : ℕ) → a ≤ j → j < b → holds w.held w.ring (w.mark + 1 + j) ≡ true)
+-- Up to a limit, nothing is missing if all is held.
+lacks_to : {A : Type 0} (w : WindowHistory A) (a b end : ℕ) → a ≤ b → ((j : ℕ) → a ≤ j → j < b → holds w.held w.ring (w.mark + 1 + j) ≡ true)
     → lacks w a (end - a) ≡ lacks w b (end - b)
 lacks_to w a b end l held =
     let p = λ (n : ℕ). not (holds w.held w.ring n) in
@@ -53,8 +53,8 @@ lacks_to w a b end l held =
           ∙ ap (λ n. filter p (numbers_from n (end - a - (b - a)))) r ∙ ap (λ n. filter p (numbers_from (w.mark + 1 + b) n)) s
     ]
 
--- the numbers found so far, and the clear bit at which the search stands
-pub record IsCounted {A : Type 0} (w : Windowed A) (words : List ℕ) (upto end offset : ℕ) (found : List ℕ) : Type 0 where
+-- The numbers found so far, and the clear bit that the search has reached.
+pub record IsCounted {A : Type 0} (w : WindowHistory A) (words : List ℕ) (upto end offset : ℕ) (found : List ℕ) : Type 0 where
   pub limit : end ≡ min (upto - w.mark) 256
   pub few : length found ≤ 32
   pub clear : is_set words offset ≡ false
@@ -64,8 +64,8 @@ pub length-bytes_of : (test : ℕ → Bool) (first count : ℕ) → length (byte
 length-bytes_of test first zero = refl
 length-bytes_of test first (suc count) = ap suc (length-bytes_of test (first + 8) count)
 
-module _ {A : Type 0} (w : Windowed A) (front top : ℕ) (words : List ℕ) (places : List (Option (Message A))) (i : IsWindow w front top words places) where
-  -- it begins after the front
+module _ {A : Type 0} (w : WindowHistory A) (front top : ℕ) (words : List ℕ) (places : List (Option (Message A))) (i : IsWindow w front top words places) where
+  -- The search begins after the front.
   pub counted_first : (upto end : ℕ) → end ≡ min (upto - w.mark) 256 → IsCounted w words upto end (front - w.mark) []
   counted_first upto end limit =
       let next : w.mark + 1 + (front - w.mark) ≡ suc (front_of w.held w.ring) = omega (arith, i.front_is, i.safe) in
@@ -84,7 +84,7 @@ module _ {A : Type 0} (w : Windowed A) (front top : ℕ) (words : List ℕ) (pla
             ∙ ap (λ n. filter p (numbers_from (w.mark + 1) n)) (whole ∙ count));
       }
 
-  -- and goes on to the next clear bit
+  -- The search goes on to the next clear bit.
   pub counted_more : (upto end offset k : ℕ) (found : List ℕ) → IsCounted w words upto end offset found → offset < end → length found < 32
       → IsFirstClear words (offset + 1) k → IsCounted w words upto end k (found ++ (w.mark + 1 + offset) ∷ [])
   counted_more upto end offset k found c inside room f =
@@ -112,7 +112,7 @@ module _ {A : Type 0} (w : Windowed A) (front top : ℕ) (words : List ℕ) (pla
             ∙ c.so_far;
       }
 
-  -- the bits of an entry
+  -- The bits of a commit entry.
   pub bits_given : (bytes : List ℕ) → length bytes ≡ 32 → ((k : ℕ) → k < 32 → slice_index bytes k ≡ word_of (is_set words) (front - w.mark + 8 * k) 8)
       → bytes ≡ held_bits w.held w.ring
   bits_given bytes count given =
@@ -127,7 +127,7 @@ module _ {A : Type 0} (w : Windowed A) (front top : ℕ) (words : List ℕ) (pla
       ) in i.bits (front - w.mark + 8 * k + j) ∙ ap (λ n. holds w.held w.ring n) e))
       ∙ sym (byte_at (holds w.held w.ring) first 32 k (omega arith)))
 
-pub counted_full : {A : Type 0} (w : Windowed A) (words : List ℕ) (upto end offset : ℕ) (found : List ℕ) → IsCounted w words upto end offset found
+pub counted_full : {A : Type 0} (w : WindowHistory A) (words : List ℕ) (upto end offset : ℕ) (found : List ℕ) → IsCounted w words upto end offset found
     → 32 ≤ length found → found ≡ first_missing w upto
 counted_full w words upto end offset found c l =
     let n : 32 - length found ≡ 0 = omega arith in

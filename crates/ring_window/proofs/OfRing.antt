@@ -1,4 +1,4 @@
--- A node keeps the messages of all rings in one list, and a window those of one ring: what is said of a ring is the same of both.
+-- A node's messages of all rings are in one list, a window's of one ring; facts about one ring agree.
 use Rattle.std.proofs.Common.{◌≡◌, ℕ, ◌+◌, Bool, List, [], ◌∷◌, map, filter, refl, ap, ◌∙◌, inl, inr}
 use mathlib.Core.Path.{fun_ext}
 use Rattle.std.specs.Prelude.{not, min, ◌-◌}

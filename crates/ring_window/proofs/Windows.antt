@@ -1,4 +1,4 @@
--- What is kept of a window, as it changes: nothing held, a message taken, numbers forgotten. And what the kept bits say.
+-- The state kept of a window as it changes: nothing held, a message taken, numbers forgotten; and the meaning of its bits.
 use Rattle.std.proofs.Common.{◌≡◌, ◌≢◌, ℕ, zero, suc, ◌++◌, ◌+◌, ◌-◌, ◌%◌, ◌<◌, ◌≤◌, Bool, true, false, max, List, []}
 use Rattle.std.proofs.Common.{◌∷◌, length, Option, Some, None, refl, ap, ◌∙◌, sym, inl, inr, arith, get_or-set_same}
 use Rattle.std.proofs.Common.{get_or-set_other, length-set}
@@ -12,7 +12,7 @@ use Rattle.ring_base.proofs.Cases.{and-false}
 use Rattle.ring_wire.specs.declared.message.Message.{Message}
 use Rattle.ring_window.specs.Bits.{is_set, IsFirstClear}
 use Rattle.ring_window.specs.Held.{is_numbered, found, holds, of_ring, highest, is_new, IsFrontIn}
-use Rattle.ring_window.specs.Windows.{Windowed, opened, takes, kept}
+use Rattle.ring_window.specs.Windows.{WindowHistory, opened, takes, kept}
 use Rattle.ring_window.specs.Places.{place_of, in_place, IsWindow}
 use Rattle.ring_window.proofs.HeldFront.{front_is, front_only, highest_covers}
 
@@ -57,27 +57,27 @@ highest_more : {A : Type 0} (x : Message A) (held : List (Message A)) (ring : Ri
     → highest (x ∷ held) ring ≡ max x.number (highest held ring)
 highest_more x held ring h = rw (cond-true (same_ring x.ring ring) (x ∷ of_ring ring held) (of_ring ring held) h) refl
 
--- ---- what the bits say
+-- ---- the meaning of the bits
 
--- up to the safe mark all is held
-pub holds_safe : {A : Type 0} (w : Windowed A) (front top : ℕ) (words : List ℕ) (places : List (Option (Message A)))
+-- Up to the safe mark all is held.
+pub holds_safe : {A : Type 0} (w : WindowHistory A) (front top : ℕ) (words : List ℕ) (places : List (Option (Message A)))
     → IsWindow w front top words places → (n : ℕ) → n ≤ w.mark → not (nat_eq n 0) ≡ holds w.held w.ring n
 holds_safe w front top words places i n l = elim (cases_eq n 0) [
   | inl e ↦ rw (e) (sym i.none)
   | inr e ↦ rw (ne_eqb n 0 e) (sym ((front_is w.held w.ring).below n (omega arith) (omega (arith, i.safe, i.front_is))))
 ]
 
--- and after it the bits tell
-pub holds_after : {A : Type 0} (w : Windowed A) (front top : ℕ) (words : List ℕ) (places : List (Option (Message A)))
+-- After the safe mark the bits say what is held.
+pub holds_after : {A : Type 0} (w : WindowHistory A) (front top : ℕ) (words : List ℕ) (places : List (Option (Message A)))
     → IsWindow w front top words places → (n : ℕ) → w.mark < n → is_set words (n - w.mark - 1) ≡ holds w.held w.ring n
 holds_after w front top words places i n l = (let e : w.mark + 1 + (n - w.mark - 1) ≡ n = omega arith in i.bits
     (n - w.mark - 1) ∙ ap (λ k. holds w.held w.ring k) e)
 
--- nothing is kept up to the safe mark, nor past the window
-pub kept_safe : {A : Type 0} (w : Windowed A) (n : ℕ) → n ≤ w.mark → None ≡ kept w n
+-- No message is kept up to the safe mark, nor after the window.
+pub kept_safe : {A : Type 0} (w : WindowHistory A) (n : ℕ) → n ≤ w.mark → None ≡ kept w n
 kept_safe w n l = sym (cond-false (nat_lt w.mark n) (found w.held w.ring n) None (le-ltb w.mark n l))
 
-pub kept_beyond : {A : Type 0} (w : Windowed A) (front top : ℕ) (words : List ℕ) (places : List (Option (Message A)))
+pub kept_beyond : {A : Type 0} (w : WindowHistory A) (front top : ℕ) (words : List ℕ) (places : List (Option (Message A)))
     → IsWindow w front top words places → (n : ℕ) → w.mark + 256 < n → None ≡ kept w n
 kept_beyond w front top words places i n l = sym (cond-true (nat_lt w.mark n) (found w.held w.ring n) None
     (lt-ltb w.mark n (omega arith)) ∙ found_none w.held w.ring n (i.beyond n l))
@@ -100,25 +100,25 @@ opened_is ring words places clear count empty = record {
 
 -- ---- a message taken
 
--- what was tested of it
-pub record IsTaken {A : Type 0} (w : Windowed A) (x : Message A) : Type 0 where
+-- The tests that it passed.
+pub record IsTaken {A : Type 0} (w : WindowHistory A) (x : Message A) : Type 0 where
   pub same : same_ring x.ring w.ring ≡ true
   pub above : w.mark < x.number
   pub inside : x.number ≤ w.mark + 256
   pub fresh : holds w.held w.ring x.number ≡ false
 
-pub taken_is : {A : Type 0} (w : Windowed A) (x : Message A) → takes w x ≡ true → IsTaken w x
+pub taken_is : {A : Type 0} (w : WindowHistory A) (x : Message A) → takes w x ≡ true → IsTaken w x
 taken_is w x h =
     let a = and_parts (same_ring x.ring w.ring) (is_new w.held w.mark w.ring x.number) h in
     let b = and_parts (nat_lt w.mark x.number && nat_le x.number (w.mark + 256)) (not (holds w.held w.ring x.number)) a.1 in
     let d = and_parts (nat_lt w.mark x.number) (nat_le x.number (w.mark + 256)) b.0 in
     record { same = a.0; above = ltb-true _ _ d.0; inside = leb-true _ _ d.1; fresh = not-true _ b.1 }
 
-abbrev with : {A : Type 0} → Windowed A → Message A → Windowed A
+abbrev with : {A : Type 0} → WindowHistory A → Message A → WindowHistory A
 with w x = record w { held = x ∷ w.held }
 
--- the bits and places with it
-module _ {A : Type 0} (w : Windowed A) (x : Message A) (front top : ℕ) (words more : List ℕ) (places : List (Option (Message A)))
+-- The bits and places with it.
+module _ {A : Type 0} (w : WindowHistory A) (x : Message A) (front top : ℕ) (words more : List ℕ) (places : List (Option (Message A)))
     (i : IsWindow w front top words places) (t : IsTaken w x)
     (this : is_set more (x.number - w.mark - 1) ≡ true) (others : (j : ℕ) → j ≢ x.number - w.mark - 1 → is_set more j ≡ is_set words j) where
   new_bits : (j : ℕ) → is_set more j ≡ holds (x ∷ w.held) w.ring (w.mark + 1 + j)
@@ -154,7 +154,7 @@ module _ {A : Type 0} (w : Windowed A) (x : Message A) (front top : ℕ) (words 
   new_top : max top x.number ≡ highest (x ∷ w.held) w.ring
   new_top = (let e = highest_more x w.held w.ring t.same in let f = i.top_is in omega arith)
 
-  -- whichever the front is now, it is known by the numbers that are held
+  -- Whatever the front is now, the held numbers determine it.
   pub with_front : (now : ℕ) → IsFrontIn (x ∷ w.held) w.ring now → front ≤ now → now ≤ w.mark + 256
       → IsWindow (with w x) now (max top x.number) more (slice_set places (place_of x.number) (Some x))
   with_front now f later near = record {
@@ -172,13 +172,13 @@ module _ {A : Type 0} (w : Windowed A) (x : Message A) (front top : ℕ) (words 
   old_below : (n : ℕ) → 1 ≤ n → n ≤ front → holds (x ∷ w.held) w.ring n ≡ true
   old_below n a b = holds_still x w.held w.ring n t.same ((front_is w.held w.ring).below n a (omega (arith, i.front_is)))
 
-  -- the front stays where the next number is another
+  -- The front stays if the next number is another.
   pub front_stays : x.number ≢ suc front → IsWindow (with w x) front (max top x.number) more (slice_set places (place_of x.number) (Some x))
   front_stays other =
       let next : holds w.held w.ring (suc front) ≡ false = ap (λ k. holds w.held w.ring (suc k)) i.front_is ∙ (front_is w.held w.ring).next in
       with_front front (record { below = old_below; next = holds_other x w.held w.ring (suc front) t.same other ∙ next }) (omega arith) i.near
 
-  -- else it goes to the first number that is missing still
+  -- Otherwise the front moves to the one before the first missing number.
   pub front_goes : (k : ℕ) → x.number ≡ suc front → IsFirstClear more (x.number - w.mark - 1) k
       → IsWindow (with w x) (w.mark + k) (max top x.number) more (slice_set places (place_of x.number) (Some x))
   front_goes k next c =
@@ -197,13 +197,13 @@ module _ {A : Type 0} (w : Windowed A) (x : Message A) (front top : ℕ) (words 
       })
       later (omega arith)
 
-  -- no bit stands for a number above the highest
+  -- No bit is set for a number above the highest.
   pub bits_fit : (limit : ℕ) → top < limit → x.number < limit → (j : ℕ) → is_set more j ≡ true → w.mark + 1 + j < limit
   bits_fit limit a b j h = (let l = highest_covers (x ∷ w.held) w.ring (w.mark + 1 + j) (sym (new_bits j) ∙ h) in let m = new_top in omega arith)
 
 -- ---- numbers forgotten
 
-pub forgotten_is : {A : Type 0} (w : Windowed A) (upto front top : ℕ) (words less : List ℕ) (places left : List (Option (Message A)))
+pub forgotten_is : {A : Type 0} (w : WindowHistory A) (upto front top : ℕ) (words less : List ℕ) (places left : List (Option (Message A)))
     → IsWindow w front top words places → w.mark < upto → upto ≤ front
     → ((j : ℕ) → is_set less j ≡ is_set words (upto - w.mark + j))
     → length left ≡ 256
@@ -231,14 +231,14 @@ forgotten_is w upto front top words less places left i above within bits count c
 
 -- ---- places
 
--- one more place without a message
+-- One more place without a message.
 pub none_more : {X : Type 0} (xs : List (Option X)) → ((j : ℕ) → slice_index_or xs j None ≡ None) → (j : ℕ) → slice_index_or (xs ++ None ∷ []) j None ≡ None
 none_more [] h zero = refl
 none_more [] h (suc j) = refl
 none_more (x ∷ xs) h zero = h 0
 none_more (x ∷ xs) h (suc j) = none_more xs (λ k. h (suc k)) j
 
--- the place of one number more is emptied
+-- The place of one more number is emptied.
 pub cleared_more : {A : Type 0} (xs : List (Option (Message A))) (mark before : ℕ) → length xs ≡ 256 → mark ≤ before → before < mark + 256
     → ((n : ℕ) → mark < n → n ≤ before → in_place xs n ≡ None) → (n : ℕ) → mark < n → n ≤ before + 1
     → in_place (slice_set xs (before % 256) None) n ≡ None

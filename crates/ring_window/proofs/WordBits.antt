@@ -1,4 +1,4 @@
--- Bits that lie across two words, and words as bits.
+-- Bits that span two words, and words as bits.
 use Rattle.std.proofs.Common.{◌≡◌, ◌≢◌, ℕ, zero, suc, ◌+◌, ◌-◌, ◌*◌, ◌/◌, ◌%◌, ◌^◌, ◌<◌, ◌≤◌, Bool, true, false, List}
 use Rattle.std.proofs.Common.{[], ◌∷◌, length, refl, ap, ◌∙◌, sym, inl, inr, arith, get_or-set_same, get_or-set_other}
 use Rattle.std.specs.Prelude.{◌==◌, slice_index, slice_set, bit_and, bit_or}
@@ -55,7 +55,7 @@ across_high low high shift j small l under within =
 
 -- ---- bits of words
 
--- a bit by its word and its place there
+-- A bit, from its word and its position there.
 pub set_at : (words : List ℕ) (first shift j : ℕ) → first % 64 ≡ shift → shift + j < 64
     → is_set words (first + j) ≡ has_bit (slice_index words (first / 64)) (shift + j)
 set_at words first shift j e l =
@@ -70,7 +70,7 @@ set_past words first shift j e l within =
     let r : (first + j) % 64 ≡ shift + j - 64 = omega arith in
     ap (λ i. has_bit (slice_index words i) ((first + j) % 64)) q ∙ ap (λ i. has_bit (slice_index words (first / 64 + 1)) i) r
 
--- what lies across two words, bit by bit
+-- A word that spans two words, bit by bit.
 pub word_across : (words : List ℕ) (first low high shift j : ℕ) → low ≡ slice_index words (first / 64) → high ≡ slice_index words (first / 64 + 1)
     → first % 64 ≡ shift → low < 2 ^ 64 → 0 < shift → j < 64
     → has_bit (bit_or (low / 2 ^ shift) (high * 2 ^ (64 - shift) % 2 ^ 64)) j ≡ is_set words (first + j)
@@ -81,12 +81,12 @@ word_across words first low high shift j a b e small some within =
           ∙ sym (set_past words first shift j e l within)
     ]
 
--- past the last of four words each bit is clear
+-- After the last of four words each bit is clear.
 pub clear_past : (words : List ℕ) (j : ℕ) → length words ≡ 4 → 256 ≤ j → is_set words j ≡ false
 clear_past words j n l = (let e : slice_index words (j / 64) ≡ 0 = get_or_past words (j / 64) 0 (omega arith) in rw e
     (let z = bit_at-zero (j % 64) in ap (λ x. x == 1) z))
 
--- ---- a word by its tests
+-- ---- a word from its tests
 
 has_same : (a b j : ℕ) → has_bit a j ≡ has_bit b j → bit_at a j ≡ bit_at b j
 has_same a b j h =
@@ -108,14 +108,14 @@ word_of_below test first (suc count) =
     let p : 2 ^ suc count ≡ 2 * 2 ^ count = omega arith in
     elim (cases_Bool (test first)) [ inl e ↦ rw (e, p) (omega arith) | inr e ↦ rw (e, p) (omega arith) ]
 
--- the low 8 bits of a word whose bits are tests
+-- The low 8 bits of a word whose bits are tests.
 pub byte_by_tests : (word first : ℕ) (test : ℕ → Bool) → ((j : ℕ) → j < 64 → has_bit word j ≡ test (first + j)) → bit_and word 255 ≡ word_of test first 8
 byte_by_tests word first test bits =
     let m : bit_and word 255 ≡ word % 2 ^ 8 = and_mask word 8 in
     m ∙ same_from_bits_below 8 (word % 2 ^ 8) (word_of test first 8) (omega arith) (word_of_below test first 8)
     (λ i l. bit_at_mod word 8 i l ∙ has_same word (word_of test first 8) i (bits i (omega arith) ∙ sym (word_bit test first 8 i l)))
 
--- two words of tests that agree
+-- Two words whose tests agree.
 pub word_of-same : (f g : ℕ → Bool) (a b count : ℕ) → ((i : ℕ) → i < count → f (a + i) ≡ g (b + i)) → word_of f a count ≡ word_of g b count
 word_of-same f g a b zero h = refl
 word_of-same f g a b (suc count) h =
@@ -127,7 +127,7 @@ word_of-same f g a b (suc count) h =
     ∙ h (suc i) (omega arith) ∙ ap g t)) in
     rw (here, rest) refl
 
--- ---- a bit more
+-- ---- one more bit
 
 pub set_this : (words : List ℕ) (offset : ℕ) → length words ≡ 4 → offset < 256
     → is_set (slice_set words (offset / 64) (bit_or (slice_index words (offset / 64)) (1 * 2 ^ (offset % 64) % 2 ^ 64))) offset ≡ true

@@ -1,2 +1,2 @@
--- The type of messages, passed on to what reads a window.
+-- The type of messages, re-exported for the users of a window.
 pub use Rattle.ring_wire.specs.declared.message.Message.{Message}

@@ -1,2 +1,2 @@
--- The variants of payloads, passed on to recovery.
+-- The variants of payloads, re-exported for recovery.
 pub use Rattle.ring_wire.specs.PayloadVariants.{Call, Wrapped, End, Head, Part, Pack, Snap}

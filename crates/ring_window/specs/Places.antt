@@ -1,22 +1,24 @@
--- What the program keeps of a window, and what that says of all that was ever held: 256 places for messages and a bit for each number of the window.
+-- The state that the code keeps of a window, and how it represents all that was ever held: 256 places for messages, and a
+-- bit for each number of the window.
+-- Rules: Token and window 14
 use Rattle.std.specs.Prelude.{◌≡◌, ℕ, ◌+◌, ◌-◌, ◌%◌, ◌<◌, ◌≤◌, false, List, length, Option, None, slice_index_or}
 use Rattle.ring_wire.specs.declared.message.Message.{Message}
 use Rattle.ring_window.specs.Bits.{is_set}
 use Rattle.ring_window.specs.Held.{found, holds, front_of, highest}
-use Rattle.ring_window.specs.Windows.{Windowed}
+use Rattle.ring_window.specs.Windows.{WindowHistory}
 use Rattle.ring_base.specs.Numbers.{window_size}
 
--- number n stands in place (n - 1) mod 256
+-- The place of number n: (n - 1) mod 256.
 abbrev pub place_of : ℕ → ℕ
 place_of n = (n - 1) % window_size
 
--- what stands in the place of a number
+-- The message in the place of a number, if any.
 abbrev pub in_place : {A : Type 0} → List (Option (Message A)) → ℕ → Option (Message A)
 in_place places n = slice_index_or places (place_of n) None
 
--- Each number of the window has its message in its place, and its bit tells whether it was held. Nothing past the
--- window was held, nor a number 0; up to the safe mark all was.
-pub record IsWindow {A : Type 0} (w : Windowed A) (front top : ℕ) (words : List ℕ) (places : List (Option (Message A))) : Type 0 where
+-- Each number of the window has its message in its place, and its bit says whether it was held. Nothing above the window
+-- was held, nor the number 0; all numbers up to the safe mark were.
+pub record IsWindow {A : Type 0} (w : WindowHistory A) (front top : ℕ) (words : List ℕ) (places : List (Option (Message A))) : Type 0 where
   pub front_is : front ≡ front_of w.held w.ring
   pub top_is : top ≡ highest w.held w.ring
   pub safe : w.mark ≤ front

@@ -1,37 +1,40 @@
-//! A bit for each of 256 numbers.
+//! A bit for each of the window's 256 numbers.
+//! Rules: Token and window 14
+//! Formats: The commit entry
 
 ghost use Rattle.std.specs.Prelude.{◌≡◌, ◌≢◌, ℕ, ◌+◌, ◌*◌, ◌/◌, ◌%◌, ◌<◌, ◌≤◌, true, false, length, slice_index};
 ghost use Rattle.ring_base.specs.Numbers.{has_bit, word_of};
 ghost use Rattle.ring_window.specs.Bits.{is_set, IsFirstClear};
 ghost use Rattle.ring_base.specs.Numbers.{window_size};
 
-use ring_base::WINDOW;
+use ring_base::WINDOW_SIZE;
 
-/// How many bits there are: one for each number of a window.
-const BITS: usize = WINDOW as usize;
+/// The number of bits: one for each number of a window.
+const BITS: usize = WINDOW_SIZE as usize;
 
-/// 256 bits, from the least of the first word on. Bits past the last are clear.
+/// 256 bits, one for each number of a window, from the lowest bit of the first word on. Bits past the last are clear.
+/// Rules: Token and window 14
 #[derive(Clone, Copy)]
 pub(crate) struct HeldBits {
     words: [u64; 4],
 }
 
 impl HeldBits {
-    /// All clear.
+    /// Returns 256 clear bits.
     pub(crate) fn new() -> HeldBits
         ensures { (j : ℕ) → is_set result.words j ≡ false }
     {
         HeldBits { words: [0; 4] }
     }
 
-    /// Whether a bit is set.
+    /// Returns whether the bit at `offset`, counted from 0, is set. Bits from 256 on are clear.
     pub(crate) fn is_set(&self, offset: usize) -> bool
         ensures { result ≡ is_set self.now.words offset }
     {
         (self.word(offset / 64) >> (offset % 64)) & 1 == 1
     }
 
-    /// Sets a bit.
+    /// Sets the bit at `offset`, counted from 0. That `offset` is below 256 is the caller's condition.
     pub(crate) fn set(&mut self, offset: usize)
         requires { offset < window_size }
         ensures this { is_set self.new.words offset ≡ true }
@@ -40,7 +43,8 @@ impl HeldBits {
         self.words[offset / 64] |= 1 << (offset % 64);
     }
 
-    /// From a bit on, the first that is clear.
+    /// Returns the offset of the first clear bit at or after `from`, 256 if there is none below.
+    /// That `from` is at most 256 is the caller's condition.
     pub(crate) fn first_clear(&self, from: usize) -> usize
         requires { from ≤ window_size }
         ensures { IsFirstClear self.now.words from result }
@@ -56,7 +60,8 @@ impl HeldBits {
         offset
     }
 
-    /// The bits from one on, as the first.
+    /// Returns the bits from `first` on, moved to the beginning: bit j of the result is bit `first` + j.
+    /// That `first` is at most 256 is the caller's condition.
     pub(crate) fn from_bit(&self, first: usize) -> HeldBits
         requires { first ≤ window_size }
         ensures { (j : ℕ) → is_set result.words j ≡ is_set self.now.words (first + j) }
@@ -71,7 +76,9 @@ impl HeldBits {
         }
     }
 
-    /// The 256 bits from one on as bytes, the first as the bit of value 1 of the first byte.
+    /// Returns the 256 bits from `first` on as bytes: the first bit is the lowest bit of the first byte.
+    /// That `first` is at most 256 is the caller's condition.
+    /// Formats: The commit entry
     pub(crate) fn bytes_from(&self, first: usize) -> [u8; 32]
         requires { first ≤ window_size }
         ensures count { length result ≡ 32 }
@@ -84,7 +91,7 @@ impl HeldBits {
         bytes
     }
 
-    /// The 8 bits from one on.
+    /// Returns the 8 bits from `first` on.
     fn byte_at(&self, first: usize) -> u8
         requires { first ≤ 512 }
         ensures { result ≡ word_of (is_set self.now.words) first 8 }
@@ -92,7 +99,7 @@ impl HeldBits {
         (self.word_at(first) & 255) as u8
     }
 
-    /// The 64 bits from one on, which lie in two words or, at a word's beginning, in one.
+    /// Returns the 64 bits from `first` on, from two words or, at the beginning of a word, one.
     fn word_at(&self, first: usize) -> u64
         requires { first ≤ 512 }
         ensures { (j : ℕ) → j < 64 → has_bit result j ≡ is_set self.now.words (first + j) }
@@ -106,7 +113,7 @@ impl HeldBits {
         low | (self.word(index + 1) << (64 - shift))
     }
 
-    /// A word, 0 past the last.
+    /// Returns the word at `index`, counted from 0, or 0 past the last.
     fn word(&self, index: usize) -> u64
         ensures { result ≡ slice_index self.now.words index }
     {

@@ -1,19 +1,19 @@
-//! What was ever held, as contracts see it.
+//! The messages ever held, as ghost values for contracts.
 
 ghost use Rattle.std.specs.Prelude.{◌≡◌, [], ◌∷◌};
 
-use ring_base::{Past, past_of};
+use ring_base::{Ghost, ghost_of};
 
-/// Nothing.
-pub(crate) fn nothing_held<M>() -> Past<[M; 0]>
+/// Returns the history of a window that hasn't held any message.
+pub(crate) fn held_log_opening<M>() -> Ghost<[M; 0]>
     ensures { result.value ≡ [] }
 {
-    past_of(&())
+    ghost_of(&())
 }
 
-/// One message more, as the newest.
-pub(crate) fn one_more<M>(past: &Past<[M; 0]>, message: &M) -> Past<[M; 0]>
-    ensures { result.value ≡ message.now ∷ past.now.value }
+/// Returns the history with `message` added as the newest. The newest message comes first in it.
+pub(crate) fn one_more<M>(history: &Ghost<[M; 0]>, message: &M) -> Ghost<[M; 0]>
+    ensures { result.value ≡ message.now ∷ history.now.value }
 {
-    past_of(&(past, message))
+    ghost_of(&(history, message))
 }

@@ -1,4 +1,6 @@
-//! Laws of what is held.
+//! Laws of what is held: the front, and the held bits of a commit entry.
+//! Rules: Token and window 2
+//! Formats: The commit entry
 
 ghost use Rattle.std.specs.Prelude.{◌≡◌, ◌+◌, ◌<◌, ℕ, List};
 ghost use Rattle.ring_base.specs.declared.ring_id.RingId.{RingId};
@@ -10,13 +12,17 @@ ghost use Rattle.ring_base.specs.Numbers.{window_size};
 
 use std::alloc::Allocator;
 
-/// Each number up to the front was held and the next was not, and so it is of no other number.
+/// States that, for every ring and every list of messages held, the front is the one number k such that 1 to k are held
+/// and k + 1 isn't.
+/// Rules: Token and window 2
 pub fn front_law<A: Allocator + Copy>()
     ensures is { (held : List (Message A)) (ring : RingId) → IsFrontIn held ring (front_of held ring) }
     ensures only { (held : List (Message A)) (ring : RingId) (k : ℕ) → IsFrontIn held ring k → k ≡ front_of held ring }
 {}
 
-/// The bits of an entry say exactly which of the 256 numbers after the front were held.
+/// States that, for every ring and every list of messages held, bit j of the held bits in a commit entry is set exactly
+/// if the number front + 1 + j is held. j is 0 to 255.
+/// Formats: The commit entry
 pub fn bits_law<A: Allocator + Copy>()
     ensures { (held : List (Message A)) (ring : RingId) (j : ℕ) → j < window_size → bit_of (held_bits held ring) j ≡ holds held ring (front_of held ring + 1 + j) }
 {}

@@ -1,4 +1,7 @@
-//! What a node holds of a ring: the messages taken, sent and unwrapped, and how far they reach without a gap.
+//! The window of a ring: the messages that a node holds of it, and their front, the greatest number up to which all are held.
+//!
+//! Rules: Token and window 1 to 4 and 14
+//! Formats: The commit entry
 #![tactic(auto)]
 
 mod held_bits;

@@ -1,25 +1,27 @@
-//! The window of a ring.
+//! The window of one ring, its messages in a fixed circular buffer.
+//! Rules: Token and window 1 to 4, 11 and 14
 
 ghost use Rattle.std.specs.Prelude.{◌≡◌, ◌≢◌, ℕ, suc, ◌+◌, ◌-◌, ◌%◌, ◌^◌, ◌<◌, ◌≤◌, true, length, IfOk, IfErr, slice_index_or, slice_set, option_copied};
 ghost use Rattle.ring_base.specs.declared.fault.Fault.TheVariants.{Memory};
 ghost use Rattle.ring_window.specs.Held.{holds, front_of, highest as highest_of, is_new as is_new_number};
 ghost use Rattle.ring_window.specs.Bits.{held_bits as bits_of_held, is_set, IsFirstClear};
-ghost use Rattle.ring_window.specs.Windows.{opened, takes, taken, forgotten, kept, first_missing};
+ghost use Rattle.ring_window.specs.Windows.{opened, takes, taken, window_after_forget, kept, first_missing};
 ghost use Rattle.ring_window.specs.Places.{place_of, in_place};
 ghost use Rattle.ring_base.specs.Numbers.{window_size};
 
 use crate::held_bits::HeldBits;
-use crate::history::{nothing_held, one_more};
-use ring_base::{Fault, Past, RingId, WINDOW};
-use ring_wire::{MOST_REQUESTS, Message, Requests};
+use crate::history::{held_log_opening, one_more};
+use ring_base::{Fault, Ghost, RingId, WINDOW_SIZE};
+use ring_wire::{MAX_REQUESTS, Message, Requests};
 use std::alloc::{AllocError, Allocator, Global};
 use std::marker::Model;
 
-/// As many messages are kept as the window has numbers.
-const PLACES: usize = WINDOW as usize;
+/// The number of places for messages: one for each number of the window.
+const PLACES: usize = WINDOW_SIZE as usize;
 
-/// What a node holds of one ring. Messages are taken within the window, the 256 numbers after the safe mark,
-/// and kept until the mark passes them. Contracts see all messages ever taken, newest first, and the mark.
+/// The receive window of one ring. It takes messages whose number is one of the 256 after the safe mark, and keeps each
+/// until the mark passes it. Contracts see all messages ever taken, newest first, and the mark.
+/// Rules: Token and window 1 to 4 and 14
 #[derive(Drop)]
 pub struct Window<A: Allocator + Copy = Global> {
     ring: RingId,
@@ -28,22 +30,26 @@ pub struct Window<A: Allocator + Copy = Global> {
     highest: u64,
     bits: HeldBits,
     places: Vec<Option<Message<A>>, A>,
-    past: Past<[Message<A>; 0]>,
+    history: Ghost<[Message<A>; 0]>,
 }
 
 impl<A: Allocator + Copy> Model for Window<A> {
-    ghost use Rattle.ring_window.specs.Windows.{Windowed};
+    ghost use Rattle.ring_window.specs.Windows.{WindowHistory};
     ghost use Rattle.ring_window.specs.Places.{IsWindow};
 
-    ghost Value = { Windowed A };
+    ghost Value = { WindowHistory A };
 
-    ghost view = { λ w. record { ring = w.ring; mark = w.mark; held = w.past.value } };
+    ghost view = { λ w. record { ring = w.ring; mark = w.mark; held = w.history.value } };
 
-    ghost invariant = { λ w. IsWindow (record { ring = w.ring; mark = w.mark; held = w.past.value }) w.front w.highest w.bits.words w.places.items };
+    ghost invariant = { λ w. IsWindow (record { ring = w.ring; mark = w.mark; held = w.history.value }) w.front w.highest w.bits.words w.places.items };
 }
 
 impl<A: Allocator + Copy> Window<A> {
-    /// The window of a ring of which nothing is held, or `Memory`. It takes all memory that it will ever need.
+    /// Returns the empty window of a ring, with safe mark 0 and nothing held.
+    /// It has all its 256 places, so no later call but `clone` takes memory.
+    ///
+    /// Errors: `Memory`.
+    /// Rules: Token and window 14
     pub fn new(alloc: A, ring: RingId) -> Result<Window<A>, Fault>
         ensures ok { IfOk result (λ window. window ≡ opened ring) }
         ensures refused { IfErr result (λ fault. fault ≡ Memory) }
@@ -55,39 +61,46 @@ impl<A: Allocator + Copy> Window<A> {
             highest: 0,
             bits: HeldBits::new(),
             places: empty_places(alloc)?,
-            past: nothing_held(),
+            history: held_log_opening(),
         })
     }
 
-    /// The ring.
+    /// Returns the ring whose messages the window takes.
+    /// Rules: Token and window 14
     pub fn ring(&self) -> RingId
         ensures { result ≡ self.now.ring }
     {
         self.ring
     }
 
-    /// The safe mark: numbers up to it may be forgotten.
+    /// Returns the safe mark, 0 at first. The messages up to it have been dropped, and their numbers count as held.
+    /// Rules: Token and window 3 and 4
     pub fn mark(&self) -> u64
         ensures { result ≡ self.now.mark }
     {
         self.mark
     }
 
-    /// The front: the greatest number up to which each was held.
+    /// Returns the front: the greatest number up to which all numbers are held, 0 if number 1 isn't.
+    /// (Totem's `my_aru`.)
+    /// Rules: Token and window 2
     pub fn front(&self) -> u64
         ensures { result ≡ front_of self.now.held self.now.ring }
     {
         self.front
     }
 
-    /// The greatest number that was held, 0 where there is none.
+    /// Returns the greatest number that is held, 0 if none is. It is at least the front.
+    /// Rules: Token and window 14
     pub fn highest(&self) -> u64
         ensures { result ≡ highest_of self.now.held self.now.ring }
     {
         self.highest
     }
 
-    /// Whether the message of this number was ever held.
+    /// Returns whether the message of this number is held: the window has taken it, even if it has dropped it since.
+    /// Number 0 isn't held, since no message has it.
+    /// Rules: Token and window 1 and 14
     pub fn holds(&self, number: u64) -> bool
         ensures { result ≡ holds self.now.held self.now.ring number }
     {
@@ -97,22 +110,25 @@ impl<A: Allocator + Copy> Window<A> {
         self.bits.is_set((number - self.mark - 1) as usize)
     }
 
-    /// Whether the number lies in the window and was not held.
+    /// Returns whether the number is one of the 256 after the safe mark and isn't held.
+    /// Rules: Token and window 4
     pub fn is_new(&self, number: u64) -> bool
         ensures { result ≡ is_new_number self.now.held self.now.mark self.now.ring number }
     {
-        number > self.mark && number - self.mark <= WINDOW && !self.holds(number)
+        number > self.mark && number - self.mark <= WINDOW_SIZE && !self.holds(number)
     }
 
-    /// Whether the message is of the ring and its number is new.
+    /// Returns whether the message is of the ring and its number is new.
     fn takes(&self, message: &Message<A>) -> bool
         ensures { result ≡ takes self.now message.now }
     {
         message.ring == self.ring && self.is_new(message.number)
     }
 
-    /// Holds a message of the ring whose number is new. Where it is of another ring, or its number was held
-    /// or lies outside the window, the answer is false and nothing changes.
+    /// Holds the message under its number, and returns true.
+    /// Returns false, and changes nothing, for a message of another ring, and for a number that is held or lies outside
+    /// the window.
+    /// Rules: Token and window 11 and 14
     pub fn take(&mut self, message: Message<A>) -> bool
         ensures answer { result ≡ takes self.old message }
         ensures window { self.new ≡ taken self.old message }
@@ -122,25 +138,27 @@ impl<A: Allocator + Copy> Window<A> {
         }
         let number = message.number;
         self.bits.set((number - self.mark - 1) as usize);
-        self.past = one_more(&self.past, &message);
+        self.history = one_more(&self.history, &message);
         self.highest = self.highest.max(number);
         self.front = front_with(&self.bits, self.mark, self.front, number);
         put(&mut self.places, message);
         true
     }
 
-    /// The message of a number above the safe mark, if it was held.
+    /// Returns the message of a number that is held and above the safe mark. Returns `None` for all other numbers.
+    /// Rules: Token and window 14
     pub fn get(&self, number: u64) -> Option<&Message<A>>
         ensures { option_copied result ≡ kept self.now number }
     {
-        if number <= self.mark || number - self.mark > WINDOW {
+        if number <= self.mark || number - self.mark > WINDOW_SIZE {
             return None;
         }
         self.places[place_of(number)].as_ref()
     }
 
-    /// The first of the window's numbers, up to a limit, that were not held: at most 32. The ring core has them written in
-    /// place: [`missing_into`](Window::missing_into).
+    /// Returns the first 32 numbers of the window that are at most `upto` and aren't held, ascending, or all if there
+    /// are fewer. The ring core has them written in place: [`missing_into`](Window::missing_into).
+    /// Rules: Token and window 7 and 14
     pub fn missing(&self, upto: u64) -> Requests
         ensures { result ≡ first_missing self.now upto }
     {
@@ -149,24 +167,27 @@ impl<A: Allocator + Copy> Window<A> {
         missing
     }
 
-    /// The same, in the place of the numbers that were there.
+    /// Replaces the content of `missing` by the numbers that [`missing`](Window::missing) returns for `upto`.
+    /// Rules: Token and window 14
     pub fn missing_into(&self, upto: u64, missing: &mut Requests)
         ensures { missing.new ≡ first_missing self.now upto }
     {
-        let end = upto.saturating_sub(self.mark).min(WINDOW) as usize;
+        let end = upto.saturating_sub(self.mark).min(WINDOW_SIZE) as usize;
         missing.clear();
         let mut offset = (self.front - self.mark) as usize;
-        while offset < end && missing.as_slice().len() < MOST_REQUESTS {
+        while offset < end && missing.as_slice().len() < MAX_REQUESTS {
             missing.push(self.mark + 1 + offset as u64);
             offset = self.bits.first_clear(offset + 1);
         }
     }
 
-    /// Raises the safe mark. Numbers up to it still count as held, but their messages are gone. Where it is
-    /// no higher than before, nothing changes.
+    /// Raises the safe mark to `upto`, and drops the messages up to it.
+    /// Their numbers still count as held. Changes nothing if the mark is at least `upto` already. That `upto` is at
+    /// most the front is the caller's condition.
+    /// Rules: Token and window 14
     pub fn forget(&mut self, upto: u64)
         requires { upto ≤ front_of self.old.held self.old.ring }
-        ensures { self.new ≡ forgotten self.old upto }
+        ensures { self.new ≡ window_after_forget self.old upto }
     {
         if upto <= self.mark {
             return;
@@ -176,8 +197,11 @@ impl<A: Allocator + Copy> Window<A> {
         self.mark = upto;
     }
 
-    /// Which of the 256 numbers after the front were held, as an entry of a commit token tells it: bit j
-    /// stands for the number front + 1 + j; it is bit j mod 8, counted from the least, of byte j div 8.
+    /// Returns which of the 256 numbers after the front are held, as in a commit entry.
+    /// The number front + 1 + j, j from 0 to 255, has bit j. That is bit j mod 8, counted from the least significant,
+    /// of byte j div 8.
+    /// Rules: Token and window 14
+    /// Formats: The commit entry
     pub fn held_bits(&self) -> [u8; 32]
         ensures { result ≡ bits_of_held self.now.held self.now.ring }
     {
@@ -195,21 +219,21 @@ impl<A: Allocator + Copy> Clone for Window<A> {
             front: self.front,
             highest: self.highest,
             bits: self.bits,
-            past: self.past.clone()?,
+            history: self.history.clone()?,
             places: copied_places(&self.places)?,
         })
     }
 }
 
-/// The place of a number's message.
+/// Returns the place of a number's message in the buffer.
 fn place_of(number: u64) -> usize
     requires { 1 ≤ number }
     ensures { result ≡ (number - 1) % window_size }
 {
-    ((number - 1) % WINDOW) as usize
+    ((number - 1) % WINDOW_SIZE) as usize
 }
 
-/// The front once the bit of a number is set too.
+/// Returns the new front, after the bit of `number` was set in `bits`.
 fn front_with(bits: &HeldBits, mark: u64, front: u64, number: u64) -> u64
     requires above { mark < number }
     requires inside { number ≤ mark + window_size }
@@ -223,7 +247,7 @@ fn front_with(bits: &HeldBits, mark: u64, front: u64, number: u64) -> u64
     mark + bits.first_clear((number - mark - 1) as usize) as u64
 }
 
-/// Places for a window's messages, without one.
+/// Returns empty places for a window's messages.
 fn empty_places<A: Allocator + Copy>(alloc: A) -> Result<Vec<Option<Message<A>>, A>, Fault>
     ensures count { IfOk result (λ places. length places.items ≡ window_size) }
     ensures empty { IfOk result (λ places. (j : ℕ) → slice_index_or places.items j None ≡ None) }
@@ -236,7 +260,7 @@ fn empty_places<A: Allocator + Copy>(alloc: A) -> Result<Vec<Option<Message<A>>,
     Ok(places)
 }
 
-/// The same messages in the same places.
+/// Returns a copy of the places.
 fn copied_places<A: Allocator + Copy>(
     places: &Vec<Option<Message<A>>, A>,
 ) -> Result<Vec<Option<Message<A>>, A>, AllocError>
@@ -255,7 +279,7 @@ fn put<A: Allocator + Copy>(places: &mut Vec<Option<Message<A>>, A>, message: Me
     places[place] = Some(message);
 }
 
-/// Empties the places of the numbers after a mark, up to another.
+/// Empties the places of the numbers after `mark` up to `upto`.
 fn clear_places<A: Allocator + Copy>(places: &mut Vec<Option<Message<A>>, A>, mark: u64, upto: u64)
     requires count { length places.old.items ≡ window_size }
     requires order { mark ≤ upto }
@@ -265,6 +289,6 @@ fn clear_places<A: Allocator + Copy>(places: &mut Vec<Option<Message<A>>, A>, ma
     ensures others { (n : ℕ) → upto < n → n ≤ mark + window_size → in_place places.new.items n ≡ in_place places.old.items n }
 {
     for before in mark..upto {
-        places[(before % WINDOW) as usize].take();
+        places[(before % WINDOW_SIZE) as usize].take();
     }
 }

@@ -1,2 +1,2 @@
--- What a queue's messages are, passed on to the crates of a ring's parts.
-pub use Rattle.ring_payload.proofs.Packing.{length-packed}
+-- The messages of a queue, re-exported for the crates of a ring core's parts.
+pub use Rattle.ring_payload.proofs.Packing.{length-packed_payloads}

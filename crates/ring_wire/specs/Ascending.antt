@@ -1,16 +1,16 @@
--- Numbers that ascend.
+-- Strictly ascending lists of numbers.
 use Rattle.std.proofs.Common.{◌≡◌, ℕ, zero, suc, ◌+◌, ◌<◌, ◌≤◌, Bool, true, List, [], ◌∷◌, length, arith, add-one, refl}
 use Rattle.std.specs.Prelude.{nat_lt, nat_le, ◌&&◌, slice_index}
 use Rattle.std.specs.List.{AllByRecursion}
 use Rattle.std.specs.List.Sorted.{IsStrictlyIncreasing}
 use Rattle.std.proofs.lemmas.Bool.{ltb-true, lt-ltb, leb-true, le-leb, and_parts}
 
--- each is above the one before it, the first above low, and none is above high
+-- whether the numbers ascend strictly, the first above `low` and none above `high`
 abbrev pub ascends : ℕ → ℕ → List ℕ → Bool
 ascends low high [] = true
 ascends low high (x ∷ xs) = nat_lt low x && (nat_le x high && ascends x high xs)
 
--- above low, and not above high
+-- the number is above `low` and at most `high`
 abbrev pub Between : ℕ → ℕ → ℕ → Type 0
 Between low high x = (low < x) × (x ≤ high)
 
@@ -18,6 +18,7 @@ from_lower : (a b high : ℕ) (xs : List ℕ) → a ≤ b → AllByRecursion (Be
 from_lower a b high [] le all = tt
 from_lower a b high (x ∷ xs) le all = ((omega (arith, all.0.0), all.0.1), from_lower a b high xs le all.1)
 
+-- ascending numbers are all above `low` and at most `high`
 pub ascends-each : (low high : ℕ) (xs : List ℕ) → ascends low high xs ≡ true → AllByRecursion (Between low high) xs
 ascends-each low high [] h = tt
 ascends-each low high (x ∷ xs) h =
@@ -35,19 +36,22 @@ increasing low high (x ∷ xs) h (suc k) lt =
     let up : slice_index (x ∷ xs) k < slice_index (x ∷ xs) (k + 1) = increasing x high xs rest k below in
     rw add-one (rw add-one at up)
 
+-- a strictly ascending list without its first element ascends strictly
 pub IsStrictlyIncreasing-rest : (x : ℕ) (xs : List ℕ) → IsStrictlyIncreasing (x ∷ xs) → IsStrictlyIncreasing xs
 IsStrictlyIncreasing-rest x xs h k lt = rw add-one (rw add-one at (h (suc k) (omega arith)))
 
+-- numbers that pass the test ascend strictly
 pub ascends-increasing : (low high : ℕ) (xs : List ℕ) → ascends low high xs ≡ true → IsStrictlyIncreasing xs
 ascends-increasing low high xs h = IsStrictlyIncreasing-rest low xs (increasing low high xs h)
 
+-- numbers that ascend strictly from above `low`, none above `high`, pass the test
 pub increasing-ascends : (low high : ℕ) (xs : List ℕ) → IsStrictlyIncreasing (low ∷ xs) → AllByRecursion (λ x. x ≤ high) xs → ascends low high xs ≡ true
 increasing-ascends low high [] up all = refl
 increasing-ascends low high (x ∷ xs) up all =
     let first : low < x = up zero (omega arith) in
     rw (lt-ltb low x first, le-leb x high all.0, increasing-ascends x high xs (IsStrictlyIncreasing-rest low (x ∷ xs) up) all.1) refl
 
--- ascending numbers, of which none is 0, ascend from 0 on
+-- strictly ascending numbers above 0 still ascend with 0 before them
 pub IsStrictlyIncreasing-from_zero : (high : ℕ) (xs : List ℕ) → IsStrictlyIncreasing xs → AllByRecursion (Between 0 high) xs → IsStrictlyIncreasing (0 ∷ xs)
 IsStrictlyIncreasing-from_zero high [] up all k lt = absurd (omega arith)
 IsStrictlyIncreasing-from_zero high (x ∷ xs) up all zero lt = all.0.0
@@ -55,12 +59,12 @@ IsStrictlyIncreasing-from_zero high (x ∷ xs) up all (suc k) lt =
     let below : k + 1 < length (x ∷ xs) = omega arith in
     rw add-one (rw add-one at (up k below))
 
--- each is below what is above high
+-- all are below any limit above `high`
 pub each_below : (low high limit : ℕ) (xs : List ℕ) → AllByRecursion (Between low high) xs → high < limit → AllByRecursion (λ x. x < limit) xs
 each_below low high limit [] all lt = tt
 each_below low high limit (x ∷ xs) all lt = (omega (arith, all.0.1), each_below low high limit xs all.1 lt)
 
--- none is above high
+-- all are at most `high`
 pub each_le : (low high : ℕ) (xs : List ℕ) → AllByRecursion (Between low high) xs → AllByRecursion (λ x. x ≤ high) xs
 each_le low high [] all = tt
 each_le low high (x ∷ xs) all = (all.0.1, each_le low high xs all.1)

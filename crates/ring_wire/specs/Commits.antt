@@ -1,5 +1,6 @@
--- How commit tokens are spelled: the ring, its members, the hop, and the entries of the members that it has come to.
--- Frames, of docs/FORMATS.md.
+-- How commit tokens are encoded: the ring, its members, the hop, and the entries of the members that it has visited.
+-- Rules: The commit token 1
+-- Formats: Frames; The commit entry
 use Rattle.std.proofs.Common.{◌≡◌, ◌≢◌, ℕ, ◌*◌, ◌^◌, ◌<◌, ◌≤◌, Bool, true, false, min, List, [], ◌∷◌, length, Option, refl, arith, inl, inr, eq-eqb, ap}
 use Rattle.std.specs.Prelude.{nat_le, nat_lt, ◌&&◌, ◌||◌, not, ◌==◌}
 use Rattle.std.specs.List.{flat_map, AllByRecursion}
@@ -8,30 +9,30 @@ use Rattle.std.proofs.lemmas.List.{length-append}
 use Rattle.std.proofs.lemmas.List.Concat.{flat_map-cons}
 use Rattle.byteorder.specs.Endian.{big_bytes}
 use Rattle.ring_payload.specs.Base.{elements, size, smallest, nobody, size_le, RingId}
-use Rattle.ring_payload.specs.Layouts.{IsFormat, such_at, made_at, ◌⊕◌, Format, byte, word2, ◌&◌, followed, times, tested_format, ring}
-use Rattle.ring_payload.specs.Layouts.{ring_spelling, RingFits}
+use Rattle.ring_payload.specs.Codecs.{IsFormat, such_at, made_at, ◌⊕◌, Format, byte, u16_field, ◌&◌, followed, times, tested_fields_format, ring}
+use Rattle.ring_payload.specs.Codecs.{ring_encoding, RingFits}
 use Rattle.ring_wire.specs.declared.entries.CommitEntry.{CommitEntry}
 use Rattle.ring_wire.specs.declared.commit.CommitToken.{CommitToken}
-use Rattle.ring_wire.specs.Entries.{entry, entry_spelling, EntryFits}
+use Rattle.ring_wire.specs.Entries.{entry, entry_encoding, EntryFits}
 
 -- ---- the entries, for the members in ascending order
 
--- An entry is of an older ring than this one, and of this member where it is of none.
+-- The entry is of an older ring than this one, and is the member's own where its old ring is the opening ring.
 pub record IsReport (r : RingId) (member : ℕ) (e : CommitEntry) : Type 0 where
   pub older : e.old.seq < r.seq
   pub self : e.old.seq ≡ 0 → e.old.rep ≡ member
 
--- there is an entry for each of the first members
+-- the entries may be those of the first members
 abbrev pub AreReports : RingId → List ℕ → List CommitEntry → Type 0
 AreReports r members [] = Unit {0}
 AreReports r [] (e ∷ es) = ⊥
 AreReports r (m ∷ members) (e ∷ es) = IsReport r m e × AreReports r members es
 
--- the test of `IsReport`
+-- `IsReport` as a test
 abbrev pub is_report : RingId → ℕ → CommitEntry → Bool
 is_report r member e = nat_lt e.old.seq r.seq && (not (e.old.seq == 0) || (e.old.rep == member))
 
--- the test of `AreReports`
+-- `AreReports` as a test
 abbrev pub are_reports : RingId → List ℕ → List CommitEntry → Bool
 are_reports r members [] = true
 are_reports r [] (e ∷ es) = false
@@ -67,16 +68,17 @@ true-are_reports r (m ∷ members) (e ∷ es) f = rw (true-is_report r m e f.0, 
 
 -- ---- the token
 
--- so many entries there are at a hop: one more for each hop of the first round
+-- the number of entries at a hop: one more with each hop of the first round
 abbrev pub entries_at : ℕ → ℕ → ℕ
 entries_at hop members = min hop members
 
--- a commit token: its ring in 9 bytes, its members in 2, the hop in one, and the entries, 57 bytes each
-abbrev pub commit_spelling : CommitToken → List ℕ
-commit_spelling t = ring_spelling t.ring ⊕ big_bytes 2 t.members ⊕ t.hop ∷ [] ⊕ flat_map entry_spelling t.entries
+-- the encoding of a commit token: its ring in 9 bytes, its members in 2, the hop in one, and the entries, 57 bytes
+-- each
+abbrev pub commit_encoding : CommitToken → List ℕ
+commit_encoding t = ring_encoding t.ring ⊕ big_bytes 2 t.members ⊕ t.hop ∷ [] ⊕ flat_map entry_encoding t.entries
 
--- the limits of a commit token: its representative is its smallest member, its hops are two rounds at most, and its entries are those of
--- the members that it has come to
+-- the limits of a commit token: its representative is its smallest member, its hops are two rounds at most, and its
+-- entries are those of the members that it has visited
 pub record CommitFits (t : CommitToken) : Type 0 where
   pub ring : RingFits t.ring
   pub ring_counted : 1 ≤ t.ring.seq
@@ -89,25 +91,29 @@ pub record CommitFits (t : CommitToken) : Type 0 where
   pub each : AllByRecursion EntryFits t.entries
   pub reports : AreReports t.ring (elements t.members) t.entries
 
--- the limits that join the fields
+-- whether the fields together keep their limits
 abbrev pub commit_test : CommitToken → Bool
 commit_test t =
     nat_le 1 t.ring.seq && ((not (t.members == nobody) && (t.ring.rep == smallest t.members))
     && (nat_le 1 t.hop && (nat_le t.hop (2 * size t.members) && are_reports t.ring (elements t.members) t.entries)))
 
+-- the fields of a commit token, in order
 abbrev Raw : Type 0
 Raw = RingId × (ℕ × (ℕ × List CommitEntry))
 
+-- the format of these fields
 abbrev commit_fields : Format Raw
-commit_fields = ring & followed word2 (λ members. followed byte (λ hop. times (entries_at hop (size members)) entry))
+commit_fields = ring & followed u16_field (λ members. followed byte (λ hop. times (entries_at hop (size members)) entry))
 
-abbrev told : Raw → CommitToken
-told p = record { ring = p.0; members = p.1.0; hop = p.1.1.0; entries = p.1.1.1 }
+-- the commit token with these fields
+abbrev from_fields : Raw → CommitToken
+from_fields p = record { ring = p.0; members = p.1.0; hop = p.1.1.0; entries = p.1.1.1 }
 
+-- reads a commit token from the front
 unfoldable pub commit_at : List ℕ → Option (CommitToken × List ℕ)
-commit_at bytes = such_at commit_test (made_at told commit_fields.at) bytes
+commit_at bytes = such_at commit_test (made_at from_fields commit_fields.at) bytes
 
-fits : (p : Raw) → commit_fields.Fits p → commit_test (told p) ≡ true → CommitFits (told p)
+fits : (p : Raw) → commit_fields.Fits p → commit_test (from_fields p) ≡ true → CommitFits (from_fields p)
 fits p f passed =
     let a = and_parts _ _ passed in
     let b = and_parts _ _ a.1 in
@@ -127,17 +133,19 @@ fits p f passed =
       reports = are_reports-true p.0 (elements p.1.0) p.1.1.1 e.1;
     }
 
--- twice sixteen hops fit a byte
+-- twice 16 hops fit in a byte
 hop_fits : (hop members : ℕ) → hop ≤ 2 * members → members ≤ 16 → hop < 256
 hop_fits hop members le few = omega arith
 
+-- a hop fits in a byte
 pub commit_hop : (t : CommitToken) → CommitFits t → t.hop < 256
 commit_hop t f = hop_fits t.hop (size t.members) f.last_hop (size_le t.members)
 
-pub commit_format : IsFormat commit_spelling CommitFits commit_at
+-- a commit token is read exactly
+pub commit_format : IsFormat commit_encoding CommitFits commit_at
 unfolding commit_at
-commit_format = tested_format commit_fields told commit_test commit_spelling CommitFits (record {
-  spelled = λ p. refl;
+commit_format = tested_fields_format commit_fields from_fields commit_test commit_encoding CommitFits (record {
+  encoded = λ p. refl;
   fits = fits;
   back = λ t f. ((t.ring, (t.members, (t.hop, t.entries))), (f.ring, (f.members, (commit_hop t f, (f.count, f.each)))), refl);
   passes = λ t f. rw (
@@ -151,20 +159,21 @@ commit_format = tested_format commit_fields told commit_test commit_spelling Com
       refl;
 })
 
+-- the format of commit tokens
 abbrev pub commit : Format CommitToken
-commit = record { spelling = commit_spelling; Fits = CommitFits; at = commit_at; exact = commit_format }
+commit = record { encoding = commit_encoding; Fits = CommitFits; at = commit_at; exact = commit_format }
 
--- sixteen entries of 57 bytes
-pub length-entries : (es : List CommitEntry) → AllByRecursion EntryFits es → length (flat_map entry_spelling es) ≡ 57 * length es
+-- entries have 57 bytes each
+pub length-entries : (es : List CommitEntry) → AllByRecursion EntryFits es → length (flat_map entry_encoding es) ≡ 57 * length es
 length-entries [] f = refl
 length-entries (e ∷ es) f =
-    let whole = ap length (flat_map-cons entry_spelling e es) in
-    let parts = length-append (entry_spelling e) (flat_map entry_spelling es) in
+    let whole = ap length (flat_map-cons entry_encoding e es) in
+    let parts = length-append (entry_encoding e) (flat_map entry_encoding es) in
     omega (arith, whole, parts, length-entries es f.1, f.0.bits)
 
 few : (hop members count : ℕ) → count ≡ min hop members → members ≤ 16 → count ≤ 16
 few hop members count e le = omega arith
 
--- so few entries there are
+-- a commit token has at most 16 entries
 pub few_entries : (t : CommitToken) → CommitFits t → length t.entries ≤ 16
 few_entries t f = few t.hop (size t.members) (length t.entries) f.count (size_le t.members)

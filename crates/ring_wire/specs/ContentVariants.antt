@@ -1,2 +1,2 @@
--- The variants of contents, passed on to the crates of a ring's parts.
+-- The variants of contents, re-exported for the crates of a ring core's parts.
 pub use Rattle.ring_payload.specs.declared.content.Content.TheVariants.{Call, Head, Part, Pack, Snap}

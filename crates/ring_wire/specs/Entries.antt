@@ -1,5 +1,6 @@
--- How the entries of a commit token are spelled.
--- The commit entry, of docs/FORMATS.md.
+-- How the entries of a commit token are encoded.
+-- Rules: The commit token 2
+-- Formats: The commit entry
 use Rattle.std.proofs.Common.{◌≡◌, ℕ, zero, suc, ◌+◌, ◌<◌, ◌≤◌, ◌*◌, ◌/◌, ◌%◌, Bool, true, false, List, [], ◌∷◌, length, Option, refl, subst, arith}
 use Rattle.std.proofs.Common.{add-one, inl, inr, eq-eqb}
 use Rattle.std.specs.Prelude.{nat_le, nat_lt, ◌&&◌, ◌||◌, not, ◌==◌, slice_index}
@@ -9,39 +10,42 @@ use Rattle.std.proofs.lemmas.Bool.{cases_lt, cases_Bool, leb-true, le-leb, ltb-f
 use Rattle.std.proofs.lemmas.Bool.{both_ways, and_right}
 use Rattle.byteorder.specs.Endian.{big_bytes}
 use Rattle.ring_payload.specs.Base.{max_number, window_size, has_bit, RingId}
-use Rattle.ring_payload.specs.Layouts.{IsFormat, such_at, made_at, ◌⊕◌, Format, word8, text, ◌&◌, tested_format, ring, ring_spelling, RingFits}
+use Rattle.ring_payload.specs.Codecs.{IsFormat, such_at, made_at, ◌⊕◌, Format, u64_field, text, ◌&◌, tested_fields_format, ring, ring_encoding, RingFits}
 use Rattle.ring_wire.specs.declared.entries.CommitEntry.{CommitEntry}
 
 -- ---- the held bits: bit j mod 8 of byte j div 8 stands for the number front + 1 + j
 
+-- whether bit j is set
 abbrev pub bit_of : List ℕ → ℕ → Bool
 bit_of held j = has_bit (slice_index held (j / 8)) (j % 8)
 
--- A bit may be set where it isn't the first, and its number is at most mark + 256.
+-- Bit j may be set: it isn't the first, and its number is at most mark + 256.
 pub record MayHold (front mark j : ℕ) : Type 0 where
   pub later : 1 ≤ j
   pub inside : front + 1 + j ≤ mark + window_size
 
--- what is wrong with one bit
-abbrev pub is_wrong : ℕ → ℕ → List ℕ → ℕ → Bool
-is_wrong front mark held j = bit_of held j && ((j == 0) || nat_lt (mark + window_size) (front + 1 + j))
+-- whether bit j is set and must be clear
+abbrev pub is_invalid_bit : ℕ → ℕ → List ℕ → ℕ → Bool
+is_invalid_bit front mark held j = bit_of held j && ((j == 0) || nat_lt (mark + window_size) (front + 1 + j))
 
--- of the first n bits none is wrong
+-- whether none of the first n bits is set that must be clear
 unfoldable pub held_test : ℕ → ℕ → List ℕ → ℕ → Bool
 held_test front mark held zero = true
-held_test front mark held (suc j) = held_test front mark held j && not (is_wrong front mark held j)
+held_test front mark held (suc j) = held_test front mark held j && not (is_invalid_bit front mark held j)
 
+-- the test holds for the first 0 bits
 pub held_test-zero : (front mark : ℕ) (held : List ℕ) → held_test front mark held 0 ≡ true
 unfolding held_test
 held_test-zero front mark held = refl
 
+-- one valid bit more keeps the test
 pub held_test-more : (front mark : ℕ) (held : List ℕ) (j : ℕ) → held_test front mark held j ≡ true
-    → is_wrong front mark held j ≡ false → held_test front mark held (j + 1) ≡ true
+    → is_invalid_bit front mark held j ≡ false → held_test front mark held (j + 1) ≡ true
 unfolding held_test
 held_test-more front mark held j h w = rw (add-one, h, w) refl
 
--- one wrong bit makes all wrong
-pub held_test-wrong : (front mark : ℕ) (held : List ℕ) (j n : ℕ) → j < n → is_wrong front mark held j ≡ true → held_test front mark held n ≡ false
+-- one wrong bit makes the test fail
+pub held_test-wrong : (front mark : ℕ) (held : List ℕ) (j n : ℕ) → j < n → is_invalid_bit front mark held j ≡ true → held_test front mark held n ≡ false
 unfolding held_test
 held_test-wrong front mark held j zero lt w = absurd (omega arith)
 held_test-wrong front mark held j (suc n) lt w =
@@ -50,25 +54,25 @@ held_test-wrong front mark held j (suc n) lt w =
       | inr at ↦ let e : n ≡ j = omega arith in rw (e, w) (and_right (held_test front mark held j) false refl)
     ]
 
--- a wrong bit stays wrong, however many follow
-pub held_test-longer : (front mark : ℕ) (held : List ℕ) (m n : ℕ) → m ≤ n → held_test front mark held m ≡ false → held_test front mark held n ≡ false
+-- a test that fails still fails with more bits
+pub held_test-longer_list : (front mark : ℕ) (held : List ℕ) (m n : ℕ) → m ≤ n → held_test front mark held m ≡ false → held_test front mark held n ≡ false
 unfolding held_test
-held_test-longer front mark held m zero le wrong =
+held_test-longer_list front mark held m zero le wrong =
     absurd (let e : m ≡ 0 = omega arith in both_ways _ (subst (λ (k : ℕ). held_test front mark held k ≡ false) e wrong)
     (held_test-zero front mark held))
-held_test-longer front mark held m (suc n) le wrong =
+held_test-longer_list front mark held m (suc n) le wrong =
     elim (cases_lt n m) [
       | inl all ↦ subst (λ (k : ℕ). held_test front mark held k ≡ false) (let e : m ≡ suc n = omega arith in e) wrong
-      | inr less ↦ rw (held_test-longer front mark held m n less wrong) refl
+      | inr less ↦ rw (held_test-longer_list front mark held m n less wrong) refl
     ]
 
--- a byte 0 has no bit
+-- a byte 0 has no bit set
 no_bit : (held : List ℕ) (byte bit : ℕ) → bit < 8 → slice_index held byte ≡ 0 → bit_of held (8 * byte + bit) ≡ false
 no_bit held byte bit lt none =
     let place : (8 * byte + bit) / 8 ≡ byte = omega arith in
     rw (place, none, bit_at-zero ((8 * byte + bit) % 8)) refl
 
-no_wrong : (front mark : ℕ) (held : List ℕ) (byte bit : ℕ) → bit < 8 → slice_index held byte ≡ 0 → is_wrong front mark held (8 * byte + bit) ≡ false
+no_wrong : (front mark : ℕ) (held : List ℕ) (byte bit : ℕ) → bit < 8 → slice_index held byte ≡ 0 → is_invalid_bit front mark held (8 * byte + bit) ≡ false
 no_wrong front mark held byte bit lt none = rw (no_bit held byte bit lt none) refl
 
 skipped : (front mark : ℕ) (held : List ℕ) (byte bits : ℕ) → bits ≤ 8 → slice_index held byte ≡ 0 → held_test front mark held (8 * byte) ≡ true
@@ -81,12 +85,12 @@ skipped front mark held byte (suc bits) le none before =
     (no_wrong front mark held byte bits (omega arith) none) in
     subst (λ (k : ℕ). held_test front mark held k ≡ true) (let e : 8 * byte + bits + 1 ≡ 8 * byte + suc bits = omega arith in e) more
 
--- of a byte 0 no bit is wrong
+-- a byte 0 keeps the test
 pub held_test-skip : (front mark : ℕ) (held : List ℕ) (byte : ℕ) → slice_index held byte ≡ 0
     → held_test front mark held (8 * byte) ≡ true → held_test front mark held (8 * byte + 8) ≡ true
 held_test-skip front mark held byte none before = skipped front mark held byte 8 (omega arith) none before
 
-may_hold : (front mark : ℕ) (held : List ℕ) (j : ℕ) → is_wrong front mark held j ≡ false → bit_of held j ≡ true → MayHold front mark j
+may_hold : (front mark : ℕ) (held : List ℕ) (j : ℕ) → is_invalid_bit front mark held j ≡ false → bit_of held j ≡ true → MayHold front mark j
 may_hold front mark held j right set =
     elim (and_cases _ _ right) [
       | inl clear ↦ absurd (both_ways _ clear set)
@@ -98,6 +102,7 @@ may_hold front mark held j right set =
           ]
     ]
 
+-- the test holds only if each bit that is set may be set
 pub held_test-true : (front mark : ℕ) (held : List ℕ) (n : ℕ) → held_test front mark held n ≡ true → (j : ℕ) → j < n
     → bit_of held j ≡ true → MayHold front mark j
 unfolding held_test
@@ -111,7 +116,7 @@ held_test-true front mark held (suc n) h j lt set =
           may_hold front mark held j (not-true _ (rw e at both.1)) set
     ]
 
-not_wrong : (front mark : ℕ) (held : List ℕ) (j : ℕ) → (bit_of held j ≡ true → MayHold front mark j) → is_wrong front mark held j ≡ false
+not_wrong : (front mark : ℕ) (held : List ℕ) (j : ℕ) → (bit_of held j ≡ true → MayHold front mark j) → is_invalid_bit front mark held j ≡ false
 not_wrong front mark held j may =
     elim (cases_Bool (bit_of held j)) [
       | inl set ↦
@@ -121,6 +126,7 @@ not_wrong front mark held j may =
       | inr clear ↦ rw clear refl
     ]
 
+-- the test holds if each bit that is set may be set
 pub true-held_test : (front mark : ℕ) (held : List ℕ) (n : ℕ) → ((j : ℕ) → j < n → bit_of held j ≡ true
     → MayHold front mark j) → held_test front mark held n ≡ true
 unfolding held_test
@@ -132,6 +138,7 @@ true-held_test front mark held (suc n) may = rw (
 
 -- ---- bits that are all clear
 
+-- whether each byte is 0, as a test
 abbrev pub are_zero : List ℕ → Bool
 are_zero bytes = list_all (λ b. b == 0) bytes
 
@@ -149,16 +156,17 @@ true-are_zero (b ∷ bytes) z = rw (eq-eqb b 0 z.0, true-are_zero bytes z.1) ref
 
 -- ---- the entry: the old ring in 9 bytes, the front and the safe mark in 8 each, the held bits in 32
 
-abbrev pub entry_spelling : CommitEntry → List ℕ
-entry_spelling e = ring_spelling e.old ⊕ big_bytes 8 e.front ⊕ big_bytes 8 e.mark ⊕ e.held
+-- the encoding of an entry
+abbrev pub entry_encoding : CommitEntry → List ℕ
+entry_encoding e = ring_encoding e.old ⊕ big_bytes 8 e.front ⊕ big_bytes 8 e.mark ⊕ e.held
 
--- who was in no ring yet reports nothing
+-- front, mark and all bits are 0, as in the report of a member that was in no ring yet
 pub record ReportsNothing (e : CommitEntry) : Type 0 where
   pub front : e.front ≡ 0
   pub mark : e.mark ≡ 0
   pub held : AreZero e.held
 
--- the limits that an entry alone decides: whose it is, and that its ring is older, are the commit token's
+-- the limits of an entry alone; whose it is, and that its ring is older, are limits of the commit token
 pub record EntryFits (e : CommitEntry) : Type 0 where
   pub old : RingFits e.old
   pub bits : length e.held ≡ 32
@@ -168,18 +176,18 @@ pub record EntryFits (e : CommitEntry) : Type 0 where
   pub held : (j : ℕ) → j < window_size → bit_of e.held j ≡ true → MayHold e.front e.mark j
   pub nothing : e.old.seq ≡ 0 → ReportsNothing e
 
--- the test of `ReportsNothing`
+-- `ReportsNothing` as a test
 abbrev pub nothing_test : CommitEntry → Bool
 nothing_test e = (e.front == 0) && ((e.mark == 0) && are_zero e.held)
 
--- the limits that join the fields
+-- whether the fields together keep their limits
 abbrev pub entry_test : CommitEntry → Bool
 entry_test e = nat_le e.mark e.front
     && (nat_le e.front max_number && (nat_le e.front (e.mark + window_size)
     && (held_test e.front e.mark e.held window_size && (not (e.old.seq == 0) || nothing_test e))))
 
-is_nothing : (e : CommitEntry) → (not (e.old.seq == 0) || nothing_test e) ≡ true → e.old.seq ≡ 0 → ReportsNothing e
-is_nothing e h z =
+has_no_report : (e : CommitEntry) → (not (e.old.seq == 0) || nothing_test e) ≡ true → e.old.seq ≡ 0 → ReportsNothing e
+has_no_report e h z =
     let new : (e.old.seq == 0) ≡ true = eq-eqb _ _ z in
     let passed : nothing_test e ≡ true = rw new at h in
     let a = and_parts _ _ passed in
@@ -194,22 +202,27 @@ nothing_is e n = elim (cases_Bool (e.old.seq == 0)) [
   | inr old ↦ rw old refl
 ]
 
+-- the fields of an entry, in order
 abbrev Raw : Type 0
 Raw = RingId × (ℕ × (ℕ × List ℕ))
 
+-- the format of these fields
 abbrev entry_fields : Format Raw
-entry_fields = ring & word8 & word8 & text 32
+entry_fields = ring & u64_field & u64_field & text 32
 
-abbrev told : Raw → CommitEntry
-told p = record { old = p.0; front = p.1.0; mark = p.1.1.0; held = p.1.1.1 }
+-- the entry with these fields
+abbrev from_fields : Raw → CommitEntry
+from_fields p = record { old = p.0; front = p.1.0; mark = p.1.1.0; held = p.1.1.1 }
 
+-- reads an entry from the front
 unfoldable pub entry_at : List ℕ → Option (CommitEntry × List ℕ)
-entry_at bytes = such_at entry_test (made_at told entry_fields.at) bytes
+entry_at bytes = such_at entry_test (made_at from_fields entry_fields.at) bytes
 
-pub entry_format : IsFormat entry_spelling EntryFits entry_at
+-- an entry is read exactly
+pub entry_format : IsFormat entry_encoding EntryFits entry_at
 unfolding entry_at
-entry_format = tested_format entry_fields told entry_test entry_spelling EntryFits (record {
-  spelled = λ p. refl;
+entry_format = tested_fields_format entry_fields from_fields entry_test entry_encoding EntryFits (record {
+  encoded = λ p. refl;
   fits = λ p f passed.
       let a = and_parts _ _ passed in
       let b = and_parts _ _ a.1 in
@@ -222,11 +235,12 @@ entry_format = tested_format entry_fields told entry_test entry_spelling EntryFi
         front = leb-true _ _ b.0;
         window = leb-true _ _ c.0;
         held = held_test-true p.1.0 p.1.1.0 p.1.1.1 window_size d.0;
-        nothing = is_nothing (told p) d.1;
+        nothing = has_no_report (from_fields p) d.1;
       };
   back = λ e f. ((e.old, (e.front, (e.mark, e.held))), (f.old, (omega (arith, f.front), (omega (arith, f.front, f.mark), f.bits))), refl);
   passes = λ e f. rw (le-leb _ _ f.mark, le-leb _ _ f.front, le-leb _ _ f.window, true-held_test e.front e.mark e.held window_size f.held, nothing_is e f.nothing) refl;
 })
 
+-- the format of entries
 abbrev pub entry : Format CommitEntry
-entry = record { spelling = entry_spelling; Fits = EntryFits; at = entry_at; exact = entry_format }
+entry = record { encoding = entry_encoding; Fits = EntryFits; at = entry_at; exact = entry_format }

@@ -1,18 +1,19 @@
--- How joins are spelled.
--- Frames, of docs/FORMATS.md.
+-- How joins are encoded.
+-- Rules: Gather 2
+-- Formats: Frames
 use Rattle.std.proofs.Common.{ℕ, ◌^◌, ◌<◌, ◌≤◌, Bool, List, Option, refl, arith}
 use Rattle.std.specs.Prelude.{nat_le, ◌&&◌, not}
 use Rattle.std.proofs.lemmas.Bool.{leb-true, le-leb, and_parts, both_ways, not-true, not_from_false, false_from_ne_true}
 use Rattle.byteorder.specs.Endian.{big_bytes}
 use Rattle.ring_payload.specs.Base.{max_number, IsProc, IsMember, IsSubset, has, within, has_member, member_had, within_members}
-use Rattle.ring_payload.specs.Layouts.{IsFormat, such_at, made_at, ◌⊕◌, Format, word2, word8, ◌&◌, tested_format, proc, proc_spelling}
+use Rattle.ring_payload.specs.Codecs.{IsFormat, such_at, made_at, ◌⊕◌, Format, u16_field, u64_field, ◌&◌, tested_fields_format, proc, proc_encoding}
 use Rattle.ring_wire.specs.declared.join.Join.{Join}
 
--- a join: its sender in one byte, its number in 8, `proc_set` in 2, `fail_set` in 2
-abbrev pub join_spelling : Join → List ℕ
-join_spelling j = proc_spelling j.sender ⊕ big_bytes 8 j.number ⊕ big_bytes 2 j.proc_set ⊕ big_bytes 2 j.fail_set
+-- the encoding of a join: its sender in one byte, its number in 8, `proc_set` in 2, `fail_set` in 2
+abbrev pub join_encoding : Join → List ℕ
+join_encoding j = proc_encoding j.sender ⊕ big_bytes 8 j.number ⊕ big_bytes 2 j.proc_set ⊕ big_bytes 2 j.fail_set
 
--- the limits of a join: its sender is in `proc_set` and not in `fail_set`, which is within the other
+-- the limits of a join: its sender is in `proc_set` and not in `fail_set`, which is a subset of `proc_set`
 pub record JoinFits (j : Join) : Type 0 where
   pub sender : IsProc j.sender
   pub number : j.number ≤ max_number
@@ -22,26 +23,31 @@ pub record JoinFits (j : Join) : Type 0 where
   pub failed_in : IsSubset j.fail_set j.proc_set
   pub sender_alive : ¬ IsMember j.fail_set j.sender
 
--- the limits that join the fields
+-- whether the fields together keep their limits
 abbrev pub join_test : Join → Bool
 join_test j = nat_le j.number max_number && (has j.proc_set j.sender && (within j.fail_set j.proc_set && not (has j.fail_set j.sender)))
 
+-- the fields of a join, in order
 abbrev Raw : Type 0
 Raw = ℕ × (ℕ × (ℕ × ℕ))
 
+-- the format of these fields
 abbrev join_fields : Format Raw
-join_fields = proc & word8 & word2 & word2
+join_fields = proc & u64_field & u16_field & u16_field
 
-abbrev told : Raw → Join
-told p = record { sender = p.0; number = p.1.0; proc_set = p.1.1.0; fail_set = p.1.1.1 }
+-- the join with these fields
+abbrev from_fields : Raw → Join
+from_fields p = record { sender = p.0; number = p.1.0; proc_set = p.1.1.0; fail_set = p.1.1.1 }
 
+-- reads a join from the front
 unfoldable pub join_at : List ℕ → Option (Join × List ℕ)
-join_at bytes = such_at join_test (made_at told join_fields.at) bytes
+join_at bytes = such_at join_test (made_at from_fields join_fields.at) bytes
 
-pub join_format : IsFormat join_spelling JoinFits join_at
+-- a join is read exactly
+pub join_format : IsFormat join_encoding JoinFits join_at
 unfolding join_at
-join_format = tested_format join_fields told join_test join_spelling JoinFits (record {
-  spelled = λ p. refl;
+join_format = tested_fields_format join_fields from_fields join_test join_encoding JoinFits (record {
+  encoded = λ p. refl;
   fits = λ p f passed.
       let a = and_parts _ _ passed in
       let b = and_parts _ _ a.1 in
@@ -61,5 +67,6 @@ join_format = tested_format join_fields told join_test join_spelling JoinFits (r
       rw (le-leb _ _ f.number, has_member j.proc_set j.sender f.sender_in, (within_members j.fail_set j.proc_set).1 f.failed_in, alive) refl;
 })
 
+-- the format of joins
 abbrev pub join : Format Join
-join = record { spelling = join_spelling; Fits = JoinFits; at = join_at; exact = join_format }
+join = record { encoding = join_encoding; Fits = JoinFits; at = join_at; exact = join_format }

@@ -2,12 +2,12 @@ pub mod Ascending
 pub mod Commits
 pub mod Entries
 pub mod Frames
-pub mod Fronts
+pub mod Prefixes
 pub mod Joins
 pub mod Lengths
 pub mod Messages
-pub mod Spells
-pub mod SpellsLaws
+pub mod IsFrameEncoding
+pub mod FrameEncodingLaws
 pub mod Tokens
 pub mod Payloads
 pub mod Rings

@@ -1,24 +1,25 @@
--- How messages are spelled.
--- Frames, of docs/FORMATS.md.
+-- How messages are encoded.
+-- Formats: Frames
 use Rattle.std.proofs.Common.{◌≡◌, ℕ, ◌<◌, ◌≤◌, Bool, true, List, Option, refl, arith}
 use Rattle.std.specs.Prelude.{nat_le, nat_lt, ◌&&◌}
 use Rattle.std.proofs.lemmas.Bool.{leb-true, le-leb, ltb-true, lt-ltb, and_parts}
 use Rattle.byteorder.specs.Endian.{big_bytes}
 use Rattle.ring_payload.specs.Base.{max_number, IsProc, RingId}
-use Rattle.ring_payload.specs.Layouts.{IsFormat, such_at, made_at, ◌⊕◌, Format, word8, ◌&◌, tested_format, proc, proc_spelling, ring, ring_spelling}
-use Rattle.ring_payload.specs.Layouts.{RingFits}
+use Rattle.ring_payload.specs.Codecs.{IsFormat, such_at, made_at, ◌⊕◌, Format, u64_field, ◌&◌, tested_fields_format, proc, proc_encoding, ring, ring_encoding}
+use Rattle.ring_payload.specs.Codecs.{RingFits}
 pub use Rattle.ring_payload.specs.declared.content.Payload.{Payload}
 use Rattle.ring_payload.specs.declared.content.Payload.TheVariants.{Call, Wrapped, End, Head, Part, Pack, Snap}
-use Rattle.ring_payload.specs.Payloads.{payload, payload_spelling, PayloadFits}
+use Rattle.ring_payload.specs.Payloads.{payload, payload_encoding, PayloadFits}
 use Rattle.ring_wire.specs.declared.message.Message.{Message}
 
--- ---- a message of an old ring is of an older ring than the one it is sent on
+-- ---- a Wrapped is of an older ring than its message
 
+-- the old ring of a Wrapped has a lower number than the ring that it is sent on
 abbrev pub IsOlder : {A : Type 0} → Payload A → RingId → Type 0
 IsOlder (Wrapped w) r = w.ring.seq < r.seq
 IsOlder _ r = Unit {0}
 
--- the test of `IsOlder`
+-- `IsOlder` as a test
 abbrev pub is_older : {A : Type 0} → Payload A → RingId → Bool
 is_older (Wrapped w) r = nat_lt w.ring.seq r.seq
 is_older _ r = true
@@ -43,10 +44,11 @@ true-is_older (Snap x) r h = refl
 
 -- ---- the message: its ring in 9 bytes, its number in 8, its sender in one, and its payload
 
-abbrev pub message_spelling : {A : Type 0} → Message A → List ℕ
-message_spelling m = ring_spelling m.ring ⊕ big_bytes 8 m.number ⊕ proc_spelling m.sender ⊕ payload_spelling m.payload
+-- the encoding of a message
+abbrev pub message_encoding : {A : Type 0} → Message A → List ℕ
+message_encoding m = ring_encoding m.ring ⊕ big_bytes 8 m.number ⊕ proc_encoding m.sender ⊕ payload_encoding m.payload
 
--- the limits of a message: its ring's number is at least 1, and what it wraps is of an older ring
+-- the limits of a message: ring and message number are at least 1, and a Wrapped is of an older ring
 pub record MessageFits {A : Type 0} (m : Message A) : Type 0 where
   pub ring : RingFits m.ring
   pub ring_counted : 1 ≤ m.ring.seq
@@ -56,23 +58,27 @@ pub record MessageFits {A : Type 0} (m : Message A) : Type 0 where
   pub payload : PayloadFits m.payload
   pub older : IsOlder m.payload m.ring
 
--- the limits that join the fields
+-- whether the fields together keep their limits
 abbrev pub message_test : {A : Type 0} → Message A → Bool
 message_test m = nat_le 1 m.ring.seq && (nat_le 1 m.number && (nat_le m.number max_number && is_older m.payload m.ring))
 
+-- the fields of a message, in order
 abbrev message_fields : {A : Type 0} → Format (RingId × (ℕ × (ℕ × Payload A)))
-message_fields = ring & word8 & proc & payload
+message_fields = ring & u64_field & proc & payload
 
-abbrev told : {A : Type 0} → RingId × (ℕ × (ℕ × Payload A)) → Message A
-told p = record { ring = p.0; number = p.1.0; sender = p.1.1.0; payload = p.1.1.1 }
+-- the message with these fields
+abbrev from_fields : {A : Type 0} → RingId × (ℕ × (ℕ × Payload A)) → Message A
+from_fields p = record { ring = p.0; number = p.1.0; sender = p.1.1.0; payload = p.1.1.1 }
 
+-- reads a message from the front
 unfoldable pub message_at : {A : Type 0} → List ℕ → Option (Message A × List ℕ)
-message_at {A} bytes = such_at message_test (made_at told (message_fields {A = A}).at) bytes
+message_at {A} bytes = such_at message_test (made_at from_fields (message_fields {A = A}).at) bytes
 
-pub message_format : {A : Type 0} → IsFormat {A = Message A} message_spelling MessageFits message_at
+-- a message is read exactly
+pub message_format : {A : Type 0} → IsFormat {A = Message A} message_encoding MessageFits message_at
 unfolding message_at
-message_format {A} = tested_format (message_fields {A = A}) told message_test message_spelling MessageFits (record {
-  spelled = λ p. refl;
+message_format {A} = tested_fields_format (message_fields {A = A}) from_fields message_test message_encoding MessageFits (record {
+  encoded = λ p. refl;
   fits = λ p f passed.
       let a = and_parts _ _ passed in
       let b = and_parts _ _ a.1 in
@@ -90,5 +96,6 @@ message_format {A} = tested_format (message_fields {A = A}) told message_test me
   passes = λ m f. rw (le-leb _ _ f.ring_counted, le-leb _ _ f.number_counted, le-leb _ _ f.number, true-is_older m.payload m.ring f.older) refl;
 })
 
+-- the format of messages
 abbrev pub message : {A : Type 0} → Format (Message A)
-message = record { spelling = message_spelling; Fits = MessageFits; at = message_at; exact = message_format }
+message = record { encoding = message_encoding; Fits = MessageFits; at = message_at; exact = message_format }

@@ -1,7 +1,7 @@
--- Words of payloads, passed on to the crates of a ring's parts and to the log.
-pub use Rattle.ring_payload.specs.Limits.{most_requests, most_snapshot, whole_piece}
+-- Definitions of payloads, re-exported for the crates of a ring core's parts and for the log.
+pub use Rattle.ring_payload.specs.Limits.{max_requests, max_snapshot, max_piece_bytes}
 pub use Rattle.ring_payload.specs.declared.content.Payload.{Payload}
-pub use Rattle.ring_payload.specs.Packing.{is_queued, packed, left_behind}
+pub use Rattle.ring_payload.specs.Packing.{is_queued, packed_payloads, unpacked_rest}
 pub use Rattle.ring_payload.specs.Kinds.{is_user, is_end, payload_of, content_of, calls_of}
 pub use Rattle.ring_payload.specs.declared.content.Content.{Content}
 pub use Rattle.ring_payload.specs.declared.call.Call.{Call}

@@ -1,2 +1,2 @@
--- Which processors and rings keep the limits of frames, passed on to the proofs of limits.
-pub use Rattle.ring_payload.specs.Layouts.{RingFits, SomeRingFits, SomeProcFits}
+-- The limits of processors and rings in frames, re-exported for proofs about limits.
+pub use Rattle.ring_payload.specs.Codecs.{RingFits, SomeRingFits, SomeProcFits}

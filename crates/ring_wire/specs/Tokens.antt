@@ -1,5 +1,6 @@
--- How tokens are spelled, and the numbers that they ask for.
--- Frames, of docs/FORMATS.md.
+-- How tokens and their requests are encoded.
+-- Rules: Token and window 5
+-- Formats: Frames
 use Rattle.std.proofs.Common.{◌≡◌, ℕ, ◌+◌, ◌*◌, ◌^◌, ◌≤◌, Bool, true, false, List, [], ◌∷◌, length, Option, Some, None, refl, arith, inl, inr, ap, eq-eqb}
 use Rattle.std.specs.Prelude.{nat_le, ◌&&◌, ◌==◌, is_none, is_some, ◌↔◌, if◌then◌else◌}
 use Rattle.std.specs.List.{flat_map, AllByRecursion}
@@ -8,40 +9,46 @@ use Rattle.std.proofs.lemmas.List.Concat.{flat_map-cons}
 use Rattle.std.proofs.lemmas.Bool.{leb-true, le-leb, eqb-true, cases_Bool, and_parts}
 use Rattle.byteorder.specs.Endian.{big_bytes}
 use Rattle.ring_payload.specs.Base.{max_number, RingId}
-use Rattle.ring_payload.specs.Layouts.{IsFormat, IsWord, such_at, made_at, ◌⊕◌, Format, byte, word8, ◌&◌, followed, times, such, told_format}
-use Rattle.ring_payload.specs.Layouts.{tested_format, some_proc, some_proc_spelling, SomeProcFits, ring, ring_spelling, RingFits}
-use Rattle.ring_payload.specs.Limits.{most_requests}
+use Rattle.ring_payload.specs.Codecs.{IsFormat, IsWord, such_at, made_at, ◌⊕◌, Format, byte, u64_field, ◌&◌, followed, times, such, fields_format}
+use Rattle.ring_payload.specs.Codecs.{tested_fields_format, some_proc, some_proc_encoding, SomeProcFits, ring, ring_encoding, RingFits}
+use Rattle.ring_payload.specs.Limits.{max_requests}
 use Rattle.ring_wire.specs.declared.token.Token.{Token}
 use Rattle.ring_wire.specs.Ascending.{ascends, ascends-each, ascends-increasing, increasing-ascends, IsStrictlyIncreasing-from_zero, each_below, each_le}
 
 -- ---- requests: their count in one byte, and the numbers in 8 each
 
-abbrev pub requests_spelling : List ℕ → List ℕ
-requests_spelling ns = length ns ∷ flat_map (λ n. big_bytes 8 n) ns
+-- the encoding of requests
+abbrev pub requests_encoding : List ℕ → List ℕ
+requests_encoding ns = length ns ∷ flat_map (λ n. big_bytes 8 n) ns
 
--- at most 32; that they ascend, from 1 to `seq`, is the token's limit
+-- the limits of requests alone: at most 32; that they ascend, from 1 to `seq`, is a limit of the token
 pub record RequestsFit (ns : List ℕ) : Type 0 where
-  pub few : length ns ≤ most_requests
+  pub few : length ns ≤ max_requests
   pub each : AllByRecursion (IsWord 8) ns
 
+-- the count and the numbers
 abbrev requests_fields : Format (ℕ × List ℕ)
-requests_fields = followed (such (λ n. nat_le n most_requests) byte) (λ n. times n word8)
+requests_fields = followed (such (λ n. nat_le n max_requests) byte) (λ n. times n u64_field)
 
+-- reads requests from the front
 unfoldable pub requests_at : List ℕ → Option (List ℕ × List ℕ)
 requests_at bytes = made_at (λ p. p.1) requests_fields.at bytes
 
-pub requests_format : IsFormat requests_spelling RequestsFit requests_at
+-- requests are read exactly
+pub requests_format : IsFormat requests_encoding RequestsFit requests_at
 unfolding requests_at
-requests_format = told_format requests_fields (λ p. p.1) requests_spelling RequestsFit (record {
-  spelled = λ p f. rw f.1.0 refl;
-  fits = λ p f. record { few = omega (arith, leb-true p.0 most_requests f.0.1, f.1.0); each = f.1.1 };
-  back = λ ns f. ((length ns, ns), ((omega (arith, f.few), le-leb (length ns) most_requests f.few), (refl, f.each)), refl);
+requests_format = fields_format requests_fields (λ p. p.1) requests_encoding RequestsFit (record {
+  encoded = λ p f. rw f.1.0 refl;
+  fits = λ p f. record { few = omega (arith, leb-true p.0 max_requests f.0.1, f.1.0); each = f.1.1 };
+  back = λ ns f. ((length ns, ns), ((omega (arith, f.few), le-leb (length ns) max_requests f.few), (refl, f.each)), refl);
 })
 
+-- the format of requests
 abbrev pub requests : Format (List ℕ)
-requests = record { spelling = requests_spelling; Fits = RequestsFit; at = requests_at; exact = requests_format }
+requests = record { encoding = requests_encoding; Fits = RequestsFit; at = requests_at; exact = requests_format }
 
-pub length-requests : (ns : List ℕ) → length (requests_spelling ns) ≡ 1 + 8 * length ns
+-- requests have one byte and 8 for each number
+pub length-requests : (ns : List ℕ) → length (requests_encoding ns) ≡ 1 + 8 * length ns
 length-requests [] = refl
 length-requests (n ∷ ns) =
     let e = ap length (flat_map-cons (λ (k : ℕ). big_bytes 8 k) n ns) in
@@ -49,11 +56,13 @@ length-requests (n ∷ ns) =
 
 -- ---- the token: its ring in 9 bytes, its number, `seq` and `aru` in 8 each, `aru_id` in one, and the requests
 
-abbrev pub token_spelling : Token → List ℕ
-token_spelling t = ring_spelling t.ring ⊕ big_bytes 8 t.number ⊕ big_bytes 8 t.seq ⊕ big_bytes 8 t.aru ⊕
-    some_proc_spelling t.aru_id ⊕ requests_spelling t.requests
+-- the encoding of a token
+abbrev pub token_encoding : Token → List ℕ
+token_encoding t = ring_encoding t.ring ⊕ big_bytes 8 t.number ⊕ big_bytes 8 t.seq ⊕ big_bytes 8 t.aru ⊕
+    some_proc_encoding t.aru_id ⊕ requests_encoding t.requests
 
--- the limits of a token: `aru_id` is none exactly where `aru` is `seq`, and the requests ascend, from 1 to `seq`, at most 32
+-- the limits of a token: `aru_id` is none exactly where `aru` equals `seq`, and the requests ascend, from 1 to `seq`,
+-- at most 32
 pub record TokenFits (t : Token) : Type 0 where
   pub ring : RingFits t.ring
   pub ring_counted : 1 ≤ t.ring.seq
@@ -63,15 +72,15 @@ pub record TokenFits (t : Token) : Type 0 where
   pub seq : t.seq ≤ max_number
   pub aru_id : SomeProcFits t.aru_id
   pub aru_id_none : (t.aru_id ≡ None) ↔ (t.aru ≡ t.seq)
-  pub few : length t.requests ≤ most_requests
+  pub few : length t.requests ≤ max_requests
   pub ascending : IsStrictlyIncreasing t.requests
   pub each : AllByRecursion (λ n. (1 ≤ n) × (n ≤ t.seq)) t.requests
 
--- who lowered `aru` is told exactly where it is below `seq`
+-- whether `aru_id` is given exactly where `aru` is below `seq`
 abbrev pub aru_id_test : Token → Bool
 aru_id_test t = if t.aru == t.seq then is_none t.aru_id else is_some t.aru_id
 
--- the limits that join the fields
+-- whether the fields together keep their limits
 abbrev pub token_test : Token → Bool
 token_test t = nat_le 1 t.ring.seq &&
     (nat_le 1 t.number && (nat_le t.number max_number
@@ -85,19 +94,23 @@ tested_none : (o : Option ℕ) (a b : ℕ) → (o ≡ None) ↔ (a ≡ b) → (i
 tested_none None a b h = let f : (a == b) ≡ true = eq-eqb a b (h.0 refl) in rw f refl
 tested_none (Some p) a b h = elim (cases_Bool (a == b)) [ inl e ↦ absurd (let n : Some p ≡ None = h.1 (eqb-true a b e) in cc) | inr e ↦ rw e refl ]
 
+-- the fields of a token, in order
 abbrev Raw : Type 0
 Raw = RingId × (ℕ × (ℕ × (ℕ × (Option ℕ × List ℕ))))
 
+-- the format of these fields
 abbrev token_fields : Format Raw
-token_fields = ring & word8 & word8 & word8 & some_proc & requests
+token_fields = ring & u64_field & u64_field & u64_field & some_proc & requests
 
-abbrev told : Raw → Token
-told p = record { ring = p.0; number = p.1.0; seq = p.1.1.0; aru = p.1.1.1.0; aru_id = p.1.1.1.1.0; requests = p.1.1.1.1.1 }
+-- the token with these fields
+abbrev from_fields : Raw → Token
+from_fields p = record { ring = p.0; number = p.1.0; seq = p.1.1.0; aru = p.1.1.1.0; aru_id = p.1.1.1.1.0; requests = p.1.1.1.1.1 }
 
+-- reads a token from the front
 unfoldable pub token_at : List ℕ → Option (Token × List ℕ)
-token_at bytes = such_at token_test (made_at told token_fields.at) bytes
+token_at bytes = such_at token_test (made_at from_fields token_fields.at) bytes
 
-fits : (p : Raw) → token_fields.Fits p → token_test (told p) ≡ true → TokenFits (told p)
+fits : (p : Raw) → token_fields.Fits p → token_test (from_fields p) ≡ true → TokenFits (from_fields p)
 fits p f passed =
     let a = and_parts _ _ passed in
     let b = and_parts _ _ a.1 in
@@ -119,14 +132,15 @@ fits p f passed =
       each = ascends-each 0 p.1.1.0 p.1.1.1.1.1 g.1;
     }
 
--- a token's requests keep the limits of requests
+-- the requests of a token keep the limits of requests
 pub token_requests : (t : Token) → TokenFits t → RequestsFit t.requests
 token_requests t f = record { few = f.few; each = each_below 0 t.seq (256 ^ 8) t.requests f.each (omega (arith, f.seq)) }
 
-pub token_format : IsFormat token_spelling TokenFits token_at
+-- a token is read exactly
+pub token_format : IsFormat token_encoding TokenFits token_at
 unfolding token_at
-token_format = tested_format token_fields told token_test token_spelling TokenFits (record {
-  spelled = λ p. refl;
+token_format = tested_fields_format token_fields from_fields token_test token_encoding TokenFits (record {
+  encoded = λ p. refl;
   fits = fits;
   back = λ t f. (
     (t.ring, (t.number, (t.seq, (t.aru, (t.aru_id, t.requests))))),
@@ -155,5 +169,6 @@ token_format = tested_format token_fields told token_test token_spelling TokenFi
       ) refl;
 })
 
+-- the format of tokens
 abbrev pub token : Format Token
-token = record { spelling = token_spelling; Fits = TokenFits; at = token_at; exact = token_format }
+token = record { encoding = token_encoding; Fits = TokenFits; at = token_at; exact = token_format }

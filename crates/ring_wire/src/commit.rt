@@ -1,7 +1,9 @@
 //! Commit tokens.
+//! Rules: The commit token 1
+//! Formats: Frames; The commit entry
 
 ghost use Rattle.std.specs.Prelude.{◌≡◌, ℕ, ◌+◌, ◌^◌, ◌<◌, ◌≤◌, Bool, ◌&&◌, ◌==◌, not, List, [], ◌∷◌, ◌++◌, length};
-ghost use Rattle.ring_payload.specs.Layouts.{Appends, Gives, GivesBy};
+ghost use Rattle.ring_payload.specs.Codecs.{Appends, IsReadResult, IsReadResultBy};
 ghost use Rattle.ring_payload.specs.Base.{elements, smallest, nobody};
 ghost use Rattle.ring_wire.specs.Commits.{is_report as is_report_of, are_reports as are_reports_of};
 
@@ -10,24 +12,30 @@ use bytes::BytesMut;
 use ring_payload::{Decode, Encode, Fault, Proc, ProcSet, Reader, RingId, write_many};
 use std::alloc::Allocator;
 
-/// The token that forms a ring: the ring, its members, how many hops it has taken, counted from 1, and
-/// the entries of the members that it has come to, ascending.
+/// `CommitToken`: the token that goes twice round a proposed ring to form it.
+/// Rules: The commit token 1
+/// Formats: Frames
 #[derive(Clone, Drop)]
 pub struct CommitToken {
+    /// The proposed ring, of number at least 1.
     pub ring: RingId,
+    /// The members of the proposed ring, at least one. The representative is the smallest.
     pub members: ProcSet,
+    /// The number of the token's hop, 1 to twice the number of members.
+    /// Hop h goes to the member at position h mod m, of m members.
     pub hop: u8,
+    /// The entries of the first min(`hop`, m) members in ascending order, of m members.
     pub entries: Entries,
 }
 
-/// Whether the entry is of an older ring than this one, and of this member where it is of none.
+/// Returns whether the entry is of an older ring than `ring`, and is `member`'s own where it is of the opening ring.
 fn is_report(entry: &CommitEntry, ring: &RingId, member: Proc) -> bool
     ensures { result ≡ is_report_of ring.now member entry.now }
 {
     entry.old.seq < ring.seq && (entry.old.seq != 0 || entry.old.rep == member)
 }
 
-/// Whether the entries are those of the first members.
+/// Returns whether the entries may be the entries of the first members, one for each.
 fn are_reports(entries: &[CommitEntry], ring: &RingId, members: ProcSet) -> bool
     ensures { result ≡ are_reports_of ring.now (elements members) entries.now }
 {
@@ -47,8 +55,8 @@ fn are_reports(entries: &[CommitEntry], ring: &RingId, members: ProcSet) -> bool
 impl CommitToken {
     ghost use Rattle.ring_wire.specs.Commits.{commit_test};
 
-    /// Whether there are members, and the representative is the smallest.
-    fn is_representative_right(&self) -> bool
+    /// Returns whether there are members, and the smallest is the representative.
+    fn is_representative_valid(&self) -> bool
         ensures { result ≡ (not (self.now.members == nobody)
             && (self.now.ring.rep == smallest self.now.members)) }
     {
@@ -58,12 +66,12 @@ impl CommitToken {
         }
     }
 
-    /// Whether the limits beyond those of each field are kept.
+    /// Returns whether the fields keep the limits of their format.
     fn is_valid(&self) -> bool
         ensures { result ≡ commit_test self.now }
     {
         self.ring.seq >= 1
-            && self.is_representative_right()
+            && self.is_representative_valid()
             && self.hop >= 1
             && u32::from(self.hop) <= 2 * self.members.len()
             && are_reports(self.entries.as_slice(), &self.ring, self.members)
@@ -71,9 +79,9 @@ impl CommitToken {
 }
 
 impl Encode for CommitToken {
-    ghost use Rattle.ring_wire.specs.Commits.{commit_spelling, CommitFits, commit_at, commit_format};
+    ghost use Rattle.ring_wire.specs.Commits.{commit_encoding, CommitFits, commit_at, commit_format};
 
-    ghost spelling = { commit_spelling };
+    ghost encoding = { commit_encoding };
 
     ghost most = { 924 };
 
@@ -98,7 +106,8 @@ impl Encode for CommitToken {
 impl CommitToken {
     ghost use Rattle.ring_wire.specs.Commits.{commit_at};
 
-    /// A commit token to be read into.
+    /// Returns a commit token without entries, over which [`read_into_self`](CommitToken::read_into_self) decodes one.
+    /// It doesn't keep the limits of its format.
     pub(crate) fn blank() -> CommitToken
         ensures { result.entries ≡ [] }
     {
@@ -113,22 +122,25 @@ impl CommitToken {
         }
     }
 
-    /// Reads the commit token at the front into the place of this one, which has no entries. Refused as any reading is,
-    /// and what then stands here is not told.
+    /// Decodes the commit token at the front of `from` over this one, and moves `from` past it.
+    /// That this one has no entries is the caller's condition.
+    /// Errors: `BadFrame`, only if no commit token is there; `Memory`. The content of this token, and how much is left
+    /// to read, are then unspecified.
+    /// Formats: Frames
     #[tactic(auto, unfolding(crate::specs::Commits::commit_at))]
-    pub(crate) fn read_here<A: Allocator + Copy>(
+    pub(crate) fn read_into_self<A: Allocator + Copy>(
         &mut self,
         alloc: A,
         from: &mut Reader<'_>,
     ) -> Result<(), Fault>
         requires { self.old.entries ≡ [] }
-        ensures { GivesBy (λ _. self.new) result from.new (commit_at from.old) }
+        ensures { IsReadResultBy (λ _. self.new) result from.new (commit_at from.old) }
     {
         self.ring = Decode::read(alloc, from)?;
         self.members = Decode::read(alloc, from)?;
         self.hop = Decode::read(alloc, from)?;
         let count = (self.hop as usize).min(self.members.len() as usize);
-        self.entries.read_here(alloc, count, from)?;
+        self.entries.read_into_self(alloc, count, from)?;
         if !self.is_valid() {
             return Err(Fault::BadFrame);
         }
@@ -139,7 +151,7 @@ impl CommitToken {
 impl<A: Allocator + Copy> Decode<A> for CommitToken {
     fn read(alloc: A, from: &mut Reader<'_>) -> Result<CommitToken, Fault> {
         let mut token = CommitToken::blank();
-        token.read_here(alloc, from)?;
+        token.read_into_self(alloc, from)?;
         Ok(token)
     }
 }

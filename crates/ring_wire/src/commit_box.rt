@@ -1,8 +1,9 @@
 //! Commit tokens on the heap.
+//! Rules: The commit token 1, 5 and 6
 
 ghost use Rattle.std.specs.Prelude.{◌≡◌, ℕ, ◌+◌, ◌^◌, ◌<◌, ◌≤◌, List, [], ◌∷◌, ◌++◌, length, IfOk, IfErr};
 ghost use Rattle.ring_payload.specs.Faults.{Memory};
-ghost use Rattle.ring_payload.specs.Layouts.{Appends, Gives};
+ghost use Rattle.ring_payload.specs.Codecs.{Appends, IsReadResult};
 ghost use Rattle.ring_wire.specs.declared.commit.CommitToken.{CommitToken as OneToken};
 
 use crate::commit::CommitToken;
@@ -12,7 +13,8 @@ use ring_payload::{Decode, Encode, Fault, Reader};
 use std::alloc::{AllocError, Allocator, Global};
 use std::marker::Model;
 
-/// A commit token on the heap, so that no frame is as long as one. Contracts see the token.
+/// A commit token on the heap, so that frames stay short. Contracts see the token.
+/// Rules: The commit token 1
 #[derive(Drop)]
 pub struct CommitBox<A: Allocator + Copy = Global> {
     token: Box<CommitToken, A>,
@@ -27,7 +29,8 @@ impl<A: Allocator + Copy> Model for CommitBox<A> {
 }
 
 impl<A: Allocator + Copy> CommitBox<A> {
-    /// The token on the heap, or `Memory`.
+    /// Returns a box with this commit token, which is moved to the heap.
+    /// Errors: `Memory`; the token is then dropped.
     pub fn new(alloc: A, token: CommitToken) -> Result<CommitBox<A>, Fault>
         ensures ok { IfOk result (λ boxed. boxed ≡ token) }
         ensures refused { IfErr result (λ fault. fault ≡ Memory) }
@@ -37,22 +40,27 @@ impl<A: Allocator + Copy> CommitBox<A> {
         })
     }
 
-    /// The token.
+    /// Returns the commit token in the box.
+    /// Rules: The commit token 1
     pub fn token(&self) -> &CommitToken
         ensures { result.now ≡ self.now }
     {
         &self.token
     }
 
-    /// The token goes one hop further.
-    pub fn hop_on(&mut self)
+    /// Raises the token's `hop` by one, as a member does that passes it on.
+    /// That `hop` is below 255 is the caller's condition.
+    /// Rules: The commit token 5 and 6
+    pub fn advance_hop(&mut self)
         requires { self.old.hop < 255 }
         ensures { self.new ≡ record self.old { hop = self.old.hop + 1 } }
     {
         self.token.hop += 1;
     }
 
-    /// The report of one member more stands behind the others.
+    /// Appends the entry of one more member, the next in ascending order.
+    /// That the token has fewer than 16 entries is the caller's condition. The call takes no memory.
+    /// Rules: The commit token 5
     pub fn report(&mut self, entry: CommitEntry)
         requires { length self.old.entries < 16 }
         ensures { self.new ≡ record self.old { entries = self.old.entries ++ entry ∷ [] } }
@@ -72,9 +80,9 @@ impl<A: Allocator + Copy> Clone for CommitBox<A> {
 }
 
 impl<A: Allocator + Copy> Encode for CommitBox<A> {
-    ghost use Rattle.ring_wire.specs.Commits.{commit_spelling, CommitFits, commit_at, commit_format};
+    ghost use Rattle.ring_wire.specs.Commits.{commit_encoding, CommitFits, commit_at, commit_format};
 
-    ghost spelling = { commit_spelling };
+    ghost encoding = { commit_encoding };
 
     ghost most = { 924 };
 
@@ -96,7 +104,7 @@ impl<A: Allocator + Copy> Encode for CommitBox<A> {
 impl<A: Allocator + Copy> Decode<A> for CommitBox<A> {
     fn read(alloc: A, from: &mut Reader<'_>) -> Result<CommitBox<A>, Fault> {
         let mut boxed = CommitBox::new(alloc, CommitToken::blank())?;
-        boxed.token.read_here(alloc, from)?;
+        boxed.token.read_into_self(alloc, from)?;
         Ok(boxed)
     }
 }

@@ -1,31 +1,41 @@
-//! The entries of a commit token: what each member reports of its old ring.
+//! The entries of a commit token: each member's report of its old ring.
+//! Rules: The commit token 2
+//! Formats: The commit entry
 
 ghost use Rattle.std.specs.Prelude.{◌≡◌, ℕ, ◌+◌, ◌^◌, ◌<◌, ◌≤◌, List, [], ◌∷◌, ◌++◌, length, ◌==◌, ◌*◌, true};
 ghost use Rattle.std.specs.List.{list_all};
-ghost use Rattle.ring_payload.specs.Layouts.{Appends, Gives, GivesBy, times_at};
+ghost use Rattle.ring_payload.specs.Codecs.{Appends, IsReadResult, IsReadResultBy, times_at};
 ghost use Rattle.ring_payload.specs.Base.{window_size};
 
-use crate::valid::only_if;
+use crate::valid::if_valid;
 use arrayvec::ArrayVec;
 use bytes::BytesMut;
 use ring_payload::{
-    Decode, Encode, Fault, MAX, PROCESSORS, Proc, Reader, RingId, WINDOW, read_in_place,
+    Decode, Encode, Fault, MAX, PROCESSORS, Proc, Reader, RingId, WINDOW_SIZE, read_in_place,
 };
 use std::alloc::{AllocError, Allocator};
 use std::marker::Model;
 
-/// What a member reports of its old ring: its front and its safe mark there, and which of the 256
-/// numbers after the front it holds. Bit j stands for the number front + 1 + j; it is bit j mod 8,
-/// counted from the least, of byte j div 8.
+/// `CommitEntry`: a member's entry in a commit token: its report of its old ring.
+/// `mark` <= `front` <= `MAX`, and `front` <= `mark` + 256. Bit 0 is clear, and so is each bit of a number above `mark`
+/// + 256. Where the old ring has number 0, front, mark and all bits are 0.
+/// Rules: The commit token 2
+/// Formats: The commit entry
 #[derive(Clone, Copy, Debug, PartialEq, Eq)]
 pub struct CommitEntry {
+    /// The member's last installed ring, its old ring. Its number is below the number of the proposed ring.
     pub old: RingId,
+    /// The member's front in the old ring: the greatest number up to which it holds all messages.
     pub front: u64,
+    /// The member's safe mark in the old ring: it knows that all members hold the messages up to this number.
     pub mark: u64,
+    /// Which of the 256 numbers after the front the member holds.
+    /// Bit j, 0 to 255, means the number `front` + 1 + j. It is bit j mod 8, counted from the least significant, of
+    /// byte j div 8.
     pub held: [u8; 32],
 }
 
-/// The entry of processor 1 that was in no ring yet, as a value to begin with.
+/// The entry of processor 1 at its opening, as a value to begin with.
 impl Default for CommitEntry {
     fn default() -> CommitEntry {
         CommitEntry {
@@ -41,9 +51,11 @@ impl Default for CommitEntry {
 }
 
 impl CommitEntry {
-    ghost use Rattle.ring_wire.specs.Entries.{bit_of, is_wrong as is_wrong_bit, held_test, nothing_test, entry_test};
+    ghost use Rattle.ring_wire.specs.Entries.{bit_of, is_invalid_bit as is_wrong_bit, held_test, nothing_test, entry_test};
 
-    /// Whether bit j is set: the number front + 1 + j is held.
+    /// Returns whether bit j is set: whether the member holds the number `front` + 1 + j.
+    /// `j` counts from 0; that it is below 256 is the caller's condition.
+    /// Formats: The commit entry
     pub fn is_held(&self, j: usize) -> bool
         requires { j < window_size }
         ensures { result ≡ bit_of self.now.held j }
@@ -51,18 +63,18 @@ impl CommitEntry {
         (self.held[j / 8] >> (j % 8)) & 1 == 1
     }
 
-    /// Whether bit j is set and must not be.
-    fn is_wrong(&self, j: usize) -> bool
+    /// Returns whether bit j is set and must be clear: it is the first, or its number is above `mark` + 256.
+    fn is_invalid_bit(&self, j: usize) -> bool
         requires index { j < window_size }
         requires front { self.now.front < 2 ^ 63 }
         requires mark { self.now.mark < 2 ^ 63 }
         ensures { result ≡ is_wrong_bit self.now.front self.now.mark self.now.held j }
     {
-        self.is_held(j) && (j == 0 || self.front + 1 + j as u64 > self.mark + WINDOW)
+        self.is_held(j) && (j == 0 || self.front + 1 + j as u64 > self.mark + WINDOW_SIZE)
     }
 
-    /// Whether none of the byte's bits is set that must not be, as none of those before it is.
-    fn is_byte_right(&self, byte: usize) -> bool
+    /// Returns whether no bit of the byte is set that must be clear. No bit of the bytes before it is.
+    fn is_byte_valid(&self, byte: usize) -> bool
         requires index { byte < 32 }
         requires front { self.now.front < 2 ^ 63 }
         requires mark { self.now.mark < 2 ^ 63 }
@@ -73,50 +85,50 @@ impl CommitEntry {
             return true;
         }
         for bit in 0..8 {
-            if self.is_wrong(8 * byte + bit) {
+            if self.is_invalid_bit(8 * byte + bit) {
                 return false;
             }
         }
         true
     }
 
-    /// Whether no bit is set that must not be. A byte 0 is passed over.
-    fn is_held_right(&self) -> bool
+    /// Returns whether no bit is set that must be clear.
+    fn is_held_valid(&self) -> bool
         requires front { self.now.front < 2 ^ 63 }
         requires mark { self.now.mark < 2 ^ 63 }
         ensures { result ≡ held_test self.now.front self.now.mark self.now.held window_size }
     {
         for byte in 0..32 {
-            if !self.is_byte_right(byte) {
+            if !self.is_byte_valid(byte) {
                 return false;
             }
         }
         true
     }
 
-    /// Whether it reports nothing.
-    fn is_nothing(&self) -> bool
+    /// Returns whether front, mark and all bits are 0.
+    fn has_no_report(&self) -> bool
         ensures { result ≡ nothing_test self.now }
     {
         self.front == 0 && self.mark == 0 && are_zero(&self.held)
     }
 
-    /// Whether the limits beyond those of each field are kept.
+    /// Returns whether the fields keep the limits of their format.
     fn is_valid(&self) -> bool
         ensures { result ≡ entry_test self.now }
     {
         self.mark <= self.front
             && self.front <= MAX
-            && self.front <= self.mark + WINDOW
-            && self.is_held_right()
-            && (self.old.seq != 0 || self.is_nothing())
+            && self.front <= self.mark + WINDOW_SIZE
+            && self.is_held_valid()
+            && (self.old.seq != 0 || self.has_no_report())
     }
 }
 
 impl Encode for CommitEntry {
-    ghost use Rattle.ring_wire.specs.Entries.{entry_spelling, EntryFits, entry_at, entry_format};
+    ghost use Rattle.ring_wire.specs.Entries.{entry_encoding, EntryFits, entry_at, entry_format};
 
-    ghost spelling = { entry_spelling };
+    ghost encoding = { entry_encoding };
 
     ghost most = { 57 };
 
@@ -147,18 +159,19 @@ impl<A: Allocator + Copy> Decode<A> for CommitEntry {
             mark: Decode::read(alloc, from)?,
             held: Decode::read(alloc, from)?,
         };
-        only_if(entry.is_valid(), entry)
+        if_valid(entry.is_valid(), entry)
     }
 }
 
-/// Whether each byte is 0.
 fn are_zero(bytes: &[u8]) -> bool
     ensures { result ≡ list_all (λ b. b == 0) bytes.now }
 {
     bytes.iter().all(|byte| *byte == 0)
 }
 
-/// At most 16 entries, in place. Contracts see the list.
+/// A list of at most 16 entries of a commit token, in ascending order of members, stored inline.
+/// Contracts see the list.
+/// Rules: The commit token 1
 #[derive(Drop)]
 pub struct Entries {
     entries: ArrayVec<CommitEntry, PROCESSORS>,
@@ -174,7 +187,7 @@ impl Model for Entries {
 }
 
 impl Entries {
-    /// No entries.
+    /// Returns an empty list. It takes no memory.
     pub fn new() -> Entries
         ensures { result ≡ [] }
     {
@@ -183,7 +196,7 @@ impl Entries {
         }
     }
 
-    /// The entries, at most 16.
+    /// Returns the entries, at most 16: the smallest member's first.
     pub fn as_slice(&self) -> &[CommitEntry]
         ensures value { result.now ≡ self.now }
         ensures few { length result.now ≤ 16 }
@@ -191,7 +204,8 @@ impl Entries {
         self.entries.as_slice()
     }
 
-    /// Puts an entry at the end.
+    /// Appends an entry. That the list has fewer than 16 is the caller's condition. The call takes no memory.
+    /// Rules: The commit token 5
     pub fn push(&mut self, entry: CommitEntry)
         requires { length self.old < 16 }
         ensures { self.new ≡ self.old ++ entry ∷ [] }
@@ -199,7 +213,7 @@ impl Entries {
         self.entries.push(entry);
     }
 
-    /// The same entries.
+    /// Returns a copy of the list. It takes no memory, so it is never refused.
     pub fn copied(&self) -> Entries
         ensures { result ≡ self.now }
     {
@@ -224,8 +238,12 @@ impl Clone for Entries {
 impl Entries {
     ghost use Rattle.ring_wire.specs.Entries.{entry_at};
 
-    /// Reads the count entries at the front into their place, where there is none yet. Refused as one entry is.
-    pub(crate) fn read_here<A: Allocator + Copy>(
+    /// Decodes the `count` entries at the front of `from` into this list, and moves `from` past them.
+    /// That the list is empty and `count` at most 16 is the caller's condition.
+    /// Errors: `BadFrame`, only if the encodings of `count` entries don't begin `from`. The content of the list, and
+    /// how much is left to read, are then unspecified.
+    /// Formats: The commit entry
+    pub(crate) fn read_into_self<A: Allocator + Copy>(
         &mut self,
         alloc: A,
         count: usize,
@@ -233,7 +251,7 @@ impl Entries {
     ) -> Result<(), Fault>
         requires few { count ≤ 16 }
         requires empty { self.old ≡ [] }
-        ensures { GivesBy (λ _. self.new) result from.new (times_at count entry_at from.old) }
+        ensures { IsReadResultBy (λ _. self.new) result from.new (times_at count entry_at from.old) }
     {
         read_in_place(alloc, count, from, &mut self.entries)
     }

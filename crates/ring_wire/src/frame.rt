@@ -1,29 +1,33 @@
 //! Frames: two fixed bytes, the version, the kind, the body's length, and the body.
+//!
+//! A frame is decoded into a place that may hold a frame already. Each kind has a separate reading function that isn't
+//! inlined, so that decoding a frame sets up the stack slot of that kind only.
+//! Formats: Frames; What is no frame
 
 ghost use Rattle.std.specs.Prelude.{◌≡◌, ℕ, ◌+◌, ◌^◌, ◌<◌, ◌≤◌, List, [], ◌∷◌, ◌++◌, length, IfOk, IfErr, IfSome, Some, IsSome, OnOk, OnErr, ◌↔◌};
 ghost use Rattle.ring_payload.specs.Faults.{BadFrame};
-ghost use Rattle.ring_payload.specs.Layouts.{Appends, Gives};
+ghost use Rattle.ring_payload.specs.Codecs.{Appends, IsReadResult};
 ghost use Rattle.ring_wire.specs.declared.frame.Frame.{Frame as OneFrame};
 ghost use Rattle.ring_wire.specs.declared.frame.Frame.TheVariants.{Message as MessageFrame, Token as TokenFrame};
 ghost use Rattle.ring_payload.specs.Limits.{message_kind, token_kind, join_kind, commit_kind};
-ghost use Rattle.ring_payload.specs.Base.{most_frame};
-ghost use Rattle.ring_wire.specs.Frames.{body_at, frame_at, version_of, spelling_of, FrameFits};
-ghost use Rattle.ring_wire.specs.Fronts.{IsReadFault, IsGot, IsNoFront, Puts};
-ghost use Rattle.ring_wire.specs.Spells.{Spells};
+ghost use Rattle.ring_payload.specs.Base.{max_frame_bytes};
+ghost use Rattle.ring_wire.specs.Frames.{body_at, frame_at, version_of, encoding_of, FrameFits};
+ghost use Rattle.ring_wire.specs.Prefixes.{IsReadFault, IsEncodedPrefix, HasNoEncodedPrefix, IsReadIntoPlace};
+ghost use Rattle.ring_wire.specs.IsFrameEncoding.{IsFrameEncoding};
 
 use crate::commit_box::CommitBox;
 use crate::join::Join;
 use crate::message::Message;
-use crate::token::{LaidToken, Token};
+use crate::token::{BorrowedToken, Token};
 use bytes::BytesMut;
 use ring_payload::{Decode, Encode, FIRST_VERSION, Fault, Reader, Wire, read_sized, write_sized};
 use std::alloc::{Allocator, Global};
 use std::mem::size_of;
 
-/// The bytes that each frame begins with.
+/// The bytes that every frame begins with.
 const START: [u8; 2] = [0x54, 0x52];
 
-/// The kinds of frames.
+/// The kinds of frames: this one and the next three.
 const MESSAGE: u8 = 1;
 
 const TOKEN: u8 = 2;
@@ -32,20 +36,25 @@ const JOIN: u8 = 3;
 
 const COMMIT: u8 = 4;
 
-/// What one processor sends to others.
+/// A frame, sent by one processor to others: a message, the token, a join or a commit token.
+/// Formats: Frames
 #[derive(Clone, Drop)]
 pub enum Frame<A: Allocator + Copy = Global> {
+    /// A message: a numbered payload of a ring, for all other members.
     Message(Message<A>),
+    /// The token of a running ring, for the next member.
     Token(Token),
+    /// A join, for processors that may form a ring with its sender.
     Join(Join),
+    /// A commit token, for the next member of the proposed ring.
     Commit(CommitBox<A>),
 }
 
-/// A frame is short, so that one that is kept or moved costs little.
+/// A frame has at most 320 bytes in memory, so that keeping or moving one costs little.
 const _: () = prove!(size_of::<Frame>() <= 320);
 
 impl<A: Allocator + Copy> Frame<A> {
-    /// Its version: that of what it carries.
+    /// Returns its version: that of its payload, and 1 if it has none.
     fn version(&self) -> u8
         ensures { result ≡ version_of self.now }
     {
@@ -59,7 +68,7 @@ impl<A: Allocator + Copy> Frame<A> {
 impl<A: Allocator + Copy> Encode for Frame<A> {
     ghost use Rattle.ring_wire.specs.Frames.{frame_at, frame_format};
 
-    ghost spelling = { spelling_of };
+    ghost encoding = { encoding_of };
 
     ghost most = { 7321 };
 
@@ -103,8 +112,9 @@ impl<A: Allocator + Copy> Encode for Frame<A> {
     }
 }
 
-/// The message at the front, behind its length, into the place: the frame of this version that it is. It stands apart, since a
-/// call clears its room for a message.
+/// Decodes a length-prefixed message into `place`.
+/// Errors: `BadFrame` if no such message is there, or `version` isn't that of its payload; `Memory`. `place` is then
+/// unchanged.
 #[inline(never)]
 #[tactic(auto, unfolding(crate::specs::Frames::body_at))]
 fn read_message<A: Allocator + Copy>(
@@ -113,7 +123,7 @@ fn read_message<A: Allocator + Copy>(
     from: &mut Reader<'_>,
     place: &mut Option<Frame<A>>,
 ) -> Result<(), Fault>
-    ensures { Puts result place.old place.new from.new (body_at version message_kind from.old) }
+    ensures { IsReadIntoPlace result place.old place.new from.new (body_at version message_kind from.old) }
 {
     let message: Message<A> = read_sized(alloc, from)?;
     if version != message.payload.version() {
@@ -123,7 +133,7 @@ fn read_message<A: Allocator + Copy>(
     Ok(())
 }
 
-/// Puts a message in the place of another, of another kind of frame, or of none.
+/// Puts a message in `place`. It overwrites a message there without a new frame.
 #[inline(always)]
 fn put_message<A: Allocator + Copy>(message: Message<A>, place: &mut Option<Frame<A>>)
     ensures { place.new ≡ Some (MessageFrame message) }
@@ -134,7 +144,6 @@ fn put_message<A: Allocator + Copy>(message: Message<A>, place: &mut Option<Fram
     }
 }
 
-/// Puts a value in the place of another.
 #[inline(always)]
 fn put<T: Drop>(value: T, place: &mut T)
     ensures { place.new ≡ value }
@@ -142,8 +151,8 @@ fn put<T: Drop>(value: T, place: &mut T)
     *place = value;
 }
 
-/// The token at the front, behind its length, into the place. It stands apart, since a call clears its room for what the bytes
-/// say of a token.
+/// Decodes a length-prefixed token into `place`.
+/// Errors: `BadFrame` if no token is there, or `version` isn't 1. `place` is then unchanged.
 #[inline(never)]
 #[tactic(auto, unfolding(crate::specs::Frames::body_at))]
 fn read_token<A: Allocator + Copy>(
@@ -152,9 +161,9 @@ fn read_token<A: Allocator + Copy>(
     from: &mut Reader<'_>,
     place: &mut Option<Frame<A>>,
 ) -> Result<(), Fault>
-    ensures { Puts result place.old place.new from.new (body_at version token_kind from.old) }
+    ensures { IsReadIntoPlace result place.old place.new from.new (body_at version token_kind from.old) }
 {
-    let token = LaidToken::read_sized(alloc, from)?;
+    let token = BorrowedToken::read_sized(alloc, from)?;
     if version != FIRST_VERSION {
         return Err(Fault::BadFrame);
     }
@@ -165,10 +174,9 @@ fn read_token<A: Allocator + Copy>(
     Ok(())
 }
 
-/// Puts a token in the place of another kind of frame, or of none. It stands apart, since a call clears its room for a blank
-/// token.
+/// Puts a token in `place`, where there is none yet.
 #[inline(never)]
-fn put_token<A: Allocator + Copy>(token: &LaidToken<'_>, place: &mut Option<Frame<A>>)
+fn put_token<A: Allocator + Copy>(token: &BorrowedToken<'_>, place: &mut Option<Frame<A>>)
     ensures { place.new ≡ Some (TokenFrame token.now) }
 {
     put(Some(Frame::Token(Token::blank())), place);
@@ -177,7 +185,8 @@ fn put_token<A: Allocator + Copy>(token: &LaidToken<'_>, place: &mut Option<Fram
     }
 }
 
-/// The join at the front, behind its length, into the place. It stands apart, since a call clears its room for a join.
+/// Decodes a length-prefixed join into `place`.
+/// Errors: `BadFrame` if no join is there, or `version` isn't 1. `place` is then unchanged.
 #[inline(never)]
 #[tactic(auto, unfolding(crate::specs::Frames::body_at))]
 fn read_join<A: Allocator + Copy>(
@@ -186,7 +195,7 @@ fn read_join<A: Allocator + Copy>(
     from: &mut Reader<'_>,
     place: &mut Option<Frame<A>>,
 ) -> Result<(), Fault>
-    ensures { Puts result place.old place.new from.new (body_at version join_kind from.old) }
+    ensures { IsReadIntoPlace result place.old place.new from.new (body_at version join_kind from.old) }
 {
     let join = read_sized(alloc, from)?;
     if version != FIRST_VERSION {
@@ -199,8 +208,8 @@ fn read_join<A: Allocator + Copy>(
     Ok(())
 }
 
-/// The commit token at the front, behind its length, into the place. It stands apart, since a call clears its room for a blank
-/// commit token.
+/// Decodes a length-prefixed commit token into `place`.
+/// Errors: `BadFrame` if no commit token is there, or `version` isn't 1; `Memory`. `place` is then unchanged.
 #[inline(never)]
 #[tactic(auto, unfolding(crate::specs::Frames::body_at))]
 fn read_commit<A: Allocator + Copy>(
@@ -209,7 +218,7 @@ fn read_commit<A: Allocator + Copy>(
     from: &mut Reader<'_>,
     place: &mut Option<Frame<A>>,
 ) -> Result<(), Fault>
-    ensures { Puts result place.old place.new from.new (body_at version commit_kind from.old) }
+    ensures { IsReadIntoPlace result place.old place.new from.new (body_at version commit_kind from.old) }
 {
     let commit = read_sized(alloc, from)?;
     if version != FIRST_VERSION {
@@ -219,15 +228,16 @@ fn read_commit<A: Allocator + Copy>(
     Ok(())
 }
 
-/// The frame at the front, into the place. Each kind has a function, and a message, token or join takes the place of
-/// another alone, so that no frame clears or moves what it doesn't fill.
+/// Decodes the frame at the front of `from` into `place`.
+/// A message, token or join overwrites one of its kind, so that no frame clears or moves memory that it doesn't fill.
+/// Errors: `BadFrame` if no frame is there; `Memory`. `place` is then unchanged.
 #[tactic(auto, unfolding(crate::specs::Frames::frame_at, crate::specs::Frames::kind_at))]
 fn read_into<A: Allocator + Copy>(
     alloc: A,
     from: &mut Reader<'_>,
     place: &mut Option<Frame<A>>,
 ) -> Result<(), Fault>
-    ensures { Puts result place.old place.new from.new (frame_at from.old) }
+    ensures { IsReadIntoPlace result place.old place.new from.new (frame_at from.old) }
 {
     let first: u8 = Decode::read(alloc, from)?;
     let second: u8 = Decode::read(alloc, from)?;
@@ -257,12 +267,15 @@ impl<A: Allocator + Copy> Decode<A> for Frame<A> {
 }
 
 impl<A: Allocator + Copy> Frame<A> {
-    /// As `get`, but the frame is put into the place and not moved: the length of its spelling. What stood in the
-    /// place is let go. Where it is refused, the place is as it was.
+    /// Decodes the frame at the front of `src` into `place`, in place, and returns the length of its encoding in bytes.
+    /// The frame that was in `place` is dropped. Bytes after the frame don't matter.
+    /// Errors: `BadFrame`, only if no frame begins `src`; `Memory`, whether or not a frame begins `src`. `place` is
+    /// then unchanged.
+    /// Formats: Frames
     pub fn get_into(alloc: A, src: &[u8], place: &mut Option<Frame<A>>) -> Result<usize, Fault>
-        ensures found { IfOk result (λ len. IfSome place.new (λ frame. IsGot spelling_of FrameFits src.now frame len)) }
+        ensures found { IfOk result (λ len. IfSome place.new (λ frame. IsEncodedPrefix encoding_of FrameFits src.now frame len)) }
         ensures placed { OnOk result (IsSome place.new) }
-        ensures bad { IfErr result (λ fault. fault ≡ BadFrame → IsNoFront {A = OneFrame A} spelling_of FrameFits src.now) }
+        ensures bad { IfErr result (λ fault. fault ≡ BadFrame → HasNoEncodedPrefix {A = OneFrame A} encoding_of FrameFits src.now) }
         ensures faults { IfErr result IsReadFault }
         ensures kept { OnErr result (place.new ≡ place.old) }
     {
@@ -272,12 +285,13 @@ impl<A: Allocator + Copy> Frame<A> {
     }
 }
 
-/// The frame that the bytes are, all of them. `BadFrame` comes only where they are none. `Memory` may come in place of
-/// either answer.
+/// Decodes all bytes of `src` as one frame and returns it.
+/// Errors: `BadFrame`, only if `src` isn't exactly one frame, bytes left over included; `Memory`, in either case.
+/// Formats: Frames; What is no frame
 pub fn decode_frame<A: Allocator + Copy>(alloc: A, src: &[u8]) -> Result<Frame<A>, Fault>
-    ensures found { IfOk result (λ frame. Spells frame src.now) }
+    ensures found { IfOk result (λ frame. IsFrameEncoding frame src.now) }
     ensures bad { IfErr result (λ fault. fault ≡ BadFrame
-        → (frame : OneFrame A) → ¬ Spells frame src.now) }
+        → (frame : OneFrame A) → ¬ IsFrameEncoding frame src.now) }
     ensures faults { IfErr result IsReadFault }
 {
     let (frame, len) = Frame::<A>::get(alloc, src)?;
@@ -287,20 +301,27 @@ pub fn decode_frame<A: Allocator + Copy>(alloc: A, src: &[u8]) -> Result<Frame<A
     Ok(frame)
 }
 
-/// The texts that spell a frame by the grammar are its one spelling, where it keeps the limits.
-pub fn spelling_law<A: Allocator + Copy>()
+/// States that, for every frame and every byte string, the string is an encoding of the frame exactly if the frame
+/// keeps its limits and the string is `encoding_of` the frame. Which strings are encodings of a frame is defined
+/// separately, by the grammar of the formats.
+/// Formats: Frames; The commit entry; Payloads
+pub fn encoding_law<A: Allocator + Copy>()
     ensures { (frame : OneFrame A) (text : List ℕ)
-        → Spells frame text ↔ (FrameFits frame × (text ≡ spelling_of frame)) }
+        → IsFrameEncoding frame text ↔ (FrameFits frame × (text ≡ encoding_of frame)) }
 {}
 
-/// A frame has one spelling, no spelling begins another, and no two frames have the same: two spellings,
-/// with anything behind them, that are one text are of one frame.
-pub fn one_spelling_law<A: Allocator + Copy>()
+/// States that any two encodings of frames are equal, and encode the same frame, if both are prefixes of one byte
+/// string. So a frame has at most one encoding, two frames never share an encoding, and no encoding is a proper prefix
+/// of another.
+/// Formats: Frames
+pub fn unique_encoding_law<A: Allocator + Copy>()
     ensures { (f g : OneFrame A) (a b x y : List ℕ)
-        → Spells f a → Spells g b → a ++ x ≡ b ++ y → (f ≡ g) × (a ≡ b) }
+        → IsFrameEncoding f a → IsFrameEncoding g b → a ++ x ≡ b ++ y → (f ≡ g) × (a ≡ b) }
 {}
 
-/// No spelling passes 8,192 bytes.
-pub fn short_law<A: Allocator + Copy>()
-    ensures { (f : OneFrame A) (a : List ℕ) → Spells f a → length a ≤ most_frame }
+/// States that every encoding of a frame has at most 8,192 bytes, the head of 8 bytes included.
+/// Rules: Limits 1
+/// Formats: Frames
+pub fn frame_length_law<A: Allocator + Copy>()
+    ensures { (f : OneFrame A) (a : List ℕ) → IsFrameEncoding f a → length a ≤ max_frame_bytes }
 {}

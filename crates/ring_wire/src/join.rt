@@ -1,26 +1,33 @@
 //! Joins.
+//! Rules: Gather 2
+//! Formats: Frames
 
 ghost use Rattle.std.specs.Prelude.{◌≡◌, ℕ, ◌+◌, ◌^◌, ◌<◌, ◌≤◌, List, [], ◌∷◌, ◌++◌, length};
-ghost use Rattle.ring_payload.specs.Layouts.{Appends, Gives};
+ghost use Rattle.ring_payload.specs.Codecs.{Appends, IsReadResult};
 
 use bytes::BytesMut;
 use ring_payload::{Decode, Encode, Fault, MAX, Proc, ProcSet, Reader};
 use std::alloc::Allocator;
 
-/// What a gathering processor tells the others: itself, the greatest ring number that it has taken part
-/// in, whom it reckons with, and whom of these it has given up.
+/// `Join`: a membership proposal: which processors its sender would form a ring with.
+/// Rules: Gather 2
+/// Formats: Frames
 #[derive(Clone, Copy, Debug, PartialEq, Eq)]
 pub struct Join {
+    /// The processor that sent it: a member of `proc_set`, and not of `fail_set`.
     pub sender: Proc,
+    /// The sender's floor: the greatest number of a ring that the sender has taken part in, at most `MAX`.
     pub number: u64,
+    /// The processors that the sender considers for the ring, itself included.
     pub proc_set: ProcSet,
+    /// The processors of `proc_set` that the sender has given up.
     pub fail_set: ProcSet,
 }
 
 impl Join {
     ghost use Rattle.ring_wire.specs.Joins.{join_test};
 
-    /// Whether the limits beyond those of each field are kept.
+    /// Returns whether the fields keep the limits of their format.
     fn is_valid(&self) -> bool
         ensures { result ≡ join_test self.now }
     {
@@ -32,9 +39,9 @@ impl Join {
 }
 
 impl Encode for Join {
-    ghost use Rattle.ring_wire.specs.Joins.{join_spelling, JoinFits, join_at, join_format};
+    ghost use Rattle.ring_wire.specs.Joins.{join_encoding, JoinFits, join_at, join_format};
 
-    ghost spelling = { join_spelling };
+    ghost encoding = { join_encoding };
 
     ghost most = { 13 };
 

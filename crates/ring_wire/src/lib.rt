@@ -1,4 +1,5 @@
-//! Frames, and how they are spelled: one spelling for each value, and no spelling begins another.
+//! Frames, and how they are encoded: every value has exactly one encoding, and no encoding is a prefix of another.
+//! Formats: Frames; The commit entry
 #![tactic(auto)]
 
 mod commit;
@@ -15,12 +16,12 @@ mod valid;
 pub use commit::CommitToken;
 pub use commit_box::CommitBox;
 pub use entries::{CommitEntry, Entries};
-pub use frame::{Frame, decode_frame, one_spelling_law, short_law, spelling_law};
+pub use frame::{Frame, decode_frame, encoding_law, frame_length_law, unique_encoding_law};
 pub use join::Join;
 pub use message::Message;
-pub use requests::{MOST_REQUESTS, Requests};
+pub use requests::{MAX_REQUESTS, Requests};
 pub use ring_payload::{
-    Call, Calls, Content, Head, MAX, MOST_PART_CALLS, MOST_SNAPSHOT, Part, Past, Payload, Piece,
-    Proc, ProcSet, RingId, Snap, WHOLE_PIECE, Wire, Wrapped, past_of,
+    Call, Calls, Content, Ghost, Head, MAX, MAX_PART_CALLS, MAX_PIECE_BYTES, MAX_SNAPSHOT, Part,
+    Payload, Piece, Proc, ProcSet, RingId, Snap, Wire, Wrapped, ghost_of,
 };
 pub use token::Token;

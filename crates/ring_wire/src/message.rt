@@ -1,26 +1,32 @@
 //! Messages.
+//! Formats: Frames
 
 ghost use Rattle.std.specs.Prelude.{◌≡◌, ℕ, ◌+◌, ◌^◌, ◌<◌, ◌≤◌, List, [], ◌∷◌, ◌++◌, length};
-ghost use Rattle.ring_payload.specs.Layouts.{Appends, Gives};
+ghost use Rattle.ring_payload.specs.Codecs.{Appends, IsReadResult};
 
-use crate::valid::only_if;
+use crate::valid::if_valid;
 use bytes::BytesMut;
 use ring_payload::{Decode, Encode, Fault, MAX, Payload, Proc, Reader, RingId};
 use std::alloc::{Allocator, Global};
 
-/// A message of a ring: its number there, counted from 1, who sent it, and what it carries.
+/// `Message`: a numbered payload of a ring.
+/// Formats: Frames
 #[derive(Clone, Drop)]
 pub struct Message<A: Allocator + Copy = Global> {
+    /// The ring in which it was sent, of number at least 1.
     pub ring: RingId,
+    /// The message's number in the ring's order of messages, 1 to `MAX`.
     pub number: u64,
+    /// The member of the ring that sent it first. A member that sends it again doesn't change this field.
     pub sender: Proc,
+    /// The payload. The old ring of a Wrapped has a lower number than `ring`.
     pub payload: Payload<A>,
 }
 
 impl<A: Allocator + Copy> Message<A> {
     ghost use Rattle.ring_wire.specs.Messages.{is_older, message_test};
 
-    /// Whether a message of an old ring is of an older one than this ring.
+    /// Returns whether a Wrapped in the payload is of an older ring than this message; true of any other payload.
     fn is_older(&self) -> bool
         ensures { result ≡ is_older self.now.payload self.now.ring }
     {
@@ -30,7 +36,7 @@ impl<A: Allocator + Copy> Message<A> {
         }
     }
 
-    /// Whether the limits beyond those of each field are kept.
+    /// Returns whether the fields keep the limits of their format.
     fn is_valid(&self) -> bool
         ensures { result ≡ message_test self.now }
     {
@@ -39,9 +45,9 @@ impl<A: Allocator + Copy> Message<A> {
 }
 
 impl<A: Allocator + Copy> Encode for Message<A> {
-    ghost use Rattle.ring_wire.specs.Messages.{message_spelling, MessageFits, message_at, message_format};
+    ghost use Rattle.ring_wire.specs.Messages.{message_encoding, MessageFits, message_at, message_format};
 
-    ghost spelling = { message_spelling };
+    ghost encoding = { message_encoding };
 
     ghost most = { 7313 };
 
@@ -72,6 +78,6 @@ impl<A: Allocator + Copy> Decode<A> for Message<A> {
             sender: Decode::read(alloc, from)?,
             payload: Decode::read(alloc, from)?,
         };
-        only_if(message.is_valid(), message)
+        if_valid(message.is_valid(), message)
     }
 }

@@ -1,21 +1,25 @@
 //! The numbers of the messages that a token asks for.
+//! Rules: Token and window 5
+//! Formats: Frames
 
 ghost use Rattle.std.specs.Prelude.{◌≡◌, ℕ, ◌+◌, ◌^◌, ◌<◌, ◌≤◌, List, [], ◌∷◌, ◌++◌, length, IfOk};
-ghost use Rattle.ring_payload.specs.Layouts.{Appends, Gives};
+ghost use Rattle.ring_payload.specs.Codecs.{Appends, IsReadResult};
 
 use arrayvec::ArrayVec;
 use bytes::BytesMut;
-use ring_payload::{Decode, Encode, Fault, Reader, Words, write_many};
+use ring_payload::{Decode, Encode, EncodedNumbers, Fault, Reader, write_many};
 use std::alloc::{AllocError, Allocator};
 use std::marker::Model;
 
-/// A token asks for at most so many messages.
-pub const MOST_REQUESTS: usize = 32;
+/// The most messages that a token asks for.
+/// Rules: Limits 1
+pub const MAX_REQUESTS: usize = 32;
 
-/// At most 32 numbers, in place. Contracts see the list.
+/// A list of at most 32 message numbers, stored inline: the messages that a token asks for. Contracts see the list.
+/// Rules: Token and window 5
 #[derive(Drop)]
 pub struct Requests {
-    numbers: ArrayVec<u64, MOST_REQUESTS>,
+    numbers: ArrayVec<u64, MAX_REQUESTS>,
 }
 
 impl Model for Requests {
@@ -25,7 +29,7 @@ impl Model for Requests {
 }
 
 impl Requests {
-    /// No numbers.
+    /// Returns an empty list, which asks for nothing. It takes no memory.
     pub fn new() -> Requests
         ensures { result ≡ [] }
     {
@@ -34,7 +38,8 @@ impl Requests {
         }
     }
 
-    /// The numbers, at most 32.
+    /// Returns the numbers, at most 32, in the order in which they were appended. In a token they ascend strictly.
+    /// Rules: Token and window 5
     pub fn as_slice(&self) -> &[u64]
         ensures value { result.now ≡ self.now }
         ensures few { length result.now ≤ 32 }
@@ -42,7 +47,7 @@ impl Requests {
         self.numbers.as_slice()
     }
 
-    /// Puts a number at the end.
+    /// Appends a number. That the list has fewer than 32 is the caller's condition. The call takes no memory.
     pub fn push(&mut self, number: u64)
         requires { length self.old < 32 }
         ensures { self.new ≡ self.old ++ number ∷ [] }
@@ -50,15 +55,15 @@ impl Requests {
         self.numbers.push(number);
     }
 
-    /// No numbers any more.
+    /// Removes all numbers. The list is then empty.
     pub fn clear(&mut self)
         ensures { self.new ≡ [] }
     {
         self.numbers.clear();
     }
 
-    /// These numbers in the place of those that were, at most 32.
-    pub(crate) fn fill(&mut self, numbers: &Words<'_>)
+    /// Replaces the numbers of the list by `numbers`, in order. That these are at most 32 is the caller's condition.
+    pub(crate) fn fill(&mut self, numbers: &EncodedNumbers<'_>)
         requires { length numbers.now ≤ 32 }
         ensures { self.new ≡ numbers.now }
     {
@@ -68,7 +73,7 @@ impl Requests {
         }
     }
 
-    /// The same numbers.
+    /// Returns a copy of the list. It takes no memory, so it is never refused.
     pub fn copied(&self) -> Requests
         ensures { result ≡ self.now }
     {
@@ -91,9 +96,9 @@ impl Clone for Requests {
 }
 
 impl Encode for Requests {
-    ghost use Rattle.ring_wire.specs.Tokens.{requests_spelling, RequestsFit, requests_at, requests_format};
+    ghost use Rattle.ring_wire.specs.Tokens.{requests_encoding, RequestsFit, requests_at, requests_format};
 
-    ghost spelling = { requests_spelling };
+    ghost encoding = { requests_encoding };
 
     ghost most = { 257 };
 
@@ -117,27 +122,31 @@ impl Encode for Requests {
 impl Requests {
     ghost use Rattle.ring_wire.specs.Tokens.{requests_at};
 
-    /// The numbers at the front, at most 32, which stay where they lie.
+    /// Takes a count of one byte and that many numbers, at most 32, from the front of `from`.
+    /// They stay borrowed from its bytes. Whether they ascend isn't checked.
+    /// Errors: `BadFrame` if the count is above 32, or `from` has fewer bytes. How much is then left to read is
+    /// unspecified.
+    /// Formats: Frames
     #[tactic(auto, unfolding(crate::specs::Tokens::requests_at))]
-    pub(crate) fn laid<'a, A: Allocator + Copy>(
+    pub(crate) fn borrow_numbers<'a, A: Allocator + Copy>(
         alloc: A,
         from: &mut Reader<'a>,
-    ) -> Result<Words<'a>, Fault>
-        ensures read { Gives result from.new (requests_at from.old) }
+    ) -> Result<EncodedNumbers<'a>, Fault>
+        ensures read { IsReadResult result from.new (requests_at from.old) }
         ensures few { IfOk result (λ numbers. length numbers ≤ 32) }
     {
         let count: u8 = Decode::read(alloc, from)?;
         let count = count as usize;
-        if count > MOST_REQUESTS {
+        if count > MAX_REQUESTS {
             return Err(Fault::BadFrame);
         }
-        Words::read(count, from)
+        EncodedNumbers::read(count, from)
     }
 }
 
 impl<A: Allocator + Copy> Decode<A> for Requests {
     fn read(alloc: A, from: &mut Reader<'_>) -> Result<Requests, Fault> {
-        let numbers = Requests::laid(alloc, from)?;
+        let numbers = Requests::borrow_numbers(alloc, from)?;
         let mut requests = Requests::new();
         requests.fill(&numbers);
         Ok(requests)

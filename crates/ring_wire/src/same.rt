@@ -1,4 +1,4 @@
-//! Whether two frames are one.
+//! Equality of frames.
 
 ghost use Rattle.std.specs.Prelude.{◌≡◌, ◌↔◌, ◌<◌, take, length, IsTrue};
 
@@ -12,7 +12,8 @@ use ring_payload::{Proc, RingId};
 use std::alloc::Allocator;
 
 impl<A: Allocator + Copy> Frame<A> {
-    /// Whether it is this one.
+    /// Returns whether the two frames are of one kind and equal in every field. So they have the same encoding.
+    /// Formats: Frames
     pub fn is_same(&self, other: &Frame<A>) -> bool
         ensures { IsTrue result ↔ (self.now ≡ other.now) }
     {

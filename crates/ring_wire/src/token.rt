@@ -1,29 +1,38 @@
 //! The token.
+//! Rules: Token and window 5
+//! Formats: Frames
 
 ghost use Rattle.std.specs.Prelude.{◌≡◌, ℕ, ◌+◌, ◌^◌, ◌<◌, ◌≤◌, List, [], ◌∷◌, ◌++◌, length};
-ghost use Rattle.ring_payload.specs.Layouts.{Appends, Gives, sized_at};
+ghost use Rattle.ring_payload.specs.Codecs.{Appends, IsReadResult, sized_at};
 ghost use Rattle.ring_wire.specs.Ascending.{ascends as ascends_to};
 
 use crate::requests::Requests;
 use bytes::BytesMut;
-use ring_payload::{Decode, Encode, Fault, MAX, Proc, Reader, RingId, Words};
+use ring_payload::{Decode, Encode, EncodedNumbers, Fault, MAX, Proc, Reader, RingId};
 use std::alloc::Allocator;
 use std::marker::Model;
 
-/// The token of a ring: its own number, the greatest number of a message, the number up to which all
-/// members hold the messages, who lowered that, and the numbers that are asked for.
+/// `Token`: the token of a running ring. Only the member that it visits sends new messages.
+/// Rules: Token and window 5
+/// Formats: Frames
 #[derive(Clone, Drop)]
 pub struct Token {
+    /// The running ring, of number at least 1.
     pub ring: RingId,
+    /// The token's own number, 1 to `MAX`. Each visit raises it by one.
     pub number: u64,
+    /// The greatest message number that has been given in the ring, 0 to `MAX`.
     pub seq: u64,
+    /// The number up to which all members hold the ring's messages, 0 to `seq`: "all received up to".
     pub aru: u64,
+    /// The processor that holds `aru` back: `None` exactly where `aru` equals `seq`.
     pub aru_id: Option<Proc>,
+    /// The numbers of the messages to be sent again, at most 32: strictly ascending, each 1 to `seq`.
     pub requests: Requests,
 }
 
 impl Token {
-    /// A token to be filled.
+    /// Returns a token over which [`BorrowedToken::fill`] writes one. It doesn't keep the limits of its format.
     pub(crate) fn blank() -> Token {
         Token {
             ring: RingId {
@@ -39,19 +48,19 @@ impl Token {
     }
 }
 
-/// A token whose requests stay where they lie: nothing is made before all of it is seen to be right. Contracts see the
-/// token.
+/// A decoded token whose requests are borrowed from the bytes, so that nothing is copied before the whole token is
+/// checked. Contracts see the token.
 #[derive(Drop)]
-pub(crate) struct LaidToken<'a> {
+pub(crate) struct BorrowedToken<'a> {
     ring: RingId,
     number: u64,
     seq: u64,
     aru: u64,
     aru_id: Option<Proc>,
-    requests: Words<'a>,
+    requests: EncodedNumbers<'a>,
 }
 
-impl<'a> Model for LaidToken<'a> {
+impl<'a> Model for BorrowedToken<'a> {
     ghost use Rattle.std.specs.Prelude.{◌≤◌, length};
     ghost use Rattle.ring_wire.specs.declared.token.Token.{Token as OneToken};
 
@@ -62,43 +71,49 @@ impl<'a> Model for LaidToken<'a> {
     ghost invariant = { λ t. length t.requests ≤ 32 };
 }
 
-impl<'a> LaidToken<'a> {
+impl<'a> BorrowedToken<'a> {
     ghost use Rattle.std.specs.Prelude.{◌≡◌, ℕ, List, Some, None, if◌then◌else◌};
-    ghost use Rattle.ring_payload.specs.Layouts.{Gives, sized_at};
+    ghost use Rattle.ring_payload.specs.Codecs.{IsReadResult, sized_at};
     ghost use Rattle.ring_wire.specs.Tokens.{aru_id_test, token_test, token_at};
 
-    /// The token at the front.
+    /// Decodes the token at the front of `from`.
+    /// Errors: `BadFrame` if no token is there.
     #[tactic(auto, unfolding(crate::specs::Tokens::token_at))]
-    fn read<A: Allocator + Copy>(alloc: A, from: &mut Reader<'a>) -> Result<LaidToken<'a>, Fault>
-        ensures { Gives result from.new (token_at from.old) }
+    fn read<A: Allocator + Copy>(
+        alloc: A,
+        from: &mut Reader<'a>,
+    ) -> Result<BorrowedToken<'a>, Fault>
+        ensures { IsReadResult result from.new (token_at from.old) }
     {
-        let token = LaidToken {
+        let token = BorrowedToken {
             ring: Decode::read(alloc, from)?,
             number: Decode::read(alloc, from)?,
             seq: Decode::read(alloc, from)?,
             aru: Decode::read(alloc, from)?,
             aru_id: Decode::read(alloc, from)?,
-            requests: Requests::laid(alloc, from)?,
+            requests: Requests::borrow_numbers(alloc, from)?,
         };
         let is_valid = token.is_valid();
-        token.only_if(is_valid)
+        token.if_valid(is_valid)
     }
 
-    /// The token that takes just as many bytes as the length before it says.
+    /// Decodes a length of four bytes from the front of `from`, then a token that takes exactly that many bytes.
+    /// Errors: `BadFrame` if no such token is there. How much is then left to read is unspecified.
+    /// Formats: Frames
     pub(crate) fn read_sized<A: Allocator + Copy>(
         alloc: A,
         from: &mut Reader<'a>,
-    ) -> Result<LaidToken<'a>, Fault>
-        ensures { Gives result from.new (sized_at token_at from.old) }
+    ) -> Result<BorrowedToken<'a>, Fault>
+        ensures { IsReadResult result from.new (sized_at token_at from.old) }
     {
         let len: u32 = Decode::read(alloc, from)?;
         let mut body = Reader::new(from.take(len as usize)?);
-        let token = LaidToken::read(alloc, &mut body)?;
-        token.only_if(body.len() == 0)
+        let token = BorrowedToken::read(alloc, &mut body)?;
+        token.if_valid(body.len() == 0)
     }
 
-    /// Whether it is told who lowered `aru` exactly where it is below `seq`.
-    fn is_aru_id_right(&self) -> bool
+    /// Returns whether `aru_id` is given exactly where `aru` is below `seq`.
+    fn is_aru_id_valid(&self) -> bool
         ensures { result ≡ aru_id_test self.now }
     {
         if self.aru == self.seq {
@@ -108,7 +123,7 @@ impl<'a> LaidToken<'a> {
         }
     }
 
-    /// Whether the limits beyond those of each field are kept.
+    /// Returns whether the fields keep the limits of their format.
     fn is_valid(&self) -> bool
         ensures { result ≡ token_test self.now }
     {
@@ -117,14 +132,14 @@ impl<'a> LaidToken<'a> {
             && self.number <= MAX
             && self.aru <= self.seq
             && self.seq <= MAX
-            && self.is_aru_id_right()
+            && self.is_aru_id_valid()
             && ascends(&self.requests, self.seq)
     }
 
-    /// The token that was read, if this holds, else `BadFrame`.
+    /// Returns the token if `holds`, else `BadFrame`.
     #[inline(always)]
-    fn only_if(self, holds: bool) -> Result<LaidToken<'a>, Fault>
-        ensures { (rest : List ℕ) → Gives result rest (if holds then Some (self.entry, rest) else None) }
+    fn if_valid(self, holds: bool) -> Result<BorrowedToken<'a>, Fault>
+        ensures { (rest : List ℕ) → IsReadResult result rest (if holds then Some (self.entry, rest) else None) }
     {
         if holds {
             Ok(self)
@@ -133,7 +148,7 @@ impl<'a> LaidToken<'a> {
         }
     }
 
-    /// Makes the other token the same, in its place.
+    /// Overwrites all fields of `token` with the fields of this token. The call takes no memory.
     pub(crate) fn fill(&self, token: &mut Token)
         ensures { token.new ≡ self.now }
     {
@@ -146,8 +161,8 @@ impl<'a> LaidToken<'a> {
     }
 }
 
-/// Whether each number is above the one before it, and all are from 1 to the greatest.
-fn ascends(numbers: &Words<'_>, greatest: u64) -> bool
+/// Returns whether the numbers ascend strictly, from 1 to `greatest`.
+fn ascends(numbers: &EncodedNumbers<'_>, greatest: u64) -> bool
     ensures { result ≡ ascends_to 0 greatest numbers.now }
 {
     let mut low = 0;
@@ -162,9 +177,9 @@ fn ascends(numbers: &Words<'_>, greatest: u64) -> bool
 }
 
 impl Encode for Token {
-    ghost use Rattle.ring_wire.specs.Tokens.{token_spelling, TokenFits, token_at, token_format};
+    ghost use Rattle.ring_wire.specs.Tokens.{token_encoding, TokenFits, token_at, token_format};
 
-    ghost spelling = { token_spelling };
+    ghost encoding = { token_encoding };
 
     ghost most = { 291 };
 
@@ -190,9 +205,9 @@ impl Encode for Token {
 
 impl<A: Allocator + Copy> Decode<A> for Token {
     fn read(alloc: A, from: &mut Reader<'_>) -> Result<Token, Fault> {
-        let laid = LaidToken::read(alloc, from)?;
+        let borrow_numbers = BorrowedToken::read(alloc, from)?;
         let mut token = Token::blank();
-        laid.fill(&mut token);
+        borrow_numbers.fill(&mut token);
         Ok(token)
     }
 }

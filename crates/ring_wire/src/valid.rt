@@ -1,14 +1,15 @@
-//! Values that keep their limits.
+//! Decoded values and their limits.
 
 ghost use Rattle.std.specs.Prelude.{◌≡◌, ℕ, List, Some, None, if◌then◌else◌};
-ghost use Rattle.ring_payload.specs.Layouts.{Gives};
+ghost use Rattle.ring_payload.specs.Codecs.{IsReadResult};
 
 use ring_payload::Fault;
 
-/// The value that was read, if it is valid, else `BadFrame`.
+/// Returns the decoded `value` if `is_valid`.
+/// Errors: `BadFrame` if not; the value is then dropped.
 #[inline(always)]
-pub(crate) fn only_if<T: Drop>(is_valid: bool, value: T) -> Result<T, Fault>
-    ensures { (rest : List ℕ) → Gives result rest (if is_valid then Some (value, rest) else None) }
+pub(crate) fn if_valid<T: Drop>(is_valid: bool, value: T) -> Result<T, Fault>
+    ensures { (rest : List ℕ) → IsReadResult result rest (if is_valid then Some (value, rest) else None) }
 {
     if is_valid {
         Ok(value)

@@ -1,12 +1,14 @@
-//! Rows of what is no frame that need long inputs: each list one longer than may be, beside the longest that is a frame.
+//! Rows of bytes that are no frame and need long inputs: each list one longer than allowed, beside the longest that
+//! is a frame.
+//! Formats: What is no frame
 
-use crate::spelled::{bytes_of, is_frame};
+use crate::hex_words::{bytes_of, is_frame};
 use Item::{Call, Entry, Piece, Request};
 use Start::{Commit, Message, Packing, Snap, Token, Wrapped, WrappedPacking};
 use std::alloc::Global;
 use std::test::Fail;
 
-/// What a frame begins with, up to its items.
+/// The beginning of a frame, up to its items.
 #[derive(Clone, Copy)]
 enum Start {
     /// Token 1 of ring 1.1: `seq` 100, `aru` 0, `aru_id` 1.
@@ -17,13 +19,13 @@ enum Start {
     Message,
     Packing,
     Snap,
-    /// The same, which wraps message 1 of ring 2.1 from 1.
+    /// The same message, which wraps message 1 of ring 2.1 from 1.
     Wrapped,
     WrappedPacking,
 }
 
 impl Start {
-    /// The version and the kind of the frame, in hexadecimal.
+    /// Returns the fixed bytes, the version and the kind of the frame, in hexadecimal.
     fn head(self) -> &'static str {
         match self {
             Start::Token => "54520102",
@@ -34,7 +36,7 @@ impl Start {
         }
     }
 
-    /// How its body begins, in hexadecimal.
+    /// Returns the beginning of the frame's body, in hexadecimal.
     fn body(self) -> &'static str {
         match self {
             Start::Token => {
@@ -51,21 +53,22 @@ impl Start {
     }
 }
 
-/// An item of a list, which has a number.
+/// An item of a list. Items are numbered from 1.
 #[derive(Clone, Copy)]
 enum Item {
-    /// The request of the number.
+    /// The request of the item's number.
     Request,
-    /// The entry of a member of the ring of that number, which processor 1 represented, that held nothing.
+    /// The entry of a member that held nothing. Its old ring has the item's number and representative 1.
     Entry,
-    /// The call of that number of client 7, whose operation is so many zeros.
+    /// The call of client 7 with the item's number, and an operation of this many zeros.
     Call(u16),
-    /// The piece of a snapshot after so many places: of how many bytes the snapshot is, the offset, and so many zeros.
+    /// A piece of a snapshot of as many places as the item's number: the snapshot's length, the offset, and the
+    /// number of zeros.
     Piece(u32, u32, u16),
 }
 
-/// How a frame begins, what stands before its items (their count, the hop, the payload's tag); the items and how many they
-/// are, with the numbers from 1 on; how many bytes the whole has, and whether it is a frame.
+/// The beginning of a frame; the bytes before its items (their count, the hop, the payload's tag); the kind of item;
+/// the number of items; the length of the whole in bytes; whether it is a frame.
 type Row = (Start, &'static str, Item, u8, u32, bool);
 
 const LISTS: [Row; 49] = [
@@ -155,14 +158,14 @@ const LISTS: [Row; 49] = [
     (WrappedPacking, "01", Call(0), 1, 60, false),
 ];
 
-/// Appends the bytes that the words spell.
+/// Appends the bytes that the words stand for.
 fn put(alloc: Global, out: &mut Vec<u8>, words: &str) -> Result<(), Fail> {
     let bytes = bytes_of(alloc, words)?;
     out.extend_from_slice(bytes.as_slice())?;
     Ok(())
 }
 
-/// Appends so many zeros.
+/// Appends `many` zeros.
 fn put_zeros(out: &mut Vec<u8>, many: u16) -> Result<(), Fail> {
     for _ in 0..many {
         out.push(0)?;
@@ -170,7 +173,7 @@ fn put_zeros(out: &mut Vec<u8>, many: u16) -> Result<(), Fail> {
     Ok(())
 }
 
-/// Appends a call of client 7.
+/// Appends a call of client 7, with an operation of `length` zeros.
 fn put_call(out: &mut Vec<u8>, number: u64, length: u16) -> Result<(), Fail> {
     out.extend_from_slice(&7u32.to_be_bytes())?;
     out.extend_from_slice(&number.to_be_bytes())?;
@@ -178,7 +181,7 @@ fn put_call(out: &mut Vec<u8>, number: u64, length: u16) -> Result<(), Fail> {
     put_zeros(out, length)
 }
 
-/// Appends a piece of a snapshot.
+/// Appends a piece of a snapshot, of `length` zeros.
 fn put_piece(out: &mut Vec<u8>, at: u64, total: u32, offset: u32, length: u16) -> Result<(), Fail> {
     out.extend_from_slice(&at.to_be_bytes())?;
     out.extend_from_slice(&total.to_be_bytes())?;
@@ -187,14 +190,14 @@ fn put_piece(out: &mut Vec<u8>, at: u64, total: u32, offset: u32, length: u16) -
     put_zeros(out, length)
 }
 
-/// Appends the entry of a member of this ring.
+/// Appends the entry of a member of the old ring with this number and representative 1.
 fn put_entry(out: &mut Vec<u8>, ring: u64) -> Result<(), Fail> {
     out.extend_from_slice(&ring.to_be_bytes())?;
     out.push(1)?;
     put_zeros(out, 48)
 }
 
-/// Appends an item of this number.
+/// Appends the item with this number.
 fn put_item(out: &mut Vec<u8>, item: Item, number: u64) -> Result<(), Fail> {
     match item {
         Item::Request => Ok(out.extend_from_slice(&number.to_be_bytes())?),
@@ -217,8 +220,8 @@ fn put_row(alloc: Global, out: &mut Vec<u8>, row: &Row) -> Result<(), Fail> {
     Ok(())
 }
 
-/// Whether a row's bytes are as many as told, and a frame or none.
-fn is_as_told(alloc: Global, row: &Row) -> Result<bool, Fail> {
+/// Returns whether a row's bytes have its length, and are a frame exactly if it says so.
+fn is_as_expected(alloc: Global, row: &Row) -> Result<bool, Fail> {
     let mut bytes = Vec::new(alloc);
     put_row(alloc, &mut bytes, row)?;
     let is = is_frame(alloc, bytes.as_slice())?;
@@ -228,7 +231,7 @@ fn is_as_told(alloc: Global, row: &Row) -> Result<bool, Fail> {
 #[test]
 fn longest_lists(rt: HostRuntime) -> Result<(), Fail> {
     for row in &LISTS {
-        assert!(rt; is_as_told(rt.alloc(), row)?, "{} {}", row.1, row.3);
+        assert!(rt; is_as_expected(rt.alloc(), row)?, "{} {}", row.1, row.3);
     }
     Ok(())
 }

@@ -1,21 +1,22 @@
-//! Memory that is refused: each request in turn, for what is read, copied and written.
+//! Refused memory: each request in turn, while frames are decoded, copied and encoded.
+//! Rules: Refusals 3 to 5
 
 ghost use Rattle.ring_wire.specs.Frames.{FrameFits};
 
-use crate::spelled::bytes_of;
+use crate::hex_words::bytes_of;
 use crate::vectors::{COMMIT, HEAD, JOIN, MESSAGE, PACK, PART, SNAP, TOKEN, TRIMMED_HEAD, WRAPPED};
 use bytes::BytesMut;
-use refusing_alloc::{Refusing, refuse_in_turn};
+use refusing_alloc::{RefusingHeap, refuse_in_turn};
 use ring_base::Fault;
 use ring_payload::Call;
 use ring_wire::{Frame, Wire, decode_frame};
 use std::alloc::{AllocError, Allocator, Global};
 use std::test::Fail;
 
-/// What `refuse_in_turn` asks of work that was done twice over an allocator that refuses one request: where
-/// the refusal was met the answer is `Memory`, and the other time all was done.
+/// Returns the result that `refuse_in_turn` expects of work done twice with an allocator that refuses one request:
+/// the work that was refused it returned `Memory`, and the other was done.
 fn answered(
-    heap: &Refusing,
+    heap: &RefusingHeap,
     first: Result<(), Fault>,
     again: Result<(), Fault>,
 ) -> Result<(), AllocError> {
@@ -32,20 +33,20 @@ fn answered(
     }
 }
 
-/// Copies the frame.
 fn copy<A: Allocator + Copy + Drop>(frame: &Frame<A>) -> Result<(), Fault> {
     let _copy = frame.clone()?;
     Ok(())
 }
 
-/// Reads the frame, and copies it.
+/// Decodes the frame, and copies it.
 fn read_and_copy<A: Allocator + Copy + Drop>(alloc: A, bytes: &[u8]) -> Result<(), Fault> {
     let frame = decode_frame(alloc, bytes)?;
     copy(&frame)
 }
 
-/// A call takes memory for its operation, when it is read and when it is copied; a part and a pack take some for
-/// their lists too, a snapshot's piece for its bytes, a commit token for itself. Heads, tokens, joins lie in place.
+/// A call takes memory for its operation when it is decoded and when it is copied. A part and a pack also take some
+/// for their lists, a snapshot's piece for its bytes, and a commit token for itself. Heads, tokens and joins take
+/// none.
 #[test]
 fn refused_reads_and_copies(rt: HostRuntime) -> Result<(), Fail> {
     for (vector, least) in &[
@@ -64,7 +65,7 @@ fn refused_reads_and_copies(rt: HostRuntime) -> Result<(), Fail> {
         let frame = bytes.as_slice();
         let requests = refuse_in_turn(
             rt.alloc(),
-            &|heap: &Refusing| answered(
+            &|heap: &RefusingHeap| answered(
                 heap,
                 read_and_copy(heap, frame),
                 read_and_copy(heap, frame),
@@ -76,8 +77,7 @@ fn refused_reads_and_copies(rt: HostRuntime) -> Result<(), Fail> {
     Ok(())
 }
 
-/// Writes the frame, which is spelled by the bytes, behind what stands in the buffer. A refusal leaves the buffer as
-/// it was.
+/// Appends the frame, whose encoding is `bytes`, to the buffer. A refusal leaves the buffer unchanged.
 fn put_frame<A: Allocator + Copy>(
     frame: &Frame<A>,
     bytes: &[u8],
@@ -96,7 +96,7 @@ fn put_frame<A: Allocator + Copy>(
     answer
 }
 
-/// The same of the frame that the bytes spell.
+/// Does the same with the frame that the bytes encode.
 fn put_behind<A: Allocator + Copy + Drop>(
     heap: A,
     bytes: &[u8],
@@ -107,8 +107,8 @@ fn put_behind<A: Allocator + Copy + Drop>(
     put_frame(&frame, bytes, out, wanted)
 }
 
-/// Writes the frame again and again, so that the buffer grows.
-fn put_often<A: Allocator + Copy + Drop>(
+/// Appends the frame five times, so that the buffer grows.
+fn put_repeated<A: Allocator + Copy + Drop>(
     heap: A,
     alloc: Global,
     bytes: &[u8],
@@ -121,7 +121,8 @@ fn put_often<A: Allocator + Copy + Drop>(
     Ok(())
 }
 
-/// The greatest frame: a message of ring 3.1 from 2, which wraps one of ring 2.1 from 1, a part of seven calls of 1,024 bytes each.
+/// Returns the greatest frame: message 1 of ring 3.1 from 2, which wraps message 1 of ring 2.1 from 1, a part of
+/// seven calls of 1,024 bytes each.
 fn greatest(alloc: Global) -> Result<Vec<u8>, Fail> {
     let mut bytes = bytes_of(
         alloc,
@@ -135,8 +136,7 @@ fn greatest(alloc: Global) -> Result<Vec<u8>, Fail> {
     Ok(bytes)
 }
 
-/// The buffer asks for memory as it grows; the greatest frame does so for seven operations and their list,
-/// too.
+/// The buffer takes memory as it grows. The greatest frame also takes some for seven operations and their list.
 #[test]
 fn refused_puts(rt: HostRuntime) -> Result<(), Fail> {
     let alloc = rt.alloc();
@@ -146,10 +146,10 @@ fn refused_puts(rt: HostRuntime) -> Result<(), Fail> {
     for frame in &[token.as_slice(), message.as_slice(), greatest.as_slice()] {
         let requests = refuse_in_turn(
             alloc,
-            &|heap: &Refusing| answered(
+            &|heap: &RefusingHeap| answered(
                 heap,
-                put_often(heap, alloc, *frame),
-                put_often(heap, alloc, *frame),
+                put_repeated(heap, alloc, *frame),
+                put_repeated(heap, alloc, *frame),
             ),
         );
         assert!(rt; requests >= Some(4));
@@ -157,7 +157,7 @@ fn refused_puts(rt: HostRuntime) -> Result<(), Fail> {
     Ok(())
 }
 
-/// The client, the number and the bytes of a new call whose operation has so many bytes.
+/// Returns the client, the number and the operation's length of a new call whose operation has `length` bytes.
 fn new_call<A: Allocator + Copy>(
     heap: A,
     alloc: Global,
@@ -169,10 +169,10 @@ fn new_call<A: Allocator + Copy>(
     Ok((call.client, call.number, call.op.as_slice().len()))
 }
 
-/// A new call is refused in this order: too long, number 0, want of memory.
+/// A new call is refused in this order: operation too long, number 0, no memory.
 #[test]
 fn new_calls(rt: HostRuntime) {
-    let heap = Refusing::new(rt.alloc(), 0);
+    let heap = RefusingHeap::new(rt.alloc(), 0);
     for (number, length, told) in &[
         (0, 1025, Err(Fault::OpTooLong)),
         (0, 1024, Err(Fault::NumberGap)),

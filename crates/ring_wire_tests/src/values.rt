@@ -1,8 +1,10 @@
-//! The values that bytes are read to, and copies of them.
+//! The values that the vectors decode to, and copies of them.
+//! Formats: Vectors
 
-use crate::spelled::bytes_of;
+use crate::hex_words::bytes_of;
 use crate::vectors::{
     COMMIT, END, HEAD, HEAD_OF_NONE, JOIN, MESSAGE, PACK, PART, SNAP, TOKEN, TRIMMED_HEAD, WRAPPED,
+    WRAPPED_PACK,
 };
 use ring_base::{Fault, Proc, ProcSet, RingId};
 use ring_payload::Payload;
@@ -10,7 +12,7 @@ use ring_wire::{CommitEntry, Frame, Join, decode_frame};
 use std::alloc::Allocator;
 use std::test::Fail;
 
-/// Whether the frame, no message, is the vector of its kind.
+/// Returns whether the frame is the vector of its kind; false for a message.
 fn is_a_vector<A: Allocator + Copy>(frame: &Frame<A>) -> bool {
     let ring = RingId {
         seq: 1,
@@ -42,9 +44,10 @@ fn is_a_vector<A: Allocator + Copy>(frame: &Frame<A>) -> bool {
     }
 }
 
-/// The tag of the payload, and four of its numbers: client, number and length of a call; last primary's number and
-/// the three lengths of a head; first place and count of a part; count of a pack; places, all bytes, offset and
-/// length of a piece; ring, number and sender of what is wrapped.
+/// Returns the payload's tag and four of its numbers, 0 where it has fewer.
+/// A call: client, number, length. A head: the number of the last primary, and the three lengths. A part: first
+/// place, count. A pack: count. A piece of a snapshot: places, total, offset, length. A Wrapped: ring, number,
+/// sender.
 fn payload_fields<A: Allocator + Copy>(payload: &Payload<A>) -> [u64; 5] {
     match payload {
         Payload::Call(call) => {
@@ -73,11 +76,10 @@ fn payload_fields<A: Allocator + Copy>(payload: &Payload<A>) -> [u64; 5] {
     }
 }
 
-/// What is asked of a frame: whether it is the vector of its kind, no message; and of a message its ring, number and sender, and
-/// the fields of its payload.
+/// The fields that a test compares: whether the frame is the vector of its kind and no message; a message's ring,
+/// number and sender; and the fields of its payload.
 type Fields = (bool, Option<(u64, u64, u8)>, Option<[u64; 5]>);
 
-/// The fields of a frame.
 fn fields<A: Allocator + Copy>(frame: &Frame<A>) -> Fields {
     match frame {
         Frame::Message(message) => {
@@ -92,13 +94,13 @@ fn fields<A: Allocator + Copy>(frame: &Frame<A>) -> Fields {
     }
 }
 
-/// The fields of a frame, and those of its copy.
+/// Returns the fields of the frame, and those of its copy.
 fn both_fields<A: Allocator + Copy + Drop>(frame: &Frame<A>) -> Result<[Fields; 2], Fault> {
     let copy = frame.clone()?;
     Ok([fields(frame), fields(&copy)])
 }
 
-/// The same of the frame that the bytes spell.
+/// Returns the same for the frame that the bytes encode.
 fn fields_of<A: Allocator + Copy + Drop>(alloc: A, bytes: &[u8]) -> Result<[Fields; 2], Fault> {
     let frame = decode_frame(alloc, bytes)?;
     both_fields(&frame)
@@ -119,15 +121,19 @@ fn fields_of_the_vectors(rt: HostRuntime) -> Result<(), Fail> {
         (HEAD, (false, Some((8, 4, 1)), Some([4, 4, 3, 2, 0]))),
         (
             TRIMMED_HEAD,
-            (false, Some((8, 4, 1)), Some([4, 4, 3, 2, 1])),
+            (false, Some((8, 4, 1)), Some([4, 4, 300, 290, 256])),
         ),
         (PART, (false, Some((8, 7, 1)), Some([5, 0, 1, 0, 0]))),
         (PACK, (false, Some((1, 3, 1)), Some([6, 2, 0, 0, 0]))),
         (
             SNAP,
-            (false, Some((8, 6, 1)), Some([8, 256, 7002, 7000, 2])),
+            (false, Some((8, 6, 1)), Some([8, 256, 7003, 7000, 3])),
         ),
         (WRAPPED, (false, Some((2, 1, 2)), Some([2, 1, 3, 1, 0]))),
+        (
+            WRAPPED_PACK,
+            (false, Some((2, 1, 2)), Some([2, 1, 3, 1, 0])),
+        ),
     ] {
         let bytes = bytes_of(rt.alloc(), *vector)?;
         let told = fields_of(rt.alloc(), bytes.as_slice())?;

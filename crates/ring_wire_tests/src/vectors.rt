@@ -1,6 +1,7 @@
-//! The vectors of `docs/FORMATS.md` in hexadecimal, parted where they are parted there.
+//! The vectors of `docs/FORMATS.md` in hexadecimal, split as they are there.
+//! Formats: Vectors
 
-/// The join of 2 with number 5, processors 1, 2, 3, of which 3 has failed.
+/// The join of processor 2 with number 5 and processors 1, 2 and 3, of which 3 has failed.
 pub const JOIN: &str = "545201030000000d 02 0000000000000005 0007 0004";
 
 /// Token 4 of ring 1.1: `seq` 10, `aru` 8, `aru_id` 2, requests 9 and 10.
@@ -23,7 +24,7 @@ pub const COMMIT_AFTER_A_RING: &str = "\
     5452010400000045 000000000000000201 0001 01 000000000000000101 0000000000000000 0000000000000000 \
     0000000000000000000000000000000000000000000000000000000000000000";
 
-/// The commit token of ring 1.1, members 1 and 3, hop 2, with the entries of two that were in no ring yet.
+/// The commit token of ring 1.1, members 1 and 3, hop 2, with the entries of two processors that were in no ring yet.
 pub const COMMIT_OF_TWO: &str = "\
     545201040000007e 000000000000000101 0005 02 000000000000000001 0000000000000000 0000000000000000 \
     0000000000000000000000000000000000000000000000000000000000000000 000000000000000003 0000000000000000 \
@@ -57,20 +58,25 @@ pub const PACK: &str = "\
     545202010000003e 000000000000000101 0000000000000003 01 0602 00000007 0000000000000001 000b \
     0101000000000000000005 00000007 0000000000000002 0003 010200";
 
-/// Message 4 of ring 8.1 from 1: a Head with last primary 4.1, length 3, committed 2, trimmed 1.
-pub const TRIMMED_HEAD: &str = "\
-    5452030100000034 000000000000000801 0000000000000004 01 07 000000000000000401 0000000000000003 \
-    0000000000000002 0000000000000001";
+/// Message 1 of ring 2.1 from 2, which wraps the message of that Pack.
+pub const WRAPPED_PACK: &str = "\
+    5452020100000051 000000000000000201 0000000000000001 02 02 000000000000000101 0000000000000003 01 0602 00000007 \
+    0000000000000001 000b 0101000000000000000005 00000007 0000000000000002 0003 010200";
 
-/// Message 6 of ring 8.1 from 1: the last 2 bytes of a snapshot of 7,002 bytes after 256 places.
+/// Message 4 of ring 8.1 from 1: a Head with last primary 4.1, length 300, committed 290, trimmed 256.
+pub const TRIMMED_HEAD: &str = "\
+    5452030100000034 000000000000000801 0000000000000004 01 07 000000000000000401 000000000000012c \
+    0000000000000122 0000000000000100";
+
+/// Message 6 of ring 8.1 from 1: the last 3 bytes of a snapshot of 7,003 bytes after 256 places.
 pub const SNAP: &str = "\
-    5452030100000027 000000000000000801 0000000000000006 01 08 0000000000000100 00001b5a00001b58 0002 abcd";
+    5452030100000028 000000000000000801 0000000000000006 01 08 0000000000000100 00001b5b00001b58 0003 0a0b0c";
 
 /// One of each kind of frame: the join, the token, the message, the commit token.
 pub const EACH_KIND: [&str; 4] = [JOIN, TOKEN, MESSAGE, COMMIT];
 
-/// All of them.
-pub const ALL: [&str; 14] = [
+/// All vectors.
+pub const ALL: [&str; 15] = [
     JOIN,
     TOKEN,
     MESSAGE,
@@ -83,6 +89,7 @@ pub const ALL: [&str; 14] = [
     PART,
     WRAPPED,
     PACK,
+    WRAPPED_PACK,
     TRIMMED_HEAD,
     SNAP,
 ];

@@ -1,16 +1,17 @@
-//! Worked bytes both ways, and bytes near them that are no frames.
+//! The vectors encoded and decoded, and bytes near them that are no frames.
+//! Formats: Vectors; What is no frame
 
-use crate::spelled::{bytes_of, is_frame};
+use crate::hex_words::{bytes_of, is_frame};
 use crate::vectors::{
     ALL, COMMIT, COMMIT_OF_TWO, EACH_KIND, HEAD, JOIN, MESSAGE, PACK, PART, SNAP, TOKEN,
     TRIMMED_HEAD, WRAPPED,
 };
-use ring_base::Fault;
-use ring_wire::{Frame, Wire};
+use ring_base::{Fault, Proc, ProcSet};
+use ring_wire::{Frame, Join, Wire};
 use std::alloc::{Allocator, Global};
 use std::test::Fail;
 
-/// Each vector is a frame that is spelled so again, and none with a byte left over.
+/// Each vector is a frame with this encoding, and no frame with one byte more.
 #[test]
 fn vectors_both_ways(rt: HostRuntime) -> Result<(), Fail> {
     for vector in &ALL {
@@ -22,8 +23,8 @@ fn vectors_both_ways(rt: HostRuntime) -> Result<(), Fail> {
     Ok(())
 }
 
-/// Of a vector's proper fronts, the empty one included, and of the inputs that differ from it in one bit: how many there
-/// are, and how many are frames.
+/// Returns two pairs: the number of proper prefixes of the vector, the empty one included, and how many of them are
+/// frames; the number of inputs that differ from it in one bit, and how many of them are frames.
 fn changes(alloc: Global, bytes: &[u8]) -> Result<[(u32, u32); 2], Fault> {
     let mut fronts = (0u32, 0u32);
     let mut bits = (0u32, 0u32);
@@ -45,7 +46,8 @@ fn changes(alloc: Global, bytes: &[u8]) -> Result<[(u32, u32); 2], Fault> {
     Ok([fronts, bits])
 }
 
-/// 21 + 59 + 52 + 77 proper fronts, and none is a frame; eight times as many bits, and how many of the changes are frames.
+/// None of the 21 + 59 + 52 + 77 proper prefixes is a frame. Of the inputs with one bit changed, eight times as many,
+/// a given number are frames.
 #[test]
 fn fronts_and_changed_bits(rt: HostRuntime) -> Result<(), Fail> {
     let table = [(21, 168, 78), (59, 472, 192), (52, 416, 312), (77, 616, 76)];
@@ -57,7 +59,7 @@ fn fronts_and_changed_bits(rt: HostRuntime) -> Result<(), Fail> {
     Ok(())
 }
 
-/// What stands from a place of a vector on instead, in hexadecimal, so that it is no frame.
+/// A vector, a place in it, and the hexadecimal bytes that replace those from there on: the result is no frame.
 const NO_FRAMES: [(&str, usize, &str); 66] = [
     (JOIN, 2, "00"),
     (JOIN, 2, "02"),
@@ -113,13 +115,13 @@ const NO_FRAMES: [(&str, usize, &str); 66] = [
     (PACK, 27, "01"),
     (PACK, 27, "11"),
     (TRIMMED_HEAD, 52, "0000000000000000"),
-    (TRIMMED_HEAD, 52, "0000000000000003"),
+    (TRIMMED_HEAD, 52, "0000000000000123"),
     (SNAP, 27, "0000000000000000"),
     (SNAP, 27, "4000000000000001"),
     (SNAP, 35, "00000000"),
+    (SNAP, 35, "00001b5b 00001b57"),
+    (SNAP, 35, "00001b5a 00001b58"),
     (SNAP, 35, "00001b5a 00001b57"),
-    (SNAP, 35, "00001b59 00001b58"),
-    (SNAP, 35, "00001b59 00001b57"),
     (SNAP, 43, "0001"),
     (WRAPPED, 27, "0000000000000002"),
     (PART, 35, "00"),
@@ -132,7 +134,7 @@ const NO_FRAMES: [(&str, usize, &str); 66] = [
     (HEAD, 27, "000000000000000000"),
 ];
 
-/// Rows of what is no frame that change a vector in a few bytes.
+/// Rows of bytes that are no frame: vectors with a few bytes changed.
 #[test]
 fn what_is_no_frame(rt: HostRuntime) -> Result<(), Fail> {
     for (vector, place, words) in &NO_FRAMES {
@@ -149,22 +151,30 @@ fn what_is_no_frame(rt: HostRuntime) -> Result<(), Fail> {
     Ok(())
 }
 
-/// How long the join is that begins the bytes, if one does.
-fn length_of_join<A: Allocator + Copy + Drop>(
+/// Returns the join that begins the bytes and its length, or `None` if another frame does.
+fn join_at_the_front<A: Allocator + Copy + Drop>(
     alloc: A,
     bytes: &[u8],
-) -> Result<Option<usize>, Fault> {
+) -> Result<Option<(Join, usize)>, Fault> {
     let (frame, length): (Frame<A>, usize) = Wire::get(alloc, bytes)?;
-    let is_join = matches!(&frame, Frame::Join(_));
-    Ok(is_join.then_some(length))
+    match &frame {
+        Frame::Join(join) => Ok(Some((*join, length))),
+        _ => Ok(None),
+    }
 }
 
-/// The join and its length stand at the front of two frames; decoding wants one frame alone.
+/// The join and its length are read from the front of two frames; decoding wants exactly one frame.
 #[test]
 fn a_frame_at_the_front(rt: HostRuntime) -> Result<(), Fail> {
     let mut two = bytes_of(rt.alloc(), JOIN)?;
     two.extend_from_slice(bytes_of(rt.alloc(), TOKEN)?.as_slice())?;
-    assert!(rt; length_of_join(rt.alloc(), two.as_slice()) == Ok(Some(21)));
+    let join = Join {
+        sender: Proc::new(2),
+        number: 5,
+        proc_set: ProcSet::from_bits(0b111),
+        fail_set: ProcSet::from_bits(0b100),
+    };
+    assert!(rt; join_at_the_front(rt.alloc(), two.as_slice()) == Ok(Some((join, 21))));
     assert!(rt; is_frame(rt.alloc(), two.as_slice()) == Ok(false));
     Ok(())
 }

@@ -1,13 +1,13 @@
--- Calls of events that keep the limits of snapshots keep those of frames; so does each event that may be a step.
+-- Calls of events within the limits of snapshots are within those of frames; so is each event that may be a step.
 use Rattle.std.proofs.Common.{◌≡◌, ℕ, List, Some}
 use Rattle.std.specs.List.{AllByRecursion}
 use Rattle.ring_base.proofs.Each.{each-weaker}
-use Rattle.ring_rules.specs.declared.event.Event.{Event}
-use Rattle.ring_rules.specs.declared.event.Event.TheVariants.{Issue, Deliver, Noise, Timeout, Stop}
-use Rattle.ring_rules.specs.WorldLimits.{EventFits}
-use Rattle.ring_rules.specs.Worlds.{World}
+use Rattle.ring_node_spec.specs.declared.event.Event.{Event}
+use Rattle.ring_node_spec.specs.declared.event.Event.TheVariants.{Issue, Deliver, Noise, Timeout, Stop}
+use Rattle.ring_node_spec.specs.WorldLimits.{EventFits}
+use Rattle.ring_node_spec.specs.Worlds.{World}
 use Rattle.ring_order_proof.specs.Linear.{EventKeeps}
-use Rattle.ring_world.specs.Played.{step_in}
+use Rattle.ring_world.specs.WorldView.{stepping_node_in}
 
 event_fits : {A : Type 0} (e : Event A) → EventKeeps e → EventFits e
 event_fits (Issue i c) keeps = keeps.fits
@@ -19,7 +19,7 @@ event_fits (Stop i) keeps = tt
 pub all_fit : {A : Type 0} (events : List (Event A)) → AllByRecursion EventKeeps events → AllByRecursion EventFits events
 all_fit events keep = each-weaker EventKeeps EventFits event_fits events keep
 
-pub step_keeps : {A : Type 0} (w : World A) (e : Event A) (i : ℕ) → step_in w e ≡ Some i → EventKeeps e
+pub step_keeps : {A : Type 0} (w : World A) (e : Event A) (i : ℕ) → stepping_node_in w e ≡ Some i → EventKeeps e
 step_keeps w (Issue j c) i e = absurd (let q : ⊥ = cc e in q)
 step_keeps w (Deliver j k) i e = tt
 step_keeps w (Noise j bytes) i e = tt

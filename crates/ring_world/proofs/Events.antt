@@ -1,4 +1,4 @@
--- Of the events that stand nothing is told but answers, and refusals whatever the memory.
+-- Recorded events report only answers, and refusals that don't depend on memory.
 use Rattle.std.proofs.Common.{◌≡◌, ℕ, false, ◌==◌, List, [], ◌∷◌, ◌++◌, Some, refl, ap, ◌∙◌, append-nil}
 use Rattle.std.specs.Prelude.{not, cond}
 use Rattle.std.proofs.lemmas.List.Elements.{filter-append}
@@ -7,17 +7,17 @@ use Rattle.ring_base.specs.declared.fault.Fault.{Fault}
 use Rattle.ring_base.specs.declared.fault.Fault.TheVariants.{NotMember, PendingFull, OpTooLong, Conflict, Stale, NumberGap, SessionsFull}
 use Rattle.ring_base.specs.declared.fault.Fault.TheVariants.{Stopped, BookFull, Stranger, Memory, BadFrame, BadScript, NoAnswer, BadSnapshot}
 use Rattle.ring_payload.specs.declared.call.Call.{Call}
-use Rattle.ring_session.specs.declared.answered.Answered.{Answered}
-use Rattle.ring_rules.specs.Nodes.{Node}
-use Rattle.ring_rules.specs.Stepping.{submit_fault}
-use Rattle.ring_rules.specs.declared.told.Told.{Told}
-use Rattle.ring_rules.specs.declared.told.Told.TheVariants.{Answer as ToldAnswer, Refused as ToldRefused}
-use Rattle.ring_rules.specs.Worlds.{told_by}
-use Rattle.ring_world.specs.Played.{is_of_memory, told_of_events}
+use Rattle.ring_session.specs.declared.answered.TicketAnswer.{TicketAnswer}
+use Rattle.ring_node_spec.specs.Nodes.{Node}
+use Rattle.ring_node_spec.specs.Stepping.{submit_fault}
+use Rattle.ring_node_spec.specs.declared.told.Told.{Told}
+use Rattle.ring_node_spec.specs.declared.told.Told.TheVariants.{Answer as ToldAnswer, Refused as ToldRefused}
+use Rattle.ring_node_spec.specs.Worlds.{told_by}
+use Rattle.ring_world.specs.WorldView.{is_memory_refusal, told_of_events}
 use Rattle.ring_world.proofs.SubmitRefused.{not_memory}
 
 pub told_of_events-append : {A : Type 0} (xs ys : List (Told A)) → told_of_events (xs ++ ys) ≡ told_of_events xs ++ told_of_events ys
-told_of_events-append {A} xs ys = filter-append (λ (t : Told A). not (is_of_memory t)) xs ys
+told_of_events-append {A} xs ys = filter-append (λ (t : Told A). not (is_memory_refusal t)) xs ys
 
 other_number : (f : Fault) → (f ≡ Memory → ⊥) → (fault_number f == 11) ≡ false
 other_number NotMember other = refl
@@ -36,7 +36,7 @@ other_number BadScript other = refl
 other_number NoAnswer other = refl
 other_number BadSnapshot other = refl
 
-told_of_events-answers : {A : Type 0} (i : ℕ) (answers : List (Answered A)) → told_of_events (told_by i answers) ≡ told_by i answers
+told_of_events-answers : {A : Type 0} (i : ℕ) (answers : List (TicketAnswer A)) → told_of_events (told_by i answers) ≡ told_by i answers
 told_of_events-answers i [] = refl
 told_of_events-answers i (a ∷ rest) = ap (λ ts. ToldAnswer i a.call a.answer ∷ ts) (told_of_events-answers i rest)
 
@@ -46,13 +46,13 @@ told_of_events-refusal n f i c is =
     ap (λ b. cond (not b) (ToldRefused i c (fault_number f) ∷ []) []) (other_number f (not_memory n f is))
 
 module _ {A : Type 0} (told now : List (Told A)) (h : told_of_events told ≡ now) where
-  -- a step answered
-  pub tells_answers : (i : ℕ) (answers : List (Answered A)) → told_of_events (told ++ told_by i answers) ≡ now ++ told_by i answers
+  -- a step has answered
+  pub tells_answers : (i : ℕ) (answers : List (TicketAnswer A)) → told_of_events (told ++ told_by i answers) ≡ now ++ told_by i answers
   tells_answers i answers =
       told_of_events-append told (told_by i answers) ∙ ap (λ ts. ts ++ told_of_events (told_by i answers)) h
       ∙ ap (λ ts. now ++ ts) (told_of_events-answers i answers)
 
-  -- a submit was refused, whatever the memory
+  -- a submit was refused for a reason other than memory
   pub tells_refusal : (n : Node A) (f : Fault) (i : ℕ) (c : Call A) → submit_fault n ≡ Some f
       → told_of_events (told ++ ToldRefused i c (fault_number f) ∷ []) ≡ now ++ ToldRefused i c (fault_number f) ∷ []
   tells_refusal n f i c is =
@@ -60,6 +60,6 @@ module _ {A : Type 0} (told now : List (Told A)) (h : told_of_events told ≡ no
       ∙ ap (λ ts. ts ++ told_of_events (ToldRefused i c (fault_number f) ∷ [])) h
       ∙ ap (λ ts. now ++ ts) (told_of_events-refusal n f i c is)
 
-  -- memory refused a submit
+  -- a submit was refused memory
   pub tells_memory : (i : ℕ) (c : Call A) → told_of_events (told ++ ToldRefused i c 11 ∷ []) ≡ now
   tells_memory i c = told_of_events-append told (ToldRefused i c 11 ∷ []) ∙ append-nil (told_of_events told) ∙ h

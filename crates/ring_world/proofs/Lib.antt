@@ -1,25 +1,26 @@
--- Storing: One frame more is kept, and the frame of a number is found.
--- Tellings: Answers are told one after the other, each with the copy of its call that is left.
--- Spared: The second copies of the calls that wait: what a step answers has its copy, and those that wait on keep theirs.
--- StoppedNode: The step of a node that has stopped gives nothing and changes nothing, where no committed places wait to be dropped.
--- AnsweredCopies: What a step answers has its copies, and the tickets that wait on keep theirs.
--- Events: Of the events that stand nothing is told but answers, and refusals whatever the memory.
--- NodePlaces: Where a node stands in the lists that the code of a world keeps, and what they are with another node in its place.
--- WorldOfNodes: What the code keeps goes on telling the world, event by event.
--- SubmitRefused: A submit is refused for no want of memory where it is refused whatever the memory, and room for many is room for fewer.
--- FrameHanded: What a step is handed: the frame that was sent to its node, or a time.
--- Copying: What a copy of a world keeps is what the world keeps.
--- Playing: A run goes on event by event, and only adds to what was.
--- OutputsGrow: What the cores gave in a run goes on in a longer one.
--- WorldsGoOn: What the laws of every run say of a world that has gone on.
--- EventLimits: Calls of events that keep the limits of snapshots keep those of frames, as copies of events do.
--- Segments: The longest of what nodes committed, segment by segment.
--- OrderLengths: How long the order is: as many calls as took effect at the node where the most did.
+-- Storing: One more frame is stored, and the frame of a number is found.
+-- Tellings: Answers are recorded one after another, each with the remaining copy of its call.
+-- Spared: Each ticket that a step answers has its second copy, and the waiting tickets keep theirs.
+-- StoppedNode: The step of a stopped node has no outputs and changes nothing, where no committed places wait to be
+-- dropped.
+-- AnsweredCopies: Each ticket that a step answers has its copy, and the waiting tickets keep theirs.
+-- Events: Recorded events report only answers, and refusals that don't depend on memory.
+-- NodePlaces: The place of a node in the lists of a world's code, and the lists with another node in that place.
+-- WorldOfNodes: The fields of the code go on representing the world, event by event.
+-- SubmitRefused: A refusal that doesn't depend on memory is not `Memory`, and room for many is room for fewer.
+-- FrameHanded: The input of a step: the frame that was sent to its node, or a timeout.
+-- Copying: The fields of a copied world represent the same world.
+-- Playing: A run continues event by event, and only adds to the view.
+-- OutputsGrow: The outputs of the cores in a run are a prefix of those in a longer run.
+-- WorldsGoOn: The laws of every run, for a world after further events.
+-- EventLimits: Calls of events within the limits of snapshots are within those of frames, and so are copies of events.
+-- Segments: The longest committed log, segment by segment.
+-- OrderLengths: The length of the order is the greatest number of calls that took effect at one node.
 -- Opening: The opening world: its nodes are at their opening, and no ticket waits for an answer.
--- PumpGrowing: Frames only come: those of a world stay as it goes on, and so the copies that are open.
--- PumpOpening: The copies of the next frame, and the first copy that is open.
+-- PumpGrowing: Frames are only added: a continued world keeps its frames, and the pump keeps its open copies.
+-- PumpOpening: The copies of the next frame, and the first open copy.
 -- PumpRunning: What one event does to a pump.
--- MemoryRefused: What a run of one event shows of a step that memory was refused to.
+-- MemoryRefused: The stop of a step that was refused memory, in a run of one event.
 pub mod Storing
 pub mod Tellings
 pub mod Spared

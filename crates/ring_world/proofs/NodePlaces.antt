@@ -1,4 +1,4 @@
--- Where a node stands in the lists that the code of a world keeps, and what they are with another node in its place.
+-- The place of a node in the lists of a world's code, and the lists with another node in that place.
 use Rattle.std.proofs.Common.{◌≡◌, ℕ, zero, suc, ◌-◌, ◌<◌, ◌≤◌, true, false, ◌==◌, List, [], ◌∷◌, length, length-set}
 use Rattle.std.proofs.Common.{Some, slice_get, get_or, ap, ◌∙◌, sym, subst, arith, inl, inr}
 use Rattle.std.specs.Prelude.{slice_set}
@@ -10,29 +10,29 @@ use Rattle.ring_base.specs.Processors.{IsProc}
 use Rattle.ring_base.proofs.ListPlaces.{get-set, get-set_other}
 use Rattle.ring_object.specs.Operations.{Sequential}
 use Rattle.ring_payload.specs.declared.call.Call.{Call}
-use Rattle.ring_core.specs.State.{Carried}
-use Rattle.ring_rules.specs.Nodes.{Node}
-use Rattle.ring_rules.specs.declared.event.Event.{Event}
-use Rattle.ring_rules.specs.declared.item.Item.{Item}
-use Rattle.ring_rules.specs.declared.told.Told.{Told}
-use Rattle.ring_rules.specs.Worlds.{World, put, is_node}
-use Rattle.ring_world.specs.Played.{Played, told_of_events, world_of}
-use Rattle.ring_world.specs.Spares.{Spares, Holds}
+use Rattle.ring_core_spec.specs.State.{Transmission}
+use Rattle.ring_node_spec.specs.Nodes.{Node}
+use Rattle.ring_node_spec.specs.declared.event.Event.{Event}
+use Rattle.ring_node_spec.specs.declared.item.Item.{Item}
+use Rattle.ring_node_spec.specs.declared.told.Told.{Told}
+use Rattle.ring_node_spec.specs.Worlds.{World, put, is_node}
+use Rattle.ring_world.specs.WorldView.{WorldView, told_of_events, world_of}
+use Rattle.ring_world.specs.SpareCalls.{SpareCalls, Holds}
 use Rattle.ring_world.specs.Keeping.{KeepsCopies, IsWorldKept, IsWorld}
 
--- the lists are those of a world, and its processor i stands at place m of the nodes
-pub record Stands {O A : Type 0} (object : Sequential O) (p old : Played A) (nodes : List (Node A)) (spares : List (Spares A))
-    (frames : List (Carried A)) (history : List (Item A)) (longest : List (Call A)) (i m : ℕ) : Type 0 where
+-- the lists are those of a world, with its processor i at index m of the nodes
+pub record Stands {O A : Type 0} (object : Sequential O) (p old : WorldView A) (nodes : List (Node A)) (spares : List (SpareCalls A))
+    (frames : List (Transmission A)) (history : List (Item A)) (longest : List (Call A)) (i m : ℕ) : Type 0 where
   pub was : p ≡ old
   pub world : IsWorld object p.group p.events nodes spares frames history p.told longest
   pub low : 1 ≤ i
   pub at : m ≡ i - 1
   pub inside : m < length nodes
 
--- The place as the code finds it
+-- The index as the code computes it
 
-module _ {O A : Type 0} {object : Sequential O} {p old : Played A} {nodes : List (Node A)} {spares : List (Spares A)}
-    {frames : List (Carried A)} {history : List (Item A)} {longest : List (Call A)} {i number place many len : ℕ} (was : p ≡ old)
+module _ {O A : Type 0} {object : Sequential O} {p old : WorldView A} {nodes : List (Node A)} {spares : List (SpareCalls A)}
+    {frames : List (Transmission A)} {history : List (Item A)} {longest : List (Call A)} {i number place many len : ℕ} (was : p ≡ old)
     (world : IsWorld object p.group p.events nodes spares frames history p.told longest)
     (number_is : number ≡ i) (proc : IsProc number) (place_is : place ≡ number) (many_is : many ≡ length nodes) (len_is : len ≡ many) where
   pub stands : place - 1 < len → Stands object p old nodes spares frames history longest i (place - 1)
@@ -44,24 +44,24 @@ module _ {O A : Type 0} {object : Sequential O} {p old : Played A} {nodes : List
     inside = omega (arith, many_is, len_is, inside);
   }
 
-  -- past the last node there is none
+  -- there is no node past the last
   pub unknown : len ≤ place - 1 → is_node (world_of object old) i ≡ false
   unknown past =
       let low = proc.0 in
       let many = world.kept.many in
       let one : 1 ≤ i = omega (arith, number_is, low) in
       let far : (world_of object p).group.count ≤ i - 1 = omega (arith, past, many, many_is, len_is, place_is, number_is) in
-      subst (λ (r : Played A). is_node (world_of object r) i ≡ false) was (grind (arith, nat_tests, one, far))
+      subst (λ (r : WorldView A). is_node (world_of object r) i ≡ false) was (grind (arith, nat_tests, one, far))
 
--- lists that are the same, as those in which room was made
-pub roomy : {O A : Type 0} {object : Sequential O} {p old : Played A} {nodes : List (Node A)} {spares : List (Spares A)}
-    {frames frames' : List (Carried A)} {history history' : List (Item A)} {longest longest' : List (Call A)} {i m : ℕ} {events : List (Event A)}
+-- equal lists, such as those in which room was made
+pub roomy : {O A : Type 0} {object : Sequential O} {p old : WorldView A} {nodes : List (Node A)} {spares : List (SpareCalls A)}
+    {frames frames' : List (Transmission A)} {history history' : List (Item A)} {longest longest' : List (Call A)} {i m : ℕ} {events : List (Event A)}
     {told : List (Told A)} → Stands object p old nodes spares frames history longest i m → events ≡ p.events → told ≡ p.told → history' ≡ history
     → frames' ≡ frames → longest' ≡ longest
     → Stands object (record { group = p.group; events = events; told = told; done = p.done }) old nodes spares frames' history' longest' i m
 roomy {A = A} {p = p} {events = events} {told = told} here e t hs fs ls =
-    let of_events : List (Event A) → Played A = λ es. record { group = p.group; events = es; told = told; done = p.done } in
-    let of_told : List (Told A) → Played A = λ ts. record { group = p.group; events = p.events; told = ts; done = p.done } in
+    let of_events : List (Event A) → WorldView A = λ es. record { group = p.group; events = es; told = told; done = p.done } in
+    let of_told : List (Told A) → WorldView A = λ ts. record { group = p.group; events = p.events; told = ts; done = p.done } in
     record {
       was = ap of_events e ∙ ap of_told t ∙ here.was;
       world = rw (e, t, hs, fs, ls) here.world;
@@ -89,8 +89,8 @@ eq_test i j e = eq-eqb i j e
 not_test : (i j : ℕ) → (i ≡ j → ⊥) → (i == j) ≡ false
 not_test i j f = elim (cases_Bool (i == j)) [ inl t ↦ absurd (f (eqb-true i j t)) | inr e ↦ e ]
 
-module _ {O A : Type 0} {object : Sequential O} {p old : Played A} {nodes : List (Node A)} {spares : List (Spares A)}
-    {frames : List (Carried A)} {history : List (Item A)} {longest : List (Call A)} {i m : ℕ}
+module _ {O A : Type 0} {object : Sequential O} {p old : WorldView A} {nodes : List (Node A)} {spares : List (SpareCalls A)}
+    {frames : List (Transmission A)} {history : List (Item A)} {longest : List (Call A)} {i m : ℕ}
     (here : Stands object p old nodes spares frames history longest i m) where
   abbrev w : World A
   w = world_of object p
@@ -116,19 +116,19 @@ module _ {O A : Type 0} {object : Sequential O} {p old : Played A} {nodes : List
   pub node_is : {n : Node A} → n ≡ get_or nodes m n → n ≡ w.nodes i
   node_is {n} is = at-get nodes m n (w.nodes (suc m)) (kept.nodes_are m below) is ∙ ap w.nodes next
 
-  pub copies_are : {s : Spares A} → s ≡ get_or spares m s → KeepsCopies (w.nodes i) s
+  pub copies_are : {s : SpareCalls A} → s ≡ get_or spares m s → KeepsCopies (w.nodes i) s
   copies_are {s} is =
       let c = kept.copies m below in
-      subst (λ (t : Spares A). KeepsCopies (w.nodes i) t) (sym (at-get spares m s c.0 c.1 is)) (subst (λ j. KeepsCopies (w.nodes j) c.0) next c.2)
+      subst (λ (t : SpareCalls A). KeepsCopies (w.nodes i) t) (sym (at-get spares m s c.0 c.1 is)) (subst (λ j. KeepsCopies (w.nodes j) c.0) next c.2)
 
   pub spare_there : m < length spares
   spare_there = (let b = below in let many = kept.copies_many in omega (arith, b, many))
 
-  -- copies that were put there
-  pub spare_put : {s : Spares A} (t : Spares A) → s ≡ get_or (slice_set spares m t) m s → s ≡ t
+  -- the copies put there
+  pub spare_put : {s : SpareCalls A} (t : SpareCalls A) → s ≡ get_or (slice_set spares m t) m s → s ≡ t
   spare_put {s} t is = at-set spares m t s spare_there is
 
-  -- a node that was put there
+  -- the node put there
   pub node_put : {n : Node A} (t : Node A) → n ≡ get_or (slice_set nodes m t) m n → n ≡ t
   node_put {n} t is = at-set nodes m t n here.inside is
 
@@ -150,10 +150,10 @@ module _ {O A : Type 0} {object : Sequential O} {p old : Played A} {nodes : List
         get-set_other nodes m j n e ∙ kept.nodes_are j l ∙ ap Some (sym (put_other n j e))
   ]
 
-  abbrev pub Copied : Node A → List (Spares A) → Type 0
-  Copied n ss = (j : ℕ) → j < w.group.count → (s : Spares A) × (slice_get ss j ≡ Some s) × KeepsCopies (put w.nodes i n (suc j)) s
+  abbrev pub Copied : Node A → List (SpareCalls A) → Type 0
+  Copied n ss = (j : ℕ) → j < w.group.count → (s : SpareCalls A) × (slice_get ss j ≡ Some s) × KeepsCopies (put w.nodes i n (suc j)) s
 
-  pub copies_set : (n : Node A) (s : Spares A) → KeepsCopies n s → Copied n (slice_set spares m s)
+  pub copies_set : (n : Node A) (s : SpareCalls A) → KeepsCopies n s → Copied n (slice_set spares m s)
   copies_set n s k j l = elim (cases_Bool (j == m)) [
     | inl t ↦
         let e = eqb-true j m t in
@@ -165,7 +165,7 @@ module _ {O A : Type 0} {object : Sequential O} {p old : Played A} {nodes : List
         (c.0, (get-set_other spares m j s e ∙ c.1), subst (λ (x : Node A). KeepsCopies x c.0) (sym (put_other n j e)) c.2)
   ]
 
-  pub copies_same : (n : Node A) → ((s : Spares A) → KeepsCopies (w.nodes i) s → KeepsCopies n s) → Copied n spares
+  pub copies_same : (n : Node A) → ((s : SpareCalls A) → KeepsCopies (w.nodes i) s → KeepsCopies n s) → Copied n spares
   copies_same n k j l = elim (cases_Bool (j == m)) [
     | inl t ↦
         let e = eqb-true j m t in
@@ -178,7 +178,7 @@ module _ {O A : Type 0} {object : Sequential O} {p old : Played A} {nodes : List
         (c.0, c.1, subst (λ (x : Node A). KeepsCopies x c.0) (sym (put_other n j e)) c.2)
   ]
 
-  pub put_kept : {ss : List (Spares A)} {fs : List (Carried A)} {is : List (Item A)} {ts : List (Told A)} {ls : List (Call A)} {v : World A} (n : Node A) →
+  pub put_kept : {ss : List (SpareCalls A)} {fs : List (Transmission A)} {is : List (Item A)} {ts : List (Told A)} {ls : List (Call A)} {v : World A} (n : Node A) →
       v.group ≡ w.group → v.nodes ≡ put w.nodes i n → v.frames ≡ fs → v.history ≡ is → v.told ≡ told_of_events ts → v.longest ≡ ls →
       Copied n ss → length ss ≡ length spares → IsWorldKept v (slice_set nodes m n) ss fs is ts ls
   put_kept {v = v} n g ns f hs t l copied many =
@@ -199,8 +199,8 @@ module _ {O A : Type 0} {object : Sequential O} {p old : Played A} {nodes : List
 
   -- Other copies, with the same calls
 
-  spared_copies : (s : Spares A) → KeepsCopies (w.nodes i) s → (j : ℕ) → j < w.group.count →
-      (t : Spares A) × (slice_get (slice_set spares m s) j ≡ Some t) × KeepsCopies (w.nodes (suc j)) t
+  spared_copies : (s : SpareCalls A) → KeepsCopies (w.nodes i) s → (j : ℕ) → j < w.group.count →
+      (t : SpareCalls A) × (slice_get (slice_set spares m s) j ≡ Some t) × KeepsCopies (w.nodes (suc j)) t
   spared_copies s k j l = elim (cases_Bool (j == m)) [
     | inl t ↦
         let e = eqb-true j m t in
@@ -215,7 +215,7 @@ module _ {O A : Type 0} {object : Sequential O} {p old : Played A} {nodes : List
         (c.0, (get-set_other spares m j s e ∙ c.1), c.2)
   ]
 
-  pub spared : {s : Spares A} (t : Spares A) → s ≡ get_or spares m s → t.calls ≡ s.calls →
+  pub spared : {s : SpareCalls A} (t : SpareCalls A) → s ≡ get_or spares m s → t.calls ≡ s.calls →
       Stands object p old nodes (slice_set spares m t) frames history longest i m
   spared t is same =
       let n = w.nodes i in

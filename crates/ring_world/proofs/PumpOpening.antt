@@ -1,4 +1,4 @@
--- The copies of the next frame, and the first copy that is open.
+-- The copies of the next frame, and the first open copy.
 use Rattle.std.proofs.Common.{◌≡◌, ℕ, zero, suc, ◌+◌, ◌-◌, ◌^◌, ◌<◌, ◌≤◌, List, [], ◌∷◌, ◌++◌, map, length, take, drop}
 use Rattle.std.proofs.Common.{Option, Some, None, slice_get, refl, sym, ap, ◌∙◌, arith, add-one}
 use Rattle.std.proofs.lemmas.List.{drop_all}
@@ -9,11 +9,11 @@ use Rattle.ring_base.specs.Elements.{elements-nobody}
 use Rattle.ring_base.specs.Processors.{elements, nobody, only, less, smallest, IsProc, IsMember}
 use Rattle.ring_base.proofs.Taking.{elements-taken}
 use Rattle.ring_base.proofs.ListPlaces.{none-length}
-use Rattle.ring_core.specs.State.{Carried, frame_at}
-use Rattle.ring_rules.proofs.FirstPassing.{get-take}
-use Rattle.ring_world.specs.declared.pairs.Pair.{Pair}
-use Rattle.ring_world.specs.declared.pairs.Pairs.{Pairs}
-use Rattle.ring_world.specs.Pairs.{pairs_of, pairs_behind, within_reach, all_pairs, pairs_from, IsReached, Takes}
+use Rattle.ring_core_spec.specs.State.{Transmission, frame_at}
+use Rattle.ring_node_spec.proofs.FirstMatch.{get-take}
+use Rattle.ring_world.specs.declared.open_copies.OpenCopy.{OpenCopy}
+use Rattle.ring_world.specs.declared.open_copies.OpenCopies.{OpenCopies}
+use Rattle.ring_world.specs.OpenCopies.{copies_of_frame, copies_after, within_reach, all_copies, open_copies_from, IsReached, IsFirstCopyTaken}
 
 -- ---- lists
 
@@ -34,76 +34,76 @@ take_less (suc n) (x ∷ xs) = let rest = take_less n xs in omega arith
 
 -- ---- frames
 
-none_of : (number sender left : ℕ) → left ≡ nobody → pairs_of number sender left ≡ []
+none_of : (number sender left : ℕ) → left ≡ nobody → copies_of_frame number sender left ≡ []
 none_of number sender left none = ap
     (λ s. map (λ (receiver : ℕ). record { frame = number; sender = sender; receiver = receiver }) (elements s)) none
     ∙ ap (λ xs. map (λ (receiver : ℕ). record { frame = number; sender = sender; receiver = receiver }) xs)
     elements-nobody
 
 -- before the first frame is reached all copies are open
-pub all_open : {A : Type 0} (p : Pairs) (frames : List (Carried A)) → p ≡ record { frame = 0; sender = 1; left = nobody }
-    → pairs_from p frames ≡ all_pairs frames
+pub all_open : {A : Type 0} (p : OpenCopies) (frames : List (Transmission A)) → p ≡ record { frame = 0; sender = 1; left = nobody }
+    → open_copies_from p frames ≡ all_copies frames
 all_open {A} p frames first =
-    ap (λ (q : Pairs). pairs_from q frames) first
-    ∙ ap (λ ps. ps ++ pairs_behind 0 (within_reach frames)) (none_of 0 1 nobody refl)
+    ap (λ (q : OpenCopies). open_copies_from q frames) first
+    ∙ ap (λ ps. ps ++ copies_after 0 (within_reach frames)) (none_of 0 1 nobody refl)
 
-module _ {A : Type 0} (p : Pairs) (frames : List (Carried A)) where
-  only_behind : p.left ≡ nobody → pairs_from p frames ≡ pairs_behind p.frame (drop p.frame (within_reach frames))
-  only_behind none = ap (λ ps. ps ++ pairs_behind p.frame (drop p.frame (within_reach frames))) (none_of p.frame p.sender p.left none)
+module _ {A : Type 0} (p : OpenCopies) (frames : List (Transmission A)) where
+  only_behind : p.left ≡ nobody → open_copies_from p frames ≡ copies_after p.frame (drop p.frame (within_reach frames))
+  only_behind none = ap (λ ps. ps ++ copies_after p.frame (drop p.frame (within_reach frames))) (none_of p.frame p.sender p.left none)
 
-  nothing_behind : p.left ≡ nobody → length (within_reach frames) ≤ p.frame → pairs_from p frames ≡ []
-  nothing_behind none all = only_behind none ∙ ap (λ fs. pairs_behind p.frame fs) (drop_all p.frame (within_reach frames) all)
+  nothing_behind : p.left ≡ nobody → length (within_reach frames) ≤ p.frame → open_copies_from p frames ≡ []
+  nothing_behind none all = only_behind none ∙ ap (λ fs. copies_after p.frame fs) (drop_all p.frame (within_reach frames) all)
 
   -- no frame has a greater number
-  pub none_past : p.left ≡ nobody → 2 ^ 64 - 1 ≤ p.frame → pairs_from p frames ≡ []
+  pub none_past : p.left ≡ nobody → 2 ^ 64 - 1 ≤ p.frame → open_copies_from p frames ≡ []
   none_past none last = nothing_behind none (omega (arith, last, take_le (2 ^ 64 - 1) frames))
 
   -- the next frame was not sent
-  pub none_sent : p.left ≡ nobody → frame_at frames (suc p.frame) ≡ None → pairs_from p frames ≡ []
-  none_sent none lost = nothing_behind none (omega (arith, take_less (2 ^ 64 - 1) frames, none-length frames p.frame lost))
+  pub no_sent_frames : p.left ≡ nobody → frame_at frames (suc p.frame) ≡ None → open_copies_from p frames ≡ []
+  no_sent_frames none lost = nothing_behind none (omega (arith, take_less (2 ^ 64 - 1) frames, none-length frames p.frame lost))
 
   -- the next frame was sent
-  pub next_sent : (q : Pairs) (f : Carried A) → p.left ≡ nobody → p.frame < 2 ^ 64 - 1 → frame_at frames (suc p.frame)
+  pub next_sent : (q : OpenCopies) (f : Transmission A) → p.left ≡ nobody → p.frame < 2 ^ 64 - 1 → frame_at frames (suc p.frame)
       ≡ Some f → q ≡ record { frame = suc p.frame; sender = f.from; left = f.to }
-      → (pairs_from q frames ≡ pairs_from p frames) × IsReached q frames
+      → (open_copies_from q frames ≡ open_copies_from p frames) × IsReached q frames
   next_sent q f none small sent is =
       let there = get-take (2 ^ 64 - 1) frames p.frame f small sent in
       let inside = slice_get_within (within_reach frames) p.frame f there in (
-        ap (λ (x : Pairs). pairs_from x frames) is ∙ sym (only_behind none ∙ ap (λ fs. pairs_behind p.frame fs)
+        ap (λ (x : OpenCopies). open_copies_from x frames) is ∙ sym (only_behind none ∙ ap (λ fs. copies_after p.frame fs)
             (drop_get (within_reach frames) p.frame f there)),
-        omega (arith, inside, ap (λ (x : Pairs). x.frame) is),
+        omega (arith, inside, ap (λ (x : OpenCopies). x.frame) is),
       )
 
-  -- the first of those that are open is closed
-  pub closes : (q : Pairs) (receiver alone : ℕ) → receiver ≡ smallest p.left → IsProc receiver
+  -- the first open copy is closed
+  pub closes : (q : OpenCopies) (receiver alone : ℕ) → receiver ≡ smallest p.left → IsProc receiver
       × IsMember p.left receiver → alone ≡ only receiver → q ≡ record p { left = less p.left alone }
-      → pairs_from p frames ≡ record { frame = p.frame; sender = p.sender; receiver = receiver } ∷ pairs_from q frames
+      → open_copies_from p frames ≡ record { frame = p.frame; sender = p.sender; receiver = receiver } ∷ open_copies_from q frames
   closes q receiver alone least m one is =
       let taken = elements-taken p.left receiver alone (less p.left alone) least m one refl in
       ap (λ xs. map (λ (r : ℕ). record { frame = p.frame; sender = p.sender; receiver = r }) xs
-      ++ pairs_behind p.frame (drop p.frame (within_reach frames))) taken
-      ∙ ap (λ (x : Pairs). record { frame = p.frame; sender = p.sender; receiver = receiver } ∷ pairs_from x frames) (sym is)
+      ++ copies_after p.frame (drop p.frame (within_reach frames))) taken
+      ∙ ap (λ (x : OpenCopies). record { frame = p.frame; sender = p.sender; receiver = receiver } ∷ open_copies_from x frames) (sym is)
 
--- ---- what a world tells of a frame
+-- ---- the result of `frame`
 
-pub is_not_sent : {A : Type 0} (o : Option (Carried A)) (n m : ℕ) (frames : List (Carried A)) → n ≡ suc m
-    → frame_at frames n ≡ o → None ≡ option_map {U = ℕ × ℕ} (λ (f : Carried A). (f.from, f.to)) o
+pub is_not_sent : {A : Type 0} (o : Option (Transmission A)) (n m : ℕ) (frames : List (Transmission A)) → n ≡ suc m
+    → frame_at frames n ≡ o → None ≡ option_map {U = ℕ × ℕ} (λ (f : Transmission A). (f.from, f.to)) o
     → frame_at frames (suc m) ≡ None
 is_not_sent None n m frames is at e = ap (frame_at frames) (sym is) ∙ at
 is_not_sent (Some f) n m frames is at e = absurd cc
 
-pub is_sent : {A : Type 0} (o : Option (Carried A)) (n m : ℕ) (frames : List (Carried A)) (sent : ℕ × ℕ) → n ≡ suc m
-    → frame_at frames n ≡ o → Some sent ≡ option_map {U = ℕ × ℕ} (λ (f : Carried A). (f.from, f.to)) o
-    → (f : Carried A) × ((frame_at frames (suc m) ≡ Some f) × (sent.0 ≡ f.from) × (sent.1 ≡ f.to))
+pub is_sent : {A : Type 0} (o : Option (Transmission A)) (n m : ℕ) (frames : List (Transmission A)) (sent : ℕ × ℕ) → n ≡ suc m
+    → frame_at frames n ≡ o → Some sent ≡ option_map {U = ℕ × ℕ} (λ (f : Transmission A). (f.from, f.to)) o
+    → (f : Transmission A) × ((frame_at frames (suc m) ≡ Some f) × (sent.0 ≡ f.from) × (sent.1 ≡ f.to))
 is_sent None n m frames sent is at e = absurd cc
 is_sent (Some f) n m frames sent is at e = let same : sent ≡ (f.from, f.to) =
     cc in (f, (ap (frame_at frames) (sym is) ∙ at, ap (λ (p : ℕ × ℕ). p.0) same, ap (λ (p : ℕ × ℕ). p.1) same))
 
--- the world tells of the frame of the next number
-pub went_on : {A : Type 0} (p : Pairs) (frames : List (Carried A)) (number sender receivers : ℕ) → p.left ≡ nobody
+-- the world returns the frame of the next number
+pub went_on : {A : Type 0} (p : OpenCopies) (frames : List (Transmission A)) (number sender receivers : ℕ) → p.left ≡ nobody
     → number ≡ p.frame + 1 → p.frame + 1 < 18446744073709551616
-    → ◌≡◌ {A = Option (ℕ × ℕ)} (Some (sender, receivers)) (option_map {U = ℕ × ℕ} (λ (f : Carried A). (f.from, f.to)) (frame_at frames number))
-    → let q : Pairs = record { frame = number; sender = sender; left = receivers } in (pairs_from q frames ≡ pairs_from p frames) × IsReached q frames
+    → ◌≡◌ {A = Option (ℕ × ℕ)} (Some (sender, receivers)) (option_map {U = ℕ × ℕ} (λ (f : Transmission A). (f.from, f.to)) (frame_at frames number))
+    → let q : OpenCopies = record { frame = number; sender = sender; left = receivers } in (open_copies_from q frames ≡ open_copies_from p frames) × IsReached q frames
 went_on p frames number sender receivers none is small told =
     let next : number ≡ suc p.frame = is ∙ add-one p.frame in
     let s = is_sent (frame_at frames number) number p.frame frames (sender, receivers) next refl told in
@@ -112,23 +112,23 @@ went_on p frames number sender receivers none is small told =
     ∙ (ap (λ (n : ℕ). record { frame = suc p.frame; sender = n; left = receivers }) s.1.1
     ∙ ap (λ (n : ℕ). record { frame = suc p.frame; sender = s.0.from; left = n }) s.1.2))
 
--- it tells that there is none
-pub ended : {A : Type 0} (p : Pairs) (frames : List (Carried A)) (number : ℕ) → p.left ≡ nobody → number ≡ p.frame + 1
-    → ◌≡◌ {A = Option (ℕ × ℕ)} None (option_map {U = ℕ × ℕ} (λ (f : Carried A). (f.from, f.to)) (frame_at frames number)) → pairs_from p frames ≡ []
+-- the world returns that there is none
+pub ended : {A : Type 0} (p : OpenCopies) (frames : List (Transmission A)) (number : ℕ) → p.left ≡ nobody → number ≡ p.frame + 1
+    → ◌≡◌ {A = Option (ℕ × ℕ)} None (option_map {U = ℕ × ℕ} (λ (f : Transmission A). (f.from, f.to)) (frame_at frames number)) → open_copies_from p frames ≡ []
 ended p frames number none is told =
     let next : number ≡ suc p.frame = is ∙ add-one p.frame in
-    none_sent p frames none (is_not_sent (frame_at frames number) number p.frame frames next refl told)
+    no_sent_frames p frames none (is_not_sent (frame_at frames number) number p.frame frames next refl told)
 
--- where one more is too much for a u64
+-- the next number doesn't fit in a u64
 pub no_next : (o : Option ℕ) (n : ℕ) → SomeIff o (n + 1 < 18446744073709551616) (n + 1) → o ≡ None → 2 ^ 64 - 1 ≤ n
 no_next None n h e = omega (arith, h)
 no_next (Some m) n h e = absurd cc
 
 -- before the first frame nothing is reached
-pub none_reached : {A : Type 0} (p : Pairs) (frames : List (Carried A)) → p ≡ record { frame = 0; sender = 1; left = nobody } → IsReached p frames
-none_reached p frames first = omega (arith, ap (λ (q : Pairs). q.frame) first)
+pub none_reached : {A : Type 0} (p : OpenCopies) (frames : List (Transmission A)) → p ≡ record { frame = 0; sender = 1; left = nobody } → IsReached p frames
+none_reached p frames first = omega (arith, ap (λ (q : OpenCopies). q.frame) first)
 
--- what is taken is the first
-pub takes_first : (old : List Pair) (taken : Option Pair) (new : List Pair) → Takes old taken new → taken ≡ slice_get old 0
-takes_first old None new t = ap (λ (ps : List Pair). slice_get ps 0) (sym t.0)
-takes_first old (Some pair) new t = ap (λ (ps : List Pair). slice_get ps 0) (sym t)
+-- the copy taken is the first
+pub takes_first : (old : List OpenCopy) (taken : Option OpenCopy) (new : List OpenCopy) → IsFirstCopyTaken old taken new → taken ≡ slice_get old 0
+takes_first old None new t = ap (λ (ps : List OpenCopy). slice_get ps 0) (sym t.0)
+takes_first old (Some pair) new t = ap (λ (ps : List OpenCopy). slice_get ps 0) (sym t)

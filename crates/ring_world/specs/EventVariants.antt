@@ -1,2 +1,2 @@
--- The events of a world, passed on to what runs scripts.
-pub use Rattle.ring_rules.specs.declared.event.Event.TheVariants.{Issue, Deliver, Noise, Timeout, Stop}
+-- The variants of `Event`, re-exported for the code that runs scripts.
+pub use Rattle.ring_node_spec.specs.declared.event.Event.TheVariants.{Issue, Deliver, Noise, Timeout, Stop}

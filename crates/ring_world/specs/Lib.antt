@@ -1,12 +1,12 @@
-pub mod Stored
-pub mod Spares
-pub mod Played
+pub mod StoredFramesView
+pub mod SpareCalls
+pub mod WorldView
 pub mod Shown
 pub mod Steps
-pub mod Longest
+pub mod LongestCommitted
 pub mod Ordering
 pub mod Keeping
-pub mod Pairs
+pub mod OpenCopies
 pub mod Pumping
 pub mod Refusals
 pub mod Rules

@@ -1,12 +1,13 @@
--- How long the order is, by what each node tells of its own committed places. Sessions, of docs/PROTOCOL.md.
+-- The length of the order, computed from each node's own committed places.
+-- Rules: Sessions 10
 use Rattle.std.specs.Prelude.{ℕ, List, map}
 use Rattle.ring_object.specs.Operations.{Sequential}
-use Rattle.ring_rules.specs.Nodes.{Node, node_kept, effects_at}
+use Rattle.ring_node_spec.specs.Nodes.{Node, node_known_log, effects_at}
 
--- how many calls took effect of all that a node has committed, as its sessions tell
+-- the number of a node's committed calls that took effect, by its sessions
 abbrev pub effects_of : {O A : Type 0} → Sequential O → Node A → ℕ
-effects_of object n = effects_at object (node_kept n) (node_kept n).committed
+effects_of object n = effects_at object (node_known_log n) (node_known_log n).committed
 
--- of each of the nodes
-abbrev pub effects_in : {O A : Type 0} → Sequential O → List (Node A) → List ℕ
-effects_in object nodes = map (λ (n : Node _). effects_of object n) nodes
+-- the same for each of the nodes
+abbrev pub effects_of_nodes : {O A : Type 0} → Sequential O → List (Node A) → List ℕ
+effects_of_nodes object nodes = map (λ (n : Node _). effects_of object n) nodes

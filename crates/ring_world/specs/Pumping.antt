@@ -1,28 +1,29 @@
--- A world, and the copies of its frames that are under way. Pump, of docs/FORMATS.md.
+-- A world, and the open copies of its frames.
+-- Formats: Pump
 use Rattle.std.specs.Prelude.{◌≡◌, List, ◌++◌}
 use Rattle.ring_object.specs.Operations.{Sequential}
-use Rattle.ring_rules.specs.declared.event.Event.{Event}
-use Rattle.ring_world.specs.Played.{Played, Goes}
-use Rattle.ring_world.specs.declared.pairs.Pair.{Pair}
-use Rattle.ring_world.specs.Pairs.{frames_of, opened_since}
+use Rattle.ring_node_spec.specs.declared.event.Event.{Event}
+use Rattle.ring_world.specs.WorldView.{WorldView, IsEventOutcome}
+use Rattle.ring_world.specs.declared.open_copies.OpenCopy.{OpenCopy}
+use Rattle.ring_world.specs.OpenCopies.{frames_of, opened_since}
 
--- What contracts see.
-pub record Pumped (A : Type 0) : Type 0 where
-  -- what the world has done, and told
-  pub played : Played A
-  -- the copies of frames that are under way, by the frame's number, then by receiver
-  pub open_pairs : List Pair
+-- the view of contracts
+pub record PumpView (A : Type 0) : Type 0 where
+  -- the world's events and their reports
+  pub world_view : WorldView A
+  -- the open copies, by the frame's number, then by receiver
+  pub open_copies : List OpenCopy
 
--- The world did nothing, and told nothing; all else stays too.
-pub record Rests {A : Type 0} (old new : Pumped A) : Type 0 where
-  pub group : new.played.group ≡ old.played.group
-  pub events : new.played.events ≡ old.played.events
-  pub told : new.played.told ≡ old.played.told
-  pub done : new.played.done ≡ old.played.done
-  pub open_pairs : new.open_pairs ≡ old.open_pairs
+-- nothing has changed
+pub record IsUnchanged {A : Type 0} (old new : PumpView A) : Type 0 where
+  pub group : new.world_view.group ≡ old.world_view.group
+  pub events : new.world_view.events ≡ old.world_view.events
+  pub told : new.world_view.told ≡ old.world_view.told
+  pub done : new.world_view.done ≡ old.world_view.done
+  pub open_copies : new.open_copies ≡ old.open_copies
 
--- The world runs an event, each frame that it sends opens its copies, and what the last run of many events had done stays.
-pub record Happens {O A : Type 0} (object : Sequential O) (e : Event A) (old new : Pumped A) : Type 0 where
-  pub goes : Goes object e old.played new.played
-  pub done : new.played.done ≡ old.played.done
-  pub open_pairs : new.open_pairs ≡ old.open_pairs ++ opened_since (frames_of object old.played) (frames_of object new.played)
+-- the world has run an event, the frames that it sent have opened their copies, and the count of the last run stays
+pub record HasRunEvent {O A : Type 0} (object : Sequential O) (e : Event A) (old new : PumpView A) : Type 0 where
+  pub goes : IsEventOutcome object e old.world_view new.world_view
+  pub done : new.world_view.done ≡ old.world_view.done
+  pub open_copies : new.open_copies ≡ old.open_copies ++ opened_since (frames_of object old.world_view) (frames_of object new.world_view)

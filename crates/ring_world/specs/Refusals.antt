@@ -1,9 +1,10 @@
--- Which node a step stopped that memory was refused to. The book and the threads, rules 1 to 8, of docs/PROTOCOL.md.
+-- Which node an event stopped because its step was refused memory.
+-- Rules: The book and the threads 7; Refusals 6
 use Rattle.std.specs.Prelude.{◌≡◌, ℕ, ◌-◌, List, length, Option, Some, None, slice_get}
 use Rattle.ring_object.specs.Operations.{Sequential}
-use Rattle.ring_rules.specs.declared.event.Event.{Event}
-use Rattle.ring_rules.specs.declared.event.Event.TheVariants.{Issue, Deliver, Noise, Timeout, Stop}
-use Rattle.ring_world.specs.Played.{Played, IsStopped}
+use Rattle.ring_node_spec.specs.declared.event.Event.{Event}
+use Rattle.ring_node_spec.specs.declared.event.Event.TheVariants.{Issue, Deliver, Noise, Timeout, Stop}
+use Rattle.ring_world.specs.WorldView.{WorldView, IsStopped}
 
 -- the node that the event stops, if it is a stop
 abbrev pub stop_of : {A : Type 0} → Option (Event A) → Option ℕ
@@ -14,11 +15,11 @@ stop_of (Some (Noise i bytes)) = None
 stop_of (Some (Timeout i kind)) = None
 stop_of (Some (Stop i)) = Some i
 
--- the node that the last of the events stops, if it is a stop
+-- the node that the last event stops, if it is a stop
 abbrev pub last_stop : {A : Type 0} → List (Event A) → Option ℕ
 last_stop events = stop_of (slice_get events (length events - 1))
 
--- the node that the last of the events stops in place of this one, which may be a step of a node and is no stop itself
+-- the node that the last event stops in place of `e`, which can be a step of a node and is no stop itself
 abbrev pub stopped_for_memory : {A : Type 0} → Event A → List (Event A) → Option ℕ
 stopped_for_memory (Deliver i k) events = last_stop events
 stopped_for_memory (Timeout i kind) events = last_stop events
@@ -26,6 +27,6 @@ stopped_for_memory (Issue i c) events = None
 stopped_for_memory (Noise i bytes) events = None
 stopped_for_memory (Stop i) events = None
 
--- memory was refused to the step that the event is, of this node
-abbrev pub IsStoppedAt : {O A : Type 0} → Sequential O → Event A → ℕ → Played A → Played A → Type 0
+-- the event is a step of this node, and the step was refused memory
+abbrev pub IsStoppedAt : {O A : Type 0} → Sequential O → Event A → ℕ → WorldView A → WorldView A → Type 0
 IsStoppedAt object e node p q = (s : IsStopped object e p q) × (s.node ≡ node)

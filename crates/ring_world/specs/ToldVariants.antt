@@ -1,2 +1,2 @@
--- What clients are told, passed on to what prints it.
-pub use Rattle.ring_rules.specs.declared.told.Told.TheVariants.{Answer, Refused}
+-- The variants of `Told`, re-exported for the code that prints it.
+pub use Rattle.ring_node_spec.specs.declared.told.Told.TheVariants.{Answer, Refused}

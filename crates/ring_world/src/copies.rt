@@ -1,29 +1,33 @@
-//! Copies of what happens.
+//! Copies of events, of reports to clients, and of histories.
 
 ghost use Rattle.std.specs.Prelude.{◌≡◌, IfOk, IfErr};
 ghost use Rattle.ring_base.specs.declared.fault.Fault.TheVariants.{Memory};
-ghost use Rattle.ring_rules.specs.WorldLimits.{EventFits};
+ghost use Rattle.ring_node_spec.specs.WorldLimits.{EventFits};
 ghost use Rattle.ring_order_proof.specs.Linear.{EventKeeps};
 
 use ring_base::Fault;
+use ring_node_spec::{Event, Item, Told};
 use ring_order_proof::fit_laws::call_keeps_law;
-use ring_rules::{Event, Item, Told};
 use std::alloc::Allocator;
 
-/// A copy of the event, or `Memory`. A call in it that keeps the limits of frames keeps those of snapshots.
-pub(crate) fn copied_event<A: Allocator + Copy>(event: &Event<A>) -> Result<Event<A>, Fault>
+/// Returns a copy of the event. A call in it that is within the limits of frames is also within those of snapshots,
+/// which the laws of runs require.
+/// Errors: `Memory` where an allocation fails.
+pub(crate) fn copy_event<A: Allocator + Copy>(event: &Event<A>) -> Result<Event<A>, Fault>
     ensures ok { IfOk result (λ copy. copy ≡ event.now) }
     ensures keeps { IfOk result (λ _. EventFits event.now → EventKeeps event.now) }
     ensures refused { IfErr result (λ fault. fault ≡ Memory) }
 {
-    // A law: no effect at run time. The proof takes from it that a call within the limits of frames is within those of snapshots.
+    // A law: no effect at run time. The proof takes from it that a call within the limits of frames is within those of
+    // snapshots.
     event_keeps_law(event);
     let copy = event.clone()?;
     Ok(copy)
 }
 
-/// Copies of the events, or `Memory`.
-pub(crate) fn copied_events<A: Allocator + Copy>(
+/// Returns a list with copies of the events, in the same order.
+/// Errors: `Memory` where an allocation fails.
+pub(crate) fn copy_events<A: Allocator + Copy>(
     events: &Vec<Event<A>, A>,
 ) -> Result<Vec<Event<A>, A>, Fault>
     ensures ok { IfOk result (λ copies. copies.items ≡ events.now.items) }
@@ -33,8 +37,9 @@ pub(crate) fn copied_events<A: Allocator + Copy>(
     Ok(copies)
 }
 
-/// Copies of what was told, or `Memory`.
-pub(crate) fn copied_told<A: Allocator + Copy>(
+/// Returns a list with copies of the reports to clients, in the same order.
+/// Errors: `Memory` where an allocation fails.
+pub(crate) fn copy_told<A: Allocator + Copy>(
     told: &Vec<Told<A>, A>,
 ) -> Result<Vec<Told<A>, A>, Fault>
     ensures ok { IfOk result (λ copies. copies.items ≡ told.now.items) }
@@ -44,8 +49,9 @@ pub(crate) fn copied_told<A: Allocator + Copy>(
     Ok(copies)
 }
 
-/// Copies of what clients saw, or `Memory`.
-pub(crate) fn copied_history<A: Allocator + Copy>(
+/// Returns a copy of the history: the same items in the same order.
+/// Errors: `Memory` where an allocation fails.
+pub(crate) fn copy_history<A: Allocator + Copy>(
     history: &Vec<Item<A>, A>,
 ) -> Result<Vec<Item<A>, A>, Fault>
     ensures ok { IfOk result (λ copies. copies.items ≡ history.now.items) }
@@ -55,7 +61,7 @@ pub(crate) fn copied_history<A: Allocator + Copy>(
     Ok(copies)
 }
 
-/// Law: a call that keeps the limits of frames keeps those of snapshots.
+/// Law: a call within the limits of frames is within those of snapshots.
 fn event_keeps_law<A: Allocator + Copy>(event: &Event<A>)
     ensures { EventFits event.now → EventKeeps event.now }
 {

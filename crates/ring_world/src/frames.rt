@@ -1,88 +1,97 @@
-//! All frames ever sent, kept as bytes.
+//! All frames ever sent, stored as bytes.
+//! Rules: The book and the threads 3 and 4
+//! Formats: Frames
 
 ghost use Rattle.std.specs.Prelude.{◌≡◌, ℕ, ◌+◌, ◌≤◌, true, [], ◌∷◌, ◌++◌, length, slice_range, option_map, is_some, OnOk, IfOk, IfErr, MatchResult, Some};
 ghost use Rattle.ring_base.specs.declared.fault.Fault.TheVariants.{Memory};
 ghost use Rattle.ring_wire.specs.declared.frame.Frame.{Frame as OneFrame};
 ghost use Rattle.ring_wire.specs.Frames.{FrameFits};
-ghost use Rattle.ring_wire.specs.Spells.{Spells};
-ghost use Rattle.ring_core.specs.State.{Carried, frame_at, frame_for};
-ghost use Rattle.ring_world.specs.Stored.{HasRoom, mark_at, mark_for, text_of};
+ghost use Rattle.ring_wire.specs.IsFrameEncoding.{IsFrameEncoding};
+ghost use Rattle.ring_core_spec.specs.State.{Transmission, frame_at, frame_for};
+ghost use Rattle.ring_world.specs.StoredFramesView.{HasRoom, position_at, position_for, text_of};
 
 use bytes::BytesMut;
-use ring_base::{FRAME_BYTES, Fault, Past, Proc, ProcSet, past_of, told};
-use ring_layout::Encode;
-use ring_wire::{Frame, one_spelling_law, short_law, spelling_law};
+use ring_base::{Fault, Ghost, MAX_FRAME_BYTES, Proc, ProcSet, ghost_of, ghost_step};
+use ring_codec::Encode;
+use ring_wire::{Frame, encoding_law, frame_length_law, unique_encoding_law};
 use std::alloc::{AllocError, Allocator, Global};
 use std::marker::{Model, PhantomData};
 
-/// So many frames a step sends at most.
+/// The most frames that one step sends.
 const FRAMES: usize = 64;
 
-/// All frames ever sent, as contracts see them. No value of it is made.
-pub(crate) struct Sendings<A: Allocator + Copy = Global> {
+/// All frames ever sent, as contracts see them. No value of this type is made: it exists in ghost values alone.
+pub(crate) struct SentFrames<A: Allocator + Copy = Global> {
     allocator: PhantomData<A>,
 }
 
-impl<A: Allocator + Copy> Model for Sendings<A> {
+impl<A: Allocator + Copy> Model for SentFrames<A> {
     ghost use Rattle.std.specs.Prelude.{List, []};
-    ghost use Rattle.ring_core.specs.State.{Carried};
+    ghost use Rattle.ring_core_spec.specs.State.{Transmission};
 
-    ghost Value = { List (Carried A) };
+    ghost Value = { List (Transmission A) };
 
     ghost view = { λ _. [] };
 }
 
-/// Where a frame stands among all bytes, who sent it, and to whom.
+/// The position of a frame's bytes in the buffer of all frames, with its sender and its receivers.
 #[derive(Clone, Copy)]
-pub(crate) struct Mark {
+pub(crate) struct FramePosition {
+    /// The index of the frame's first byte, counted from 0.
     pub(crate) start: usize,
+    /// The index behind the frame's last byte.
     pub(crate) end: usize,
+    /// The processor that sent the frame.
     pub(crate) from: Proc,
+    /// The processors to which the frame was sent.
     pub(crate) to: ProcSet,
 }
 
-/// All frames ever sent, numbered from 1: their spellings one behind the other, and where each stands. Contracts see the
-/// frames, with their senders and receivers, and how many more there is room for.
+/// All frames ever sent, numbered from 1: their encodings one after another, and the position of each.
+/// Contracts see the frames with their senders and receivers, and the room that is left.
+/// Rules: The book and the threads 3
+/// Formats: Frames
 #[derive(Drop)]
 pub(crate) struct Frames<A: Allocator + Copy = Global> {
     bytes: BytesMut<A>,
-    marks: Vec<Mark, A>,
-    past: Past<Sendings<A>>,
+    positions: Vec<FramePosition, A>,
+    history: Ghost<SentFrames<A>>,
 }
 
 impl<A: Allocator + Copy> Model for Frames<A> {
     ghost use Rattle.std.specs.Prelude.{◌-◌, vec_len, vec_capacity};
-    ghost use Rattle.ring_world.specs.Stored.{Stored, AreFrames};
+    ghost use Rattle.ring_world.specs.StoredFramesView.{StoredFramesView, AreFrames};
 
-    ghost Value = { Stored A };
+    ghost Value = { StoredFramesView A };
 
-    ghost view = { λ f. record { frames = f.past.value; places = vec_capacity f.marks - vec_len f.marks; bytes = f.bytes.spare } };
+    ghost view = { λ f. record { frames = f.history.value; places = vec_capacity f.positions - vec_len f.positions; bytes = f.bytes.spare } };
 
-    ghost invariant = { λ f. AreFrames f.past.value f.bytes.items f.marks.items };
+    ghost invariant = { λ f. AreFrames f.history.value f.bytes.items f.positions.items };
 }
 
 impl<A: Allocator + Copy> Frames<A> {
-    /// None yet.
+    /// Returns a store without frames. It takes no memory.
     pub(crate) fn new(alloc: A) -> Frames<A>
         ensures { result.frames ≡ [] }
     {
         Frames {
             bytes: BytesMut::new(alloc),
-            marks: Vec::new(alloc),
-            past: none_sent(&alloc),
+            positions: Vec::new(alloc),
+            history: no_sent_frames(&alloc),
         }
     }
 
-    /// Whether there is room for as many frames as a step may send, of any length.
+    /// Returns whether there is room for the frames of one step: 64, each of at most 8,192 bytes.
     pub(crate) fn has_room(&self) -> bool
         ensures { result ≡ true → HasRoom 64 self.now }
     {
-        self.marks.capacity() - self.marks.len() >= FRAMES
-            && self.bytes.capacity() - self.bytes.len() >= FRAMES * FRAME_BYTES
+        self.positions.capacity() - self.positions.len() >= FRAMES
+            && self.bytes.capacity() - self.bytes.len() >= FRAMES * MAX_FRAME_BYTES
     }
 
-    /// Makes room for as many frames as a step may send, of any length, or answers `Memory`. The room is cleared as it is made, so no more
-    /// is asked for; the list of bytes itself grows to twice its length.
+    /// Makes room for the frames of one step: 64, each of at most 8,192 bytes.
+    /// New room is cleared, so no more than this is requested; the byte buffer itself grows to twice its length.
+    /// Errors: `Memory`; the frames are unchanged.
     pub(crate) fn make_room(&mut self) -> Result<(), Fault>
         ensures frames { self.new.frames ≡ self.old.frames }
         ensures room { OnOk result (HasRoom 64 self.new) }
@@ -91,26 +100,28 @@ impl<A: Allocator + Copy> Frames<A> {
         if self.has_room() {
             return Ok(());
         }
-        self.marks.reserve(FRAMES)?;
-        self.bytes.reserve(FRAMES * FRAME_BYTES)?;
+        self.positions.reserve(FRAMES)?;
+        self.bytes.reserve(FRAMES * MAX_FRAME_BYTES)?;
         Ok(())
     }
 
-    /// Keeps a frame that was sent. There is room for it.
+    /// Adds a frame at the end, under the next number, with its sender and its receivers.
+    /// The frame is within the limits of frames, and the caller has made room for it. So it takes no memory.
+    /// Rules: The book and the threads 3
     pub(crate) fn keep(&mut self, from: Proc, to: ProcSet, frame: &Frame<A>)
         requires fits { FrameFits frame.now }
         requires room { HasRoom 1 self.old }
         ensures frames { self.new.frames ≡ self.old.frames ++ record { from = from; to = to; frame = frame.now } ∷ [] }
         ensures room { (many : ℕ) → HasRoom (many + 1) self.old → HasRoom many self.new }
     {
-        // Laws: no effect at run time. The proof takes from them that a frame has a spelling, of at most 8,192 bytes.
-        spelling_law::<A>();
-        short_law::<A>();
+        // Laws: no effect at run time. The proof takes from them that a frame has an encoding, of at most 8,192 bytes.
+        encoding_law::<A>();
+        frame_length_law::<A>();
         let start = self.bytes.len();
-        self.past = one_sent(&self.past, from, to, frame);
+        self.history = sent_frame_added(&self.history, from, to, frame);
         frame.write(&mut self.bytes);
         let end = self.bytes.len();
-        self.marks.push_reserved(Mark {
+        self.positions.push_reserved(FramePosition {
             start,
             end,
             from,
@@ -118,8 +129,10 @@ impl<A: Allocator + Copy> Frames<A> {
         });
     }
 
-    /// Reads the frame of this number from its bytes into the place, over what stands there, if it was sent to this processor:
-    /// whether it was. `Memory` is the only refusal.
+    /// Decodes the frame of this number into `place`, over what is there, if it was sent to this processor. Returns
+    /// whether it was. Numbers count from 1; one that no frame has gives false.
+    /// Errors: `Memory`, and no other; the content of `place` is then unspecified.
+    /// Rules: The book and the threads 3 and 4
     pub(crate) fn read_to(
         &self,
         alloc: A,
@@ -131,9 +144,9 @@ impl<A: Allocator + Copy> Frames<A> {
         ensures placed { IfOk result (λ is. is ≡ true → place.new ≡ frame_for node (frame_at self.now.frames number)) }
         ensures refused { IfErr result (λ fault. fault ≡ Memory) }
     {
-        // A law: no effect at run time. The proof takes from it that a text that spells a frame is its one spelling.
-        spelling_law::<A>();
-        match mark_for(mark_at(&self.marks, number), node) {
+        // A law: no effect at run time. The proof takes from it that bytes that encode a frame are its only encoding.
+        encoding_law::<A>();
+        match position_for(position_at(&self.positions, number), node) {
             Some(mark) => {
                 decode(alloc, self.bytes.as_slice(), mark, place)?;
                 Ok(true)
@@ -142,50 +155,52 @@ impl<A: Allocator + Copy> Frames<A> {
         }
     }
 
-    /// The spellings of all frames, one behind the other.
+    /// Returns the encodings of all frames, one after another, in the order sent.
+    /// Formats: Frames
     pub(crate) fn text(&self) -> &[u8]
         ensures { result.now ≡ text_of self.now.frames }
     {
         self.bytes.as_slice()
     }
 
-    /// Sender and receivers of the frame of this number, if it was sent.
+    /// Returns the sender and the receivers of the frame of this number, counted from 1, or `None` if no frame has it.
+    /// Rules: The book and the threads 3 and 8
     pub(crate) fn ends(&self, number: u64) -> Option<(Proc, ProcSet)>
-        ensures { result ≡ option_map (λ (f : Carried A). (f.from, f.to)) (frame_at self.now.frames number) }
+        ensures { result ≡ option_map (λ (f : Transmission A). (f.from, f.to)) (frame_at self.now.frames number) }
     {
-        match mark_at(&self.marks, number) {
+        match position_at(&self.positions, number) {
             Some(mark) => Some((mark.from, mark.to)),
             None => None,
         }
     }
 }
 
-/// A copy has the same frames.
+/// A clone has the same frames.
 impl<A: Allocator + Copy> Clone for Frames<A> {
     ghost is_clone = { λ frames copy. copy.frames ≡ frames.frames };
 
     fn clone(&self) -> Result<Frames<A>, AllocError> {
         Ok(Frames {
-            past: self.past.clone()?,
-            marks: self.marks.clone()?,
+            history: self.history.clone()?,
+            positions: self.positions.clone()?,
             bytes: self.bytes.clone()?,
         })
     }
 }
 
-/// What stands at this number, counted from 1.
-fn mark_at(marks: &[Mark], number: u64) -> Option<Mark>
-    ensures { result ≡ mark_at marks.now number }
+/// Returns the position of the frame of this number, counted from 1.
+fn position_at(positions: &[FramePosition], number: u64) -> Option<FramePosition>
+    ensures { result ≡ position_at positions.now number }
 {
     if number < 1 {
         return None;
     }
-    marks.get((number - 1) as usize).copied()
+    positions.get((number - 1) as usize).copied()
 }
 
-/// The same, if it was sent to this processor.
-fn mark_for(mark: Option<Mark>, node: Proc) -> Option<Mark>
-    ensures { result ≡ mark_for node mark }
+/// Returns the position if its frame was sent to this processor.
+fn position_for(mark: Option<FramePosition>, node: Proc) -> Option<FramePosition>
+    ensures { result ≡ position_for node mark }
 {
     match mark {
         Some(mark) => {
@@ -199,40 +214,41 @@ fn mark_for(mark: Option<Mark>, node: Proc) -> Option<Mark>
     }
 }
 
-/// Puts the frame that is spelled there into the place: where one is, `Memory` is the only refusal.
+/// Decodes the frame at this position into `place`. If the bytes there encode a frame, `Memory` is the only refusal.
 fn decode<A: Allocator + Copy>(
     alloc: A,
     bytes: &[u8],
-    mark: Mark,
+    mark: FramePosition,
     place: &mut Option<Frame<A>>,
 ) -> Result<(), Fault>
     requires order { mark.start ≤ mark.end }
     requires within { mark.end ≤ length bytes.now }
-    ensures { (frame : OneFrame A) → Spells frame (slice_range bytes.now mark.start mark.end) →
+    ensures { (frame : OneFrame A) → IsFrameEncoding frame (slice_range bytes.now mark.start mark.end) →
         MatchResult result (λ done. place.new ≡ Some frame) (λ fault. fault ≡ Memory) }
 {
-    // Laws: no effect at run time. The proof takes from them that a text that spells a frame is its one spelling, and no other's.
-    spelling_law::<A>();
-    one_spelling_law::<A>();
+    // Laws: no effect at run time. The proof takes from them that bytes encode at most one frame, and that a frame has
+    // only one encoding.
+    encoding_law::<A>();
+    unique_encoding_law::<A>();
     Frame::<A>::get_into(alloc, &bytes[mark.start..mark.end], place)?;
     Ok(())
 }
 
-/// No frame was sent.
-fn none_sent<A: Allocator + Copy>(alloc: &A) -> Past<Sendings<A>>
+/// Returns the ghost list of no frames.
+fn no_sent_frames<A: Allocator + Copy>(alloc: &A) -> Ghost<SentFrames<A>>
     ensures { result.value ≡ [] }
 {
-    past_of(alloc)
+    ghost_of(alloc)
 }
 
-/// One frame more was sent.
-fn one_sent<A: Allocator + Copy>(
-    past: &Past<Sendings<A>>,
+/// Returns the ghost list with one more frame.
+fn sent_frame_added<A: Allocator + Copy>(
+    history: &Ghost<SentFrames<A>>,
     from: Proc,
     to: ProcSet,
     frame: &Frame<A>,
-) -> Past<Sendings<A>>
-    ensures { result.value ≡ past.now.value ++ record { from = from; to = to; frame = frame.now } ∷ [] }
+) -> Ghost<SentFrames<A>>
+    ensures { result.value ≡ history.now.value ++ record { from = from; to = to; frame = frame.now } ∷ [] }
 {
-    told(past, &(from, to, frame))
+    ghost_step(history, &(from, to, frame))
 }

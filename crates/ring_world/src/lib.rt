@@ -1,22 +1,23 @@
-//! Worlds of nodes that run: what is issued, delivered, lost, repeated, timed out and stopped, and the one order that it shows.
+//! A world: all nodes of a group, every frame that they sent and the history, in one value that one thread runs event by
+//! event.
 #![tactic(auto)]
 
-mod chronicle;
+mod answer_records;
 mod copies;
 mod frames;
 mod longest;
+mod open_copies;
 mod order;
-mod pairs;
 mod pump;
 mod refusals;
+mod run_record;
 mod spares;
-mod telling;
 mod world;
 
-pub use pairs::Pair;
+pub use open_copies::OpenCopy;
 pub use pump::Pump;
 pub use refusals::stopped_for_memory_law;
 pub use ring_node::Node;
+pub use ring_node_spec::{Event, Item, Noise, Told};
 pub use ring_order_proof::laws::linear_law;
-pub use ring_rules::{Event, Item, Noise, Told};
 pub use world::World;

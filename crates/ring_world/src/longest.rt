@@ -1,10 +1,11 @@
-//! The longest of what nodes committed, from the log's beginning: nodes drop places, and the world keeps them.
+//! The longest committed log of all nodes, from its beginning. Nodes drop places, and the world keeps them.
+//! Rules: The book and the threads 8; Sessions 10
 
 ghost use Rattle.std.specs.Prelude.{◌≡◌, ℕ, ◌-◌, ◌<◌, true, [], ◌++◌, List, length, take, OnOk, IfOk, IfErr};
 ghost use Rattle.ring_base.specs.declared.fault.Fault.TheVariants.{Memory};
 ghost use Rattle.ring_session.specs.Deduplicated.{deduplicated};
-ghost use Rattle.ring_rules.specs.Worlds.{calls_past};
-ghost use Rattle.ring_world.specs.Longest.{calls_of};
+ghost use Rattle.ring_node_spec.specs.Worlds.{calls_past};
+ghost use Rattle.ring_world.specs.LongestCommitted.{calls_of};
 
 use ring_base::Fault;
 use ring_payload::Call;
@@ -13,15 +14,15 @@ use std::alloc::{AllocError, Allocator, Global};
 use std::marker::Model;
 use std::mem;
 
-/// The calls that a step newly committed, as it gave them, and from which of them on they are new: those before it were
-/// committed elsewhere. Contracts see the new ones.
+/// The calls that a step newly committed, and the index of the first that no node had committed before. Contracts see
+/// those from this index on.
 #[derive(Drop)]
-struct Segment<A: Allocator + Copy = Global> {
+struct CommittedCalls<A: Allocator + Copy = Global> {
     calls: Vec<Call<A>, A>,
     from: usize,
 }
 
-impl<A: Allocator + Copy> Model for Segment<A> {
+impl<A: Allocator + Copy> Model for CommittedCalls<A> {
     ghost use Rattle.std.specs.Prelude.{List, ◌≤◌, length, drop};
     ghost use Rattle.ring_payload.specs.declared.call.Call.{Call as OneCall};
 
@@ -32,8 +33,8 @@ impl<A: Allocator + Copy> Model for Segment<A> {
     ghost invariant = { λ s. s.from ≤ length s.calls.items };
 }
 
-impl<A: Allocator + Copy> Segment<A> {
-    /// The new calls.
+impl<A: Allocator + Copy> CommittedCalls<A> {
+    /// Returns the calls that no node had committed before.
     fn calls(&self) -> &[Call<A>]
         ensures { result.now ≡ self.now }
     {
@@ -41,56 +42,58 @@ impl<A: Allocator + Copy> Segment<A> {
     }
 }
 
-impl<A: Allocator + Copy> Clone for Segment<A> {
+impl<A: Allocator + Copy> Clone for CommittedCalls<A> {
     ghost is_clone = { λ segment copy. copy ≡ segment };
 
-    fn clone(&self) -> Result<Segment<A>, AllocError> {
-        Ok(Segment {
+    fn clone(&self) -> Result<CommittedCalls<A>, AllocError> {
+        Ok(CommittedCalls {
             calls: self.calls.clone()?,
             from: self.from,
         })
     }
 }
 
-/// The longest of what nodes committed, in segments as steps gave them. Contracts see the calls, and for how many segments
-/// more there is room.
+/// The longest committed log of all nodes, in segments as steps committed them. Contracts see the calls, and the number
+/// of segments that there is still room for.
+/// Rules: The book and the threads 8; Sessions 10
 #[derive(Drop)]
-pub(crate) struct Longest<A: Allocator + Copy = Global> {
-    segments: Vec<Segment<A>, A>,
-    /// How many calls there are in all.
+pub(crate) struct LongestCommitted<A: Allocator + Copy = Global> {
+    segments: Vec<CommittedCalls<A>, A>,
+    /// The number of calls in all segments.
     len: u64,
 }
 
-impl<A: Allocator + Copy> Model for Longest<A> {
+impl<A: Allocator + Copy> Model for LongestCommitted<A> {
     ghost use Rattle.std.specs.Prelude.{◌≡◌, ◌-◌, length, vec_len, vec_capacity};
-    ghost use Rattle.ring_world.specs.Longest.{Committed, calls_of};
+    ghost use Rattle.ring_world.specs.LongestCommitted.{LongestCommittedView, calls_of};
 
-    ghost Value = { Committed A };
+    ghost Value = { LongestCommittedView A };
 
     ghost view = { λ l. record { calls = calls_of l.segments.items; places = vec_capacity l.segments - vec_len l.segments } };
 
     ghost invariant = { λ l. l.len ≡ length (calls_of l.segments.items) };
 }
 
-impl<A: Allocator + Copy> Longest<A> {
-    /// None yet.
-    pub(crate) fn new(alloc: A) -> Longest<A>
+impl<A: Allocator + Copy> LongestCommitted<A> {
+    /// Returns the log of a world in which nothing is committed. It takes no memory.
+    pub(crate) fn new(alloc: A) -> LongestCommitted<A>
         ensures { result.calls ≡ [] }
     {
-        Longest {
+        LongestCommitted {
             segments: Vec::new(alloc),
             len: 0,
         }
     }
 
-    /// Whether there is room for what one step more commits.
+    /// Returns whether there is room for the commits of one more step: for one more segment.
     pub(crate) fn has_room(&self) -> bool
         ensures { result ≡ true → 0 < self.now.places }
     {
         self.segments.len() < self.segments.capacity()
     }
 
-    /// Makes room for what one step more commits, or answers `Memory`.
+    /// Makes room for the commits of one more step: for one more segment.
+    /// Errors: `Memory` where an allocation fails; the calls are unchanged.
     pub(crate) fn make_room(&mut self) -> Result<(), Fault>
         ensures calls { self.new.calls ≡ self.old.calls }
         ensures room { OnOk result (0 < self.new.places) }
@@ -100,8 +103,11 @@ impl<A: Allocator + Copy> Longest<A> {
         Ok(())
     }
 
-    /// Adds what a step newly committed, at a node that has then committed so many, and takes it out of its list. It takes no
-    /// memory: there is room. Where nothing of it is new, nothing is kept. Most often nothing is committed.
+    /// Adds the calls that a step newly committed, and takes them out of `calls`. Calls whose places are in the log
+    /// already are left out.
+    /// `committed` is the committed length of the step's node after the step, dropped places included. The caller has
+    /// made room, so it takes no memory. Usually nothing is committed.
+    /// Rules: The replicated log 12
     pub(crate) fn add(&mut self, alloc: A, committed: u64, calls: &mut Vec<Call<A>, A>)
         requires { 0 < self.old.places }
         ensures { self.new.calls ≡ self.old.calls ++ calls_past (length self.old.calls) committed calls.old.items }
@@ -112,7 +118,7 @@ impl<A: Allocator + Copy> Longest<A> {
         }
     }
 
-    /// Adds these calls. It stands apart, since a call clears its room for what is kept of them.
+    /// Adds these calls. A function of its own keeps the large stack slot of a segment out of the caller.
     #[inline(never)]
     fn add_all(&mut self, committed: u64, calls: Vec<Call<A>, A>)
         requires { 0 < self.old.places }
@@ -122,23 +128,27 @@ impl<A: Allocator + Copy> Longest<A> {
         let from = many.saturating_sub(committed.saturating_sub(self.len));
         if from < many {
             self.len += many - from;
-            self.segments.push_reserved(Segment {
+            self.segments.push_reserved(CommittedCalls {
                 calls,
                 from: from as usize,
             });
         }
     }
 
-    /// A copy of the first so many calls, or `Memory`.
+    /// Returns copies of the log's first `many` calls, or of all if there are fewer, repeats included.
+    /// Errors: `Memory` where an allocation fails.
+    /// Rules: The book and the threads 8
     pub(crate) fn first(&self, alloc: A, many: u64) -> Result<Vec<Call<A>, A>, Fault>
         ensures ok { IfOk result (λ copies. copies.items ≡ take many self.now.calls) }
         ensures refused { IfErr result (λ fault. fault ≡ Memory) }
     {
         let room = many.min(self.len) as usize;
-        copied_first(alloc, &self.segments, many as usize, room)
+        copy_first(alloc, &self.segments, many as usize, room)
     }
 
-    /// The calls that take effect, in order, or `Memory`.
+    /// Returns copies of the calls that take effect, in order, repeats removed.
+    /// Errors: `Memory` where an allocation fails.
+    /// Rules: Sessions 6 and 10
     pub(crate) fn order(&self, alloc: A) -> Result<Vec<Call<A>, A>, Fault>
         ensures ok { IfOk result (λ order. order.items ≡ deduplicated self.now.calls) }
         ensures refused { IfErr result (λ fault. fault ≡ Memory) }
@@ -147,22 +157,23 @@ impl<A: Allocator + Copy> Longest<A> {
     }
 }
 
-/// A copy has the same calls.
-impl<A: Allocator + Copy> Clone for Longest<A> {
+/// A clone has the same calls.
+impl<A: Allocator + Copy> Clone for LongestCommitted<A> {
     ghost is_clone = { λ longest copy. copy.calls ≡ longest.calls };
 
-    fn clone(&self) -> Result<Longest<A>, AllocError> {
-        Ok(Longest {
+    fn clone(&self) -> Result<LongestCommitted<A>, AllocError> {
+        Ok(LongestCommitted {
             segments: self.segments.clone()?,
             len: self.len,
         })
     }
 }
 
-/// A copy of the first so many calls of the segments, with room for so many, or `Memory`.
-fn copied_first<A: Allocator + Copy>(
+/// Returns a copy of the first `many` calls of the segments, in a list with capacity `room`.
+/// Errors: `Memory`.
+fn copy_first<A: Allocator + Copy>(
     alloc: A,
-    segments: &[Segment<A>],
+    segments: &[CommittedCalls<A>],
     many: usize,
     room: usize,
 ) -> Result<Vec<Call<A>, A>, Fault>
@@ -176,10 +187,11 @@ fn copied_first<A: Allocator + Copy>(
     Ok(copies)
 }
 
-/// Of the calls of the segments, those that take effect, in order, or `Memory`.
+/// Returns the calls of the segments that take effect, in order.
+/// Errors: `Memory`.
 fn order_of<A: Allocator + Copy + Drop>(
     alloc: A,
-    segments: &[Segment<A>],
+    segments: &[CommittedCalls<A>],
 ) -> Result<Vec<Call<A>, A>, Fault>
     ensures ok { IfOk result (λ order. order.items ≡ deduplicated (calls_of segments.now)) }
     ensures refused { IfErr result (λ fault. fault ≡ Memory) }
@@ -191,7 +203,8 @@ fn order_of<A: Allocator + Copy + Drop>(
     Ok(effects.into_calls())
 }
 
-/// Copies the calls behind the copies, until these are so many.
+/// Appends copies of the calls until the list has `many`.
+/// Errors: `Memory`.
 fn copy_upto<A: Allocator + Copy>(
     copies: &mut Vec<Call<A>, A>,
     calls: &[Call<A>],

@@ -1,15 +1,18 @@
-//! How long the order is.
+//! The length of the order.
+//! Rules: Sessions 10
 
 ghost use Rattle.std.specs.Prelude.{◌≡◌};
 ghost use Rattle.ring_base.specs.Numbers.{greatest};
-ghost use Rattle.ring_world.specs.Ordering.{effects_in};
+ghost use Rattle.ring_world.specs.Ordering.{effects_of_nodes};
 
 use ring_node::Node;
 use ring_object::Object;
 
-/// The most calls that took effect at one of the nodes.
-pub(crate) fn most_effects<O: Object>(nodes: &[Node<O>]) -> u64
-    ensures { result ≡ greatest (effects_in O.sequential nodes.now) }
+/// Returns the greatest number of calls that took effect at one of these nodes, 0 without nodes. Of all nodes of a run
+/// this is the length of the order.
+/// Rules: Sessions 10
+pub(crate) fn max_effects<O: Object>(nodes: &[Node<O>]) -> u64
+    ensures { result ≡ greatest (effects_of_nodes O.sequential nodes.now) }
 {
     let mut most = 0;
     for node in nodes {

@@ -1,50 +1,55 @@
-//! A world with the copies of its frames.
+//! A world together with the copies of its frames that are not yet delivered or lost.
+//! Formats: Pump
 
 ghost use Rattle.std.specs.Prelude.{◌≡◌, OnOk, OnErr, IfOk, IfErr, slice_get};
 ghost use Rattle.ring_base.specs.declared.fault.Fault.TheVariants.{Memory};
-ghost use Rattle.ring_rules.specs.WorldLimits.{EventFits};
-ghost use Rattle.ring_world.specs.Pairs.{frames_of, all_pairs, Takes};
-ghost use Rattle.ring_world.specs.Pumping.{Happens, Rests};
+ghost use Rattle.ring_node_spec.specs.WorldLimits.{EventFits};
+ghost use Rattle.ring_world.specs.OpenCopies.{frames_of, all_copies, IsFirstCopyTaken};
+ghost use Rattle.ring_world.specs.Pumping.{HasRunEvent, IsUnchanged};
 
 use crate::World;
-use crate::pairs::{Pair, Pairs};
+use crate::open_copies::{OpenCopies, OpenCopy};
 use ring_base::Fault;
+use ring_node_spec::Event;
 use ring_object::Object;
-use ring_rules::Event;
 use std::alloc::Allocator;
 use std::marker::Model;
 
-/// A world, and the copies of its frames that are under way. A frame that is sent opens one for each of its receivers; each
-/// is closed once, those of the frame sent first before all others, and of these the smallest receiver's. What becomes of a
-/// closed copy is the caller's to say: the frame is delivered, or lost. Contracts see a `Pumped`.
+/// A world, and the open copies of its frames: those that are neither delivered nor lost yet.
+/// A frame that is sent opens one copy for each of its receivers, and each copy is closed once. Copies close in the
+/// order of their frames, and of one frame in the order of their receivers. The caller decides whether a closed copy is
+/// delivered or lost. Contracts see a `PumpView`.
+/// Formats: Pump
 #[derive(Drop)]
 pub struct Pump<O: Object> {
     world: World<O>,
-    pairs: Pairs,
+    open_copies: OpenCopies,
 }
 
 impl<O: Object> Model for Pump<O> {
-    ghost use Rattle.ring_world.specs.Pairs.{frames_of, pairs_from, IsReached};
-    ghost use Rattle.ring_world.specs.Pumping.{Pumped};
+    ghost use Rattle.ring_world.specs.OpenCopies.{frames_of, open_copies_from, IsReached};
+    ghost use Rattle.ring_world.specs.Pumping.{PumpView};
 
-    ghost Value = { Pumped O.Alloc };
+    ghost Value = { PumpView O.Alloc };
 
-    ghost view = { λ p. record { played = p.world; open_pairs = pairs_from p.pairs (frames_of O.sequential p.world) } };
+    ghost view = { λ p. record { world_view = p.world; open_copies = open_copies_from p.open_copies (frames_of O.sequential p.world) } };
 
-    ghost invariant = { λ p. IsReached p.pairs (frames_of O.sequential p.world) };
+    ghost invariant = { λ p. IsReached p.open_copies (frames_of O.sequential p.world) };
 }
 
 impl<O: Object> Pump<O> {
-    /// The world, with a copy of each frame that it has sent under way to each of the frame's receivers.
+    /// Returns a pump of the world in which all copies of all frames sent so far are open, one for each receiver of a
+    /// frame. A copy is also open where an event of the world has delivered its frame already.
+    /// Formats: Pump
     pub fn new(world: World<O>) -> Pump<O>
-        ensures { result ≡ record { played = world; open_pairs = all_pairs (frames_of O.sequential world) } }
+        ensures { result ≡ record { world_view = world; open_copies = all_copies (frames_of O.sequential world) } }
     {
-        let pairs = Pairs::new();
-        Pump { world, pairs }
+        let open_copies = OpenCopies::new();
+        Pump { world, open_copies }
     }
 
-    /// Another pump whose world has done the same and told the same, with the same copies of frames under way, or `Memory`. From there
-    /// each goes on by itself.
+    /// Returns a second pump with an equal world and the same open copies. The two then run independently.
+    /// Errors: `Memory` where an allocation fails; this pump is unchanged.
     pub fn copy(&self) -> Result<Pump<O>, Fault>
         ensures ok { IfOk result (λ copy. copy ≡ self.now) }
         ensures refused { IfErr result (λ fault. fault ≡ Memory) }
@@ -52,40 +57,49 @@ impl<O: Object> Pump<O> {
         let world = self.world.copy()?;
         Ok(Pump {
             world,
-            pairs: self.pairs,
+            open_copies: self.open_copies,
         })
     }
 
-    /// The world.
+    /// Returns the world, as it is after the events that were run so far.
+    /// Rules: The book and the threads 1 and 8
     pub fn world(&self) -> &World<O>
-        ensures { result.now ≡ self.now.played }
+        ensures { result.now ≡ self.now.world_view }
     {
         &self.world
     }
 
-    /// The world runs an event. A call that it issues keeps the limits of frames, as each does that `Call::new` makes. Otherwise
-    /// `Memory`, where that is refused to the world itself: then nothing was done.
-    pub fn happen(&mut self, event: Event<O::Alloc>) -> Result<(), Fault>
+    /// Runs one event in the world, and opens a copy for each receiver of each frame that the event's step sends. No
+    /// copy is closed, also where the event delivers its frame.
+    /// A call in the event is within the limits of frames, as every call made by `Call::new` is. A step that was
+    /// refused memory isn't an error: its node has stopped, and the world has the event as `Stop`.
+    /// Errors: `Memory` where the world itself was refused memory for its records; then nothing has changed.
+    /// Rules: The book and the threads 2, 4 and 7
+    pub fn run_event(&mut self, event: Event<O::Alloc>) -> Result<(), Fault>
         requires { EventFits event }
-        ensures done { OnOk result (Happens O.sequential event self.old self.new) }
-        ensures rests { OnErr result (Rests self.old self.new) }
+        ensures done { OnOk result (HasRunEvent O.sequential event self.old self.new) }
+        ensures rests { OnErr result (IsUnchanged self.old self.new) }
         ensures refused { IfErr result (λ fault. fault ≡ Memory) }
     {
         self.world.run_one(&event)
     }
 
-    /// The first open copy. `None` where none is open.
-    pub fn first_open(&self) -> Option<Pair>
-        ensures { result ≡ slice_get self.now.open_pairs 0 }
+    /// Returns the first open copy, or `None` if none is open: of the frame that was sent first, the copy to the
+    /// smallest receiver. The copy stays open.
+    /// Formats: Pump
+    pub fn first_open_copy(&self) -> Option<OpenCopy>
+        ensures { result ≡ slice_get self.now.open_copies 0 }
     {
-        self.pairs.first(&self.world)
+        self.open_copies.first(&self.world)
     }
 
-    /// Closes the first open copy, and gives it. `None` where none is open.
-    pub fn close_first(&mut self) -> Option<Pair>
-        ensures takes { Takes self.old.open_pairs result self.new.open_pairs }
-        ensures played { self.new.played ≡ self.old.played }
+    /// Closes the first open copy and returns it, or returns `None` if none is open. The world is unchanged: the caller
+    /// delivers the copy by a `Deliver` event, or lets it be lost.
+    /// Formats: Pump
+    pub fn close_first_copy(&mut self) -> Option<OpenCopy>
+        ensures takes { IsFirstCopyTaken self.old.open_copies result self.new.open_copies }
+        ensures world_view { self.new.world_view ≡ self.old.world_view }
     {
-        self.pairs.close_first(&self.world)
+        self.open_copies.close_first_copy(&self.world)
     }
 }

@@ -1,19 +1,24 @@
-//! Where want of memory stopped a node.
+//! Finds the node that an event stopped because its step was refused memory.
+//! Rules: The book and the threads 7; Refusals 6
 
 ghost use Rattle.std.specs.Prelude.{◌≡◌, ◌↔◌, ℕ, Some, [], ◌∷◌};
-ghost use Rattle.ring_rules.specs.declared.event.Event.{Event as OneEvent};
-ghost use Rattle.ring_world.specs.Played.{Played, Plays};
+ghost use Rattle.ring_node_spec.specs.declared.event.Event.{Event as OneEvent};
+ghost use Rattle.ring_world.specs.WorldView.{WorldView, IsRunOfEvents};
 ghost use Rattle.ring_world.specs.Refusals.{last_stop, stopped_for_memory, IsStoppedAt};
 
 use crate::world::World;
 use ring_base::Proc;
+use ring_node_spec::Event;
 use ring_object::Object;
-use ring_rules::Event;
 use std::alloc::Allocator;
 
 impl<O: Object> World<O> {
-    /// The node that stopped because memory was refused to its step, where `run_one`, or `run`, has just run this event alone and
-    /// answered Ok; none if it did not stop so. That this is exact is `stopped_for_memory_law`.
+    /// Returns the node that the event stopped because its step was refused memory, or `None` if it stopped none that
+    /// way.
+    /// `event` is the one that `run_one`, or `run` of this event alone, has just run with Ok. Only a delivery and a
+    /// timeout can give a node: a `Stop` event stops its node on request. `stopped_for_memory_law` states that the
+    /// result is exact.
+    /// Rules: The book and the threads 7; Refusals 6
     pub fn stopped_for_memory(&self, event: &Event<O::Alloc>) -> Option<Proc>
         ensures { result ≡ stopped_for_memory event.now self.now.events }
     {
@@ -24,7 +29,7 @@ impl<O: Object> World<O> {
     }
 }
 
-/// The node that the last of the events stops, if it is a stop.
+/// Returns the node that the last event stops, if that event is a stop.
 fn last_stop<A: Allocator + Copy>(events: &[Event<A>]) -> Option<Proc>
     ensures { result ≡ last_stop events.now }
 {
@@ -34,8 +39,11 @@ fn last_stop<A: Allocator + Copy>(events: &[Event<A>]) -> Option<Proc>
     }
 }
 
-/// After a run of one event alone `World::stopped_for_memory` tells a node exactly where memory was refused to its step.
+/// States, for every object, every event, every node and every two worlds, when `World::stopped_for_memory` returns the
+/// node. The second world is the one after a run of this event alone from the first. The call returns the node exactly
+/// where the step that the event asks of it was refused memory.
+/// Rules: The book and the threads 7; Refusals 6
 pub fn stopped_for_memory_law<O: Object>()
-    ensures { (e : OneEvent O.Alloc) (p q : Played O.Alloc) (node : ℕ) → Plays O.sequential (e ∷ []) p q
+    ensures { (e : OneEvent O.Alloc) (p q : WorldView O.Alloc) (node : ℕ) → IsRunOfEvents O.sequential (e ∷ []) p q
         → (stopped_for_memory e q.events ≡ Some node) ↔ IsStoppedAt O.sequential e node p q }
 {}

@@ -1,9 +1,9 @@
-//! The second copies of the calls that wait for their answers.
+//! Second copies of the calls whose tickets wait for an answer, so that recording an answer takes no memory.
 
 ghost use Rattle.std.specs.Prelude.{◌≡◌, ℕ, ◌+◌, ◌<◌, [], ◌∷◌, ◌++◌, Some, OnOk, IfErr};
 ghost use Rattle.ring_base.specs.declared.fault.Fault.TheVariants.{Memory};
 ghost use Rattle.ring_payload.specs.declared.call.Call.{Call as OneCall};
-ghost use Rattle.ring_world.specs.Spares.{IsLeft, without};
+ghost use Rattle.ring_world.specs.SpareCalls.{HasCopy, without};
 
 use ring_base::Fault;
 use ring_payload::Call;
@@ -11,32 +11,35 @@ use ring_session::Ticket;
 use std::alloc::{AllocError, Allocator, Global};
 use std::marker::Model;
 
-/// By ticket of a node, a second copy of its call until the ticket is answered.
+/// The second copies of the calls that were submitted at one node, by ticket, counted from 0. The copy of a ticket is
+/// taken out when the ticket is answered.
+/// Rules: The replicated log 13 and 14
 #[derive(Drop)]
-pub(crate) struct Spares<A: Allocator + Copy = Global> {
+pub(crate) struct SpareCalls<A: Allocator + Copy = Global> {
     calls: Vec<Option<Call<A>>, A>,
 }
 
-impl<A: Allocator + Copy> Model for Spares<A> {
+impl<A: Allocator + Copy> Model for SpareCalls<A> {
     ghost use Rattle.std.specs.Prelude.{◌-◌, vec_len, vec_capacity};
-    ghost use Rattle.ring_world.specs.Spares.{Spares as ToldSpares};
+    ghost use Rattle.ring_world.specs.SpareCalls.{SpareCalls as ToldSpares};
 
     ghost Value = { ToldSpares A };
 
     ghost view = { λ s. record { calls = s.calls.items; places = vec_capacity s.calls - vec_len s.calls } };
 }
 
-impl<A: Allocator + Copy> Spares<A> {
-    /// None yet.
-    pub(crate) fn new(alloc: A) -> Spares<A>
+impl<A: Allocator + Copy> SpareCalls<A> {
+    /// Returns the list of a node that has given no ticket yet. It takes no memory.
+    pub(crate) fn new(alloc: A) -> SpareCalls<A>
         ensures { result.calls ≡ [] }
     {
-        Spares {
+        SpareCalls {
             calls: Vec::new(alloc),
         }
     }
 
-    /// Makes room for the copy of one ticket more, or answers `Memory`.
+    /// Makes room for the copy of one more ticket's call.
+    /// Errors: `Memory` where an allocation fails; the copies are unchanged.
     pub(crate) fn make_room(&mut self) -> Result<(), Fault>
         ensures calls { self.new.calls ≡ self.old.calls }
         ensures room { OnOk result (0 < self.new.places) }
@@ -46,7 +49,7 @@ impl<A: Allocator + Copy> Spares<A> {
         Ok(())
     }
 
-    /// Keeps the copy of the next ticket. There is room for it.
+    /// Adds a copy of the call of the next ticket, at the end. The caller has made room for it, so it takes no memory.
     pub(crate) fn add(&mut self, call: Call<A>)
         requires { 0 < self.old.places }
         ensures { self.new.calls ≡ self.old.calls ++ Some call ∷ [] }
@@ -54,13 +57,14 @@ impl<A: Allocator + Copy> Spares<A> {
         self.calls.push_reserved(Some(call));
     }
 
-    /// Takes the copy of a ticket, which is left.
+    /// Takes out and returns the copy of this ticket's call. The ticket still has a copy, and `call` equals it: only
+    /// the contract uses `call`. The other tickets keep their copies.
     pub(crate) fn take(&mut self, ticket: Ticket, call: &Call<A>) -> Call<A>
-        requires { IsLeft self.old.calls ticket call.now }
+        requires { HasCopy self.old.calls ticket call.now }
         ensures call { result ≡ call.now }
         ensures calls { self.new.calls ≡ without self.old.calls ticket }
     {
-        // The contract alone speaks of it.
+        // Only the contract mentions the call.
         let _ = call;
         match self.calls[ticket.number() as usize].take() {
             Some(spare) => spare,
@@ -69,12 +73,12 @@ impl<A: Allocator + Copy> Spares<A> {
     }
 }
 
-/// A copy has the same copies of calls.
-impl<A: Allocator + Copy> Clone for Spares<A> {
+/// A clone has the same copies of calls.
+impl<A: Allocator + Copy> Clone for SpareCalls<A> {
     ghost is_clone = { λ spares copy. copy.calls ≡ spares.calls };
 
-    fn clone(&self) -> Result<Spares<A>, AllocError> {
-        Ok(Spares {
+    fn clone(&self) -> Result<SpareCalls<A>, AllocError> {
+        Ok(SpareCalls {
             calls: self.calls.clone()?,
         })
     }

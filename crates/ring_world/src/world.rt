@@ -1,207 +1,219 @@
-//! The world: all nodes, what happened to them and what they told.
+//! The world: all nodes, the events that they handled, and the reports to clients.
+//! Rules: The book and the threads 1 to 8 and 36; Sessions 9 to 11; Outputs 11
 
 ghost use Rattle.std.specs.Prelude.{◌≡◌, ℕ, true, [], ◌∷◌, ◌++◌, ◌+◌, ◌<◌, ◌≤◌, ◌^◌, List, length, map, take, vec_len};
 ghost use Rattle.std.specs.Prelude.{vec_capacity, false, if◌then◌else◌, IfOk, IfErr, OnOk, OnErr, Some, option_map, is_some, IsSome, IfSome};
 ghost use Rattle.std.specs.List.{AllByRecursion};
-ghost use Rattle.ring_base.specs.Fronts.{IsFront};
+ghost use Rattle.ring_base.specs.Prefixes.{IsListPrefix};
 ghost use Rattle.ring_base.specs.Numbers.{numbers_from};
 ghost use Rattle.ring_base.specs.Fault.{fault_number};
 ghost use Rattle.ring_base.specs.declared.fault.Fault.TheVariants.{Memory, Stopped as StoppedFault};
 ghost use Rattle.ring_wire.specs.Frames.{FrameFits};
-ghost use Rattle.ring_core.specs.State.{Sent as OneSent, Carried, frame_at};
-ghost use Rattle.ring_log.specs.Lives.{committed_of};
+ghost use Rattle.ring_core_spec.specs.State.{OutgoingFrame as OneSent, Transmission, frame_at};
+ghost use Rattle.ring_log.specs.EpochHistories.{committed_of};
 ghost use Rattle.ring_session.specs.Deduplicated.{deduplicated};
-ghost use Rattle.ring_rules.specs.NodeLimits.{InputFits};
-ghost use Rattle.ring_rules.specs.Nodes.{node_opening, node_stopped};
-ghost use Rattle.ring_rules.specs.declared.event.Event.TheVariants.{Issue, Stop};
-ghost use Rattle.ring_rules.specs.declared.input.Input.TheVariants.{Timeout as TimeInput};
-ghost use Rattle.ring_rules.specs.declared.item.Item.TheVariants.{Issue as IssuedItem};
-ghost use Rattle.ring_rules.specs.declared.told.Told.TheVariants.{Refused as ToldRefused};
-ghost use Rattle.ring_rules.specs.Histories.{IsLinearization};
-ghost use Rattle.ring_rules.specs.WorldLimits.{EventFits};
-ghost use Rattle.ring_rules.specs.Worlds.{calls_past, carried, happens, items_of, told_by, order, lives_of, world_opening};
-ghost use Rattle.ring_order_proof.specs.Linear.{EventKeeps, Follows, FollowsOrder};
-ghost use Rattle.ring_order_proof.specs.Projection.{share_of};
+ghost use Rattle.ring_node_spec.specs.NodeLimits.{InputFits};
+ghost use Rattle.ring_node_spec.specs.Nodes.{node_opening, node_stopped};
+ghost use Rattle.ring_node_spec.specs.declared.event.Event.TheVariants.{Issue, Stop};
+ghost use Rattle.ring_node_spec.specs.declared.input.Input.TheVariants.{Timeout as TimeInput};
+ghost use Rattle.ring_node_spec.specs.declared.item.Item.TheVariants.{Issue as IssuedItem};
+ghost use Rattle.ring_node_spec.specs.declared.told.Told.TheVariants.{Refused as ToldRefused};
+ghost use Rattle.ring_node_spec.specs.Histories.{IsLinearization};
+ghost use Rattle.ring_node_spec.specs.WorldLimits.{EventFits};
+ghost use Rattle.ring_node_spec.specs.Worlds.{calls_past, carried_frames, happens, items_of, told_by, order, whole_epochs_in, world_opening};
+ghost use Rattle.ring_order_proof.specs.Linear.{EventKeeps, HasCommittedPlaces, FollowsOrder};
+ghost use Rattle.ring_order_proof.specs.Projection.{core_events_of_run};
 ghost use Rattle.ring_order_proof.specs.Synchronous.{IsSynchronous};
-ghost use Rattle.ring_world.specs.Played.{Played, played_opening, told_of_events, world_of, Goes, Plays};
-ghost use Rattle.ring_world.specs.Shown.{GoesOn};
-ghost use Rattle.ring_world.specs.Steps.{stepping, input_by, handed_by, HasStepped};
-ghost use Rattle.ring_world.specs.Stored.{HasRoom, text_of};
-ghost use Rattle.ring_world.specs.Spares.{Spares as ToldSpares, AllLeft, after_answers};
+ghost use Rattle.ring_world.specs.WorldView.{WorldView, opening_world_view, told_of_events, world_of, IsEventOutcome, IsRunOfEvents};
+ghost use Rattle.ring_world.specs.Shown.{IsContinuation};
+ghost use Rattle.ring_world.specs.Steps.{stepping_node, event_input, delivered_frame, HasStepped};
+ghost use Rattle.ring_world.specs.StoredFramesView.{HasRoom, text_of};
+ghost use Rattle.ring_world.specs.SpareCalls.{SpareCalls as ToldSpares, HaveCopies, copies_after_answers};
 
-use crate::chronicle::Chronicle;
-use crate::copies::copied_event;
+use crate::answer_records::record_answers;
+use crate::copies::copy_event;
 use crate::frames::Frames;
-use crate::order::most_effects;
-use crate::spares::Spares;
-use crate::telling::tell;
+use crate::order::max_effects;
+use crate::run_record::RunRecord;
+use crate::spares::SpareCalls;
 use ring_base::{Fault, Fixed, Kind, Proc, ProcSet};
-use ring_node::{Input, Node, Outs, Sent};
+use ring_node::{Input, Node, OutgoingFrame, Outs};
+use ring_node_spec::{Event, Item, Told};
 use ring_object::Object;
 use ring_order_proof::effect_laws::effects_law;
-use ring_order_proof::frame_laws::{few_law, frames_law, pending_law};
+use ring_order_proof::frame_laws::{frames_law, pending_law, step_counts_law};
 use ring_order_proof::laws::linear_law;
 use ring_order_proof::longest_laws::longest_law;
 use ring_payload::Call;
-use ring_rules::{Event, Item, Told};
 use ring_session::copy_of;
 use ring_wire::Frame;
 use std::alloc::Allocator;
 use std::marker::Model;
 
-/// A world of nodes that runs. Contracts see its events since the opening, and what was told.
+/// A world: all nodes of a group, each at its opening at first, all frames sent, the history, and the list of events.
+/// Contracts see its group, its events since the opening and the reports to clients.
+/// Rules: The book and the threads 1
 #[derive(Drop)]
 pub struct World<O: Object> {
     alloc: O::Alloc,
     fixed: Fixed,
-    /// That of processor i stands at i - 1.
+    /// Processor i is at index i - 1.
     nodes: Vec<Node<O>, O::Alloc>,
-    /// Of each node, the second copies of the calls that wait for their answers.
-    spares: Vec<Spares<O::Alloc>, O::Alloc>,
-    chronicle: Chronicle<O::Alloc>,
+    /// For each node, the second copies of the calls whose tickets wait for an answer.
+    spares: Vec<SpareCalls<O::Alloc>, O::Alloc>,
+    run_record: RunRecord<O::Alloc>,
     done: u64,
-    rooms: Rooms<O::Alloc>,
+    buffers: StepBuffers<O::Alloc>,
 }
 
-/// What is used again from step to step.
+/// Buffers that are used again from step to step.
 #[derive(Drop)]
-struct Rooms<A: Allocator + Copy> {
-    /// The frame that was read last: the next one is read over it.
+struct StepBuffers<A: Allocator + Copy> {
+    /// The frame that was read last; the next one is read over it.
     place: Option<Frame<A>>,
-    /// The lists in which a node puts what its step gives.
+    /// The lists that a node fills with the outputs of a step.
     outs: Outs<A>,
 }
 
 impl<O: Object> Model for World<O> {
-    ghost use Rattle.ring_world.specs.Played.{Played};
+    ghost use Rattle.ring_world.specs.WorldView.{WorldView};
     ghost use Rattle.ring_world.specs.Keeping.{IsWorld};
 
-    ghost Value = { Played O.Alloc };
+    ghost Value = { WorldView O.Alloc };
 
-    ghost view = { λ w. record { group = w.fixed; events = w.chronicle.events.items; told = w.chronicle.told.items; done = w.done } };
+    ghost view = { λ w. record { group = w.fixed; events = w.run_record.events.items; told = w.run_record.told.items; done = w.done } };
 
-    ghost invariant = { λ w. IsWorld O.sequential w.fixed w.chronicle.events.items w.nodes.items w.spares.items w.chronicle.frames.frames w.chronicle.history.items
-        w.chronicle.told.items w.chronicle.longest.calls };
+    ghost invariant = { λ w. IsWorld O.sequential w.fixed w.run_record.events.items w.nodes.items w.spares.items w.run_record.frames.frames w.run_record.history.items
+        w.run_record.told.items w.run_record.longest.calls };
 }
 
 impl<O: Object> World<O> {
-    /// All nodes at their opening, or `Memory`.
+    /// Returns the world of this group at its opening: each node is at its opening, and no event has happened.
+    /// Errors: `Memory` where an allocation fails.
+    /// Rules: The book and the threads 1; Rings and states 5
     pub fn new(alloc: O::Alloc, fixed: Fixed) -> Result<World<O>, Fault>
-        ensures ok { IfOk result (λ world. world ≡ played_opening fixed) }
+        ensures ok { IfOk result (λ world. world ≡ opening_world_view fixed) }
         ensures refused { IfErr result (λ fault. fault ≡ Memory) }
     {
         let count = fixed.count();
-        let spares = no_spares(alloc, count)?;
-        let nodes = opened(alloc, fixed, count)?;
+        let spares = new_spares(alloc, count)?;
+        let nodes = new_nodes(alloc, fixed, count)?;
         Ok(World {
             alloc,
             fixed,
             nodes,
             spares,
-            chronicle: Chronicle::new(alloc),
+            run_record: RunRecord::new(alloc),
             done: 0,
-            rooms: no_rooms(alloc),
+            buffers: new_buffers(alloc),
         })
     }
 
-    /// Another world that has done the same and told the same, or `Memory`. From there each goes on by itself: so a caller can try what
-    /// would come of events, and go on with this one.
+    /// Returns a second world with the same events, history and nodes. The two then run independently, so a caller can
+    /// try events on the copy.
+    /// Errors: `Memory` where an allocation fails; this world is unchanged.
     pub fn copy(&self) -> Result<World<O>, Fault>
         ensures ok { IfOk result (λ copy. copy ≡ self.now) }
         ensures refused { IfErr result (λ fault. fault ≡ Memory) }
     {
-        let chronicle = self.chronicle.copy()?;
+        let run_record = self.run_record.copy()?;
         let spares = self.spares.clone()?;
-        let nodes = copied_nodes(self.alloc, &self.nodes)?;
+        let nodes = copy_nodes(self.alloc, &self.nodes)?;
         Ok(World {
             alloc: self.alloc,
             fixed: self.fixed,
             nodes,
             spares,
-            chronicle,
+            run_record,
             done: self.done,
-            rooms: no_rooms(self.alloc),
+            buffers: new_buffers(self.alloc),
         })
     }
 
-    /// Runs the events, in their order. A call that they issue keeps the limits of frames, as each does that `Call::new` makes.
-    /// The room for all that an event adds is made before its step, so an event is done
-    /// whole or not at all. `Memory` where a growth was refused to the world itself: then `done` tells how many of these
-    /// events were done, and the world is the one after these.
-    ///
-    /// Ok is no promise that no node was refused memory. Where one was in its step, the node has stopped for good, and the
-    /// event stands in `events` as its stop: of an event that is run alone `stopped_for_memory` tells it. Where it was in a
-    /// submit, the event is left out of `events`, and `told` has the refusal, with number 11.
+    /// Runs the events in order, after those that were run before.
+    /// The calls in them are within the limits of frames, as every call made by `Call::new` is. The room for an event
+    /// is made before its step, so an event is done whole or not at all.
+    /// Ok doesn't mean that no node was refused memory. A node whose step was refused memory has stopped for good, and
+    /// the event is in `events` as `Stop`; `stopped_for_memory` finds it after a run of one event. A submit that was
+    /// refused memory is not in `events`, and `told` has its refusal with number 11.
+    /// Errors: `Memory` where the world itself was refused memory; then `done` returns the number of these events that
+    /// were done, and the world is the one after them.
+    /// Rules: The book and the threads 2 to 4, 6 to 8; Sessions 10 and 11; Outputs 11; Refusals 6
     pub fn run(&mut self, events: &[Event<O::Alloc>]) -> Result<(), Fault>
         requires fit { AllByRecursion EventFits events.now }
-        ensures plays { Plays O.sequential (take self.new.done events.now) self.old self.new }
+        ensures plays { IsRunOfEvents O.sequential (take self.new.done events.now) self.old self.new }
         ensures all { OnOk result (self.new.done ≡ length events.now) }
         ensures some { OnErr result (self.new.done < length events.now) }
         ensures explains { let w = world_of O.sequential self.new in IsLinearization O.sequential (order w) w.history }
-        ensures grows { IsFront (order (world_of O.sequential self.old)) (order (world_of O.sequential self.new)) }
+        ensures grows { IsListPrefix (order (world_of O.sequential self.old)) (order (world_of O.sequential self.new)) }
         ensures fronts { (node : ℕ) → 1 ≤ node → node ≤ self.new.group.count →
-            let w = world_of O.sequential self.new in IsFront (deduplicated (committed_of self.new.group (lives_of w node))) (order w) }
+            let w = world_of O.sequential self.new in IsListPrefix (deduplicated (committed_of self.new.group (whole_epochs_in w node))) (order w) }
         ensures follows { (node : ℕ) → 1 ≤ node → node ≤ self.new.group.count →
             let w = world_of O.sequential self.new in
-            Follows O.sequential (w.nodes node) (committed_of self.new.group (lives_of w node)) × FollowsOrder O.sequential (w.nodes node) (order w) }
+            let committed = committed_of self.new.group (whole_epochs_in w node) in
+            HasCommittedPlaces O.sequential (w.nodes node) committed × FollowsOrder O.sequential (w.nodes node) committed (order w) }
         ensures synchronous { IsSynchronous O.sequential self.new.group self.new.events }
-        ensures outs_grow { IsFront (share_of O.sequential (world_opening self.old.group) self.old.events).outs
-            (share_of O.sequential (world_opening self.new.group) self.new.events).outs }
+        ensures outs_grow { IsListPrefix (core_events_of_run O.sequential (world_opening self.old.group) self.old.events).outs
+            (core_events_of_run O.sequential (world_opening self.new.group) self.new.events).outs }
         ensures refused { IfErr result (λ fault. fault ≡ Memory) }
     {
-        // A law: no effect at run time. The proof takes from it what is so of every run.
+        // A law: no effect at run time. The proof takes from it the facts that hold of every run.
         linear_law::<O>();
         self.done = 0;
         let ran = self.run_all(events);
-        // A law: no effect at run time. The proof takes from it that this is a run whose calls keep the limits.
+        // A law: no effect at run time. The proof takes from it that this is a run whose calls are within the limits.
         self.run_law();
         ran
     }
 
-    /// Runs one event: as `run` of a list of this event alone does, but for `done`, which stays. The room for all that it adds is made
-    /// before its step, so it is done whole; otherwise `Memory`, where that is refused to the world itself, and the world is as it was.
+    /// Runs one event, as `run` of this event alone does, except that `done` keeps its value.
+    /// The room for the event is made before its step, so it is done whole or not at all.
+    /// Errors: `Memory` where the world itself was refused memory; then nothing has changed.
+    /// Rules: The book and the threads 2 to 4, 6 to 8; Sessions 10 and 11; Outputs 11
     pub fn run_one(&mut self, event: &Event<O::Alloc>) -> Result<(), Fault>
         requires fits { EventFits event.now }
-        ensures ok { OnOk result (Goes O.sequential event.now self.old self.new) }
+        ensures ok { OnOk result (IsEventOutcome O.sequential event.now self.old self.new) }
         ensures err { OnErr result (self.new ≡ self.old) }
         ensures done { self.new.done ≡ self.old.done }
-        ensures shows { GoesOn O.sequential self.old self.new }
+        ensures shows { IsContinuation O.sequential self.old self.new }
         ensures refused { IfErr result (λ fault. fault ≡ Memory) }
     {
-        // A law: no effect at run time. The proof takes from it what is so of every run.
+        // A law: no effect at run time. The proof takes from it the facts that hold of every run.
         linear_law::<O>();
-        let ran = self.happen(event);
-        // A law: no effect at run time. The proof takes from it that this is a run whose calls keep the limits.
+        let ran = self.run_event(event);
+        // A law: no effect at run time. The proof takes from it that this is a run whose calls are within the limits.
         self.run_law();
         ran
     }
 
-    /// Law: the group has at most 16 processors, and each call that was issued keeps the limits, as the laws of runs ask.
+    /// States of this world that its group has at most 16 processors, and that each issued call keeps the limits of
+    /// snapshots. Laws of runs such as `linear_law` require this.
+    /// Rules: Processors and sets 1; Limits 1
     pub fn run_law(&self)
         ensures few { self.now.group.count ≤ 16 }
         ensures keep { AllByRecursion EventKeeps self.now.events }
     {
-        // No effect at run time. The proof sees what `World` promises of itself only where the body reads a field.
+        // No effect at run time. The proof sees the invariant of `World` only where the body reads a field.
         let _ = &self.alloc;
     }
 
-    /// Runs the events, of which none is done.
+    /// Runs the events; none of them is done before.
     fn run_all(&mut self, events: &[Event<O::Alloc>]) -> Result<(), Fault>
         requires fit { AllByRecursion EventFits events.now }
         requires none { self.old.done ≡ 0 }
-        ensures plays { Plays O.sequential (take self.new.done events.now) self.old self.new }
+        ensures plays { IsRunOfEvents O.sequential (take self.new.done events.now) self.old self.new }
         ensures all { OnOk result (self.new.done ≡ length events.now) }
         ensures some { OnErr result (self.new.done < length events.now) }
         ensures refused { IfErr result (λ fault. fault ≡ Memory) }
     {
         for event in events {
-            self.happen(event)?;
+            self.run_event(event)?;
             self.count(events.len());
         }
         Ok(())
     }
 
-    /// One event more is done, of so many.
+    /// Counts one more done event, of `many`.
     fn count(&mut self, many: usize)
         requires { self.old.done < many }
         ensures { self.new ≡ record self.old { done = self.old.done + 1 } }
@@ -209,70 +221,86 @@ impl<O: Object> World<O> {
         self.done += 1;
     }
 
-    /// How many events of the last `run` were done: 0 before any.
+    /// Returns the number of events that the last `run` did, 0 before any `run`. `run_one` doesn't change it.
+    /// Rules: The book and the threads 8
     pub fn done(&self) -> u64
         ensures { result ≡ self.now.done }
     {
         self.done
     }
 
-    /// All events since the opening: a step that memory refused stands as a stop, a submit that memory refused does not.
+    /// Returns all events since the opening. A step that was refused memory is there as `Stop`; a submit that was refused
+    /// memory is left out.
+    /// Rules: The book and the threads 7 and 8
     pub fn events(&self) -> &[Event<O::Alloc>]
         ensures { result.now ≡ self.now.events }
     {
-        &self.chronicle.events
+        &self.run_record.events
     }
 
-    /// What was told, in order: answers and refused submits. Without the submits that memory refused, it is what the run of
-    /// the events told.
+    /// Returns the reports to clients, in the order of events: the answers and the refused submits.
+    /// Apart from submits that were refused memory, these are the reports of the run of `events`.
+    /// Rules: The book and the threads 5 and 7
     pub fn told(&self) -> &[Told<O::Alloc>]
         ensures told { result.now ≡ self.now.told }
         ensures events { told_of_events result.now ≡ (world_of O.sequential self.now).told }
     {
-        &self.chronicle.told
+        &self.run_record.told
     }
 
-    /// What was issued and replied, in order.
+    /// Returns the history of the run: the issued calls and the replies, in the order of events. A refused submit and
+    /// an answer without a reply are not in it.
+    /// Rules: Sessions 9
     pub fn history(&self) -> &[Item<O::Alloc>]
         ensures { result.now ≡ (world_of O.sequential self.now).history }
     {
-        &self.chronicle.history
+        &self.run_record.history
     }
 
-    /// The order: the longest committed log, repeats removed. Or `Memory`.
+    /// Returns the order: copies of the calls that take effect in the longest committed log of all nodes, stopped ones
+    /// included.
+    /// Errors: `Memory` where an allocation fails.
+    /// Rules: Sessions 10
     pub fn order(&self) -> Result<Vec<Call<O::Alloc>, O::Alloc>, Fault>
         ensures ok { IfOk result (λ calls. calls.items ≡ order (world_of O.sequential self.now)) }
         ensures refused { IfErr result (λ fault. fault ≡ Memory) }
     {
-        // A law: no effect at run time. The proof takes from it that what takes effect of the longest log is the order.
+        // A law: no effect at run time. The proof takes from it that the effective calls of the longest log are the order.
         longest_law::<O>();
-        self.chronicle.longest.order(self.alloc)
+        self.run_record.longest.order(self.alloc)
     }
 
-    /// How long the order is.
+    /// Returns the number of calls in `order`. It takes no memory.
+    /// Rules: Sessions 10
     pub fn order_len(&self) -> u64
         ensures { result ≡ length (order (world_of O.sequential self.now)) }
     {
-        // A law: no effect at run time. The proof takes from it that a node's sessions tell how many calls of its log take effect.
+        // A law: no effect at run time. The proof takes from it that a node's sessions count the effective calls of its
+        // log.
         effects_law::<O>();
-        most_effects(&self.nodes)
+        max_effects(&self.nodes)
     }
 
-    /// The committed places of a node of the group from the log's beginning, also those that it has dropped, and those that a
-    /// snapshot stands for that it restored. Or `Memory`.
+    /// Returns copies of the calls at the committed places of a node of the group, from the log's beginning, repeats
+    /// included.
+    /// Places that the node has dropped are included, and so are those that a restored snapshot replaces.
+    /// Errors: `Memory` where an allocation fails.
+    /// Rules: The book and the threads 8; The replicated log 16
     pub fn committed(&self, node: Proc) -> Result<Vec<Call<O::Alloc>, O::Alloc>, Fault>
         requires { node ≤ self.now.group.count }
-        ensures ok { IfOk result (λ calls. calls.items ≡ committed_of self.now.group (lives_of (world_of O.sequential self.now) node)) }
+        ensures ok { IfOk result (λ calls. calls.items ≡ committed_of self.now.group (whole_epochs_in (world_of O.sequential self.now) node)) }
         ensures refused { IfErr result (λ fault. fault ≡ Memory) }
     {
-        // A law: no effect at run time. The proof takes from it that a node's committed places are the first of the longest log.
+        // A law: no effect at run time. The proof takes from it that a node's committed places are a prefix of the longest
+        // log.
         longest_law::<O>();
         let place = usize::from(node.number()) - 1;
         let many = self.nodes[place].committed_len();
-        self.chronicle.longest.first(self.alloc, many)
+        self.run_record.longest.first(self.alloc, many)
     }
 
-    /// A node of the group.
+    /// Returns the node of a processor of the group, 1 to N, as it is after the events that were run so far.
+    /// Rules: The book and the threads 8
     pub fn node(&self, node: Proc) -> &Node<O>
         requires { node ≤ self.now.group.count }
         ensures { result.now ≡ (world_of O.sequential self.now).nodes node }
@@ -280,21 +308,26 @@ impl<O: Object> World<O> {
         &self.nodes[usize::from(node.number()) - 1]
     }
 
-    /// Sender and receivers of the frame of this number, counted from 1 in the order sent, if it was sent.
+    /// Returns the sender and the receivers of a frame, or `None` if no frame of this number was sent. Frames are
+    /// numbered from 1 in the order sent.
+    /// Rules: The book and the threads 3 and 8
     pub fn frame(&self, number: u64) -> Option<(Proc, ProcSet)>
-        ensures { result ≡ option_map (λ (f : Carried O.Alloc). (f.from, f.to)) (frame_at (world_of O.sequential self.now).frames number) }
+        ensures { result ≡ option_map (λ (f : Transmission O.Alloc). (f.from, f.to)) (frame_at (world_of O.sequential self.now).frames number) }
     {
-        self.chronicle.frames.ends(number)
+        self.run_record.frames.ends(number)
     }
 
-    /// All frames ever sent, as they are spelled, one behind the other in the order sent.
+    /// Returns the encodings of all frames ever sent, one after another in the order sent.
+    /// Rules: The book and the threads 3
+    /// Formats: Frames
     pub fn sent_text(&self) -> &[u8]
         ensures { result.now ≡ text_of (world_of O.sequential self.now).frames }
     {
-        self.chronicle.frames.text()
+        self.run_record.frames.text()
     }
 
-    /// The group.
+    /// Returns the group of the world: the number of processors, and their votes.
+    /// Rules: Processors and sets 1
     pub fn fixed(&self) -> Fixed
         ensures { result ≡ self.now.group }
     {
@@ -303,10 +336,10 @@ impl<O: Object> World<O> {
 }
 
 impl<O: Object> World<O> {
-    /// An event happens.
-    fn happen(&mut self, event: &Event<O::Alloc>) -> Result<(), Fault>
+    /// Runs one event.
+    fn run_event(&mut self, event: &Event<O::Alloc>) -> Result<(), Fault>
         requires fits { EventFits event.now }
-        ensures ok { OnOk result (Goes O.sequential event.now self.old self.new) }
+        ensures ok { OnOk result (IsEventOutcome O.sequential event.now self.old self.new) }
         ensures err { OnErr result (self.new ≡ self.old) }
         ensures done { self.new.done ≡ self.old.done }
         ensures refused { IfErr result (λ fault. fault ≡ Memory) }
@@ -320,54 +353,57 @@ impl<O: Object> World<O> {
         }
     }
 
-    /// The event changes nothing but the list of events.
+    /// Adds an event that changes nothing but the list of events.
+    /// Rules: The book and the threads 4
     fn idle(&mut self, event: &Event<O::Alloc>) -> Result<(), Fault>
         requires fits { EventFits event.now }
         requires same { happens O.sequential (world_of O.sequential self.old) event.now ≡ world_of O.sequential self.old }
-        ensures ok { OnOk result (Goes O.sequential event.now self.old self.new) }
+        ensures ok { OnOk result (IsEventOutcome O.sequential event.now self.old self.new) }
         ensures err { OnErr result (self.new ≡ self.old) }
         ensures done { self.new.done ≡ self.old.done }
         ensures refused { IfErr result (λ fault. fault ≡ Memory) }
     {
-        self.chronicle.events.reserve(1)?;
-        let kept = copied_event(event)?;
-        self.chronicle.events.push_reserved(kept);
+        self.run_record.events.reserve(1)?;
+        let kept = copy_event(event)?;
+        self.run_record.events.push_reserved(kept);
         Ok(())
     }
 
-    /// A node steps: it hears a frame, or a time is over. Where there is no such node, or the frame was not sent to it, the list of
-    /// events alone changes. Where memory ran out in its step it has stopped, and its stop stands for the event.
+    /// Steps a node on a frame or a timeout.
+    /// Where there is no such node, or the frame was not sent to it, only the list of events changes. A step that was
+    /// refused memory stops the node, and `Stop` is recorded in place of the event.
     fn step(&mut self, node: Proc, event: &Event<O::Alloc>) -> Result<(), Fault>
-        requires { stepping event.now ≡ Some node }
-        ensures ok { OnOk result (Goes O.sequential event.now self.old self.new) }
+        requires { stepping_node event.now ≡ Some node }
+        ensures ok { OnOk result (IsEventOutcome O.sequential event.now self.old self.new) }
         ensures err { OnErr result (self.new ≡ self.old) }
         ensures done { self.new.done ≡ self.old.done }
         ensures refused { IfErr result (λ fault. fault ≡ Memory) }
     {
-        // Laws: no effect at run time. The proof takes from them that a step gives at most 64 frames and answers, all within the limits.
-        few_law::<O>();
+        // Laws: no effect at run time. The proof takes from them that a step gives at most 64 frames and answers, all
+        // within the limits.
+        step_counts_law::<O>();
         pending_law::<O>();
         frames_law::<O>();
         let place = usize::from(node.number()) - 1;
         if place >= self.nodes.len() {
             return self.idle(event);
         }
-        let is_step = read_handed(
-            &self.chronicle.frames,
+        let is_step = read_delivered(
+            &self.run_record.frames,
             self.alloc,
             event,
-            &mut self.rooms.place,
+            &mut self.buffers.place,
         )?;
         if !is_step {
             return self.idle(event);
         }
-        self.chronicle.make_room()?;
-        let kept = copied_event(event)?;
-        match step_by(
+        self.run_record.make_room()?;
+        let kept = copy_event(event)?;
+        match step_node(
             &mut self.nodes[place],
             event,
-            &self.rooms.place,
-            &mut self.rooms.outs,
+            &self.buffers.place,
+            &mut self.buffers.outs,
         ) {
             Ok(()) => {
                 let many = self.nodes[place].committed_len();
@@ -375,24 +411,24 @@ impl<O: Object> World<O> {
                     self.alloc,
                     node,
                     many,
-                    &mut self.rooms.outs,
-                    &mut self.chronicle,
+                    &mut self.buffers.outs,
+                    &mut self.run_record,
                     &mut self.spares[place],
                 );
-                self.chronicle.events.push_reserved(kept);
+                self.run_record.events.push_reserved(kept);
             }
             Err(fault) => {
-                let stop = standing(fault, kept, node);
-                self.chronicle.events.push_reserved(stop);
+                let stop = event_or_stop(fault, kept, node);
+                self.run_record.events.push_reserved(stop);
             }
         }
         Ok(())
     }
 
-    /// A node stops; an unknown one changes nothing.
+    /// Stops a node. A node that is not in the group changes nothing.
     fn stop(&mut self, node: Proc, event: &Event<O::Alloc>) -> Result<(), Fault>
         requires { event.now ≡ Stop node }
-        ensures ok { OnOk result (Goes O.sequential event.now self.old self.new) }
+        ensures ok { OnOk result (IsEventOutcome O.sequential event.now self.old self.new) }
         ensures err { OnErr result (self.new ≡ self.old) }
         ensures done { self.new.done ≡ self.old.done }
         ensures refused { IfErr result (λ fault. fault ≡ Memory) }
@@ -401,13 +437,13 @@ impl<O: Object> World<O> {
         if place >= self.nodes.len() {
             return self.idle(event);
         }
-        self.chronicle.events.reserve(1)?;
-        halt(&mut self.nodes[place], &mut self.rooms.outs);
-        self.chronicle.events.push_reserved(Event::Stop(node));
+        self.run_record.events.reserve(1)?;
+        stop_node(&mut self.nodes[place], &mut self.buffers.outs);
+        self.run_record.events.push_reserved(Event::Stop(node));
         Ok(())
     }
 
-    /// A call is submitted at a node; at an unknown one it changes nothing.
+    /// Submits a call at a node. A node that is not in the group changes nothing.
     fn issue(
         &mut self,
         node: Proc,
@@ -416,7 +452,7 @@ impl<O: Object> World<O> {
     ) -> Result<(), Fault>
         requires fits { EventFits event.now }
         requires event { event.now ≡ Issue node call.now }
-        ensures ok { OnOk result (Goes O.sequential event.now self.old self.new) }
+        ensures ok { OnOk result (IsEventOutcome O.sequential event.now self.old self.new) }
         ensures err { OnErr result (self.new ≡ self.old) }
         ensures done { self.new.done ≡ self.old.done }
         ensures refused { IfErr result (λ fault. fault ≡ Memory) }
@@ -425,19 +461,19 @@ impl<O: Object> World<O> {
         if place >= self.nodes.len() {
             return self.idle(event);
         }
-        self.chronicle.make_room()?;
+        self.run_record.make_room()?;
         self.spares[place].make_room()?;
         let copies = issue_copies(event, call)?;
         match self.nodes[place].submit_on(call) {
             Ok(_) => keep_issue(
-                &mut self.chronicle.events,
-                &mut self.chronicle.history,
+                &mut self.run_record.events,
+                &mut self.run_record.history,
                 &mut self.spares[place],
                 copies,
             ),
             Err(fault) => refuse(
-                &mut self.chronicle.events,
-                &mut self.chronicle.told,
+                &mut self.run_record.events,
+                &mut self.run_record.told,
                 node,
                 copies,
                 fault,
@@ -447,26 +483,27 @@ impl<O: Object> World<O> {
     }
 }
 
-/// What is kept of a call that is issued.
+/// The copies of a submitted call that the world keeps.
 #[derive(Drop)]
 struct IssueCopies<A: Allocator + Copy> {
     event: Event<A>,
-    /// For what is told of it.
+    /// For the history if the node takes the call, for `told` if it refuses.
     call: Call<A>,
-    /// For its answer.
+    /// For the history when the call is answered.
     spare: Call<A>,
 }
 
-/// Nothing yet to be used again. It takes no memory.
-fn no_rooms<A: Allocator + Copy>(alloc: A) -> Rooms<A> {
-    Rooms {
+/// Returns empty buffers. It takes no memory.
+fn new_buffers<A: Allocator + Copy>(alloc: A) -> StepBuffers<A> {
+    StepBuffers {
         place: None,
         outs: Outs::new(alloc),
     }
 }
 
-/// The nodes at their opening, or `Memory`.
-fn opened<O: Object>(
+/// Returns the nodes at their opening.
+/// Errors: `Memory`.
+fn new_nodes<O: Object>(
     alloc: O::Alloc,
     fixed: Fixed,
     count: u8,
@@ -485,8 +522,9 @@ fn opened<O: Object>(
     Ok(nodes)
 }
 
-/// Copies of the nodes, or `Memory`.
-fn copied_nodes<O: Object>(
+/// Returns copies of the nodes.
+/// Errors: `Memory`.
+fn copy_nodes<O: Object>(
     alloc: O::Alloc,
     nodes: &[Node<O>],
 ) -> Result<Vec<Node<O>, O::Alloc>, Fault>
@@ -501,29 +539,31 @@ fn copied_nodes<O: Object>(
     Ok(copies)
 }
 
-/// For each of the nodes, no copies yet, or `Memory`.
-fn no_spares<A: Allocator + Copy>(alloc: A, count: u8) -> Result<Vec<Spares<A>, A>, Fault>
+/// Returns an empty list of second copies for each of `count` nodes.
+/// Errors: `Memory`.
+fn new_spares<A: Allocator + Copy>(alloc: A, count: u8) -> Result<Vec<SpareCalls<A>, A>, Fault>
     ensures many { IfOk result (λ spares. length spares.items ≡ count) }
     ensures none { IfOk result (λ spares. AllByRecursion (λ (s : ToldSpares A). s.calls ≡ []) spares.items) }
     ensures refused { IfErr result (λ fault. fault ≡ Memory) }
 {
     let mut spares = Vec::new(alloc);
     for _ in 0..count {
-        spares.push(Spares::new(alloc))?;
+        spares.push(SpareCalls::new(alloc))?;
     }
     Ok(spares)
 }
 
-/// Reads the frame that an event hands to its node into the place. Whether the event is a step of the node: it is where there is such a
-/// frame, or a time is over. `Memory` is the only refusal.
-fn read_handed<A: Allocator + Copy>(
+/// Reads the frame that the event delivers into `place`.
+/// Returns whether the event is a step of its node: it is for a timeout, and for a frame that was sent to that node.
+/// Errors: `Memory`, and no other.
+fn read_delivered<A: Allocator + Copy>(
     frames: &Frames<A>,
     alloc: A,
     event: &Event<A>,
     place: &mut Option<Frame<A>>,
 ) -> Result<bool, Fault>
-    ensures is { IfOk result (λ is. is ≡ is_some (input_by event.now (handed_by event.now frames.now.frames))) }
-    ensures input { IfOk result (λ is. is ≡ true → input_by event.now place.new ≡ input_by event.now (handed_by event.now frames.now.frames)) }
+    ensures is { IfOk result (λ is. is ≡ is_some (event_input event.now (delivered_frame event.now frames.now.frames))) }
+    ensures input { IfOk result (λ is. is ≡ true → event_input event.now place.new ≡ event_input event.now (delivered_frame event.now frames.now.frames)) }
     ensures refused { IfErr result (λ fault. fault ≡ Memory) }
 {
     match event {
@@ -533,20 +573,20 @@ fn read_handed<A: Allocator + Copy>(
     }
 }
 
-/// The step of a node that an event is, with the frame that stands in the place.
-fn step_by<O: Object>(
+/// Steps the node by the event, with the frame in `place` if the event delivers one.
+fn step_node<O: Object>(
     node: &mut Node<O>,
     event: &Event<O::Alloc>,
     place: &Option<Frame<O::Alloc>>,
     outs: &mut Outs<O::Alloc>,
 ) -> Result<(), Fault>
-    requires is { IsSome (input_by event.now place.now) }
-    requires fits { IfSome (input_by event.now place.now) InputFits }
-    ensures { IfSome (input_by event.now place.now) (λ input. HasStepped O.sequential node.old input result node.new outs.new) }
+    requires is { IsSome (event_input event.now place.now) }
+    requires fits { IfSome (event_input event.now place.now) InputFits }
+    ensures { IfSome (event_input event.now place.now) (λ input. HasStepped O.sequential node.old input result node.new outs.new) }
 {
     match event {
         Event::Deliver(_, _) => match place {
-            Some(frame) => node.hear_into(frame, outs),
+            Some(frame) => node.receive_into(frame, outs),
             None => unreachable!(),
         },
         Event::Timeout(_, kind) => time_out(node, *kind, outs),
@@ -554,7 +594,7 @@ fn step_by<O: Object>(
     }
 }
 
-/// A time of a node is over. It stands apart, since a call clears its room for an input.
+/// Steps the node on a timeout. A function of its own keeps the large stack slot of an input out of the caller.
 #[inline(never)]
 fn time_out<O: Object>(
     node: &mut Node<O>,
@@ -566,7 +606,8 @@ fn time_out<O: Object>(
     node.step_into(&Input::Timeout(kind), outs)
 }
 
-/// The copies of an event that issues this call, or `Memory`.
+/// Returns the copies of an event that issues this call.
+/// Errors: `Memory`.
 fn issue_copies<A: Allocator + Copy>(
     event: &Event<A>,
     call: &Call<A>,
@@ -577,17 +618,17 @@ fn issue_copies<A: Allocator + Copy>(
     ensures keeps { IfOk result (λ _. EventFits event.now → EventKeeps event.now) }
     ensures refused { IfErr result (λ fault. fault ≡ Memory) }
 {
-    let event = copied_event(event)?;
+    let event = copy_event(event)?;
     let call = copy_of(call)?;
     let spare = copy_of(&call)?;
     Ok(IssueCopies { event, call, spare })
 }
 
-/// A submit was taken: its event and its call are kept. There is room.
+/// Records a submit that the node took. The caller has made room.
 fn keep_issue<A: Allocator + Copy>(
     events: &mut Vec<Event<A>, A>,
     history: &mut Vec<Item<A>, A>,
-    spares: &mut Spares<A>,
+    spares: &mut SpareCalls<A>,
     copies: IssueCopies<A>,
 )
     requires events_room { vec_len events.old + 1 ≤ vec_capacity events.old }
@@ -602,15 +643,15 @@ fn keep_issue<A: Allocator + Copy>(
     spares.add(copies.spare);
 }
 
-/// A node stops. It takes no memory and gives nothing; a stopped node stays as it is.
+/// Stops a node. It takes no memory and has no outputs; a stopped node stays as it is.
 #[inline(never)]
-fn halt<O: Object>(node: &mut Node<O>, outs: &mut Outs<O::Alloc>)
+fn stop_node<O: Object>(node: &mut Node<O>, outs: &mut Outs<O::Alloc>)
     ensures { node.new ≡ node_stopped node.old }
 {
     let _ = node.step_into(&Input::Stop, outs);
 }
 
-/// A submit was refused: that is told, and its event is kept unless for want of memory. There is room.
+/// Records a refused submit, and its event unless the refusal is `Memory`. The caller has made room.
 fn refuse<A: Allocator + Copy>(
     events: &mut Vec<Event<A>, A>,
     told: &mut Vec<Told<A>, A>,
@@ -626,70 +667,73 @@ fn refuse<A: Allocator + Copy>(
 {
     told.push_reserved(Told::Refused(node, copies.call, fault.number()));
     match fault {
-        Fault::Memory => let_go(copies.event),
+        Fault::Memory => drop_event(copies.event),
         _ => events.push_reserved(copies.event),
     }
 }
 
-/// The event is left out.
-fn let_go<A: Allocator + Copy>(_event: Event<A>) {}
+/// Drops the event.
+fn drop_event<A: Allocator + Copy>(_event: Event<A>) {}
 
-/// What stands for an event whose step a node refused: of a stopped node the event itself, which changes nothing; where memory was
-/// refused to it, its stop.
-fn standing<A: Allocator + Copy>(fault: Fault, event: Event<A>, node: Proc) -> Event<A>
+/// Returns the event to record for a refused step: the event itself if the node had already stopped, and `Stop` if memory
+/// was refused.
+fn event_or_stop<A: Allocator + Copy>(fault: Fault, event: Event<A>, node: Proc) -> Event<A>
     ensures stopped { fault ≡ StoppedFault → result ≡ event }
     ensures memory { ¬ (fault ≡ StoppedFault) → result ≡ Stop node }
 {
     match fault {
         Fault::Stopped => event,
         _ => {
-            let_go(event);
+            drop_event(event);
             Event::Stop(node)
         }
     }
 }
 
-/// Keeps what a node's step gave: its frames, which keep their limits, its answers, which are told, and what is new of so many calls
-/// that it has committed. There is room.
+/// Records the outputs of a node's step: its frames, its answers, and the calls newly committed in any log.
+/// `committed` is the node's committed length after the step. The frames are within their limits, and the caller has made
+/// room.
 fn keep_step<A: Allocator + Copy>(
     alloc: A,
     node: Proc,
     committed: u64,
     outs: &mut Outs<A>,
-    chronicle: &mut Chronicle<A>,
-    spares: &mut Spares<A>,
+    run_record: &mut RunRecord<A>,
+    spares: &mut SpareCalls<A>,
 )
     requires fit { AllByRecursion (λ (s : OneSent A). FrameFits s.frame) outs.old.sends.items }
-    requires room { HasRoom (length outs.old.sends.items) chronicle.old.frames }
-    requires left { AllLeft spares.old.calls outs.old.answers.items }
-    requires told_room { vec_len chronicle.old.told + length outs.old.answers.items ≤ vec_capacity chronicle.old.told }
-    requires history_room { vec_len chronicle.old.history + length outs.old.answers.items ≤ vec_capacity chronicle.old.history }
-    requires longest_room { 0 < chronicle.old.longest.places }
-    ensures events { chronicle.new.events ≡ chronicle.old.events }
-    ensures frames { chronicle.new.frames.frames ≡ chronicle.old.frames.frames ++ carried node outs.old.sends.items }
-    ensures told { chronicle.new.told.items ≡ chronicle.old.told.items ++ told_by node outs.old.answers.items }
-    ensures history { chronicle.new.history.items ≡ chronicle.old.history.items ++ items_of outs.old.answers.items }
-    ensures spares { spares.new.calls ≡ after_answers spares.old.calls outs.old.answers.items }
-    ensures longest { let calls = chronicle.old.longest.calls in
-        chronicle.new.longest.calls ≡ calls ++ calls_past (length calls) committed outs.old.committed.items }
+    requires room { HasRoom (length outs.old.sends.items) run_record.old.frames }
+    requires left { HaveCopies spares.old.calls outs.old.answers.items }
+    requires told_room { vec_len run_record.old.told + length outs.old.answers.items ≤ vec_capacity run_record.old.told }
+    requires history_room { vec_len run_record.old.history + length outs.old.answers.items ≤ vec_capacity run_record.old.history }
+    requires longest_room { 0 < run_record.old.longest.places }
+    ensures events { run_record.new.events ≡ run_record.old.events }
+    ensures frames { run_record.new.frames.frames ≡ run_record.old.frames.frames ++ carried_frames node outs.old.sends.items }
+    ensures told { run_record.new.told.items ≡ run_record.old.told.items ++ told_by node outs.old.answers.items }
+    ensures history { run_record.new.history.items ≡ run_record.old.history.items ++ items_of outs.old.answers.items }
+    ensures spares { spares.new.calls ≡ copies_after_answers spares.old.calls outs.old.answers.items }
+    ensures longest { let calls = run_record.old.longest.calls in
+        run_record.new.longest.calls ≡ calls ++ calls_past (length calls) committed outs.old.committed.items }
 {
-    keep_all(&mut chronicle.frames, node, &outs.sends);
-    tell(
+    keep_all(&mut run_record.frames, node, &outs.sends);
+    record_answers(
         alloc,
-        &mut chronicle.told,
-        &mut chronicle.history,
+        &mut run_record.told,
+        &mut run_record.history,
         spares,
         node,
         &mut outs.answers,
     );
-    chronicle.longest.add(alloc, committed, &mut outs.committed);
+    run_record
+        .longest
+        .add(alloc, committed, &mut outs.committed);
 }
 
-/// Keeps the frames that a node sent. They keep their limits, and there is room.
-fn keep_all<A: Allocator + Copy>(frames: &mut Frames<A>, from: Proc, sends: &[Sent<A>])
+/// Records the frames that a node sent. They are within their limits, and the caller has made room.
+fn keep_all<A: Allocator + Copy>(frames: &mut Frames<A>, from: Proc, sends: &[OutgoingFrame<A>])
     requires fit { AllByRecursion (λ (s : OneSent A). FrameFits s.frame) sends.now }
     requires room { HasRoom (length sends.now) frames.old }
-    ensures { frames.new.frames ≡ frames.old.frames ++ carried from sends.now }
+    ensures { frames.new.frames ≡ frames.old.frames ++ carried_frames from sends.now }
 {
     for sent in sends {
         frames.keep(from, sent.to, &sent.frame);

@@ -1,11 +1,11 @@
 -- The members of a group are processors of the world.
 use Rattle.std.proofs.Common.{◌≡◌, ℕ, ◌<◌, ◌≤◌, true}
-use Rattle.ring_base.specs.Processors.{within, everybody, common, size, at}
-use Rattle.ring_base.specs.Members.{everybody_members, common_members, within_members}
+use Rattle.ring_base.specs.Processors.{within, everybody, intersection, size, at}
+use Rattle.ring_base.specs.Members.{everybody_members, intersection_members, within_members}
 use Rattle.ring_base.specs.Elements.{at_member}
 
-pub within_common : (a count : ℕ) → within (common a (everybody count)) (everybody count) ≡ true
-within_common a count = (within_members (common a (everybody count)) (everybody count)).1 (λ i m. ((common_members a (everybody count) i).0 m).1)
+pub within_intersection : (a count : ℕ) → within (intersection a (everybody count)) (everybody count) ≡ true
+within_intersection a count = (within_members (intersection a (everybody count)) (everybody count)).1 (λ i m. ((intersection_members a (everybody count) i).0 m).1)
 
 pub at_known : (group count k : ℕ) → within group (everybody count) ≡ true → k < size group → at group k ≤ count
 at_known group count k inside lt =

@@ -1,4 +1,4 @@
--- What a submit tells.
+-- The reports of a submit.
 use Rattle.std.proofs.Common.{◌≡◌, ℕ, ◌⊎◌, true, false, List, [], ◌∷◌, ◌++◌, length, drop, Option, Some, None, refl, ◌∙◌, ap, inl, inr, append-nil}
 use Rattle.std.specs.Prelude.{nat_le, Bool, if◌then◌else◌}
 use Rattle.std.proofs.Math.Seq.{drop-append_seam, drop-length}
@@ -8,15 +8,15 @@ use Rattle.ring_base.specs.declared.fault.Fault.{Fault}
 use Rattle.ring_base.specs.declared.fault.Fault.TheVariants.{PendingFull, Stopped, Memory}
 use Rattle.ring_object.specs.Operations.{Sequential}
 use Rattle.ring_payload.specs.declared.call.Call.{Call}
-use Rattle.ring_rules.specs.Nodes.{Node, node_pending, is_stopped}
-use Rattle.ring_rules.specs.Stepping.{submit_fault}
-use Rattle.ring_rules.specs.declared.event.Event.TheVariants.{Issue}
-use Rattle.ring_rules.specs.declared.told.Told.{Told}
-use Rattle.ring_rules.specs.declared.told.Told.TheVariants.{Refused}
-use Rattle.ring_rules.specs.Worlds.{World, issued_if, issued_or, is_node}
-use Rattle.ring_world.specs.Played.{Played, Goes, world_of, told_behind}
+use Rattle.ring_node_spec.specs.Nodes.{Node, node_pending, is_stopped}
+use Rattle.ring_node_spec.specs.Stepping.{submit_fault}
+use Rattle.ring_node_spec.specs.declared.event.Event.TheVariants.{Issue}
+use Rattle.ring_node_spec.specs.declared.told.Told.{Told}
+use Rattle.ring_node_spec.specs.declared.told.Told.TheVariants.{Refused}
+use Rattle.ring_node_spec.specs.Worlds.{World, issued_if, issued_or, is_node}
+use Rattle.ring_world.specs.WorldView.{WorldView, IsEventOutcome, world_of, told_by_event}
 
--- the refusals that a submit at a node has
+-- the refusals of a submit at a node
 abbrev pub IsOne : Fault → Type 0
 IsOne fault = (fault ≡ Stopped) ⊎ ((fault ≡ PendingFull) ⊎ (fault ≡ Memory))
 
@@ -31,7 +31,7 @@ one_of false false false x e = inl e
 fault_cases : {A : Type 0} (n : Node A) → (submit_fault n ≡ None) ⊎ ((submit_fault n ≡ Some Stopped) ⊎ (submit_fault n ≡ Some PendingFull))
 fault_cases n = one_of (is_stopped n.core.state) (nat_le 64 (length (node_pending n))) (nat_le max_number (length n.tickets)) (submit_fault n) refl
 
--- what is told behind what was told: nothing, or one refusal of the call
+-- the reports after the submit: none, or one refusal of the call
 abbrev Behind : {A : Type 0} → ℕ → Call A → List (Told A) → Type 0
 Behind i c more = (more ≡ []) ⊎ ((fault : Fault) × IsOne fault × (more ≡ Refused i c (fault_number fault) ∷ []))
 
@@ -53,7 +53,7 @@ behind_known true w i c =
       ]
     ]
 
--- behind a list of those told stands one refusal of the call
+-- the list is extended by one refusal of the call
 abbrev pub IsToldRefused : {A : Type 0} → ℕ → Call A → List (Told A) → List (Told A) → Type 0
 IsToldRefused i c before after = (fault : Fault) × IsOne fault × (after ≡ before ++ Refused i c (fault_number fault) ∷ [])
 
@@ -66,11 +66,11 @@ told_by_behind i c before more after e b =
     ]
 
 module _ {O : Type 0} (object : Sequential O) where
-  -- a submit tells that the call was refused, or nothing
-  pub submit_tells : {A : Type 0} (i : ℕ) (c : Call A) (p q : Played A) → Goes object (Issue i c) p q → (q.told ≡ p.told) ⊎ IsToldRefused i c p.told q.told
+  -- a submit reports that the call was refused, or nothing
+  pub submit_tells : {A : Type 0} (i : ℕ) (c : Call A) (p q : WorldView A) → IsEventOutcome object (Issue i c) p q → (q.told ≡ p.told) ⊎ IsToldRefused i c p.told q.told
   submit_tells {A} i c p q g =
       elim g [
-        | inl d ↦ told_by_behind i c p.told (told_behind object (world_of object p) (Issue i c)) q.told d.told
+        | inl d ↦ told_by_behind i c p.told (told_by_event object (world_of object p) (Issue i c)) q.told d.told
             (behind_known (is_node (world_of object p) i) (world_of object p) i c)
         | inr s ↦ elim s [
           | inl t ↦ let none : None ≡ Some t.node = t.steps in cc

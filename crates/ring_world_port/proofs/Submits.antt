@@ -1,4 +1,4 @@
--- What a submit answers, by what is told behind it.
+-- The result of a submit, from the world's reports after it.
 use Rattle.std.proofs.Common.{◌≡◌, ℕ, List, [], ◌∷◌, ◌++◌, length, Some, None, Result, Ok, Err, refl, ◌∙◌, sym, ap, inl, inr, arith}
 use Rattle.std.specs.Prelude.{slice_get, IfErr}
 use Rattle.std.proofs.lemmas.Option.{slice_get_past}
@@ -8,11 +8,11 @@ use Rattle.ring_base.specs.declared.fault.Fault.TheVariants.{PendingFull, Stoppe
 use Rattle.ring_base.proofs.ListPlaces.{get-last}
 use Rattle.ring_object.specs.Operations.{Sequential}
 use Rattle.ring_payload.specs.declared.call.Call.{Call}
-use Rattle.ring_rules.specs.declared.event.Event.TheVariants.{Issue}
-use Rattle.ring_rules.specs.declared.told.Told.{Told}
-use Rattle.ring_rules.specs.declared.told.Told.TheVariants.{Refused}
-use Rattle.ring_world_port.specs.Network.{Networked, IsIssuable, IsIssued, IsNotIssued, IsNotAsked, refusal_in, fault_of}
-use Rattle.ring_world.specs.Pumping.{Happens}
+use Rattle.ring_node_spec.specs.declared.event.Event.TheVariants.{Issue}
+use Rattle.ring_node_spec.specs.declared.told.Told.{Told}
+use Rattle.ring_node_spec.specs.declared.told.Told.TheVariants.{Refused}
+use Rattle.ring_world_port.specs.Network.{NetworkView, IsIssuable, IsIssued, IsNotIssued, IsNotAsked, refusal_in, fault_of}
+use Rattle.ring_world.specs.Pumping.{HasRunEvent}
 use Rattle.ring_world_port.proofs.SubmitTells.{IsOne, submit_tells}
 
 -- a refusal of a submit is the one of its number
@@ -35,21 +35,21 @@ refusal_there i c before after place fault at one more =
     rw there (ap (λ f. Some f) (of_number fault one))
 
 module _ {O : Type 0} (object : Sequential O) where
-  pub issued : {A : Type 0} (i : ℕ) (c : Call A) (n m : Networked A) (place : ℕ)
-      → Happens object (Issue i c) n.pump m.pump → m.group ≡ n.group → m.timeouts ≡ n.timeouts
-      → place ≡ length n.pump.played.told → refusal_in (slice_get m.pump.played.told place) ≡ None → IsIssued object i c n m
+  pub issued : {A : Type 0} (i : ℕ) (c : Call A) (n m : NetworkView A) (place : ℕ)
+      → HasRunEvent object (Issue i c) n.pump m.pump → m.group ≡ n.group → m.timeouts ≡ n.timeouts
+      → place ≡ length n.pump.world_view.told → refusal_in (slice_get m.pump.world_view.told place) ≡ None → IsIssued object i c n m
   issued i c n m place happens group timeouts at none =
-      elim (submit_tells object i c n.pump.played m.pump.played happens.goes) [
+      elim (submit_tells object i c n.pump.world_view m.pump.world_view happens.goes) [
         | inl same ↦ record { happens = happens; told = same; group = group; timeouts = timeouts }
         | inr r ↦
-            let there = refusal_there i c n.pump.played.told m.pump.played.told place r.0 at r.1 r.2 in
+            let there = refusal_there i c n.pump.world_view.told m.pump.world_view.told place r.0 at r.1 r.2 in
             let wrong : None ≡ Some r.0 = sym none ∙ there in
             cc
       ]
 
-  told_refused : {A : Type 0} (i : ℕ) (c : Call A) (n m : Networked A) (f fault : Fault)
-      → Happens object (Issue i c) n.pump m.pump → m.group ≡ n.group → m.timeouts ≡ n.timeouts
-      → IsIssuable i c n → IsOne f → f ≡ fault → m.pump.played.told ≡ n.pump.played.told ++ Refused i c (fault_number f) ∷ []
+  told_refused : {A : Type 0} (i : ℕ) (c : Call A) (n m : NetworkView A) (f fault : Fault)
+      → HasRunEvent object (Issue i c) n.pump m.pump → m.group ≡ n.group → m.timeouts ≡ n.timeouts
+      → IsIssuable i c n → IsOne f → f ≡ fault → m.pump.world_view.told ≡ n.pump.world_view.told ++ Refused i c (fault_number f) ∷ []
       → IsNotIssued object i c n m fault
   told_refused i c n m f fault happens group timeouts able one e more =
       elim one [
@@ -66,24 +66,24 @@ module _ {O : Type 0} (object : Sequential O) where
         ]
       ]
 
-  pub not_issued : {A : Type 0} (i : ℕ) (c : Call A) (n m : Networked A) (place : ℕ) (fault : Fault)
-      → Happens object (Issue i c) n.pump m.pump → m.group ≡ n.group → m.timeouts ≡ n.timeouts
-      → IsIssuable i c n → place ≡ length n.pump.played.told → refusal_in (slice_get m.pump.played.told place) ≡ Some fault
+  pub not_issued : {A : Type 0} (i : ℕ) (c : Call A) (n m : NetworkView A) (place : ℕ) (fault : Fault)
+      → HasRunEvent object (Issue i c) n.pump m.pump → m.group ≡ n.group → m.timeouts ≡ n.timeouts
+      → IsIssuable i c n → place ≡ length n.pump.world_view.told → refusal_in (slice_get m.pump.world_view.told place) ≡ Some fault
       → IsNotIssued object i c n m fault
   not_issued i c n m place fault happens group timeouts able at some =
-      elim (submit_tells object i c n.pump.played m.pump.played happens.goes) [
+      elim (submit_tells object i c n.pump.world_view m.pump.world_view happens.goes) [
         | inl same ↦
-            let none = nothing_there n.pump.played.told m.pump.played.told place at same in
+            let none = nothing_there n.pump.world_view.told m.pump.world_view.told place at same in
             let wrong : None ≡ Some fault = sym none ∙ some in
             cc
         | inr r ↦
-            let there = refusal_there i c n.pump.played.told m.pump.played.told place r.0 at r.1 r.2 in
+            let there = refusal_there i c n.pump.world_view.told m.pump.world_view.told place r.0 at r.1 r.2 in
             let same : Some r.0 ≡ Some fault = sym there ∙ some in
             let e : r.0 ≡ fault = cc same in
             told_refused i c n m r.0 fault happens group timeouts able r.1 e r.2
       ]
 
-  pub asked_in_vain : {A T : Type 0} (i : ℕ) (c : Call A) (n m : Networked A) (r : Result T Fault) → IfErr r (IsNotIssued object i c n m)
+  pub asked_in_vain : {A T : Type 0} (i : ℕ) (c : Call A) (n m : NetworkView A) (r : Result T Fault) → IfErr r (IsNotIssued object i c n m)
       → IfErr r (IsNotAsked object i c)
   asked_in_vain i c n m (Ok x) why = tt
   asked_in_vain i c n m (Err fault) why = inr (n, m, why)

@@ -1,29 +1,35 @@
-//! What a node told of a call.
+//! Finds the answer to a submitted call among the world's reports.
+//! Rules: Clients 8
 
 ghost use Rattle.std.specs.Prelude.{◌≡◌, IfSome};
-ghost use Rattle.ring_client.specs.Asking.{IsTold};
-ghost use Rattle.ring_world_port.specs.Answers.{is_asked, answer_of, answer_in};
+ghost use Rattle.ring_client.specs.Asking.{IsClientVisible};
+ghost use Rattle.ring_world_port.specs.Answers.{is_submitted_call, answer_of, answer_in};
 
 use ring_base::Proc;
-use ring_client::{Op, tellable};
+use ring_client::{Op, client_visible};
+use ring_node_spec::Told;
 use ring_payload::Call;
-use ring_rules::Told;
 use ring_session::Answer;
 use std::alloc::Allocator;
 
-/// A call as it was submitted at a node.
+/// A call and the node at which it was submitted, to compare with the world's reports.
+/// Rules: Clients 8
 #[derive(Clone, Copy)]
 pub struct SubmittedCall {
+    /// The node at which the call was submitted.
     pub node: Proc,
+    /// The number of the call's client.
     pub client: u32,
+    /// The number of the call, from 1.
     pub number: u64,
+    /// The operation of the call, 0 to 1,024 bytes.
     pub op: Op,
 }
 
 impl SubmittedCall {
-    /// Whether this call of this node is the one.
+    /// Returns whether this call of this node is the submitted one.
     fn is<A: Allocator + Copy>(&self, node: Proc, call: &Call<A>) -> bool
-        ensures { result ≡ is_asked self.now node call.now }
+        ensures { result ≡ is_submitted_call self.now node call.now }
     {
         node == self.node
             && call.client == self.client
@@ -31,15 +37,15 @@ impl SubmittedCall {
             && call.op.as_slice() == self.op.as_slice()
     }
 
-    /// The answer that this tells to the call, if it does.
+    /// Returns the answer, if this is an answer to the call.
     fn answer_of<A: Allocator + Copy>(&self, told: &Told<A>) -> Option<Answer>
         ensures value { result ≡ answer_of self.now told.now }
-        ensures told { IfSome result IsTold }
+        ensures told { IfSome result IsClientVisible }
     {
         match told {
             Told::Answer(node, call, answer) => {
                 if self.is(*node, call) {
-                    tellable(*answer)
+                    client_visible(*answer)
                 } else {
                     None
                 }
@@ -48,10 +54,12 @@ impl SubmittedCall {
         }
     }
 
-    /// The first answer to the call among what was told.
+    /// Returns the first answer to the call in the list of reports, or `None` if there is none. The report of an answer
+    /// belongs to the call if node, client, number and operation are the same. Refused submits are passed over.
+    /// Rules: Clients 8
     pub fn answer_in<A: Allocator + Copy>(&self, told: &[Told<A>]) -> Option<Answer>
         ensures value { result ≡ answer_in self.now told.now }
-        ensures told { IfSome result IsTold }
+        ensures told { IfSome result IsClientVisible }
     {
         for one in told {
             let answer = self.answer_of(one);

@@ -1,66 +1,69 @@
-//! A network over a world.
+//! A network over a world, which its ports share.
+//! Rules: Clients 8
+//! Formats: Pump
 
 ghost use Rattle.std.specs.Prelude.{◌≡◌, ◌<◌, ◌≤◌, ◌⊎◌, drop, Some, None, IfOk, IfErr, IfSome, IfNone, OnOk, OnErr, length, slice_get};
 ghost use Rattle.ring_base.specs.Numbers.{following};
-ghost use Rattle.ring_base.specs.Processors.{everybody, common};
+ghost use Rattle.ring_base.specs.Processors.{everybody, intersection};
 ghost use Rattle.ring_base.specs.declared.fault.Fault.TheVariants.{Memory};
-ghost use Rattle.ring_client.specs.Asking.{submitted, IsTold};
-ghost use Rattle.ring_rules.specs.WorldLimits.{EventFits};
-ghost use Rattle.ring_world.specs.Pairs.{frames_of, all_pairs};
-ghost use Rattle.ring_world.specs.Pumping.{Happens, Rests};
-ghost use Rattle.ring_world.specs.Played.{world_of};
+ghost use Rattle.ring_client.specs.Asking.{asked_after_submit, IsClientVisible};
+ghost use Rattle.ring_node_spec.specs.WorldLimits.{EventFits};
+ghost use Rattle.ring_world.specs.OpenCopies.{frames_of, all_copies};
+ghost use Rattle.ring_world.specs.Pumping.{HasRunEvent, IsUnchanged};
+ghost use Rattle.ring_world.specs.WorldView.{world_of};
 ghost use Rattle.ring_world_port.specs.Answers.{answer_in, submitted_call_of, IsToldSince, HasTold};
-ghost use Rattle.ring_world_port.specs.Network.{Stays, IsIssuable, IsIssued, IsNotIssued, HappensIf, HasTurned, LosesTurn};
-ghost use Rattle.ring_world_port.specs.Network.{fault_of, hears, arrival, kind_in, timeout_in, refusal_in};
+ghost use Rattle.ring_world_port.specs.Network.{IsNetworkUnchanged, IsIssuable, IsIssued, IsNotIssued, HappensIf, HasTurned, HasLostTurn};
+ghost use Rattle.ring_world_port.specs.Network.{fault_of, hears, delivery_event, timeout_kind, timeout_in, refusal_in};
 
 use crate::answers::SubmittedCall;
 use ring_base::{Fault, Kind, Proc, ProcSet, State};
 use ring_client::Op;
+use ring_node_spec::{Event, Told};
 use ring_object::Object;
-use ring_payload::{Call, MOST_OPERATION};
-use ring_rules::{Event, Told};
+use ring_payload::{Call, MAX_OPERATION};
 use ring_session::{Answer, copy_of};
-use ring_world::{Pair, Pump, World};
+use ring_world::{OpenCopy, Pump, World};
 use std::alloc::Allocator;
 use std::cell::Cell;
 use std::marker::Model;
 
-/// A world, and the copies of its frames that are under way within a group of nodes that hear each other. Contracts see a
-/// `Networked`.
+/// A world, the open copies of its frames, and the group of nodes that hear each other. Contracts see a `NetworkView`.
 ///
-/// A frame that is sent opens a copy for each of its receivers. A turn takes one: of the frame sent first, the smallest
-/// receiver's. It comes to its receiver if sender and receiver belong to the group, else it is lost. Where no copy is under
-/// way, a turn is a timeout of the next member of the group: in Gather a join, in the next round an end to waiting for
-/// those that do not agree; in any other state the loss of the token.
+/// A frame that is sent opens a copy for each of its receivers. A turn closes the first open copy: of the frame sent
+/// first, the one of the smallest receiver. It is delivered if sender and receiver are in the group; otherwise it is lost.
+/// Where no copy is open, a turn is a timeout of the next member of the group. In Gather its kind is Join in one round and
+/// Consensus in the next; in any other state it is Loss.
+/// Rules: Clients 8
 #[derive(Drop)]
 pub struct Network<O: Object> {
     pump: Pump<O>,
     group: ProcSet,
-    /// How many timeouts came. Here 2^64 - 1 stays.
+    /// The number of timeouts so far; it stays at 2^64 - 1.
     timeouts: u64,
 }
 
 impl<O: Object> Model for Network<O> {
     ghost use Rattle.ring_base.specs.Processors.{everybody, within};
-    ghost use Rattle.ring_world_port.specs.Network.{Networked};
+    ghost use Rattle.ring_world_port.specs.Network.{NetworkView};
     ghost use Rattle.std.specs.Prelude.{◌≡◌, true};
 
-    ghost Value = { Networked O.Alloc };
+    ghost Value = { NetworkView O.Alloc };
 
     ghost view = { λ n. record { pump = n.pump; group = n.group; timeouts = n.timeouts } };
 
-    ghost invariant = { λ n. within n.group (everybody n.pump.played.group.count) ≡ true };
+    ghost invariant = { λ n. within n.group (everybody n.pump.world_view.group.count) ≡ true };
 }
 
-/// What is polled for the answer to a call that was submitted at a node. Contracts see the call with its node, and how much the
-/// world had told by then.
+/// The handle that is polled for the answer to a call submitted at a node. Contracts see the call with its node, and
+/// the number of answers and refusals that the world had reported at the submit.
+/// Rules: Clients 2 and 8
 #[derive(Drop)]
 pub struct WorldTicket {
     call: SubmittedCall,
-    /// How much the world had told when the call was submitted.
-    since: usize,
-    /// How much of what the world told was looked at in vain.
-    looked: Cell<usize>,
+    /// The length of the world's `told` list when the call was submitted.
+    submit_index: usize,
+    /// The index in `told` at which the next search begins.
+    scanned: Cell<usize>,
 }
 
 impl Model for WorldTicket {
@@ -68,13 +71,16 @@ impl Model for WorldTicket {
 
     ghost Value = { TicketView };
 
-    ghost view = { λ ticket. record { call = ticket.call; since = ticket.since } };
+    ghost view = { λ ticket. record { call = ticket.call; submit_index = ticket.submit_index } };
 }
 
 impl<O: Object> Network<O> {
-    /// The network over a world, in which all nodes hear each other, and each frame that was sent is under way.
+    /// Returns the network that joins the nodes of a world. All nodes hear each other, and no timeout is counted yet.
+    /// Of each frame sent so far the copies to all receivers are open: turns deliver or lose them.
+    /// Rules: Clients 8
+    /// Formats: Pump
     pub fn new(world: World<O>) -> Network<O>
-        ensures pump { result.pump ≡ record { played = world; open_pairs = all_pairs (frames_of O.sequential world) } }
+        ensures pump { result.pump ≡ record { world_view = world; open_copies = all_copies (frames_of O.sequential world) } }
         ensures group { result.group ≡ everybody world.group.count }
         ensures timeouts { result.timeouts ≡ 0 }
     {
@@ -86,120 +92,139 @@ impl<O: Object> Network<O> {
         }
     }
 
-    /// From now on the processors of this group alone hear each other. Those that are none of the world's are left out. A copy that
-    /// is under way by now is lost too, if its sender or its receiver is none of the group as its turn comes.
+    /// Sets the group of processors that hear each other; processors outside the world are left out. With all
+    /// processors the cut has healed.
+    /// A copy that is open now is also lost if its sender or receiver is outside the group when it is closed.
+    /// Rules: Clients 8
     pub fn cut(&mut self, group: ProcSet)
-        ensures { self.new ≡ record (self.old) { group = common group (everybody self.old.pump.played.group.count) } }
+        ensures { self.new ≡ record (self.old) { group = intersection group (everybody self.old.pump.world_view.group.count) } }
     {
         self.group = group.intersection(self.world().fixed().everybody());
     }
 
-    /// The world.
+    /// Returns the world, as it is after the submits and turns so far.
+    /// Rules: The book and the threads 8
     pub fn world(&self) -> &World<O>
-        ensures { result.now ≡ self.now.pump.played }
+        ensures { result.now ≡ self.now.pump.world_view }
     {
         self.pump.world()
     }
 
-    /// Submits a call at a node, which has then taken it. Refused, in this order: `NotMember` where the world has no such
-    /// node, `OpTooLong` over 1,024 bytes, `NumberGap` for number 0, `Memory` for the call's copy or the event; then by the node, which
-    /// the world tells: `Stopped`, `PendingFull`, `Memory`.
+    /// Submits a call at a node. After Ok the node has taken it, and the world has the event.
+    /// Errors, in this order: `NotMember` where the world has no such node, `OpTooLong` for an operation over 1,024
+    /// bytes, `NumberGap` for number 0, and `Memory` for the call's copy or the event; nothing has changed. Then the
+    /// node's own refusals, which the world reports: `Stopped`, `PendingFull`, `Memory`; the node is unchanged.
+    /// Rules: Clients 8; The replicated log 13
     pub fn submit(&mut self, node: Proc, call: &Call<O::Alloc>) -> Result<(), Fault>
         ensures fits { OnOk result (IsIssuable node call.now self.old) }
         ensures issued { OnOk result (IsIssued O.sequential node call.now self.old self.new) }
         ensures refused { IfErr result (IsNotIssued O.sequential node call.now self.old self.new) }
     {
         self.world().fixed().proc(node.number())?;
-        if call.op.as_slice().len() > MOST_OPERATION {
+        if call.op.as_slice().len() > MAX_OPERATION {
             return Err(Fault::OpTooLong);
         }
         if call.number == 0 {
             return Err(Fault::NumberGap);
         }
         let before = self.world().told().len();
-        self.happen(Event::Issue(node, copy_of(call)?))?;
-        if let Err(fault) = refused_at(self.world().told(), before) {
+        self.run_event(Event::Issue(node, copy_of(call)?))?;
+        if let Err(fault) = refusal_at(self.world().told(), before) {
             return Err(fault);
         }
         Ok(())
     }
 
-    /// Takes the turn that is due. `Memory`, where that is refused to the world itself: then a copy whose turn it was is
-    /// lost, and nothing else was done.
+    /// Takes the turn that is due. It closes the first open copy and delivers or loses it. Where no copy is open, the
+    /// next timeout of a member of the group comes and is counted; without members it is only counted.
+    /// Errors: `Memory` where the world itself was refused memory; then a closed copy is lost, and nothing else has
+    /// changed.
+    /// Rules: Clients 8
+    /// Formats: Pump
     pub fn turn(&mut self) -> Result<(), Fault>
         ensures ok { OnOk result (HasTurned O.sequential self.old self.new) }
-        ensures err { OnErr result (LosesTurn self.old self.new) }
+        ensures err { OnErr result (HasLostTurn self.old self.new) }
         ensures refused { IfErr result (λ fault. fault ≡ Memory) }
     {
-        match self.pump.close_first() {
-            Some(pair) => self.come(pair),
-            None => self.wait(),
+        match self.pump.close_first_copy() {
+            Some(pair) => self.deliver(pair),
+            None => self.time_out(),
         }
     }
 
-    /// An event happens to the world that no turn brings, as a timeout or a stop. A call that it issues keeps the limits of frames, as
-    /// each does that `Call::new` makes. Otherwise `Memory`, where that is refused to the world itself: then nothing was done.
-    pub fn happen(&mut self, event: Event<O::Alloc>) -> Result<(), Fault>
+    /// Runs an event that no turn brings, such as a stop. The copies of the frames that it sends are then open.
+    /// A call in the event is within the limits of frames, as every call made by `Call::new` is.
+    /// Errors: `Memory` where the world itself was refused memory; then nothing has changed.
+    /// Rules: The book and the threads 2 and 7
+    pub fn run_event(&mut self, event: Event<O::Alloc>) -> Result<(), Fault>
         requires { EventFits event }
-        ensures done { OnOk result (Happens O.sequential event self.old.pump self.new.pump) }
-        ensures rests { OnErr result (Rests self.old.pump self.new.pump) }
+        ensures done { OnOk result (HasRunEvent O.sequential event self.old.pump self.new.pump) }
+        ensures rests { OnErr result (IsUnchanged self.old.pump self.new.pump) }
         ensures group { self.new.group ≡ self.old.group }
         ensures timeouts { self.new.timeouts ≡ self.old.timeouts }
         ensures refused { IfErr result (λ fault. fault ≡ Memory) }
     {
-        self.pump.happen(event)
+        self.pump.run_event(event)
     }
 
-    /// Submits a call at a node as `submit` does, and gives what is polled for its answer.
-    pub(crate) fn ask(&mut self, node: Proc, call: &Call<O::Alloc>) -> Result<WorldTicket, Fault>
-        ensures ticket { IfOk result (λ ticket. ticket.call ≡ submitted_call_of node (submitted call.now)) }
-        ensures since { IfOk result (λ ticket. ticket.since ≡ length self.new.pump.played.told) }
+    /// Submits a call at a node as `submit` does, and returns the handle to poll for its answer.
+    /// Errors: as `submit`, with the same state left.
+    /// Rules: Clients 2 and 8
+    pub(crate) fn submit_for_ticket(
+        &mut self,
+        node: Proc,
+        call: &Call<O::Alloc>,
+    ) -> Result<WorldTicket, Fault>
+        ensures ticket { IfOk result (λ ticket. ticket.call ≡ submitted_call_of node (asked_after_submit call.now)) }
+        ensures submit_index { IfOk result (λ ticket. ticket.submit_index ≡ length self.new.pump.world_view.told) }
         ensures fits { OnOk result (IsIssuable node call.now self.old) }
         ensures issued { OnOk result (IsIssued O.sequential node call.now self.old self.new) }
         ensures refused { IfErr result (IsNotIssued O.sequential node call.now self.old self.new) }
     {
         self.submit(node, call)?;
         let op = call.op.as_slice();
-        let since = self.world().told().len();
+        let submit_index = self.world().told().len();
         Ok(WorldTicket {
             call: SubmittedCall {
                 node,
                 client: call.client,
                 number: call.number,
-                op: Op::from_slice(&op[..op.len().min(MOST_OPERATION)]),
+                op: Op::from_slice(&op[..op.len().min(MAX_OPERATION)]),
             },
-            since,
-            looked: Cell::new(since),
+            submit_index,
+            scanned: Cell::new(submit_index),
         })
     }
 
-    /// The answer to the ticket's call, if the world has told it since the last look, and since the submit. Where it has not, a turn
-    /// is taken; one that memory was refused to is left out.
+    /// Returns the answer to the ticket's call, if the world has reported it since the submit. Reports that an earlier
+    /// poll of the ticket has searched are not searched again.
+    /// Where there is none, it returns `None` and takes a turn. A turn that was refused memory is ignored.
+    /// Rules: Clients 8
     pub(crate) fn answer_to(&mut self, ticket: &WorldTicket) -> Option<Answer>
-        ensures told { IfSome result IsTold }
-        ensures here { IfSome result (IsToldSince ticket.now self.old.pump.played.told) }
+        ensures told { IfSome result IsClientVisible }
+        ensures here { IfSome result (IsToldSince ticket.now self.old.pump.world_view.told) }
         ensures given { IfSome result (HasTold O.Alloc O.sequential ticket.now) }
         ensures same { IfSome result (λ _. self.new ≡ self.old) }
-        ensures turn { IfNone result (HasTurned O.sequential self.old self.new ⊎ LosesTurn self.old self.new) }
+        ensures turn { IfNone result (HasTurned O.sequential self.old self.new ⊎ HasLostTurn self.old self.new) }
     {
         let told = self.world().told().len();
-        let looked = ticket.looked.get().max(ticket.since);
-        let answer = self.poll(&ticket.call, looked);
+        let scanned = ticket.scanned.get().max(ticket.submit_index);
+        let answer = self.poll(&ticket.call, scanned);
         if answer.is_none() {
-            ticket.looked.set(told);
+            ticket.scanned.set(told);
         }
         answer
     }
 
-    /// The first answer to the call behind so many of those that the world told. Where there is none, a turn is taken; one
-    /// that memory was refused to is left out.
-    fn poll(&mut self, call: &SubmittedCall, looked: usize) -> Option<Answer>
-        ensures answer { result ≡ answer_in call.now (drop looked self.old.pump.played.told) }
-        ensures told { IfSome result IsTold }
+    /// Returns the first answer to the call in `told` from index `scanned` on. Where there is none, takes a turn. A turn
+    /// that was refused memory is ignored.
+    fn poll(&mut self, call: &SubmittedCall, scanned: usize) -> Option<Answer>
+        ensures answer { result ≡ answer_in call.now (drop scanned self.old.pump.world_view.told) }
+        ensures told { IfSome result IsClientVisible }
         ensures same { IfSome result (λ _. self.new ≡ self.old) }
-        ensures turn { IfNone result (HasTurned O.sequential self.old self.new ⊎ LosesTurn self.old self.new) }
+        ensures turn { IfNone result (HasTurned O.sequential self.old self.new ⊎ HasLostTurn self.old self.new) }
     {
-        let answer = call.answer_in(behind(self.world().told(), looked));
+        let answer = call.answer_in(told_after(self.world().told(), scanned));
         if answer.is_none() {
             let _ = self.turn();
         }
@@ -208,10 +233,11 @@ impl<O: Object> Network<O> {
 }
 
 impl<O: Object> Network<O> {
-    /// The copy comes to its receiver, or is lost. Otherwise as `happen`.
-    fn come(&mut self, pair: Pair) -> Result<(), Fault>
-        ensures ok { OnOk result (HappensIf O.sequential (arrival (hears self.old.group pair.sender pair.receiver) pair) self.old.pump self.new.pump) }
-        ensures err { OnErr result (Rests self.old.pump self.new.pump) }
+    /// Delivers the copy to its receiver, or loses it.
+    /// Errors: as `run_event`.
+    fn deliver(&mut self, pair: OpenCopy) -> Result<(), Fault>
+        ensures ok { OnOk result (HappensIf O.sequential (delivery_event (hears self.old.group pair.sender pair.receiver) pair) self.old.pump self.new.pump) }
+        ensures err { OnErr result (IsUnchanged self.old.pump self.new.pump) }
         ensures group { self.new.group ≡ self.old.group }
         ensures timeouts { self.new.timeouts ≡ self.old.timeouts }
         ensures refused { IfErr result (λ fault. fault ≡ Memory) }
@@ -219,35 +245,37 @@ impl<O: Object> Network<O> {
         if !self.hears(pair.sender, pair.receiver) {
             return Ok(());
         }
-        self.happen(Event::Deliver(pair.receiver, pair.frame))
+        self.run_event(Event::Deliver(pair.receiver, pair.frame))
     }
 
-    /// Whether what the sender sends comes to the receiver.
+    /// Returns whether frames of the sender arrive at the receiver.
     fn hears(&self, sender: Proc, receiver: Proc) -> bool
         ensures { result ≡ hears self.now.group sender receiver }
     {
         self.group.contains(sender) && self.group.contains(receiver)
     }
 
-    /// The next timeout comes. Otherwise as `happen`.
-    fn wait(&mut self) -> Result<(), Fault>
-        ensures ok { OnOk result (HappensIf O.sequential (timeout_in (world_of O.sequential self.old.pump.played) self.old.group self.old.timeouts)
+    /// Runs the next timeout and counts it.
+    /// Errors: as `run_event`.
+    fn time_out(&mut self) -> Result<(), Fault>
+        ensures ok { OnOk result (HappensIf O.sequential (timeout_in (world_of O.sequential self.old.pump.world_view) self.old.group self.old.timeouts)
             self.old.pump self.new.pump) }
         ensures timeouts { OnOk result (self.new.timeouts ≡ following self.old.timeouts) }
-        ensures err { OnErr result (Stays self.old self.new) }
+        ensures err { OnErr result (IsNetworkUnchanged self.old self.new) }
         ensures group { self.new.group ≡ self.old.group }
         ensures refused { IfErr result (λ fault. fault ≡ Memory) }
     {
-        self.remind()?;
+        self.time_out_member()?;
         self.timeouts = self.timeouts.saturating_add(1);
         Ok(())
     }
 
-    /// The timeout of the member of the group whose turn it is comes, where the group has a member. Otherwise as `happen`.
-    fn remind(&mut self) -> Result<(), Fault>
-        ensures ok { OnOk result (HappensIf O.sequential (timeout_in (world_of O.sequential self.old.pump.played) self.old.group self.old.timeouts)
+    /// Runs the timeout of the group's member whose turn it is, if the group has a member.
+    /// Errors: as `run_event`.
+    fn time_out_member(&mut self) -> Result<(), Fault>
+        ensures ok { OnOk result (HappensIf O.sequential (timeout_in (world_of O.sequential self.old.pump.world_view) self.old.group self.old.timeouts)
             self.old.pump self.new.pump) }
-        ensures err { OnErr result (Rests self.old.pump self.new.pump) }
+        ensures err { OnErr result (IsUnchanged self.old.pump self.new.pump) }
         ensures group { self.new.group ≡ self.old.group }
         ensures timeouts { self.new.timeouts ≡ self.old.timeouts }
         ensures refused { IfErr result (λ fault. fault ≡ Memory) }
@@ -258,14 +286,14 @@ impl<O: Object> Network<O> {
         }
         let node = self.group.at((self.timeouts % members) as u32).unwrap();
         let state = self.world().node(node).state();
-        let kind = kind_in(state, self.timeouts / members);
-        self.happen(Event::Timeout(node, kind))
+        let kind = timeout_kind(state, self.timeouts / members);
+        self.run_event(Event::Timeout(node, kind))
     }
 }
 
-/// The timeout that a node in this state is given where no frame is under way, in this round of timeouts.
-fn kind_in(state: State, round: u64) -> Kind
-    ensures { result ≡ kind_in state round }
+/// Returns the kind of timeout for a node in this state where no copy is open, in this round of timeouts.
+fn timeout_kind(state: State, round: u64) -> Kind
+    ensures { result ≡ timeout_kind state round }
 {
     match state {
         State::Gather => {
@@ -279,7 +307,7 @@ fn kind_in(state: State, round: u64) -> Kind
     }
 }
 
-/// The refusal of this number, among those that a node has for a submit.
+/// Returns the refusal of this number, among those that a node has for a submit.
 fn refusal_of(number: u8) -> Fault
     ensures { result ≡ fault_of number }
 {
@@ -290,8 +318,8 @@ fn refusal_of(number: u8) -> Fault
     }
 }
 
-/// The refusal that is told at this place, if one is.
-fn refused_at<A: Allocator + Copy>(told: &[Told<A>], place: usize) -> Result<(), Fault>
+/// Returns the refusal at this index of the list, if there is one, as an error.
+fn refusal_at<A: Allocator + Copy>(told: &[Told<A>], place: usize) -> Result<(), Fault>
     ensures ok { OnOk result (refusal_in (slice_get told.now place) ≡ None) }
     ensures refused { IfErr result (λ fault. refusal_in (slice_get told.now place) ≡ Some fault) }
 {
@@ -301,8 +329,8 @@ fn refused_at<A: Allocator + Copy>(told: &[Told<A>], place: usize) -> Result<(),
     }
 }
 
-/// What was told behind so many.
-fn behind<A: Allocator + Copy>(told: &[Told<A>], many: usize) -> &[Told<A>]
+/// Returns the list from index `many` on.
+fn told_after<A: Allocator + Copy>(told: &[Told<A>], many: usize) -> &[Told<A>]
     ensures { result.now ≡ drop many told.now }
 {
     &told[many.min(told.len())..]

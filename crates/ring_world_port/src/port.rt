@@ -1,7 +1,8 @@
 //! Ports to the nodes of a world.
+//! Rules: Clients 2 and 8
 
 ghost use Rattle.std.specs.Prelude.{◌≡◌, IfOk, IfErr, IfSome, OnOk};
-ghost use Rattle.ring_client.specs.Asking.{unasked, submitted, refused_with, polled, IsTold, IsSubmittable};
+ghost use Rattle.ring_client.specs.Asking.{new_asked, asked_after_submit, asked_after_refusal, asked_after_poll, IsClientVisible, IsSubmittable};
 ghost use Rattle.ring_world_port.specs.Answers.{submitted_call_of, HasTold};
 ghost use Rattle.ring_world_port.specs.Network.{IsNotAsked};
 
@@ -14,12 +15,15 @@ use ring_session::Answer;
 use std::cell::RefCell;
 use std::rc::Rc;
 
-/// A world with the network over it, as the ports to its nodes share it.
+/// A network as the ports to the nodes of its world share it. One holder at a time may borrow it.
+/// Rules: Clients 8
 pub type Shared<O: Object> = Rc<RefCell<Network<O>>, O::Alloc>;
 
-/// A port to a node of a world, which it shares with the ports to the others: each poll that finds no answer lets the network
-/// take a turn. While another holds the network a submit is refused with `NoAnswer`, and a poll finds no answer and takes no
-/// turn; else a submit is refused as [`Network::submit`] is.
+/// A port to a node of a world; the ports to its nodes share one network. Each poll that finds no answer makes the network
+/// take a turn.
+/// While another holder has the network borrowed, a submit is refused with `NoAnswer`, and a poll finds no answer and
+/// takes no turn. Otherwise a submit is refused as [`Network::submit`] is.
+/// Rules: Clients 2 and 8
 #[derive(Drop)]
 pub struct WorldPort<O: Object> {
     network: Shared<O>,
@@ -28,11 +32,12 @@ pub struct WorldPort<O: Object> {
 }
 
 impl<O: Object> WorldPort<O> {
-    /// The port to this node, before any submit. If the world has no such node, each submit is refused: with `NotMember`, or with
-    /// `NoAnswer` while another holds the network.
+    /// Returns the port to this node, before any submit. If the world has no such node, each submit is refused with
+    /// `NotMember`, or with `NoAnswer` while another holder has the network borrowed.
+    /// Rules: Clients 2 and 8
     pub fn new(network: Shared<O>, node: Proc) -> WorldPort<O>
         ensures node { result.node ≡ node }
-        ensures asked { result.asked ≡ unasked }
+        ensures asked { result.asked ≡ new_asked }
     {
         WorldPort {
             network,
@@ -41,24 +46,25 @@ impl<O: Object> WorldPort<O> {
         }
     }
 
-    /// Submits the call at the port's node, in the network.
+    /// Submits the call at the port's node in the network.
+    /// Errors: `NoAnswer` while another holder has the network borrowed, else as [`Network::submit`].
     fn try_submit(&mut self, call: &Call<O::Alloc>) -> Result<WorldTicket, Fault>
         ensures same { self.new ≡ self.old }
-        ensures ticket { IfOk result (λ ticket. ticket.call ≡ submitted_call_of self.old.node (submitted call.now)) }
+        ensures ticket { IfOk result (λ ticket. ticket.call ≡ submitted_call_of self.old.node (asked_after_submit call.now)) }
         ensures fits { OnOk result (IsSubmittable call.now) }
         ensures why { IfErr result (IsNotAsked O.sequential self.old.node call.now) }
     {
         let Ok(mut network) = self.network.try_borrow_mut() else {
             return Err(Fault::NoAnswer);
         };
-        network.ask(self.node, call)
+        network.submit_for_ticket(self.node, call)
     }
 
-    /// The answer to the ticket's call, if the world has told it; else the network takes a turn. One that memory was refused
-    /// to is left out.
+    /// Returns the answer to the ticket's call, if the world has reported it. Where it has not, the network takes a turn. A
+    /// turn that was refused memory is ignored.
     fn try_poll(&mut self, ticket: &WorldTicket) -> Option<Answer>
         ensures same { self.new ≡ self.old }
-        ensures told { IfSome result IsTold }
+        ensures told { IfSome result IsClientVisible }
         ensures given { IfSome result (HasTold O.Alloc O.sequential ticket.now) }
     {
         let Ok(mut network) = self.network.try_borrow_mut() else {
@@ -75,13 +81,17 @@ impl<O: Object> Port for WorldPort<O> {
 
     ghost asked_of = { λ port. port.asked };
 
-    /// The ticket is one of the port's node.
+    /// Submits a copy of the call at the port's node, and records it in `asked`. The ticket polls for the answer of
+    /// that node.
+    /// Errors: `NoAnswer` while another holder has the network borrowed, else as [`Network::submit`]; `asked` has the
+    /// refusal.
+    /// Rules: Clients 2 and 8
     fn submit(&mut self, call: &Call<O::Alloc>) -> Result<WorldTicket, Fault>
-        ensures ok { OnOk result (self.new.asked ≡ submitted call.now) }
-        ensures refused { IfErr result (λ fault. self.new.asked ≡ refused_with fault (submitted call.now)) }
+        ensures ok { OnOk result (self.new.asked ≡ asked_after_submit call.now) }
+        ensures refused { IfErr result (λ fault. self.new.asked ≡ asked_after_refusal fault (asked_after_submit call.now)) }
         ensures fits { OnOk result (IsSubmittable call.now) }
         ensures why { IfErr result (IsNotAsked O.sequential self.old.node call.now) }
-        ensures ticket { IfOk result (λ ticket. ticket.call ≡ submitted_call_of self.old.node (submitted call.now)) }
+        ensures ticket { IfOk result (λ ticket. ticket.call ≡ submitted_call_of self.old.node (asked_after_submit call.now)) }
         ensures node { self.new.node ≡ self.old.node }
     {
         self.asked.note_submit(call);
@@ -92,10 +102,12 @@ impl<O: Object> Port for WorldPort<O> {
         submit
     }
 
-    /// The answer is one that the ticket's node told the call in a run.
+    /// Returns the answer that the port's node gave to the ticket's call in the world's run, or `None` if there is none
+    /// yet. Then the network has taken a turn, unless another holder has it borrowed.
+    /// Rules: Clients 2 and 8
     fn poll(&mut self, ticket: &WorldTicket) -> Option<Answer>
-        ensures asked { self.new.asked ≡ polled result self.old.asked }
-        ensures told { IfSome result IsTold }
+        ensures asked { self.new.asked ≡ asked_after_poll result self.old.asked }
+        ensures told { IfSome result IsClientVisible }
         ensures given { IfSome result (HasTold O.Alloc O.sequential ticket.now) }
         ensures node { self.new.node ≡ self.old.node }
     {
@@ -104,6 +116,8 @@ impl<O: Object> Port for WorldPort<O> {
         self.asked.answer
     }
 
+    /// Returns the record of the last submit at the port, with the polls since.
+    /// Rules: Clients 2
     fn asked(&self) -> &Asked {
         &self.asked
     }

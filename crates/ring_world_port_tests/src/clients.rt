@@ -1,26 +1,27 @@
 //! Worked runs of a client over three nodes of one world.
+//! Rules: Clients 3 to 6 and 8; The replicated log 10
 
-use crate::shared::{add, client_of, counted, cut, everybody, happen, order_len, read, three};
-use refusing_alloc::Refusing;
-use ring_base::{Fault, Kind, Proc, ProcSet, paired};
+use crate::shared::{add, client_of, counted, cut, everybody, order_len, read, run_event, three};
+use refusing_alloc::RefusingHeap;
+use ring_base::{Fault, Kind, Proc, ProcSet, pair_result};
 use ring_client::{Client, Port};
 use ring_object::{Object, Reply};
 use ring_things::Counters;
 use ring_world_port::{Event, Shared, WorldPort};
 use std::test::Fail;
 
-/// What a client's ports tell of its last submit there: the number, the refusal, and how many polls came.
+/// A port's last submit: its number, its refusal, and the number of polls since.
 type Told = (u64, Option<u8>, u64);
 
-/// What the port at this place tells.
+/// Returns the last submit of the port at this index.
 fn told<P: Port>(client: &Client<P>, place: usize) -> Option<Told> {
     let port = client.ports().get(place)?;
     let asked = port.asked();
     Some((asked.number, asked.refused, asked.polls))
 }
 
-/// What comes of a call: the reply or refusal, the next number, whether a call is open then, and what the first three ports
-/// tell, if there are so many.
+/// The outcome of a call: the reply or refusal, the next number, whether a call is then open, and the last submits of the
+/// first three ports.
 #[derive(Clone, Copy)]
 struct ClientSeen {
     reply: Result<Reply, Fault>,
@@ -29,7 +30,7 @@ struct ClientSeen {
     told: [Option<Told>; 3],
 }
 
-/// What is seen of a call of this operation, or where there is none, of the open call tried anew.
+/// Makes a call of this operation, or tries the open call again if there is none, and returns its outcome.
 fn seen_of<P: Port>(client: &mut Client<P>, op: Option<&[u8]>) -> ClientSeen {
     let reply = match op {
         Some(op) => client.call(op),
@@ -43,27 +44,27 @@ fn seen_of<P: Port>(client: &mut Client<P>, op: Option<&[u8]>) -> ClientSeen {
     }
 }
 
-/// The same over ports to a world.
+/// Does this over ports to a world.
 fn seen<O: Object>(client: &mut Client<WorldPort<O>>, op: Option<&[u8]>) -> ClientSeen {
     seen_of(client, op)
 }
 
-/// What is seen of a call that adds.
+/// Makes a call that adds, and returns its outcome.
 fn added<O: Object>(client: &mut Client<WorldPort<O>>) -> ClientSeen {
     seen(client, Some(add().as_slice()))
 }
 
-/// What is seen of a call that reads.
+/// Makes a call that reads, and returns its outcome.
 fn counter<O: Object>(client: &mut Client<WorldPort<O>>) -> ClientSeen {
     seen(client, Some(read().as_slice()))
 }
 
-/// Whether the reply is that the counter is at 5.
+/// Returns whether the reply is that the counter is at 5.
 fn is_five(seen: &ClientSeen) -> bool {
     seen.reply == Ok(counted(5))
 }
 
-/// A client of three nodes, of which those of this group hear each other, that polls each of its ports at most so often.
+/// Makes a client of three nodes, of which those of `group` hear each other. It polls each port at most `polls` times.
 fn client_in<O: Object>(
     alloc: O::Alloc,
     shared: &Shared<O>,
@@ -74,7 +75,7 @@ fn client_in<O: Object>(
     client_of(alloc, shared, polls)
 }
 
-/// Three nodes, of which those of this group hear each other, and a client that polls each of its ports at most so often.
+/// Makes three nodes, of which those of `group` hear each other, and a client that polls each port at most `polls` times.
 fn opened<O: Object>(
     alloc: O::Alloc,
     group: ProcSet,
@@ -82,19 +83,19 @@ fn opened<O: Object>(
 ) -> Result<(Shared<O>, Client<WorldPort<O>>), Fault> {
     let shared = three::<O>(alloc)?;
     let client = client_in(alloc, &shared, group, polls);
-    paired(shared, client)
+    pair_result(shared, client)
 }
 
-/// Whether a call gets no answer and stays open: each node was polled in vain, and while a call is open another is refused
-/// at once, with no port asked.
+/// Returns whether a call gets no answer and stays open, after each node was polled in vain. While a call is open, another
+/// is refused at once, without a submit.
 fn stays_open<O: Object>(client: &mut Client<WorldPort<O>>) -> bool {
     let seen = added(client);
     let in_vain = Some((1, None, 300));
     seen.reply == Err(Fault::NoAnswer) && seen.is_open && seen.told == [in_vain, in_vain, None]
 }
 
-/// Whether the call stays open twice, and is answered once all hear each other, and the counter has it once, though two nodes waited
-/// for it.
+/// Returns whether the call stays open twice, and is answered once all nodes hear each other. The counter has it once,
+/// though two nodes waited for it.
 fn is_answered_later<O: Object>(
     client: &mut Client<WorldPort<O>>,
     shared: &Shared<O>,
@@ -106,19 +107,19 @@ fn is_answered_later<O: Object>(
     Ok(stays && is_answered && is_five(&counter(client)) && order_len(shared)? == 2)
 }
 
-/// Whether a stopped node refuses the submit and isn't polled, and the others, which are a majority, answer.
+/// Returns whether a stopped node refuses the submit and isn't polled, and the others, which are a majority, answer.
 fn is_passed_over<O: Object>(
     client: &mut Client<WorldPort<O>>,
     shared: &Shared<O>,
 ) -> Result<bool, Fault> {
-    happen(shared, Event::Stop(Proc::new(1)))?;
+    run_event(shared, Event::Stop(Proc::new(1)))?;
     let first = added(client);
     let second = counter(client);
     let is_refused = second.told[0] == Some((2, Some(8), 0));
     Ok(is_five(&first) && is_five(&second) && is_refused && order_len(shared)? == 2)
 }
 
-/// How many calls the node of this number has committed, repeats included.
+/// Returns the number of calls that the node of this number has committed, duplicates included.
 fn committed<O: Object>(shared: &Shared<O>, number: u8) -> Result<usize, Fault> {
     let Ok(network) = shared.try_borrow() else {
         return Err(Fault::NoAnswer);
@@ -128,9 +129,9 @@ fn committed<O: Object>(shared: &Shared<O>, number: u8) -> Result<usize, Fault> 
     Ok(world.node(node).committed().len())
 }
 
-/// Whether the call is answered by the second node, once the first was polled in vain; and whether the first node, once it hears
-/// the others again, commits the call as they have it, and doesn't send its own try of it: by the replicated log's rules, a call
-/// that stands in the base already isn't queued.
+/// Returns whether the second node answers the call after the first was polled in vain. Then the first node hears the
+/// others again, commits the call as they have it, and doesn't send its own try. By the rules of the replicated log, a
+/// call that is in the base already isn't queued.
 fn counts_once<O: Object>(
     client: &mut Client<WorldPort<O>>,
     shared: &Shared<O>,
@@ -139,26 +140,26 @@ fn counts_once<O: Object>(
     let is_in_vain = by_second.told[0] == Some((1, None, 200));
     let is_answered = is_five(&by_second) && is_in_vain && order_len(shared)? == 1;
     cut(shared, everybody()?)?;
-    happen(shared, Event::Timeout(Proc::new(1), Kind::Join))?;
+    run_event(shared, Event::Timeout(Proc::new(1), Kind::Join))?;
     let seen = counter(client);
     let is_by_first = matches!(seen.told[0], Some((2, None, polls)) if polls < 200);
     let is_sent_once = is_five(&seen) && is_by_first && committed(shared, 1)? == 2;
     Ok(is_answered && is_sent_once && order_len(shared)? == 2)
 }
 
-/// What becomes of the nodes that a client tries.
+/// What happens to the nodes that a client tries.
 #[derive(Clone, Copy)]
 enum ClientStory {
-    /// Nobody hears anybody, until the call was tried twice.
+    /// No node hears another until the call was tried twice.
     NobodyHears,
     /// The first node stops.
     FirstStops,
-    /// The first node is cut off from the others, until the second answered.
+    /// The first node is cut off from the others until the second answered.
     FirstIsCutOff,
 }
 
 impl ClientStory {
-    /// Which nodes hear each other at first, and how often the client polls each of its ports at most.
+    /// Returns which nodes hear each other at first, and the most polls of each port for one call.
     fn opening(self) -> Result<(ProcSet, u64), Fault> {
         match self {
             ClientStory::NobodyHears => Ok((ProcSet::new(), 300)),
@@ -168,7 +169,7 @@ impl ClientStory {
     }
 }
 
-/// Whether the client's calls go as they should.
+/// Returns whether the client's calls have the outcomes that they should.
 fn goes_well<O: Object>(
     client: &mut Client<WorldPort<O>>,
     shared: &Shared<O>,
@@ -181,7 +182,7 @@ fn goes_well<O: Object>(
     }
 }
 
-/// The same of a new client of three nodes.
+/// Returns this for a new client of three nodes.
 fn goes_well_anew<O: Object>(alloc: O::Alloc, story: ClientStory) -> Result<bool, Fault> {
     let (group, polls) = story.opening()?;
     let (shared, mut client) = opened::<O>(alloc, group, polls)?;
@@ -193,21 +194,21 @@ fn goes_well_anew<O: Object>(alloc: O::Alloc, story: ClientStory) -> Result<bool
 
 #[test]
 fn an_open_call_is_answered_once_all_hear_each_other(rt: HostRuntime) -> Result<(), Fail> {
-    let heap = Refusing::new(rt.alloc(), u64::MAX);
-    assert!(rt; goes_well_anew::<Counters<&Refusing>>(&heap, ClientStory::NobodyHears)?);
+    let heap = RefusingHeap::new(rt.alloc(), u64::MAX);
+    assert!(rt; goes_well_anew::<Counters<&RefusingHeap>>(&heap, ClientStory::NobodyHears)?);
     Ok(())
 }
 
 #[test]
 fn a_stopped_node_is_passed_over(rt: HostRuntime) -> Result<(), Fail> {
-    let heap = Refusing::new(rt.alloc(), u64::MAX);
-    assert!(rt; goes_well_anew::<Counters<&Refusing>>(&heap, ClientStory::FirstStops)?);
+    let heap = RefusingHeap::new(rt.alloc(), u64::MAX);
+    assert!(rt; goes_well_anew::<Counters<&RefusingHeap>>(&heap, ClientStory::FirstStops)?);
     Ok(())
 }
 
 #[test]
 fn a_call_that_two_nodes_took_counts_once(rt: HostRuntime) -> Result<(), Fail> {
-    let heap = Refusing::new(rt.alloc(), u64::MAX);
-    assert!(rt; goes_well_anew::<Counters<&Refusing>>(&heap, ClientStory::FirstIsCutOff)?);
+    let heap = RefusingHeap::new(rt.alloc(), u64::MAX);
+    assert!(rt; goes_well_anew::<Counters<&RefusingHeap>>(&heap, ClientStory::FirstIsCutOff)?);
     Ok(())
 }

@@ -1,6 +1,6 @@
-//! What no contract of the ports to a world says, since a shared network's content has no clauses: which refusal comes when,
-//! that a poll gives the node's answer, worked runs of a client, and that a request for memory
-//! which is refused loses no call and repeats none.
+//! Tests of what the contracts of the ports to a world don't state, since the contents of a shared network have no
+//! clauses: which refusal comes when, that a poll gives the node's answer, worked runs of a client, and that a refused
+//! request for memory neither loses nor repeats a call.
 #![tactic(auto)]
 
 #[cfg(test)]

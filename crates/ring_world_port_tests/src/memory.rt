@@ -1,7 +1,8 @@
-//! Each request for memory of a client's call over three nodes refused in turn.
+//! Refuses each request for memory of a client's call over three nodes in turn.
+//! Rules: Clients 5, 6 and 8; Refusals 3 and 6
 
 use crate::shared::{add, client_of, counted, order_len, three};
-use refusing_alloc::Refusing;
+use refusing_alloc::RefusingHeap;
 use ring_base::Fault;
 use ring_checker::is_linearization;
 use ring_client::{Client, Port};
@@ -12,10 +13,10 @@ use ring_world_port::{Shared, World, WorldPort};
 use std::alloc::Global;
 use std::process::Abort;
 
-/// How often the client polls a node at most: enough for the two others to answer where one stops.
+/// The most polls of a node: enough for the two others to answer where one stops.
 const POLLS: u64 = 400;
 
-/// Three nodes, made at the second try if that was refused memory.
+/// Makes three nodes, again after a refusal.
 fn opened<O: Object>(heap: O::Alloc) -> Result<Shared<O>, Fault> {
     match three::<O>(heap) {
         Err(Fault::Memory) => three::<O>(heap),
@@ -23,7 +24,7 @@ fn opened<O: Object>(heap: O::Alloc) -> Result<Shared<O>, Fault> {
     }
 }
 
-/// A client, made at the second try if that was refused memory.
+/// Makes a client, again after a refusal.
 fn client<O: Object>(heap: O::Alloc, shared: &Shared<O>) -> Result<Client<WorldPort<O>>, Fault> {
     match client_of(heap, shared, POLLS) {
         Err(Fault::Memory) => client_of(heap, shared, POLLS),
@@ -31,7 +32,7 @@ fn client<O: Object>(heap: O::Alloc, shared: &Shared<O>) -> Result<Client<WorldP
     }
 }
 
-/// Makes the call, and tries it anew once where it got no reply.
+/// Makes the call, and tries it again once if it got no reply.
 fn called<P: Port>(client: &mut Client<P>) -> Result<Reply, Fault> {
     match client.call(add().as_slice()) {
         Ok(reply) => Ok(reply),
@@ -40,7 +41,7 @@ fn called<P: Port>(client: &mut Client<P>) -> Result<Reply, Fault> {
     }
 }
 
-/// What the client's call is replied, at the second try at the latest.
+/// Returns the reply to the client's call, at the second try at the latest.
 fn replied<O: Object>(heap: O::Alloc, shared: &Shared<O>) -> Result<Reply, Fault> {
     let mut client = client(heap, shared)?;
     let replied = called(&mut client);
@@ -48,7 +49,7 @@ fn replied<O: Object>(heap: O::Alloc, shared: &Shared<O>) -> Result<Reply, Fault
     replied
 }
 
-/// The order of a world, asked for once more if it is refused memory.
+/// Returns the order of a world, asking again after a refusal.
 fn order_of<O: Object>(world: &World<O>) -> Result<Vec<Call<O::Alloc>, O::Alloc>, Fault> {
     match world.order() {
         Err(Fault::Memory) => world.order(),
@@ -56,7 +57,7 @@ fn order_of<O: Object>(world: &World<O>) -> Result<Vec<Call<O::Alloc>, O::Alloc>
     }
 }
 
-/// Whether the order of the world explains its history.
+/// Returns whether the order of the world explains its history.
 fn is_explained<O: Object>(world: &World<O>, ample: O::Alloc) -> Result<bool, Fault> {
     let order = order_of(world)?;
     let explains = is_linearization::<O>(ample, order.as_slice(), world.history());
@@ -64,7 +65,7 @@ fn is_explained<O: Object>(world: &World<O>, ample: O::Alloc) -> Result<bool, Fa
     explains
 }
 
-/// The same of the world of three nodes.
+/// Returns this for the world of three nodes.
 fn explains<O: Object>(shared: &Shared<O>, ample: O::Alloc) -> Result<bool, Fault> {
     let Ok(network) = shared.try_borrow() else {
         return Err(Fault::NoAnswer);
@@ -72,7 +73,7 @@ fn explains<O: Object>(shared: &Shared<O>, ample: O::Alloc) -> Result<bool, Faul
     is_explained(network.world(), ample)
 }
 
-/// Whether a client's call at node 1, and at node 2 where that doesn't answer, is answered, and takes effect once.
+/// Returns whether a client's call is answered, at node 1 or else at node 2, and takes effect once.
 fn is_answered_by<O: Object>(
     shared: &Shared<O>,
     heap: O::Alloc,
@@ -82,7 +83,7 @@ fn is_answered_by<O: Object>(
     Ok(is_replied && order_len(shared)? == 1 && explains(shared, ample)?)
 }
 
-/// The same of three nodes whose memory comes from `heap` too.
+/// Returns this for three nodes whose memory is in `heap` too.
 fn is_answered_once<O: Object>(heap: O::Alloc, ample: O::Alloc) -> Result<bool, Fault> {
     let shared = opened::<O>(heap)?;
     let is_answered = is_answered_by(&shared, heap, ample);
@@ -90,23 +91,23 @@ fn is_answered_once<O: Object>(heap: O::Alloc, ample: O::Alloc) -> Result<bool, 
     is_answered
 }
 
-/// Whether that is so where the request after so many others is refused, whether that came, and how many requests came.
+/// Returns this with the request after `passed` others refused, whether that request was made, and the number of requests.
 fn is_answered_past(
     alloc: Global,
-    ample: &Refusing,
+    ample: &RefusingHeap,
     passed: u64,
 ) -> (Result<bool, Fault>, bool, u64) {
-    let heap = Refusing::new(alloc, passed);
-    let is_answered = is_answered_once::<Counters<&Refusing>>(&heap, ample);
+    let heap = RefusingHeap::new(alloc, passed);
+    let is_answered = is_answered_once::<Counters<&RefusingHeap>>(&heap, ample);
     (is_answered, heap.has_refused(), heap.requests())
 }
 
-/// How many parts the requests are tried in, so that each test is short.
+/// The number of parts in which the requests are tried, so that each test is short.
 const PARTS: u64 = 4;
 
-/// Refuses each request of this part in turn, in a run of its own: whatever request it is, the call is answered.
+/// Refuses each request of this part in turn, each in a new run. The call is always answered.
 fn refuse_each(rt: &impl Abort, alloc: Global, part: u64) {
-    let ample = Refusing::new(alloc, u64::MAX);
+    let ample = RefusingHeap::new(alloc, u64::MAX);
     let (is_answered, _, requests) = is_answered_past(alloc, &ample, u64::MAX);
     assert!(rt; requests > 100 && is_answered == Ok(true), "{requests}");
     for passed in 0..requests {

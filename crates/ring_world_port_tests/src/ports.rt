@@ -1,7 +1,8 @@
 //! Ports to three nodes of one world.
+//! Rules: Clients 2 and 8
 
-use crate::shared::{add, counted, happen, three};
-use refusing_alloc::Refusing;
+use crate::shared::{add, counted, run_event, three};
+use refusing_alloc::RefusingHeap;
 use ring_base::{Fault, Proc};
 use ring_client::Port;
 use ring_object::Object;
@@ -12,7 +13,7 @@ use ring_world_port::{Event, Shared, WorldPort};
 use std::alloc::Allocator;
 use std::test::Fail;
 
-/// The answer to client 7's first call of the first 200 polls that has one, and that of a poll once more.
+/// Returns the first answer that a poll gives to client 7's first call, within 200 polls, and the result of one more poll.
 fn answers<P: Port>(port: &mut P, alloc: P::Alloc) -> Result<[Option<Answer>; 2], Fault> {
     let ticket = port.submit(&Call::new(alloc, 7, 1, add().as_slice())?)?;
     let mut first = None;
@@ -24,7 +25,7 @@ fn answers<P: Port>(port: &mut P, alloc: P::Alloc) -> Result<[Option<Answer>; 2]
     Ok([first, port.poll(&ticket)])
 }
 
-/// The same at the first of three nodes that hear each other.
+/// Returns these answers at the first of three nodes that hear each other.
 fn answers_of_first<O: Object>(alloc: O::Alloc) -> Result<[Option<Answer>; 2], Fault> {
     let mut port = WorldPort::new(three::<O>(alloc)?, Proc::new(1));
     let answers = answers(&mut port, alloc);
@@ -35,21 +36,21 @@ fn answers_of_first<O: Object>(alloc: O::Alloc) -> Result<[Option<Answer>; 2], F
 #[test]
 fn a_poll_gives_the_answer_that_the_node_told(rt: HostRuntime) -> Result<(), Fail> {
     let five = Some(Answer::Done(counted(5)));
-    let heap = Refusing::new(rt.alloc(), u64::MAX);
-    assert!(rt; answers_of_first::<Counters<&Refusing>>(&heap)? == [five, five]);
+    let heap = RefusingHeap::new(rt.alloc(), u64::MAX);
+    assert!(rt; answers_of_first::<Counters<&RefusingHeap>>(&heap)? == [five, five]);
     Ok(())
 }
 
-/// The refusal of a submit, and its number as the port tells it.
+/// The refusal of a submit, and the number of the refusal that the port records.
 type Refused = (Option<Fault>, Option<u8>);
 
-/// Submits the call.
+/// Submits the call and returns its refusal.
 fn refused<O: Object>(port: &mut WorldPort<O>, call: &Call<O::Alloc>) -> Refused {
     let fault = port.submit(call).err();
     (fault, port.asked().refused)
 }
 
-/// A call of number 0, which no client makes.
+/// Returns a call of number 0, which no client makes.
 fn numbered_0<A: Allocator + Copy>(alloc: A, op: &[u8]) -> Result<Call<A>, Fault> {
     Ok(Call {
         client: 7,
@@ -58,7 +59,7 @@ fn numbered_0<A: Allocator + Copy>(alloc: A, op: &[u8]) -> Result<Call<A>, Fault
     })
 }
 
-/// The refusal by a node that is no member.
+/// Returns the refusal at a port to a node that isn't in the group.
 fn refused_of_stranger<O: Object>(
     shared: &Shared<O>,
     call: &Call<O::Alloc>,
@@ -69,7 +70,7 @@ fn refused_of_stranger<O: Object>(
     Ok(refused)
 }
 
-/// The refusal while another has the network.
+/// Returns the refusal while another holder has the network borrowed.
 fn refused_while_held<O: Object>(
     shared: &Shared<O>,
     port: &mut WorldPort<O>,
@@ -81,7 +82,7 @@ fn refused_while_held<O: Object>(
     }
 }
 
-/// Submits the call so often.
+/// Submits the call `times` times.
 fn submit_often<O: Object>(
     port: &mut WorldPort<O>,
     call: &Call<O::Alloc>,
@@ -93,7 +94,7 @@ fn submit_often<O: Object>(
     Ok(())
 }
 
-/// Calls of number 0, of which one is too long and one is not, and one that a node takes.
+/// Two calls of number 0, of which one has too long an operation, and a call that a node takes.
 #[derive(Drop)]
 struct Calls<A: Allocator + Copy> {
     long: Call<A>,
@@ -101,7 +102,8 @@ struct Calls<A: Allocator + Copy> {
     first: Call<A>,
 }
 
-/// Each refusal in turn: of a call that reaches no node, then by the node, with 64 tickets that wait, and once it has stopped.
+/// Returns each refusal in turn: of calls that reach no node, then of the node with 64 waiting tickets, and of the stopped
+/// node.
 fn refused_in_turn<O: Object>(
     shared: &Shared<O>,
     port: &mut WorldPort<O>,
@@ -113,12 +115,12 @@ fn refused_in_turn<O: Object>(
     let held = refused_while_held(shared, port, &calls.none);
     submit_often(port, &calls.first, 64)?;
     let full = refused(port, &calls.first);
-    happen(shared, Event::Stop(Proc::new(1)))?;
+    run_event(shared, Event::Stop(Proc::new(1)))?;
     let stopped = refused(port, &calls.first);
     Ok([stranger, long, none, held, full, stopped])
 }
 
-/// The same at the first node.
+/// Returns these refusals at the first node.
 fn refused_at_first<O: Object>(
     shared: &Shared<O>,
     calls: &Calls<O::Alloc>,
@@ -129,7 +131,7 @@ fn refused_at_first<O: Object>(
     refused
 }
 
-/// The same at the first of three nodes.
+/// Returns these refusals at the first of three nodes.
 fn refused_by_three<O: Object>(alloc: O::Alloc) -> Result<[Refused; 6], Fault> {
     let calls = Calls {
         long: numbered_0(alloc, &[0; 1025])?,
@@ -152,12 +154,12 @@ fn a_submit_is_refused_for_its_first_reason(rt: HostRuntime) -> Result<(), Fail>
         (Some(Fault::PendingFull), Some(2)),
         (Some(Fault::Stopped), Some(8)),
     ];
-    let heap = Refusing::new(rt.alloc(), u64::MAX);
-    assert!(rt; refused_by_three::<Counters<&Refusing>>(&heap)? == reasons);
+    let heap = RefusingHeap::new(rt.alloc(), u64::MAX);
+    assert!(rt; refused_by_three::<Counters<&RefusingHeap>>(&heap)? == reasons);
     Ok(())
 }
 
-/// How many events happened to the world.
+/// Returns the number of the world's events.
 fn events<O: Object>(shared: &Shared<O>) -> Result<usize, Fault> {
     let Ok(network) = shared.try_borrow() else {
         return Err(Fault::NoAnswer);
@@ -165,7 +167,7 @@ fn events<O: Object>(shared: &Shared<O>) -> Result<usize, Fault> {
     Ok(network.world().events().len())
 }
 
-/// The refusal of a submit, how many events there are then, and how many once the call was submitted again.
+/// Submits the call twice. Returns the refusal of the first submit, and the number of events after each.
 fn refused_once<O: Object>(
     shared: &Shared<O>,
     port: &mut WorldPort<O>,
@@ -177,7 +179,7 @@ fn refused_once<O: Object>(
     Ok((refused, before, events(shared)?))
 }
 
-/// The same at the first node.
+/// Does this at the first node.
 fn refused_once_at_first<O: Object>(
     shared: &Shared<O>,
     call: &Call<O::Alloc>,
@@ -188,7 +190,7 @@ fn refused_once_at_first<O: Object>(
     refused
 }
 
-/// The same of a submit of a call whose memory is at its end once the call is made.
+/// Does this with a call whose memory is used up once the call is made.
 fn submitted_from_full_memory<O: Object>(
     heap: O::Alloc,
     ample: O::Alloc,
@@ -200,12 +202,14 @@ fn submitted_from_full_memory<O: Object>(
     refused
 }
 
-/// A call is made with two requests for memory, and its copy that a submit hands on takes none.
+/// Making a call takes two requests for memory; the copy that a submit passes on takes none.
 #[test]
 fn a_submitted_copy_takes_no_memory(rt: HostRuntime) -> Result<(), Fail> {
-    let ample = Refusing::new(rt.alloc(), u64::MAX);
-    let heap = Refusing::new(rt.alloc(), 2);
+    let ample = RefusingHeap::new(rt.alloc(), u64::MAX);
+    let heap = RefusingHeap::new(rt.alloc(), 2);
     let none = (None, None);
-    assert!(rt; submitted_from_full_memory::<Counters<&Refusing>>(&heap, &ample)? == (none, 1, 2));
+    assert!(rt;
+        submitted_from_full_memory::<Counters<&RefusingHeap>>(&heap, &ample)? == (none, 1, 2)
+    );
     Ok(())
 }

@@ -1,8 +1,8 @@
-//! What the tests share: three nodes, a client with ports to some of them, and counters.
+//! Three nodes, a client with ports to some of them, and operations on counters, which the tests share.
 
-ghost use Rattle.ring_rules.specs.WorldLimits.{EventFits};
+ghost use Rattle.ring_node_spec.specs.WorldLimits.{EventFits};
 
-use ring_base::{Fault, Fixed, ProcSet, paired};
+use ring_base::{Fault, Fixed, ProcSet, pair_result};
 use ring_client::Client;
 use ring_object::{Object, Reply};
 use ring_things::{Counters, Operation};
@@ -10,27 +10,28 @@ use ring_world_port::{Event, Network, Shared, World, WorldPort};
 use std::cell::RefCell;
 use std::rc::Rc;
 
-/// Add 5 to counter 0.
+/// Returns the operation that adds 5 to counter 0.
 pub fn add() -> Operation {
     Counters::add(0, 5)
 }
 
-/// Read counter 0.
+/// Returns the operation that reads counter 0.
 pub fn read() -> Operation {
     Counters::read(0)
 }
 
-/// The reply of a counter that has this count.
+/// Returns the reply of a counter with this value.
 pub fn counted(count: u8) -> Reply {
     Reply::from_slice(&[0, 0, 0, 0, 0, 0, 0, 0, count])
 }
 
-/// The group of all three nodes.
+/// Returns the group of all three nodes.
 pub fn everybody() -> Result<ProcSet, Fault> {
     Ok(Fixed::new(3)?.everybody())
 }
 
-/// Three nodes, all of which hear each other.
+/// Returns a network of three nodes that all hear each other.
+/// Errors: `Memory`.
 pub fn three<O: Object>(alloc: O::Alloc) -> Result<Shared<O>, Fault> {
     let network = Network::new(World::<O>::new(alloc, Fixed::new(3)?)?);
     Ok(Rc::new(alloc, RefCell::new(network))?)
@@ -48,7 +49,8 @@ fn add_ports<O: Object>(
     Ok(())
 }
 
-/// Client 7 with ports to nodes 1 and 2, each of which it polls at most so often.
+/// Returns client 7 with ports to nodes 1 and 2. It polls each at most `polls` times a call.
+/// Errors: `Memory`.
 pub fn client_of<O: Object>(
     alloc: O::Alloc,
     shared: &Shared<O>,
@@ -56,11 +58,12 @@ pub fn client_of<O: Object>(
 ) -> Result<Client<WorldPort<O>>, Fault> {
     let mut ports = Vec::new(alloc);
     let added = add_ports(shared, &mut ports);
-    let (ports, ()) = paired(ports, added)?;
+    let (ports, ()) = pair_result(ports, added)?;
     Ok(Client::new(alloc, 7, ports, polls))
 }
 
-/// From now on the nodes of this group alone hear each other.
+/// Lets only the nodes of this group hear each other from now on.
+/// Errors: `NoAnswer` where the network is borrowed.
 pub fn cut<O: Object>(shared: &Shared<O>, group: ProcSet) -> Result<(), Fault> {
     let Ok(mut network) = shared.try_borrow_mut() else {
         return Err(Fault::NoAnswer);
@@ -69,17 +72,19 @@ pub fn cut<O: Object>(shared: &Shared<O>, group: ProcSet) -> Result<(), Fault> {
     Ok(())
 }
 
-/// This event happens to the world.
-pub fn happen<O: Object>(shared: &Shared<O>, event: Event<O::Alloc>) -> Result<(), Fault>
+/// Runs this event in the world.
+/// Errors: `NoAnswer` where the network is borrowed, else `Memory`.
+pub fn run_event<O: Object>(shared: &Shared<O>, event: Event<O::Alloc>) -> Result<(), Fault>
     requires { EventFits event }
 {
     let Ok(mut network) = shared.try_borrow_mut() else {
         return Err(Fault::NoAnswer);
     };
-    network.happen(event)
+    network.run_event(event)
 }
 
-/// How many calls the order has.
+/// Returns the length of the world's order.
+/// Errors: `NoAnswer` where the network is borrowed.
 pub fn order_len<O: Object>(shared: &Shared<O>) -> Result<u64, Fault> {
     let Ok(network) = shared.try_borrow() else {
         return Err(Fault::NoAnswer);

@@ -1,44 +1,40 @@
-//! What is done with a world of nodes, a line for each thing, and the events of these lines.
+//! The actions of a test on a world, and the events of these actions.
 
 ghost use Rattle.std.specs.Prelude.{IfOk};
 ghost use Rattle.std.specs.List.{AllByRecursion};
-ghost use Rattle.ring_rules.specs.WorldLimits.{EventFits};
+ghost use Rattle.ring_node_spec.specs.WorldLimits.{EventFits};
 ghost use Rattle.ring_payload.specs.Calls.{CallFits};
 
-use ring_base::{Fault, Fixed, Kind, MOST_PROCESSORS, Proc};
+use crate::knowing::run;
+use ring_base::{Fault, Fixed, Kind, MAX_PROCESSORS, Proc};
+use ring_object::Object;
 use ring_payload::Call;
 use ring_things::Counters;
-use ring_world::{Event, Noise};
+use ring_world::{Event, Noise, World};
 use std::alloc::Allocator;
 
-/// What is done with a world. The first number names a processor, of the group or not.
+/// An action on a world. The first number names a processor, in the group or not, unless stated otherwise.
 #[derive(Clone, Copy)]
 pub enum Line {
-    /// Client 7's call of this number, `add 0 5` on an object of counters, is submitted there.
+    /// Submits client 7's call of this number, `add 0 5` on an object of counters.
     Issue(u8, u16),
-    /// The frame of this number is handed to it.
+    /// Delivers the frame of this number.
     Hand(u8, u64),
-    /// Two bytes come to it that are no frame.
+    /// Delivers two bytes that are no frame.
     Noise(u8),
-    /// Its join timeout comes.
+    /// Gives a join timeout.
     Join(u8),
-    /// It stops.
+    /// Stops the processor.
     Stop(u8),
-    /// From this number on, so many calls of client 7 are submitted at node 1.
-    Issues(u16, u16),
-    /// So many copies of frames are handed over.
-    Pump(u8),
-    /// The world is shown.
-    Show,
 }
 
-/// The processor of this number.
+/// Returns the processor of this number.
 fn processor(number: u8) -> Result<Proc, Fault> {
-    let any = Fixed::new(MOST_PROCESSORS)?;
+    let any = Fixed::new(MAX_PROCESSORS)?;
     any.proc(number)
 }
 
-/// Client 7's call of this number, `add 0 5`.
+/// Returns client 7's call of this number, `add 0 5`.
 fn call_of<A: Allocator + Copy>(alloc: A, number: u16) -> Result<Call<A>, Fault>
     ensures { IfOk result (λ call. CallFits call) }
 {
@@ -46,7 +42,7 @@ fn call_of<A: Allocator + Copy>(alloc: A, number: u16) -> Result<Call<A>, Fault>
     Call::new(alloc, 7, u64::from(number), add.as_slice())
 }
 
-/// The event that this call is submitted there.
+/// Returns the event that this call is submitted at the node.
 fn issue<A: Allocator + Copy>(alloc: A, node: Proc, number: u16) -> Result<Event<A>, Fault>
     ensures { IfOk result (λ event. EventFits event) }
 {
@@ -54,7 +50,7 @@ fn issue<A: Allocator + Copy>(alloc: A, node: Proc, number: u16) -> Result<Event
     Ok(Event::Issue(node, call))
 }
 
-/// The event that noise comes there.
+/// Returns the event that noise arrives at the node.
 fn noise<A: Allocator + Copy>(alloc: A, node: Proc) -> Result<Event<A>, Fault>
     ensures { IfOk result (λ event. EventFits event) }
 {
@@ -62,7 +58,7 @@ fn noise<A: Allocator + Copy>(alloc: A, node: Proc) -> Result<Event<A>, Fault>
     Ok(Event::Noise(node, Noise::from_vec(bytes)))
 }
 
-/// The event of a line that is one.
+/// Returns the event of a line.
 fn event_of<A: Allocator + Copy>(alloc: A, line: Line) -> Result<Event<A>, Fault>
     ensures { IfOk result (λ event. EventFits event) }
 {
@@ -72,12 +68,12 @@ fn event_of<A: Allocator + Copy>(alloc: A, line: Line) -> Result<Event<A>, Fault
         Line::Noise(node) => noise(alloc, processor(node)?),
         Line::Join(node) => Ok(Event::Timeout(processor(node)?, Kind::Join)),
         Line::Stop(node) => Ok(Event::Stop(processor(node)?)),
-        Line::Issues(_, _) | Line::Pump(_) | Line::Show => Err(Fault::BadScript),
     }
 }
 
-/// The events of these lines.
-pub fn events_of<A: Allocator + Copy>(alloc: A, lines: &[Line]) -> Result<Vec<Event<A>, A>, Fault>
+/// Returns the events of these lines.
+/// Errors: `NotMember` for a processor that isn't 1 to 16, those of `Call::new`, `Memory`.
+fn events_of<A: Allocator + Copy>(alloc: A, lines: &[Line]) -> Result<Vec<Event<A>, A>, Fault>
     ensures { IfOk result (λ events. AllByRecursion EventFits events.items) }
 {
     let mut events = Vec::new(alloc);
@@ -86,4 +82,15 @@ pub fn events_of<A: Allocator + Copy>(alloc: A, lines: &[Line]) -> Result<Vec<Ev
         events.push(event)?;
     }
     Ok(events)
+}
+
+/// Runs the events of the lines in the world.
+/// Errors: those of `events_of`, and `Memory` of the world.
+pub fn run_lines<O: Object>(
+    world: &mut World<O>,
+    alloc: O::Alloc,
+    lines: &[Line],
+) -> Result<(), Fault> {
+    let events = events_of(alloc, lines)?;
+    run(world, &events)
 }

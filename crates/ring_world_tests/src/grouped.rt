@@ -1,8 +1,8 @@
-//! The nodes of one group, whose letters come in the order in which they were sent, but for those that a cut holds back.
+//! The nodes of one group. Their frames arrive in the order sent, except those that a cut holds back.
 
 use bytes::BytesMut;
 use ring_base::{Fault, Fixed, Kind, Proc, ProcSet};
-use ring_driver::{Driver, Letter};
+use ring_driver::{Driver, ValidFrame};
 use ring_node::Node;
 use ring_object::Object;
 use ring_session::Ticket;
@@ -10,47 +10,48 @@ use ring_things::Counters;
 use std::alloc::Allocator;
 use std::collections::VecDeque;
 
-/// A letter on its way from one processor to another, as bytes.
+/// A frame on its way from one processor to another, as bytes.
 #[derive(Drop)]
-struct Mail<A: Allocator> {
+struct QueuedFrame<A: Allocator> {
     from: Proc,
     to: Proc,
     bytes: BytesMut<A>,
 }
 
-/// What the steps of a node told of its log: how many calls they newly committed, how many they dropped, and how many places the last
-/// snapshot stands for that one of them restored.
+/// The log counts of a node's steps: the number of calls newly committed, the number of calls dropped, and the number of
+/// places in the last snapshot that a step restored.
 pub type Told = (u64, u64, Option<u64>);
 
-/// A node, and what its steps told of its log.
+/// A node, and the log counts of its steps.
 #[derive(Drop)]
 struct Member<O: Object> {
     driver: Driver<O>,
     told: Told,
 }
 
-/// The nodes of a group, the letters on their way, and who is cut off from the others. What no node has a hand in lies in `heap`.
+/// The nodes of a group, the frames in flight, and the processors that are cut off from the others. `heap` has the memory
+/// of everything outside the nodes.
 #[derive(Drop)]
-pub struct Grouped<O: Object> {
+pub struct MemberGroup<O: Object> {
     heap: O::Alloc,
     fixed: Fixed,
     members: Vec<Member<O>, O::Alloc>,
-    mails: VecDeque<Mail<O::Alloc>, O::Alloc>,
+    mails: VecDeque<QueuedFrame<O::Alloc>, O::Alloc>,
     apart: ProcSet,
 }
 
-/// The place of a node among those of its group.
+/// Returns the index of a node in its group.
 fn place_of(number: u8) -> usize {
     usize::from(number).saturating_sub(1)
 }
 
-/// No step gives more letters or calls.
-const MOST: u32 = 10_000;
+/// A bound on the loops below: no step gives more frames or calls.
+const MAX_STEPS: u32 = 10_000;
 
-/// How many calls the last step newly committed, or dropped.
+/// Returns the number of calls that the last step newly committed, or dropped.
 fn told_by<O: Object>(driver: &mut Driver<O>, dropped: bool) -> u64 {
     let mut count = 0u64;
-    for _ in 0..MOST {
+    for _ in 0..MAX_STEPS {
         let is_end = if dropped {
             driver.next_dropped().is_none()
         } else {
@@ -65,7 +66,7 @@ fn told_by<O: Object>(driver: &mut Driver<O>, dropped: bool) -> u64 {
 }
 
 impl<O: Object> Member<O> {
-    /// What the last step told of the log is counted.
+    /// Adds the last step to the log counts.
     fn follow(&mut self) {
         let (committed, dropped, restored) = self.told;
         self.told = (
@@ -76,40 +77,40 @@ impl<O: Object> Member<O> {
     }
 }
 
-/// The letter is on its way to each of its receivers.
+/// Puts the frame in flight to each of its receivers.
 fn post_letter<A: Allocator + Copy>(
     heap: A,
-    letter: &Letter<A>,
+    valid_frame: &ValidFrame<A>,
     (from, receivers): (Proc, ProcSet),
-    mails: &mut VecDeque<Mail<A>, A>,
+    mails: &mut VecDeque<QueuedFrame<A>, A>,
 ) -> Result<(), Fault> {
     for number in 1..=16 {
         let to = Proc::new(number);
         if receivers.contains(to) {
-            let bytes = letter.bytes(heap)?;
-            mails.push_back(Mail { from, to, bytes })?;
+            let bytes = valid_frame.bytes(heap)?;
+            mails.push_back(QueuedFrame { from, to, bytes })?;
         }
     }
     Ok(())
 }
 
-/// What a step sent is on its way to each of its receivers.
+/// Puts the frames of the last step in flight to each of their receivers.
 fn post<O: Object>(
     heap: O::Alloc,
     driver: &mut Driver<O>,
     from: Proc,
-    mails: &mut VecDeque<Mail<O::Alloc>, O::Alloc>,
+    mails: &mut VecDeque<QueuedFrame<O::Alloc>, O::Alloc>,
 ) -> Result<(), Fault> {
-    for _ in 0..MOST {
-        let Some((receivers, letter)) = driver.next_send() else {
+    for _ in 0..MAX_STEPS {
+        let Some((receivers, valid_frame)) = driver.next_send() else {
             return Ok(());
         };
-        post_letter(heap, &letter, (from, receivers), mails)?;
+        post_letter(heap, &valid_frame, (from, receivers), mails)?;
     }
     Ok(())
 }
 
-/// Adds the nodes of a group at their opening, of which the last has its memory in `last`.
+/// Adds the nodes of a group at their opening. The last one has its memory in `last`.
 fn add_members<O: Object>(
     heap: O::Alloc,
     last: O::Alloc,
@@ -125,13 +126,14 @@ fn add_members<O: Object>(
     Ok(())
 }
 
-impl<O: Object> Grouped<O> {
-    /// So many nodes at their opening, of which the last has its memory in `last`.
-    pub fn new(heap: O::Alloc, last: O::Alloc, count: u8) -> Result<Grouped<O>, Fault> {
+impl<O: Object> MemberGroup<O> {
+    /// Returns a group of `count` nodes at their opening. The last one has its memory in `last`.
+    /// Errors: `NotMember` where `count` isn't 1 to 16, else `Memory`.
+    pub fn new(heap: O::Alloc, last: O::Alloc, count: u8) -> Result<MemberGroup<O>, Fault> {
         let fixed = Fixed::new(count)?;
         let mut members = Vec::new(heap);
         add_members(heap, last, fixed, &mut members)?;
-        Ok(Grouped {
+        Ok(MemberGroup {
             heap,
             fixed,
             members,
@@ -140,22 +142,24 @@ impl<O: Object> Grouped<O> {
         })
     }
 
-    /// The node of this number.
+    /// Returns the node of this number, if it is in the group.
     pub fn node(&self, number: u8) -> Option<&Node<O>> {
         Some(self.members.get(place_of(number))?.driver.node())
     }
 
-    /// What the steps of the node of this number told of its log.
+    /// Returns the log counts of the node of this number, if it is in the group.
     pub fn told(&self, number: u8) -> Option<Told> {
         Some(self.members.get(place_of(number))?.told)
     }
 
-    /// These are cut off from the others from now on.
+    /// Cuts these processors off from the others from now on.
     pub fn cut(&mut self, apart: ProcSet) {
         self.apart = apart;
     }
 
-    /// Client 7's call of this number, `add 0 1`, is submitted at a node.
+    /// Submits client 7's call of this number, `add 0 1`, at a node. Returns its ticket, or `None` where the group has no
+    /// such node.
+    /// Errors: those of `Driver::submit`.
     pub fn submit(&mut self, number: u8, call: u64) -> Result<Option<Ticket>, Fault> {
         let add = Counters::add(0, 1);
         match self.members.get_mut(place_of(number)) {
@@ -164,7 +168,8 @@ impl<O: Object> Grouped<O> {
         }
     }
 
-    /// A timeout comes to a node.
+    /// Steps a node by a timeout, and puts its frames in flight.
+    /// Errors: `NotMember` where the group has no such node, those of `Driver::timeout`, `Memory`.
     pub fn time(&mut self, number: u8, kind: Kind) -> Result<(), Fault> {
         let from = self.fixed.proc(number)?;
         match self.members.get_mut(place_of(number)) {
@@ -177,25 +182,27 @@ impl<O: Object> Grouped<O> {
         }
     }
 
-    /// The next letters come, so many or as many as there are.
+    /// Delivers the oldest frames in flight, at most `count`. A frame is lost if its sender and its receiver are cut off
+    /// from each other.
+    /// Errors: those of `Driver::receive`, `Memory`.
     pub fn pump(&mut self, count: u32) -> Result<(), Fault> {
         for _ in 0..count {
             let Some(mail) = self.mails.pop_front() else {
                 return Ok(());
             };
             if self.apart.contains(mail.from) == self.apart.contains(mail.to) {
-                self.hear(&mail)?;
+                self.receive(&mail)?;
             }
         }
         Ok(())
     }
 
-    /// A letter comes to its receiver.
-    fn hear(&mut self, mail: &Mail<O::Alloc>) -> Result<(), Fault> {
+    /// Delivers a frame to its receiver.
+    fn receive(&mut self, mail: &QueuedFrame<O::Alloc>) -> Result<(), Fault> {
         match self.members.get_mut(place_of(mail.to.number())) {
             Some(member) => {
-                let letter = Letter::read(self.heap, mail.bytes.as_slice())?;
-                member.driver.hear(letter)?;
+                let valid_frame = ValidFrame::read(self.heap, mail.bytes.as_slice())?;
+                member.driver.receive(valid_frame)?;
                 member.follow();
                 post(self.heap, &mut member.driver, mail.to, &mut self.mails)
             }

@@ -1,10 +1,9 @@
-//! What no contract of worlds of nodes, or of nodes that are driven, says: worked runs of one node and of three, that each call
-//! succeeds where memory is left, and each request for memory of a short run refused in turn; what a caller knows of a world
-//! after a run; and groups of nodes whose letters come, of which one is restored that was away.
+//! Tests of what the contracts of worlds and drivers don't state: worked runs of one node and of three, that each call
+//! succeeds while there is memory, and each request for memory of a short run refused in turn. It also states what a
+//! caller learns of a world after a run. Groups of driven nodes exchange frames, and one of them is restored after it was
+//! cut off. A driver's timeouts come by the time that is brought to it.
 #![tactic(auto)]
 
-#[cfg(test)]
-mod driven;
 #[cfg(test)]
 mod events;
 #[cfg(test)]
@@ -16,8 +15,6 @@ mod memory;
 #[cfg(test)]
 mod restoring;
 #[cfg(test)]
-mod seen;
-#[cfg(test)]
 mod tests;
 #[cfg(test)]
-mod trimmed;
+mod timed;

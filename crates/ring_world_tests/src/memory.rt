@@ -1,15 +1,15 @@
-//! Each request for memory of a short run refused in turn.
+//! Refuses each request for memory of a short run in turn.
+//! Rules: The book and the threads 7; Refusals 3 and 6
 
-use crate::driven::run_lines;
-use crate::events::Line;
-use refusing_alloc::{Refusing, refuse_in_turn};
+use crate::events::{Line, run_lines};
+use refusing_alloc::{RefusingHeap, refuse_in_turn};
 use ring_base::{Fault, Fixed};
 use ring_object::Object;
 use ring_things::Counters;
 use ring_world::{Event, Told, World};
 use std::alloc::{AllocError, Allocator};
 
-/// One node forms its ring, takes a call while it does, and one in the ring, and answers both.
+/// One node forms its ring, takes a call meanwhile and another in the ring, and answers both.
 const SHORT_RUN: [Line; 9] = [
     Line::Join(1),
     Line::Hand(1, 1),
@@ -22,12 +22,13 @@ const SHORT_RUN: [Line; 9] = [
     Line::Hand(1, 6),
 ];
 
-/// Runs the short run from this place on.
+/// Runs the short run from this index on.
 fn run_from<O: Object>(world: &mut World<O>, ample: O::Alloc, place: usize) -> Result<(), Fault> {
     run_lines(world, ample, SHORT_RUN.get(place..).unwrap_or(&[]))
 }
 
-/// How often the world itself was refused memory in the short run, all of which it does: it tells how many events it had done.
+/// Does the whole short run, and returns how often the world itself was refused memory. After a refusal it continues
+/// behind the events that `done` counts.
 fn refused_runs<O: Object>(world: &mut World<O>, ample: O::Alloc) -> Result<u64, Fault> {
     match run_from(world, ample, 0) {
         Ok(()) => Ok(0),
@@ -40,7 +41,7 @@ fn refused_runs<O: Object>(world: &mut World<O>, ample: O::Alloc) -> Result<u64,
     }
 }
 
-/// How often a node was refused memory in its step, which stands as its stop.
+/// Returns the number of stops, which replace the steps that were refused memory.
 fn stops<A: Allocator + Copy>(events: &[Event<A>]) -> u64 {
     let mut stops = 0u64;
     for event in events {
@@ -51,23 +52,23 @@ fn stops<A: Allocator + Copy>(events: &[Event<A>]) -> u64 {
     stops
 }
 
-/// How many calls were answered, and how many submits were refused memory.
+/// Returns the number of answered calls, and the number of submits that were refused memory.
 fn answers_and_refusals<A: Allocator + Copy>(told: &[Told<A>]) -> (u64, u64) {
     let (mut answers, mut refusals) = (0u64, 0u64);
     for one in told {
         match one {
             Told::Answer(_, _, _) => answers = answers.saturating_add(1),
             Told::Refused(_, _, reason) => {
-                let is_of_memory = *reason == Fault::Memory.number();
-                refusals = refusals.saturating_add(u64::from(is_of_memory));
+                let is_memory_refusal = *reason == Fault::Memory.number();
+                refusals = refusals.saturating_add(u64::from(is_memory_refusal));
             }
         }
     }
     (answers, refusals)
 }
 
-/// How often memory was refused in the steps and submits of the short run. Where no step was, both calls are answered, but
-/// for one whose submit was refused; else there is a conflict.
+/// Returns how often steps and submits of the short run were refused memory. Where no step was refused, each call is
+/// answered or its submit was refused; otherwise the result is `Conflict`.
 fn refused_events<O: Object>(world: &World<O>) -> Result<u64, Fault> {
     let stops = stops(world.events());
     let (answers, refusals) = answers_and_refusals(world.told());
@@ -78,26 +79,26 @@ fn refused_events<O: Object>(world: &World<O>) -> Result<u64, Fault> {
     }
 }
 
-/// What is asked of a world, and takes memory: its copy, its order, or the committed places of its node.
+/// A call of a world that takes memory: its copy, its order, or the committed places of its node.
 #[derive(Clone, Copy)]
-enum Question {
+enum CallKind {
     Copy,
     Order,
     Committed,
 }
 
-/// The world is asked that.
-fn ask<O: Object>(world: &World<O>, question: Question) -> Result<(), Fault> {
+/// Makes this call.
+fn ask<O: Object>(world: &World<O>, question: CallKind) -> Result<(), Fault> {
     match question {
-        Question::Copy => drop(world.copy()?),
-        Question::Order => drop(world.order()?),
-        Question::Committed => drop(world.committed(world.fixed().proc(1)?)?),
+        CallKind::Copy => drop(world.copy()?),
+        CallKind::Order => drop(world.order()?),
+        CallKind::Committed => drop(world.committed(world.fixed().proc(1)?)?),
     }
     Ok(())
 }
 
-/// How often memory was refused to the answer.
-fn refused_answers<O: Object>(world: &World<O>, question: Question) -> Result<u64, Fault> {
+/// Makes this call, again after a refusal, and returns how often memory was refused.
+fn refused_answers<O: Object>(world: &World<O>, question: CallKind) -> Result<u64, Fault> {
     match ask(world, question) {
         Ok(()) => Ok(0),
         Err(Fault::Memory) => {
@@ -108,8 +109,8 @@ fn refused_answers<O: Object>(world: &World<O>, question: Question) -> Result<u6
     }
 }
 
-/// How often memory was refused to a world that does the short run, is copied, and then tells its order and a committed log, after so
-/// many refusals.
+/// Runs the short run in the world, and then asks for its copy, its order and a committed log. Returns how often memory
+/// was refused, in addition to `before`.
 fn refused_then<O: Object>(
     world: &mut World<O>,
     ample: O::Alloc,
@@ -117,15 +118,15 @@ fn refused_then<O: Object>(
 ) -> Result<u64, Fault> {
     let runs = refused_runs(world, ample)?;
     let events = refused_events(world)?;
-    let copies = refused_answers(world, Question::Copy)?;
-    let orders = refused_answers(world, Question::Order)?;
-    let committed = refused_answers(world, Question::Committed)?;
+    let copies = refused_answers(world, CallKind::Copy)?;
+    let orders = refused_answers(world, CallKind::Order)?;
+    let committed = refused_answers(world, CallKind::Committed)?;
     let done = before.saturating_add(runs).saturating_add(events);
     let answered = copies.saturating_add(orders).saturating_add(committed);
     Ok(done.saturating_add(answered))
 }
 
-/// The same of a world with its opening, which is tried again if it is refused memory.
+/// Makes a world, again after a refusal, and does this with it.
 fn refusals<O: Object>(heap: O::Alloc, ample: O::Alloc) -> Result<u64, Fault> {
     let fixed = Fixed::new(1)?;
     let (made, before) = match World::<O>::new(heap, fixed) {
@@ -138,17 +139,18 @@ fn refusals<O: Object>(heap: O::Alloc, ample: O::Alloc) -> Result<u64, Fault> {
     refused
 }
 
-/// What `refuse_in_turn` asks of a run, which is right where it tells one refusal if a request was refused, else none.
-fn told(heap: &Refusing, refusals: Result<u64, Fault>) -> Result<(), AllocError> {
+/// Adapts the result to `refuse_in_turn`: the run is right where it counts one refusal if a request was refused, else
+/// none.
+fn told(heap: &RefusingHeap, refusals: Result<u64, Fault>) -> Result<(), AllocError> {
     heap.answer(refusals == Ok(u64::from(heap.has_refused())))
 }
 
 #[test]
 fn each_request_is_refused_in_turn(rt: HostRuntime) {
-    let ample = Refusing::new(rt.alloc(), u64::MAX);
+    let ample = RefusingHeap::new(rt.alloc(), u64::MAX);
     let requests = refuse_in_turn(
         rt.alloc(),
-        &|heap: &Refusing| told(heap, refusals::<Counters<&Refusing>>(heap, &ample)),
+        &|heap: &RefusingHeap| told(heap, refusals::<Counters<&RefusingHeap>>(heap, &ample)),
     );
     assert!(rt; requests > Some(30));
 }

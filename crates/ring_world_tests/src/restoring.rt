@@ -1,7 +1,8 @@
-//! A node that was away is restored. Expected values are those of `docs/PROTOCOL.md`.
+//! A node that was cut off is restored. The expected values are those of `docs/PROTOCOL.md`.
+//! Rules: The replicated log 6, 14, 18 and 20; Refusals 6
 
-use crate::grouped::{Grouped, Told};
-use refusing_alloc::Refusing;
+use crate::grouped::{MemberGroup, Told};
+use refusing_alloc::RefusingHeap;
 use ring_base::{Fault, Kind, Proc, ProcSet, State};
 use ring_object::Object;
 use ring_session::{Answer, Ticket};
@@ -9,12 +10,12 @@ use ring_things::{Counters, Outcome, reply_with};
 use std::alloc::Global;
 use std::test::Fail;
 
-/// A node as it is shown: its state, how many places are committed, how many the log has, how many are dropped, and how many calls
-/// took effect; and how many committed places it keeps.
+/// A node's state, its committed length, its log length, its trimmed length, the number of calls that took effect, and the
+/// number of committed places that it keeps.
 type Shown = (State, u64, u64, u64, u64, usize);
 
-/// What is shown of a node.
-fn shown<O: Object>(group: &Grouped<O>, number: u8) -> Option<Shown> {
+/// Returns these values of a node.
+fn shown<O: Object>(group: &MemberGroup<O>, number: u8) -> Option<Shown> {
     let node = group.node(number)?;
     Some((
         node.state(),
@@ -26,20 +27,20 @@ fn shown<O: Object>(group: &Grouped<O>, number: u8) -> Option<Shown> {
     ))
 }
 
-/// The answer to an add that brings a counter to this count.
+/// Returns the answer to an add that raises a counter to this value.
 fn done(count: u64) -> Answer {
     Answer::Done(reply_with(Outcome::Done, count))
 }
 
-/// The answers to the first two tickets of a node.
-fn replies<O: Object>(group: &Grouped<O>, number: u8) -> Option<[Option<Answer>; 2]> {
+/// Returns the answers to the first two tickets of a node.
+fn replies<O: Object>(group: &MemberGroup<O>, number: u8) -> Option<[Option<Answer>; 2]> {
     let node = group.node(number)?;
     Some([node.reply(Ticket::new(0)), node.reply(Ticket::new(1))])
 }
 
-/// Client 7's next calls from this number on, so many, at a node; then so many letters come.
+/// Submits `count` calls of client 7, from number `first` on, at a node, and then delivers at most `letters` frames.
 fn calls<O: Object>(
-    group: &mut Grouped<O>,
+    group: &mut MemberGroup<O>,
     number: u8,
     first: u64,
     count: u64,
@@ -51,22 +52,22 @@ fn calls<O: Object>(
     group.pump(letters)
 }
 
-/// A join timeout comes to each of three nodes.
-fn join<O: Object>(group: &mut Grouped<O>) -> Result<(), Fault> {
+/// Gives each of three nodes a join timeout.
+fn join<O: Object>(group: &mut MemberGroup<O>) -> Result<(), Fault> {
     group.time(1, Kind::Join)?;
     group.time(2, Kind::Join)?;
     group.time(3, Kind::Join)
 }
 
-/// Three nodes form a ring, and 10 calls are done.
-fn formed<O: Object>(group: &mut Grouped<O>) -> Result<(), Fault> {
+/// Forms a ring of three nodes and does 10 calls.
+fn formed<O: Object>(group: &mut MemberGroup<O>) -> Result<(), Fault> {
     join(group)?;
     group.pump(200)?;
     calls(group, 1, 1, 10, 200)
 }
 
-/// Nodes 1 and 2 go on without node 3, and do 290 calls.
-fn parted<O: Object>(group: &mut Grouped<O>) -> Result<(), Fault> {
+/// Cuts node 3 off, and does 290 calls at nodes 1 and 2.
+fn parted<O: Object>(group: &mut MemberGroup<O>) -> Result<(), Fault> {
     group.cut(ProcSet::only(Proc::new(3)));
     group.time(1, Kind::Loss)?;
     group.pump(200)?;
@@ -79,118 +80,91 @@ fn parted<O: Object>(group: &mut Grouped<O>) -> Result<(), Fault> {
     calls(group, 1, 267, 34, 400)
 }
 
-/// All three hear of each other again.
-fn met<O: Object>(group: &mut Grouped<O>) -> Result<(), Fault> {
+/// Lets all three nodes hear each other again.
+fn met<O: Object>(group: &mut MemberGroup<O>) -> Result<(), Fault> {
     group.cut(ProcSet::new());
     group.time(3, Kind::Join)?;
     group.pump(600)?;
     join(group)
 }
 
-/// All three form a ring again.
-fn merged<O: Object>(group: &mut Grouped<O>) -> Result<(), Fault> {
+/// Forms a ring of all three nodes again.
+fn merged<O: Object>(group: &mut MemberGroup<O>) -> Result<(), Fault> {
     met(group)?;
     group.pump(600)
 }
 
-/// What is seen as a node is away and is restored: node 3 before, node 1 without it, and node 3 again; what the steps of nodes 1
-/// and 3 told of their logs; and what node 3 answers to a call then.
-type Seen = (
-    [Option<Shown>; 3],
-    [Option<Told>; 2],
-    Option<[Option<Answer>; 2]>,
+/// The values of node 3 before it is cut off, and of node 1 without it; the log counts of node 1 then; the answers to the two
+/// calls that wait at node 3, while it is cut off and once it is restored; and the values of node 3 then.
+type Waited = (
+    [Option<Shown>; 2],
+    Option<Told>,
+    [Option<[Option<Answer>; 2]>; 2],
+    Option<Shown>,
 );
 
-/// What is seen of node 3 of this group.
-fn seen<O: Object>(group: &mut Grouped<O>) -> Result<Seen, Fault> {
+/// Lets two calls wait at node 3 of this group.
+fn waited<O: Object>(group: &mut MemberGroup<O>) -> Result<Waited, Fault> {
     formed(group)?;
     let before = shown(group, 3);
     parted(group)?;
-    let apart = shown(group, 1);
-    merged(group)?;
-    let (after, told) = (shown(group, 3), [group.told(1), group.told(3)]);
-    calls(group, 3, 301, 1, 200)?;
-    Ok(([before, apart, after], told, replies(group, 3)))
-}
-
-/// What is seen of node 3 of a new group.
-fn seen_anew<O: Object>(alloc: O::Alloc) -> Result<Seen, Fault> {
-    let mut group = Grouped::<O>::new(alloc, alloc, 3)?;
-    let seen = seen(&mut group);
-    drop(group);
-    seen
-}
-
-#[test]
-fn node_that_was_away_is_restored(rt: HostRuntime) -> Result<(), Fail> {
-    let shown = [
-        Some((State::Operational, 10, 10, 0, 10, 10)),
-        Some((State::Operational, 300, 300, 266, 300, 34)),
-        Some((State::Operational, 300, 300, 266, 300, 34)),
-    ];
-    let told = [Some((300, 266, None)), Some((44, 0, Some(266)))];
-    let replies = Some([Some(done(301)), None]);
-    let heap = Refusing::new(rt.alloc(), u64::MAX);
-    assert!(rt; seen_anew::<Counters<&Refusing>>(&heap)? == (shown, told, replies));
-    Ok(())
-}
-
-/// The answers to the two calls that wait at node 3 while it is away, and once it is restored; and node 3 then.
-type Waited = ([Option<[Option<Answer>; 2]>; 2], Option<Shown>);
-
-/// Two calls wait at node 3 of this group.
-fn waited<O: Object>(group: &mut Grouped<O>) -> Result<Waited, Fault> {
-    formed(group)?;
-    parted(group)?;
+    let (apart, told) = (shown(group, 1), group.told(1));
     group.submit(3, 300)?;
     group.submit(3, 266)?;
     let away = replies(group, 3);
     merged(group)?;
-    Ok(([away, replies(group, 3)], shown(group, 3)))
+    let back = replies(group, 3);
+    Ok(([before, apart], told, [away, back], shown(group, 3)))
 }
 
-/// Two calls wait at node 3 of a new group.
+/// Lets two calls wait at node 3 of a new group.
 fn waited_anew<O: Object>(alloc: O::Alloc) -> Result<Waited, Fault> {
-    let mut group = Grouped::<O>::new(alloc, alloc, 3)?;
+    let mut group = MemberGroup::<O>::new(alloc, alloc, 3)?;
     let waited = waited(&mut group);
     drop(group);
     waited
 }
 
-/// Of two calls that wait at a node that is restored, one stands behind the places of the snapshot, and is answered there. The other is one
-/// of those that the snapshot stands for, which answer no ticket: it is sent again, and its number took effect before.
+/// Of two calls that wait at a node that is restored, one is behind the places of the snapshot, and is answered there. The
+/// other is among the places that the snapshot replaces, which answer no ticket. It is sent again, and its number has
+/// taken effect before.
 #[test]
 fn tickets_that_wait_at_a_restore(rt: HostRuntime) -> Result<(), Fail> {
+    let apart = [
+        Some((State::Operational, 10, 10, 0, 10, 10)),
+        Some((State::Operational, 300, 300, 266, 300, 34)),
+    ];
+    let told = Some((300, 266, None));
     let answers = [
         Some([None, None]),
         Some([Some(done(300)), Some(Answer::Refused(5))]),
     ];
-    let shown = Some((State::Operational, 301, 301, 266, 300, 35));
-    let heap = Refusing::new(rt.alloc(), u64::MAX);
-    assert!(rt; waited_anew::<Counters<&Refusing>>(&heap)? == (answers, shown));
+    let back = Some((State::Operational, 301, 301, 266, 300, 35));
+    let heap = RefusingHeap::new(rt.alloc(), u64::MAX);
+    assert!(rt; waited_anew::<Counters<&RefusingHeap>>(&heap)? == (apart, told, answers, back));
     Ok(())
 }
 
-/// How the step went in which node 3 is restored, or is refused memory: the requests for memory before it and with it, its answer, and
-/// whether all is as it should be then.
+/// The step in which node 3 is restored, or is refused memory: the number of requests for memory before it and after it,
+/// its result, and whether everything is then as it should be.
 type Restore = (u64, u64, Result<(), Fault>, bool);
 
-/// How many places node 3 has dropped.
-fn trimmed<O: Object>(group: &Grouped<O>) -> u64 {
+/// Returns the trimmed length of node 3.
+fn trimmed<O: Object>(group: &MemberGroup<O>) -> u64 {
     match group.node(3) {
         Some(node) => node.trimmed(),
         None => 0,
     }
 }
 
-/// Whether node 3 has stopped, and tells its log as it was before it was to be restored.
-fn has_stopped<O: Object>(group: &Grouped<O>) -> bool {
+/// Returns whether node 3 has stopped with the log that it had before it was to be restored.
+fn has_stopped<O: Object>(group: &MemberGroup<O>) -> bool {
     let is_as_before = shown(group, 3) == Some((State::Stopped, 10, 10, 0, 10, 10));
     is_as_before && group.told(3) == Some((10, 0, None))
 }
 
-/// Whether node 3 has stopped for good: it refuses a timeout, and a letter with which another node looks for it.
-fn stays_stopped<O: Object>(group: &mut Grouped<O>) -> Result<bool, Fault> {
+/// Returns whether node 3 has stopped for good: it refuses a timeout, and a frame by which another node looks for it.
+fn stays_stopped<O: Object>(group: &mut MemberGroup<O>) -> Result<bool, Fault> {
     let was_stopped = has_stopped(group);
     let on_timeout = group.time(3, Kind::Join);
     group.time(1, Kind::Loss)?;
@@ -199,16 +173,16 @@ fn stays_stopped<O: Object>(group: &mut Grouped<O>) -> Result<bool, Fault> {
     Ok(was_stopped && refuses && has_stopped(group))
 }
 
-/// Whether node 3 is restored, and in the ring with the others, once their letters came.
-fn is_restored<O: Object>(group: &mut Grouped<O>) -> Result<bool, Fault> {
+/// Returns whether node 3 is restored, and in the ring with the others, after their frames arrived.
+fn is_restored<O: Object>(group: &mut MemberGroup<O>) -> Result<bool, Fault> {
     group.pump(600)?;
     let is_in_ring = shown(group, 3) == Some((State::Operational, 300, 300, 266, 300, 34));
     Ok(is_in_ring && group.told(3) == Some((44, 0, Some(266))))
 }
 
-/// Node 3, whose memory lies in `heap`, is away, and letters come up to the one with which it is restored, or is refused memory: it is in
-/// the ring with the others then, or has stopped for good.
-fn restore<O: Object>(group: &mut Grouped<O>, heap: &Refusing) -> Result<Restore, Fault> {
+/// Cuts node 3 off, whose memory is in `heap`, and delivers frames up to the one that restores it or for which it is
+/// refused memory. Then it is in the ring with the others, or has stopped for good.
+fn restore<O: Object>(group: &mut MemberGroup<O>, heap: &RefusingHeap) -> Result<Restore, Fault> {
     formed(group)?;
     parted(group)?;
     met(group)?;
@@ -228,27 +202,27 @@ fn restore<O: Object>(group: &mut Grouped<O>, heap: &Refusing) -> Result<Restore
     Ok((0, 0, Ok(()), false))
 }
 
-/// The same in a new group.
+/// Does this in a new group.
 fn restore_anew<O: Object>(
     ample: O::Alloc,
     last: O::Alloc,
-    heap: &Refusing,
+    heap: &RefusingHeap,
 ) -> Result<Restore, Fault> {
-    let mut group = Grouped::<O>::new(ample, last, 3)?;
+    let mut group = MemberGroup::<O>::new(ample, last, 3)?;
     let restored = restore(&mut group, heap);
     drop(group);
     restored
 }
 
-/// The same where so many requests for memory are passed before.
-fn restore_after(ample: &Refusing, alloc: Global, passed: u64) -> Result<Restore, Fault> {
-    let heap = Refusing::new(alloc, passed);
-    restore_anew::<Counters<&Refusing>>(ample, &heap, &heap)
+/// Does this in a new group whose node 3 is refused memory after `passed` requests.
+fn restore_after(ample: &RefusingHeap, alloc: Global, passed: u64) -> Result<Restore, Fault> {
+    let heap = RefusingHeap::new(alloc, passed);
+    restore_anew::<Counters<&RefusingHeap>>(ample, &heap, &heap)
 }
 
 #[test]
 fn restore_that_is_refused_memory_stops_the_node(rt: HostRuntime) -> Result<(), Fail> {
-    let ample = Refusing::new(rt.alloc(), u64::MAX);
+    let ample = RefusingHeap::new(rt.alloc(), u64::MAX);
     let (before, after, answer, is_right) = restore_after(&ample, rt.alloc(), u64::MAX)?;
     let count = after.saturating_sub(before);
     assert!(rt; answer == Ok(()) && is_right && 0 < count && count < 1_000);

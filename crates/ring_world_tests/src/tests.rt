@@ -1,14 +1,17 @@
-//! Worked runs. Expected values are those of `docs/FORMATS.md` (*Worked examples*: opening, first reply, agreed only, settle)
-//! and `docs/PROTOCOL.md`.
+//! Worked runs, by the state of node 1 and the lengths of what the world keeps. The expected values are those of `docs/FORMATS.md`
+//! (*Worked examples*: agreed only, first reply) and of `docs/PROTOCOL.md`. The data of `totem_examples` shows what such worlds print.
+//! Formats: Worked examples
 
-use crate::driven::played;
-use crate::events::Line;
-use refusing_alloc::Refusing;
+use crate::events::{Line, run_lines};
+use refusing_alloc::RefusingHeap;
+use ring_base::{Fault, Fixed, State};
+use ring_object::Object;
 use ring_things::Counters;
+use ring_world::World;
 use std::test::Fail;
 
-/// One node alone forms its ring, and answers a call as its token comes the second time after the call went out.
-const ALONE: [Line; 10] = [
+/// One node alone forms its ring, and a call is sent when its token arrives.
+const SENT: [Line; 7] = [
     Line::Join(1),
     Line::Hand(1, 1),
     Line::Hand(1, 2),
@@ -16,59 +19,38 @@ const ALONE: [Line; 10] = [
     Line::Hand(1, 4),
     Line::Issue(1, 1),
     Line::Hand(1, 5),
-    Line::Show,
-    Line::Hand(1, 6),
-    Line::Show,
 ];
 
-const ALONE_SHOWN: &str = "\
-node 1 operational 1.1 committed 0 log 1
-events 7 history 1 order 0
-node 1 operational 1.1 committed 1 log 1
-answer 1 7.1 done 000000000000000005
-events 8 history 2 order 1 7.1
-";
-
-/// Three nodes settle and answer a call; it is issued once more at another node, and the next call at a third.
-const SETTLED: [Line; 13] = [
-    Line::Show,
+/// The same, and the token arrives again, which answers the call.
+const ANSWERED: [Line; 8] = [
     Line::Join(1),
-    Line::Join(2),
-    Line::Join(3),
-    Line::Pump(100),
-    Line::Issue(2, 1),
-    Line::Pump(100),
-    Line::Show,
+    Line::Hand(1, 1),
+    Line::Hand(1, 2),
+    Line::Hand(1, 3),
+    Line::Hand(1, 4),
     Line::Issue(1, 1),
-    Line::Pump(60),
-    Line::Issue(3, 2),
-    Line::Pump(60),
-    Line::Show,
+    Line::Hand(1, 5),
+    Line::Hand(1, 6),
 ];
 
-/// The first call is answered as before, out of the session, and stands in the order once.
-const SETTLED_SHOWN: &str = "\
-node 1 gather 0.1 committed 0 log 0
-node 2 gather 0.2 committed 0 log 0
-node 3 gather 0.3 committed 0 log 0
-events 0 history 0 order 0
-node 1 operational 1.1 committed 1 log 1
-node 2 operational 1.1 committed 1 log 1
-node 3 operational 1.1 committed 1 log 1
-answer 2 7.1 done 000000000000000005
-events 204 history 2 order 1 7.1
-node 1 operational 1.1 committed 3 log 3
-node 2 operational 1.1 committed 3 log 3
-node 3 operational 1.1 committed 3 log 3
-answer 2 7.1 done 000000000000000005
-answer 1 7.1 kept 000000000000000005
-answer 3 7.2 done 00000000000000000a
-events 326 history 6 order 2 7.1 7.2
-";
+/// The call is submitted again once it is answered. It is in the log and in the history again, and in the order once.
+const RETRIED: [Line; 11] = [
+    Line::Join(1),
+    Line::Hand(1, 1),
+    Line::Hand(1, 2),
+    Line::Hand(1, 3),
+    Line::Hand(1, 4),
+    Line::Issue(1, 1),
+    Line::Hand(1, 5),
+    Line::Hand(1, 6),
+    Line::Issue(1, 1),
+    Line::Hand(1, 7),
+    Line::Hand(1, 8),
+];
 
-/// An unknown node, frames that were not sent, one that was not sent to the node, and noise change nothing. Frame 1 is
-/// the join of node 1, which goes to the two others.
-const STRANGE: [Line; 16] = [
+/// The first of three nodes sends its join, frame 1, which goes to the two others. All later events change nothing: of an unknown
+/// node, of frames that were not sent, of a frame that was not sent to the node, and of noise.
+const STRANGE: [Line; 9] = [
     Line::Join(1),
     Line::Hand(16, 1),
     Line::Join(16),
@@ -78,55 +60,58 @@ const STRANGE: [Line; 16] = [
     Line::Hand(1, 255),
     Line::Hand(1, 1),
     Line::Noise(1),
-    Line::Show,
-    Line::Join(2),
-    Line::Join(3),
-    Line::Pump(100),
-    Line::Issue(2, 1),
-    Line::Pump(100),
-    Line::Show,
 ];
 
-const STRANGE_SHOWN: &str = "\
-node 1 gather 0.1 committed 0 log 0
-node 2 gather 0.2 committed 0 log 0
-node 3 gather 0.3 committed 0 log 0
-events 9 history 0 order 0
-node 1 operational 1.1 committed 1 log 1
-node 2 operational 1.1 committed 1 log 1
-node 3 operational 1.1 committed 1 log 1
-answer 2 7.1 done 000000000000000005
-events 212 history 2 order 1 7.1
-";
+/// A stopped node takes no call, and a timeout doesn't change it. A refused call is in no history.
+const STOPPED: [Line; 3] = [Line::Stop(1), Line::Issue(1, 1), Line::Join(1)];
 
-/// 64 tickets may wait for their answers. A stopped node takes no call, and nothing else changes it.
-const REFUSED: [Line; 5] = [
-    Line::Issues(1, 65),
-    Line::Stop(1),
-    Line::Issue(1, 66),
-    Line::Join(1),
-    Line::Show,
-];
+/// The state of node 1 and the length of its log; and the numbers of the world's events, of its reports to clients, of the items of
+/// its history, and of the calls of its order.
+type Seen = (State, u64, usize, usize, usize, u64);
 
-const REFUSED_SHOWN: &str = "\
-node 1 stopped 0.1 committed 0 log 0
-refused 1 7.65 2
-refused 1 7.66 8
-events 68 history 64 order 0
-";
+/// Returns these values of the world.
+fn seen<O: Object>(world: &World<O>) -> Result<Seen, Fault> {
+    let number = world.fixed().proc(1)?;
+    let node = world.node(number);
+    Ok((
+        node.state(),
+        node.log_len(),
+        world.events().len(),
+        world.told().len(),
+        world.history().len(),
+        world.order_len(),
+    ))
+}
+
+/// Returns these values after the lines.
+fn seen_after<O: Object>(
+    world: &mut World<O>,
+    alloc: O::Alloc,
+    lines: &[Line],
+) -> Result<Seen, Fault> {
+    run_lines(world, alloc, lines)?;
+    seen(world)
+}
+
+/// Returns these values for a new world of `count` nodes.
+fn seen_anew<O: Object>(alloc: O::Alloc, count: u8, lines: &[Line]) -> Result<Seen, Fault> {
+    let mut world = World::<O>::new(alloc, Fixed::new(count)?)?;
+    let seen = seen_after(&mut world, alloc, lines);
+    drop(world);
+    seen
+}
 
 #[test]
-fn worlds_show_what_is_worked_out(rt: HostRuntime) -> Result<(), Fail> {
-    let heap = Refusing::new(rt.alloc(), u64::MAX);
-    // how many nodes a run has, its lines, and what they show
+fn worlds_keep_what_is_worked_out(rt: HostRuntime) -> Result<(), Fail> {
+    let heap = RefusingHeap::new(rt.alloc(), u64::MAX);
     for (count, lines, want) in &[
-        (1, &ALONE[..], ALONE_SHOWN),
-        (3, &SETTLED[..], SETTLED_SHOWN),
-        (3, &STRANGE[..], STRANGE_SHOWN),
-        (1, &REFUSED[..], REFUSED_SHOWN),
+        (1, &SENT[..], (State::Operational, 1, 7, 0, 1, 0)),
+        (1, &ANSWERED[..], (State::Operational, 1, 8, 1, 2, 1)),
+        (1, &RETRIED[..], (State::Operational, 2, 11, 2, 4, 1)),
+        (3, &STRANGE[..], (State::Gather, 0, 9, 0, 0, 0)),
+        (1, &STOPPED[..], (State::Stopped, 0, 3, 1, 0, 0)),
     ] {
-        let shown = played::<Counters<&Refusing>>(&heap, *count, *lines)?;
-        assert!(rt; shown.as_str() == *want);
+        assert!(rt; seen_anew::<Counters<&RefusingHeap>>(&heap, *count, *lines)? == *want);
     }
     Ok(())
 }

@@ -1,4 +1,6 @@
-//! The program `totem`: it reads its command line, and has `totem_command` do what that asks for.
+//! The program `totem`: passes its command line and standard streams to `totem_command`.
+//!
+//! Formats: The command line
 #![tactic(auto)]
 
 use std::io::{Input, IsTerminal};

@@ -1,20 +1,20 @@
--- What a handle owns: nothing while it is empty, and else a desk and the right to free its block.
+-- The ownership of a handle: an empty one owns nothing, any other its node and the right to free the node's block.
 use Rattle.std.specs.Prelude.{Bool, true, false, Option, None, Some}
 use base.Fml.{Fml, ftrue, ffalse, fex}
 use denote.RawPtr.{Ptr}
 use Rattle.std.specs.Box.Ownership.{box_owns}
 use Rattle.std.specs.declared.alloc.Global.{Global}
 use Rattle.std.specs.contracts.impls.GlobalAllocator.TheImpl.{ghosts}
-use Rattle.totem_c.specs.declared.desk.Desk.{Desk}
-use Rattle.totem_c.specs.contracts.desk.Desk as desk
+use Rattle.totem_c.specs.declared.contents.HandleContents.{HandleContents}
+use Rattle.totem_c.specs.contracts.contents.HandleContents as contents
 
--- a desk at this address, which the heap's allocator has room for
-abbrev pub lies_boxed : Ptr → Desk → Global → Fml
-lies_boxed p x heap = box_owns (ghosts.dealloc_token heap) desk.the_row p x
+-- A node is boxed at this address, in a block of the heap's allocator.
+abbrev pub is_boxed_at : Ptr → HandleContents → Global → Fml
+is_boxed_at p x heap = box_owns (ghosts.dealloc_token heap) contents.the_row p x
 
--- of a handle, by whether it is made, its address and what is in it: one that is made has a desk and owns it, an empty one owns nothing
-abbrev pub held_owns : Bool → Ptr → Option Desk → Fml
-held_owns true p (Some x) = fex Global (lies_boxed p x)
-held_owns true p None = ffalse
-held_owns false p (Some x) = ffalse
-held_owns false p None = ftrue
+-- The ownership of a handle with this mark, address and contents: a marked one owns its boxed node, an empty one owns nothing.
+abbrev pub handle_owns : Bool → Ptr → Option HandleContents → Fml
+handle_owns true p (Some x) = fex Global (is_boxed_at p x)
+handle_owns true p None = ffalse
+handle_owns false p (Some x) = ffalse
+handle_owns false p None = ftrue

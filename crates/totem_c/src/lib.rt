@@ -1,50 +1,102 @@
-//! One node of the program's objects, for C. `include/totem.h` declares what stands here, and says what a C program owes.
+//! One node of the program's objects as a static library for C. `include/totem.h` declares these functions and says what a C
+//! program must keep to.
+//!
+//! Rules: Nodes that records drive 1 to 4, 6 and 7
+//! Formats: A library for C
 #![tactic(auto)]
 
-mod desk;
-mod held;
-mod loose;
+mod c_handle;
+mod contents;
+mod raw_box;
 mod status;
 mod work;
 
 ghost use Rattle.std.specs.Prelude.{◌≡◌, None};
-ghost use Rattle.totem_c.specs.Calls.{Opens, Takes, Reads};
+ghost use Rattle.ring_timers.specs.Periods.{default_periods};
+ghost use Rattle.totem_c.specs.Calls.{Opens, OpensTimed, Takes, Reads};
 ghost use Rattle.totem_c.specs.Status.{status_number};
 ghost use Rattle.totem_c.specs.declared.status.Status.{Status as Told};
 
-use held::Held;
+use c_handle::Handle;
 use ring_object::Object;
-use ring_things::Things;
+use ring_record_node::Periods;
+use ring_things::StandardObjects;
+use status::Status;
 use std::alloc::Global;
 
-/// Makes processor `me` of a group with these votes, at its opening, and puts it behind a handle that is empty. Answers a status.
+/// Opens processor `me`, counted from 1, of a group with these votes, 1 to 255 each, behind an empty handle. Returns a status: 0
+/// if the node was opened.
+///
+/// Errors, as numbers: 255 where the handle isn't empty; 1 unless there are 1 to 16 votes of 1 to 255 and `me` is 1 to their
+/// number; 11 for want of memory. The handle is then as before.
+///
+/// Rules: Nodes that records drive 1
+/// Formats: A library for C
 #[unsafe(no_mangle)]
-pub extern "C" fn totem_c_open(alloc: Global, handle: &mut Held, me: u32, votes: &[u8]) -> u8
-    ensures { (status : Told) × (result ≡ status_number status) × Opens handle.old.value me votes.now status handle.new.value }
+pub extern "C" fn totem_c_open(alloc: Global, handle: &mut Handle, me: u32, votes: &[u8]) -> u8
+    ensures { (status : Told) × (result ≡ status_number status) × Opens handle.old.value me votes.now default_periods status handle.new.value }
 {
-    work::open(alloc, handle, me, votes).number()
+    work::open(alloc, handle, me, votes, Periods::default()).number()
 }
 
-/// Hands the node behind the handle the record of this kind and these bytes. What it tells of it waits to be read. Answers a status.
+/// Opens processor `me` of a group with these votes, as `totem_c_open` does, with these periods of its timeouts, in milliseconds.
+///
+/// Errors, as numbers: 255 where a period is 0, and nothing is done; otherwise as `totem_c_open`.
+///
+/// Rules: Nodes that records drive 1 and 7; A node with a clock 3
+/// Formats: A library for C
 #[unsafe(no_mangle)]
-pub extern "C" fn totem_c_take(alloc: Global, handle: &mut Held, kind: u8, bytes: &[u8]) -> u8
-    ensures { let object = ⟦<Things<Global> as Object>⟧ in
+pub extern "C" fn totem_c_open_timed(
+    alloc: Global,
+    handle: &mut Handle,
+    me: u32,
+    votes: &[u8],
+    join: u32,
+    retransmit: u32,
+    consensus: u32,
+    loss: u32,
+) -> u8
+    ensures { (status : Told) × (result ≡ status_number status)
+        × OpensTimed handle.old.value me votes.now join retransmit consensus loss status handle.new.value }
+{
+    match Periods::new(join, retransmit, consensus, loss) {
+        Some(periods) => work::open(alloc, handle, me, votes, periods).number(),
+        None => Status::Misused.number(),
+    }
+}
+
+/// Carries out the request of the record of this kind and these bytes at the handle's node. The records that the node puts out
+/// wait to be read. Returns a status: 0 if that is done.
+///
+/// Errors, as numbers, in this order: 255 for an empty handle; 8 where the node is gone; 12 where the record asks for nothing; 11
+/// for want of memory. After 11 the node is gone, with everything unread; close the handle. After the others nothing was done.
+///
+/// Rules: Nodes that records drive 1 to 4
+/// Formats: A library for C; Records
+#[unsafe(no_mangle)]
+pub extern "C" fn totem_c_take(alloc: Global, handle: &mut Handle, kind: u8, bytes: &[u8]) -> u8
+    ensures { let object = ⟦<StandardObjects<Global> as Object>⟧ in
         (status : Told) × (result ≡ status_number status) × Takes object.sequential handle.old.value kind bytes.now status handle.new.value }
 {
     work::take(alloc, handle, kind, bytes).number()
 }
 
-/// Moves the first bytes that the node behind the handle told and that are unread to the front of `into`, and answers how many.
+/// Moves the first unread bytes of the handle's node to the front of `into` and returns their number. Returns 0 only where no
+/// byte is unread, `into` is empty or the handle is empty. Bytes may be left where the result is less than the room in `into`.
+///
+/// Formats: A library for C
 #[unsafe(no_mangle)]
-pub extern "C" fn totem_c_read(alloc: Global, handle: &mut Held, into: &mut [u8]) -> usize
+pub extern "C" fn totem_c_read(alloc: Global, handle: &mut Handle, into: &mut [u8]) -> usize
     ensures { Reads handle.old.value into.old into.new result handle.new.value }
 {
     work::read(alloc, handle, into)
 }
 
-/// Frees the node behind the handle, if there is one, and leaves the handle empty.
+/// Frees the handle's node, with its unread bytes, and leaves the handle empty. An empty handle stays empty.
+///
+/// Formats: A library for C
 #[unsafe(no_mangle)]
-pub extern "C" fn totem_c_close(alloc: Global, handle: &mut Held)
+pub extern "C" fn totem_c_close(alloc: Global, handle: &mut Handle)
     ensures { handle.new.value ≡ None }
 {
     work::close(alloc, handle);

@@ -1,23 +1,30 @@
-//! What a call answers.
+//! The status that a call returns to C.
+//!
+//! Formats: A library for C
 
 ghost use Rattle.std.specs.Prelude.{◌≡◌};
 ghost use Rattle.totem_c.specs.Status.{status_number};
 
 use ring_base::Fault;
 
-/// What became of a call.
+/// The outcome of a call of a C program.
+///
+/// Formats: A library for C
 #[derive(Clone, Copy, Debug, PartialEq, Eq)]
 pub enum Status {
-    /// It was done.
+    /// The call was done. A refusal by the node itself is in the node's output.
     Done,
-    /// It was refused.
+    /// The call was refused with this fault.
     Refused(Fault),
     /// The handle has a node where none may be, or none where there must be one. Nothing was done.
     Misused,
 }
 
 impl Status {
-    /// As C is told it: 0, a refusal's number, or 255.
+    /// Returns the number for C: 0 for `Done`, the number of a refusal, 1 to 15, or 255 for `Misused`.
+    ///
+    /// Rules: Refusals 1
+    /// Formats: A library for C
     pub(crate) fn number(self) -> u8
         ensures { result ≡ status_number self }
     {

@@ -1,40 +1,57 @@
-//! What is done with the node behind a handle.
+//! The work of each C function on the node behind a handle.
+//!
+//! Formats: A library for C
 
 ghost use Rattle.std.specs.Prelude.{◌≡◌, None, IfOk, IfErr};
-ghost use Rattle.ring_pipe.specs.Piping.{IsUnmade};
+ghost use Rattle.ring_record_node.specs.RecordNodes.{IsOpeningRefused};
 ghost use Rattle.totem_c.specs.Calls.{IsOneOf, IsOpened, Opens, Takes, Reads};
 
-use crate::desk::Desk;
-use crate::held::Held;
-use crate::loose::Loose;
+use crate::c_handle::Handle;
+use crate::contents::HandleContents;
+use crate::raw_box::RawBox;
 use crate::status::Status;
 use ring_base::Fault;
 use ring_object::Object;
-use ring_things::Things;
+use ring_record_node::Periods;
+use ring_things::StandardObjects;
 use std::alloc::Global;
 use std::mem::replace;
 
-/// The node on the heap.
-fn boxed(alloc: Global, me: u32, votes: &[u8]) -> Result<Box<Desk, Global>, Fault>
-    ensures ok { IfOk result (λ desk. IsOpened me votes.now desk.value) }
-    ensures refused { IfErr result (IsUnmade (IsOneOf me votes.now)) }
+/// Makes the node and puts it on the heap. Refuses as [`HandleContents::new`] does, then with `Memory`.
+fn new_box(
+    alloc: Global,
+    me: u32,
+    votes: &[u8],
+    periods: Periods,
+) -> Result<Box<HandleContents, Global>, Fault>
+    ensures ok { IfOk result (λ contents. IsOpened me votes.now periods contents.value) }
+    ensures refused { IfErr result (IsOpeningRefused (IsOneOf me votes.now)) }
 {
-    let desk = Desk::new(alloc, me, votes)?;
-    Ok(Box::new(alloc, desk)?)
+    let contents = HandleContents::new(alloc, me, votes, periods)?;
+    Ok(Box::new(alloc, contents)?)
 }
 
-/// Puts a node behind an empty handle.
-pub(crate) fn open(alloc: Global, handle: &mut Held, me: u32, votes: &[u8]) -> Status
-    ensures { Opens handle.old.value me votes.now result handle.new.value }
+/// Opens a node behind an empty handle, as `totem_c_open` does. Returns `Misused` where the handle isn't empty, else `Refused` as
+/// [`HandleContents::new`] refuses, or with `Memory`. The handle is then as before.
+///
+/// Formats: A library for C
+pub(crate) fn open(
+    alloc: Global,
+    handle: &mut Handle,
+    me: u32,
+    votes: &[u8],
+    periods: Periods,
+) -> Status
+    ensures { Opens handle.old.value me votes.now periods result handle.new.value }
 {
-    match replace(handle, Held::none()).into_loose(alloc) {
-        Some(loose) => {
-            *handle = Held::of(loose);
+    match replace(handle, Handle::none()).into_raw_box(alloc) {
+        Some(raw_box) => {
+            *handle = Handle::of(raw_box);
             Status::Misused
         }
-        None => match boxed(alloc, me, votes) {
-            Ok(desk) => {
-                *handle = Held::of(Loose::of(desk));
+        None => match new_box(alloc, me, votes, periods) {
+            Ok(contents) => {
+                *handle = Handle::of(RawBox::of(contents));
                 Status::Done
             }
             Err(fault) => Status::Refused(fault),
@@ -42,15 +59,19 @@ pub(crate) fn open(alloc: Global, handle: &mut Held, me: u32, votes: &[u8]) -> S
     }
 }
 
-/// Hands the node a record.
-pub(crate) fn take(alloc: Global, handle: &mut Held, kind: u8, bytes: &[u8]) -> Status
-    ensures { let object = ⟦<Things<Global> as Object>⟧ in Takes object.sequential handle.old.value kind bytes.now result handle.new.value }
+/// Takes the record at the handle's node, as `totem_c_take` does. Returns `Misused` for an empty handle, else `Refused` with
+/// `Stopped`, `BadFrame` or `Memory`, in this order.
+///
+/// Rules: Nodes that records drive 1 to 4
+/// Formats: A library for C; Records
+pub(crate) fn take(alloc: Global, handle: &mut Handle, kind: u8, bytes: &[u8]) -> Status
+    ensures { let object = ⟦<StandardObjects<Global> as Object>⟧ in Takes object.sequential handle.old.value kind bytes.now result handle.new.value }
 {
-    match replace(handle, Held::none()).into_loose(alloc) {
-        Some(loose) => {
-            let mut desk = loose.into_box();
-            let taken = desk.node.take(kind, bytes);
-            *handle = Held::of(Loose::of(desk));
+    match replace(handle, Handle::none()).into_raw_box(alloc) {
+        Some(raw_box) => {
+            let mut contents = raw_box.into_box();
+            let taken = contents.node.take(kind, bytes);
+            *handle = Handle::of(RawBox::of(contents));
             match taken {
                 Ok(()) => Status::Done,
                 Err(fault) => Status::Refused(fault),
@@ -60,26 +81,30 @@ pub(crate) fn take(alloc: Global, handle: &mut Held, kind: u8, bytes: &[u8]) -> 
     }
 }
 
-/// Moves bytes that the node told.
-pub(crate) fn read(alloc: Global, handle: &mut Held, into: &mut [u8]) -> usize
+/// Moves the first unread bytes of the handle's node to the front of `into`, and returns their number; 0 for an empty handle.
+///
+/// Formats: A library for C
+pub(crate) fn read(alloc: Global, handle: &mut Handle, into: &mut [u8]) -> usize
     ensures { Reads handle.old.value into.old into.new result handle.new.value }
 {
-    match replace(handle, Held::none()).into_loose(alloc) {
-        Some(loose) => {
-            let mut desk = loose.into_box();
-            let count = desk.node.read(into);
-            *handle = Held::of(Loose::of(desk));
+    match replace(handle, Handle::none()).into_raw_box(alloc) {
+        Some(raw_box) => {
+            let mut contents = raw_box.into_box();
+            let count = contents.node.read(into);
+            *handle = Handle::of(RawBox::of(contents));
             count
         }
         None => 0,
     }
 }
 
-/// Frees the node.
-pub(crate) fn close(alloc: Global, handle: &mut Held)
+/// Frees the handle's node, if there is one, with its unread bytes. The handle is then empty.
+///
+/// Formats: A library for C
+pub(crate) fn close(alloc: Global, handle: &mut Handle)
     ensures { handle.new.value ≡ None }
 {
-    if let Some(loose) = replace(handle, Held::none()).into_loose(alloc) {
-        drop(loose.into_box());
+    if let Some(raw_box) = replace(handle, Handle::none()).into_raw_box(alloc) {
+        drop(raw_box.into_box());
     }
 }

@@ -1,147 +1,178 @@
-//! The command line.
+//! Parses the command line.
+//!
+//! Formats: The command line
 
 use crate::forms::command_of;
+use crate::periods::periods_of;
 use crate::seeds::seeds_of;
-use crate::traces::{Traced, traced_in};
+use crate::traces::{TraceArguments, trace_arguments_in};
+use crate::usage_errors::{usage_error, with_usage};
 use crate::votes::{VoteList, votes_of};
 use clap::error::ErrorKind;
 use clap::{ArgMatches, Command, Error};
+use ring_record_node::Periods;
 use std::alloc::{AllocError, Global};
 use std::io;
 
-/// What the command line asks for.
+/// The work that a parsed command line asks for.
+/// Formats: The command line
 #[derive(Drop)]
 pub(crate) enum CommandTask<'a> {
-    /// To list the frames of a file.
+    /// List the frames of a file, and explain a bad one if asked.
     Frames {
         file: &'a str,
+        is_explained: bool,
     },
-    /// To run the script in a file.
-    Script(AskedScript<'a>),
-    /// To run nodes and clients in threads, so many calls a client.
+    /// Run the script in a file, once or in a sweep.
+    Script(ScriptArguments<'a>),
+    /// Run nodes, 1 to 16, and as many clients on threads, with `calls` calls, 1 to 100, of each client.
     Live {
         nodes: u8,
         calls: u8,
     },
-    /// To run the script in a file, and to tell what its events did.
-    Trace(Traced<'a>),
-    /// To make the script of a seed, of nodes with these votes, and of so many lines.
+    /// Run the script in a file and print the effects of its events.
+    Trace(TraceArguments<'a>),
+    /// Make the script of a seed and print it, for nodes with these votes, with `events` lines, 1 to 10,000.
     Generate {
         votes: VoteList,
         seed: u64,
         events: u32,
     },
-    /// To make, run and check the scripts of many seeds.
-    Explore(Explored),
-    /// To run this node of a group with these votes, as records drive it.
+    /// Make, run and check the scripts of many seeds.
+    Explore(ExploreArguments),
+    /// Run node `me`, 1 to 16, of a group with these votes, driven by records. The group may have no such node. The periods are
+    /// those of its timeouts.
     Node {
         me: u8,
         votes: VoteList,
+        periods: Periods,
     },
 }
 
-/// What is asked for of a script: its file, in which way it is run, and whether a fault in it is explained.
+/// The arguments of `script` and of `sweep`.
+/// Formats: The command line
 #[derive(Clone, Copy)]
-pub(crate) struct AskedScript<'a> {
+pub(crate) struct ScriptArguments<'a> {
+    /// The name of the script's file, or `-` for the input.
     pub(crate) file: &'a str,
-    pub(crate) way: Way,
+    /// The mode in which the script is run.
+    pub(crate) mode: RunMode,
+    /// Whether a fault in the script is explained, in a line below the fault's.
     pub(crate) is_explained: bool,
 }
 
-/// In which way a script is run.
+/// The mode in which a script is run.
+/// Formats: The command line
 #[derive(Clone, Copy, Debug, PartialEq, Eq)]
-pub(crate) enum Way {
-    /// Once.
+pub(crate) enum RunMode {
+    /// The script is run once.
     Plain,
-    /// Once, and it is told whether the run is legal.
+    /// The script is run once, and whether the run is legal is printed.
     Checked,
-    /// With a stop and a cut of each node before each event, by so many threads, where that is said.
-    Swept(Option<u16>),
-    /// Not at all: that variant of a sweep is printed which has this place among them, counted from 1.
+    /// The script is run with a stop and a cut of each node before each event. The number is that of the threads, 1 to 256,
+    /// where it is given.
+    Sweep(Option<u16>),
+    /// The script isn't run. The script of the sweep's variant with this number, counted from 1, is printed.
     Variant(u64),
 }
 
-/// What `explore` is asked for: the votes of the nodes, the first seed and the last, how many lines each script has, and how many
-/// threads work, where that is said.
+/// The arguments of `explore`.
+/// Formats: The command line
 #[derive(Drop)]
-pub(crate) struct Explored {
+pub(crate) struct ExploreArguments {
+    /// The votes of the nodes, one for each node.
     pub votes: VoteList,
+    /// The first seed.
     pub first: u64,
+    /// The last seed, which is included and isn't below the first.
     pub last: u64,
+    /// The number of lines of each script, 1 to 10,000.
     pub events: u32,
+    /// The number of threads, 1 to 256, where one is given.
     pub threads: Option<u16>,
 }
 
-/// What is said where there is no command.
+/// The message for a missing command.
 const NO_COMMAND: &str = "no command was given";
 
-/// What is said of votes that can't be.
+/// The message for bad votes.
 const BAD_VOTES: &str =
-    "--votes takes as many numbers from 1 to 255 as there are nodes, parted by commas";
+    "--votes takes as many numbers from 1 to 255 as there are nodes, separated by commas";
 
-/// What is said of seeds that can't be.
+/// The message for bad periods.
+const BAD_PERIODS: &str =
+    "--periods takes four numbers from 1 to 4294967295, separated by commas: join, retransmit, consensus, loss";
+
+/// The message for bad seeds.
 const BAD_SEEDS: &str = "--seeds takes A..B, two numbers of which A is not the greater";
 
-/// What the words ask for, the program's own name being the first. Otherwise what the parser says of them;
-/// it speaks up too where it was asked for help.
+/// Parses the words of a command line, the first of which is the program's own name.
+/// Errors: the parser's message, also where the words couldn't be read, and where they ask for help or for the version. It
+/// has the kind `OutOfMemory` where memory is refused.
+/// Formats: The command line
 pub(crate) fn task_of<'a>(
     alloc: Global,
     words: &'a io::Result<Vec<String>>,
 ) -> Result<CommandTask<'a>, Error> {
     match command_of(alloc) {
-        Ok(mut command) => task_for(&mut command, words),
+        Ok(mut command) => task_for(alloc, &mut command, words),
         Err(error) => Err(Error::from(error)),
     }
 }
 
-/// What the words ask for, by this command's parser.
+/// Parses the words with this command's parser.
 fn task_for<'a>(
+    alloc: Global,
     command: &mut Command<'a>,
     words: &'a io::Result<Vec<String>>,
 ) -> Result<CommandTask<'a>, Error> {
     match words {
-        Ok(words) => task_among(command, words.as_slice()),
-        Err(error) => Err(unread(command, error)),
+        Ok(words) => task_among(alloc, command, words.as_slice()),
+        Err(error) => Err(unreadable(command, error)),
     }
 }
 
-/// The same of words that could be read.
+/// Parses words that could be read.
 fn task_among<'a>(
+    alloc: Global,
     command: &mut Command<'a>,
     words: &'a [String],
 ) -> Result<CommandTask<'a>, Error> {
-    let matches = command.try_get_matches_from_mut(words)?;
-    match task_by(&matches) {
+    let matches = match command.try_get_matches_from_mut(words) {
+        Ok(matches) => matches,
+        Err(error) => return Err(with_usage(alloc, words, error)),
+    };
+    match task_of_matches(&matches) {
         Ok(task) => Ok(task),
-        Err(wrong) => Err(told(command, wrong)),
+        Err(wrong) => Err(usage_error(alloc, words, wrong)),
     }
 }
 
-/// What is said of words that couldn't be read.
-fn unread(command: &mut Command<'_>, error: &io::Error) -> Error {
+/// Returns the message for words that couldn't be read.
+fn unreadable(command: &mut Command<'_>, error: &io::Error) -> Error {
     if error.kind() == io::ErrorKind::OutOfMemory {
         return Error::from(AllocError);
     }
-    told(command, "an argument is not UTF-8")
+    parser_error(command, "an argument is not UTF-8")
 }
 
-/// What the parser says of words with which this is wrong.
-fn told(command: &mut Command<'_>, wrong: &str) -> Error {
+/// Returns the parser's message for words with this fault.
+fn parser_error(command: &mut Command<'_>, wrong: &str) -> Error {
     match command.error(ErrorKind::InvalidValue, wrong) {
         Ok(error) => error,
         Err(error) => Error::from(error),
     }
 }
 
-/// What the words ask for, or what is wrong with them.
-fn task_by<'a>(matches: &ArgMatches<'a>) -> Result<CommandTask<'a>, &'static str> {
+/// Returns the task of the parsed words, or the message for what is wrong with them.
+fn task_of_matches<'a>(matches: &ArgMatches<'a>) -> Result<CommandTask<'a>, &'static str> {
     match matches.subcommand() {
         Some((name, of)) => task_in(name, of),
         None => Err(NO_COMMAND),
     }
 }
 
-/// What the words of this command ask for, or what is wrong with them.
+/// Returns the task of this command's words, or the message for what is wrong with them.
 fn task_in<'a>(name: &str, of: &ArgMatches<'a>) -> Result<CommandTask<'a>, &'static str> {
     match name {
         "gen" => generate_in(of),
@@ -152,44 +183,47 @@ fn task_in<'a>(name: &str, of: &ArgMatches<'a>) -> Result<CommandTask<'a>, &'sta
     }
 }
 
-/// The task of a command that reads a file.
+/// Returns the task of a command that reads a file.
 fn file_in<'a>(name: &str, of: &ArgMatches<'a>) -> Option<CommandTask<'a>> {
     let file = of.get_str("FILE")?;
     match name {
-        "frames" => Some(CommandTask::Frames { file }),
-        "script" if of.get_flag("check") => Some(script_in(file, Way::Checked, of)),
-        "script" => Some(script_in(file, Way::Plain, of)),
+        "frames" => Some(CommandTask::Frames {
+            file,
+            is_explained: of.get_flag("explain"),
+        }),
+        "script" if of.get_flag("check") => Some(script_in(file, RunMode::Checked, of)),
+        "script" => Some(script_in(file, RunMode::Plain, of)),
         "sweep" => Some(script_in(file, sweep_in(of), of)),
-        "trace" => Some(CommandTask::Trace(traced_in(file, of))),
+        "trace" => Some(CommandTask::Trace(trace_arguments_in(file, of))),
         _ => None,
     }
 }
 
-/// The task of a command that runs a script in this way.
-fn script_in<'a>(file: &'a str, way: Way, of: &ArgMatches<'a>) -> CommandTask<'a> {
-    CommandTask::Script(AskedScript {
+/// Returns the task of a command that runs a script in this mode.
+fn script_in<'a>(file: &'a str, mode: RunMode, of: &ArgMatches<'a>) -> CommandTask<'a> {
+    CommandTask::Script(ScriptArguments {
         file,
-        way,
+        mode,
         is_explained: of.get_flag("explain"),
     })
 }
 
-/// In which way `sweep` runs a script.
-fn sweep_in<'a>(of: &ArgMatches<'a>) -> Way {
+/// Returns the mode of `sweep`.
+fn sweep_in<'a>(of: &ArgMatches<'a>) -> RunMode {
     match of.get_one::<u64>("variant") {
-        Some(place) => Way::Variant(place),
-        None => Way::Swept(of.get_one::<u16>("threads")),
+        Some(place) => RunMode::Variant(place),
+        None => RunMode::Sweep(of.get_one::<u16>("threads")),
     }
 }
 
-/// The task of `live`.
+/// Returns the task of `live`.
 fn live_in<'a>(of: &ArgMatches<'a>) -> Option<CommandTask<'a>> {
     let nodes = of.get_one::<u8>("nodes")?;
     let calls = of.get_one::<u8>("calls")?;
     Some(CommandTask::Live { nodes, calls })
 }
 
-/// The task of `gen`, or what is wrong with its words.
+/// Returns the task of `gen`, or the message for what is wrong with its words.
 fn generate_in<'a>(of: &ArgMatches<'a>) -> Result<CommandTask<'a>, &'static str> {
     let (Some(seed), Some(events)) = (of.get_one::<u64>("seed"), of.get_one::<u32>("events")) else {
         return Err(NO_COMMAND);
@@ -202,7 +236,7 @@ fn generate_in<'a>(of: &ArgMatches<'a>) -> Result<CommandTask<'a>, &'static str>
     })
 }
 
-/// The task of `explore`, or what is wrong with its words.
+/// Returns the task of `explore`, or the message for what is wrong with its words.
 fn explore_in<'a>(of: &ArgMatches<'a>) -> Result<CommandTask<'a>, &'static str> {
     let (Some(seeds), Some(events)) = (of.get_str("seeds"), of.get_one::<u32>("events")) else {
         return Err(NO_COMMAND);
@@ -210,7 +244,7 @@ fn explore_in<'a>(of: &ArgMatches<'a>) -> Result<CommandTask<'a>, &'static str> 
     let threads = of.get_one::<u16>("threads");
     let votes = votes_in(of, "nodes")?;
     match seeds_of(seeds) {
-        Some((first, last)) => Ok(CommandTask::Explore(Explored {
+        Some((first, last)) => Ok(CommandTask::Explore(ExploreArguments {
             votes,
             first,
             last,
@@ -221,16 +255,17 @@ fn explore_in<'a>(of: &ArgMatches<'a>) -> Result<CommandTask<'a>, &'static str> 
     }
 }
 
-/// The task of `node`, or what is wrong with its words.
+/// Returns the task of `node`, or the message for what is wrong with its words.
 fn node_in<'a>(of: &ArgMatches<'a>) -> Result<CommandTask<'a>, &'static str> {
     let Some(me) = of.get_one::<u8>("me") else {
         return Err(NO_COMMAND);
     };
     let votes = votes_in(of, "of")?;
-    Ok(CommandTask::Node { me, votes })
+    let periods = periods_of(of.get_str("periods")).ok_or(BAD_PERIODS)?;
+    Ok(CommandTask::Node { me, votes, periods })
 }
 
-/// The votes of as many nodes as this word says, or what is wrong with them.
+/// Returns the votes of the nodes whose number the word `count` gives, or the message for what is wrong with them.
 fn votes_in<'a>(of: &ArgMatches<'a>, count: &str) -> Result<VoteList, &'static str> {
     match of.get_one::<u8>(count) {
         Some(nodes) => votes_of(nodes, of.get_str("votes")).ok_or(BAD_VOTES),

@@ -1,8 +1,13 @@
-//! What each command does: it has `ring_sweep`, `ring_trace`, `ring_live`, `ring_script_maker`, `ring_explore` or `ring_pipe` do the work.
+//! Runs each command by the crate that does the work: `ring_sweep`, `ring_trace`, `ring_live`, `ring_script_generator`,
+//! `ring_explore` or `ring_record_node`.
+//!
+//! Formats: The command line
 
-use crate::command_line::{CommandTask, Explored, task_of};
+use crate::command_line::{CommandTask, ExploreArguments, task_of};
+use crate::listings::list_file;
 use crate::node::node;
 use crate::scripts::run_script;
+use crate::timing::print_time;
 use crate::traces::trace_file;
 use clap::Error;
 use clap::error::ErrorKind;
@@ -10,21 +15,24 @@ use ring_base::Fault;
 use ring_explore::{ExplorePlan, explore_of};
 use ring_live::live;
 use ring_object::Object;
-use ring_script_maker::generate_by;
-use ring_sweep::{BAD_COMMAND_LINE, Failure, ShelfWords, Things, Vocabulary, frames, report};
-use ring_trace::Replies;
+use ring_script_generator::generate_by;
+use ring_sweep::{BAD_COMMAND_LINE, Failure, ShelfVocabulary, StandardObjects, Vocabulary, report};
+use ring_trace::ReplyVocabulary;
 use std::alloc::Global;
 use std::io::{Read, Write};
 use std::rt::Files;
 use std::sync::Wait;
 use std::thread::{self, Threads};
-use std::time::Clock;
-use std::{env, fs, io};
+use std::time::{Clock, Instant};
+use std::{env, io};
 
-/// The name of a file that is none: the input.
+/// The file name that stands for the input.
+/// Formats: The command line
 pub(crate) const INPUT: &str = "-";
 
-/// The words of the command line, the program's own name first.
+/// Returns the command-line arguments of this process, in order, the program's own name first.
+/// Errors: that of reading an argument which isn't UTF-8; of kind `OutOfMemory` if an allocation fails.
+/// Formats: The command line
 pub fn words_of<R: env::Env + Alloc>(rt: &R) -> io::Result<Vec<String<R::A>, R::A>> {
     let mut words = Vec::new(rt.alloc());
     for word in env::args(rt)? {
@@ -33,9 +41,15 @@ pub fn words_of<R: env::Env + Alloc>(rt: &R) -> io::Result<Vec<String<R::A>, R::
     Ok(words)
 }
 
-/// Does what the words of a command line ask for, the program's own name being the first. A node takes the records of `input`, and
-/// other commands read it where the file is `-`. Writes on `out` and `err` what the program writes on standard output and standard
-/// error, tells on `progress`, where there is one, how far long work has come, and answers the exit status.
+/// Runs the command of these words over the program's object. The first word is the program's own name. Returns the exit
+/// status: 0 where all was done, 1 with a fault or a run that isn't legal, 2 for a bad command line.
+///
+/// The command `node` takes its records from `input`; other commands read it where the file is `-`. `out` and `err` get
+/// what the program writes on standard output and standard error. `progress`, where there is one, gets the progress of long
+/// work and, where the work is done, its time.
+///
+/// Errors: all are reported on `err`, and by the status. A failed `out` is reported by the status alone.
+/// Formats: The command line
 pub fn run<
     R: Files + AllocGlobal + Threads + Wait + Clock + Sync,
     I: Read,
@@ -50,13 +64,18 @@ pub fn run<
     err: &mut E,
     progress: Option<&mut P>,
 ) -> u8 {
-    run_of::<Things<Global>, ShelfWords, R, I, O, E, P>(rt, words, input, out, err, progress)
+    run_of::<StandardObjects<Global>, ShelfVocabulary, R, I, O, E, P>(
+        rt, words, input, out, err, progress,
+    )
 }
 
-/// As [`run`], of any object, by the words of its operations and replies; but `live` calls the program's own counters.
+/// Runs the command of these words as [`run`] does, over a user-defined object with the words of its operations and
+/// replies. But `live` calls the program's own counters. Returns the exit status, 0 to 2.
+/// Errors: as for [`run`].
+/// Formats: The command line
 pub fn run_of<
     T: Object<Alloc = Global> + Send,
-    V: Vocabulary + Replies + Send,
+    V: Vocabulary + ReplyVocabulary + Send,
     R: Files + AllocGlobal + Threads + Wait + Clock + Sync,
     I: Read,
     O: Write,
@@ -71,7 +90,14 @@ pub fn run_of<
     progress: Option<&mut P>,
 ) -> u8 {
     match task_of(rt.alloc(), words) {
-        Ok(CommandTask::Frames { file }) => frames_of(rt, file, input, out, err),
+        Ok(CommandTask::Frames { file, is_explained }) => list_file(
+            rt,
+            file,
+            is_explained,
+            input,
+            out,
+            err,
+        ),
         Ok(CommandTask::Script(asked)) => run_script::<T, V, _, _, _, _, _>(
             rt, asked, input, out, err, progress,
         ),
@@ -84,10 +110,11 @@ pub fn run_of<
                 events,
             },
         ) => generate_by::<V, _, _, _>(rt.alloc(), votes.as_slice(), seed, events, out, err),
-        Ok(CommandTask::Node { me, votes }) => node::<T, _, _, _>(
+        Ok(CommandTask::Node { me, votes, periods }) => node::<T, _, _, _>(
             rt.alloc(),
             me,
             votes.as_slice(),
+            periods,
             input,
             out,
             err,
@@ -95,29 +122,12 @@ pub fn run_of<
         Ok(CommandTask::Explore(asked)) => explore_seeds::<T, V, _, _, _, _>(
             rt, &asked, out, err, progress,
         ),
-        Err(error) => tell(&error, out, err),
+        Err(error) => print_parser_message(&error, out, err),
     }
 }
 
-/// Lists the frames of a file, or of the input.
-fn frames_of<R: Files + AllocGlobal, I: Read, O: Write, E: Write>(
-    rt: &R,
-    file: &str,
-    input: &mut I,
-    out: &mut O,
-    err: &mut E,
-) -> u8 {
-    if file == INPUT {
-        return frames(rt.alloc(), input, out, err);
-    }
-    match fs::open(rt, file) {
-        Ok(mut file) => frames(rt.alloc(), &mut file, out, err),
-        Err(_) => report(err, Failure::BadFrame(0)),
-    }
-}
-
-/// Makes, runs and checks the scripts of all seeds that are asked for: by as many threads as there are processors, where nothing is
-/// said of these.
+/// Makes, runs and checks the scripts of all the seeds. Where there is a `progress`, it gets a last line that says how long that
+/// took.
 fn explore_seeds<
     T: Object<Alloc = Global> + Send,
     V: Vocabulary + Send,
@@ -125,7 +135,27 @@ fn explore_seeds<
     O: Write,
     E: Write,
     P: Write,
->(rt: &R, asked: &Explored, out: &mut O, err: &mut E, progress: Option<&mut P>) -> u8 {
+>(rt: &R, asked: &ExploreArguments, out: &mut O, err: &mut E, progress: Option<&mut P>) -> u8 {
+    match progress {
+        Some(watched) => {
+            let started = Instant::now(rt).ok();
+            let status = explore_with::<T, V, R, O, E, P>(rt, asked, out, err, Some(&mut *watched));
+            print_time(rt, started, status, watched);
+            status
+        }
+        None => explore_with::<T, V, R, O, E, P>(rt, asked, out, err, progress),
+    }
+}
+
+/// Makes, runs and checks the scripts of all the seeds, with one thread for each processor where no number of threads is given.
+fn explore_with<
+    T: Object<Alloc = Global> + Send,
+    V: Vocabulary + Send,
+    R: AllocGlobal + Threads + Clock + Sync,
+    O: Write,
+    E: Write,
+    P: Write,
+>(rt: &R, asked: &ExploreArguments, out: &mut O, err: &mut E, progress: Option<&mut P>) -> u8 {
     let plan = ExplorePlan {
         votes: asked.votes.as_slice(),
         first: asked.first,
@@ -136,7 +166,7 @@ fn explore_seeds<
     explore_of::<T, V, R, O, E, P>(rt, rt.alloc(), plan, threads, out, err, progress)
 }
 
-/// How many processors there are, as far as that is known: or else one.
+/// Returns the number of the machine's processors, at most 65,535. Where that isn't known it is 1.
 pub(crate) fn processors<R: Threads>(rt: &R) -> u16 {
     match thread::available_parallelism(rt) {
         Ok(many) => u16::try_from(many.get()).unwrap_or(u16::MAX),
@@ -144,8 +174,8 @@ pub(crate) fn processors<R: Threads>(rt: &R) -> u16 {
     }
 }
 
-/// Tells what the parser says: its version on `out`, all else on `err`.
-fn tell<O: Write, E: Write>(error: &Error, out: &mut O, err: &mut E) -> u8 {
+/// Prints the parser's message: its version on `out`, any other on `err`. Returns the exit status.
+fn print_parser_message<O: Write, E: Write>(error: &Error, out: &mut O, err: &mut E) -> u8 {
     match error.kind() {
         ErrorKind::OutOfMemory => report(err, Failure::Refused(Fault::Memory)),
         ErrorKind::DisplayVersion => match write!(out, "{error}") {

@@ -1,45 +1,49 @@
-//! The words of the command line: the commands, and what each is asked by.
+//! The forms of the command line: the commands, with their words and help.
+//!
+//! Rules: Nodes that records drive 6
+//! Formats: The command line
 
+use crate::value_names::value_name;
 use clap::builder::ValueParser;
 use clap::{Arg, ArgAction, Command};
-use ring_base::MOST_PROCESSORS;
-use ring_script_maker::MOST_LINES;
+use ring_base::MAX_PROCESSORS;
+use ring_script_generator::MAX_LINES;
 use std::alloc::{AllocError, Global};
 
-/// A command: its name, what it does, what its help ends with, and its words.
+/// A command: its name, what it does, the end of its help, and its words.
 #[derive(Clone, Copy)]
-struct Form {
+struct CommandForm {
     name: &'static str,
     about: &'static str,
     help: &'static str,
-    words: &'static [Word],
+    words: &'static [CommandWord],
 }
 
-/// A word of a command: its name, what its help says, whether it must be there, and what stands behind it.
+/// A word of a command: its name, its help, whether it is required, and the kind of its value.
 #[derive(Clone, Copy)]
-struct Word {
+struct CommandWord {
     name: &'static str,
     help: &'static str,
     is_required: bool,
-    takes: Takes,
+    takes: ValueKind,
 }
 
-/// What stands behind a word.
+/// The kind of a word's value.
 #[derive(Clone, Copy)]
-enum Takes {
-    /// Nothing: the word is there or not.
+enum ValueKind {
+    /// No value: the word is there or not.
     Nothing,
     /// A text.
     Text,
     /// One of these names.
     Name(&'static [&'static str]),
-    /// A number from the one to the other.
+    /// A number in this range, both ends included.
     Number(u64, u64),
-    /// Nothing, and the word's name isn't written: the word is a file's name.
+    /// The word itself is a file's name; it has no value, and its own name isn't written.
     File,
 }
 
-/// What `totem --help` ends with.
+/// The end of `totem --help`.
 const TOTEM_HELP: &str = "\
 Exit status:
   0  all went well
@@ -49,7 +53,7 @@ Exit status:
 Example:
   totem script first_reply.script";
 
-/// What `totem script --help` ends with.
+/// The end of `totem script --help`.
 const SCRIPT_HELP: &str = "\
 A script is refused as a whole before anything runs, by its first line at fault; line 0 is a file
 that can't be read or is too long. With --check a last line says `legal yes` or `legal no`: whether
@@ -59,7 +63,7 @@ Examples:
   totem script first_reply.script
   totem script --check first_reply.script";
 
-/// What `totem sweep --help` ends with.
+/// The end of `totem sweep --help`.
 const SWEEP_HELP: &str = "\
 For each event of the script, each delivery of a pump counted, and for its end, each node is once
 stopped and once cut off from all others just before it, and the rest of the script runs. Prints
@@ -73,7 +77,7 @@ Examples:
   totem sweep first_reply.script
   totem sweep --variant 3 first_reply.script";
 
-/// What `totem frames --help` ends with.
+/// The end of `totem frames --help`.
 const FRAMES_HELP: &str = "\
 Where the rest of the file doesn't begin with a frame the listing ends, and tells the byte, counted
 from 0; byte 0 is also a file that can't be read.
@@ -81,7 +85,7 @@ from 0; byte 0 is also a file that can't be read.
 Example:
   totem frames sent.frames";
 
-/// What `totem live --help` ends with.
+/// The end of `totem live --help`.
 const LIVE_HELP: &str = "\
 Each node and each client has a thread of its own. Client c tries node c first, and then the others
 in order. It adds 1 to a counter, one call after the other, and ends at its first fault; then
@@ -93,7 +97,7 @@ nobody answered, nothing of this is printed, and standard error tells why.
 Example:
   totem live --nodes 3 --calls 10";
 
-/// What `totem gen --help` ends with.
+/// The end of `totem gen --help`.
 const GENERATE_HELP: &str = "\
 The script calls, delivers, cuts, heals, stops, times out, makes noise and pumps; comments say what
 its lines tell. The same numbers make the same script on every machine. `show` stands last, and is
@@ -107,13 +111,14 @@ Exit status:
 Example:
   totem gen --nodes 5 --seed 7 --events 200 > seven.script";
 
-/// What `totem trace --help` ends with.
+/// The end of `totem trace --help`.
 const TRACE_HELP: &str = "\
 A line tells an event, counted from 1, and what it changed: states, rings that are installed, with
 their members and votes, what is committed, and answers in words. Events in which frames come and
-nothing changes are told in one line, as `13-112 x20 rounds`, with the copies that are lost among
+nothing changes are told in one line, as `13-112: 20 rounds`, with the copies that are lost among
 them. At the end the events and the frames sent are counted, and each call that has no answer is
-told, and why. With --frames the frames sent are written, as `totem frames` lists them.
+told, and why. With --frames the frames sent are written, as `totem frames` lists them. The format
+`html` is one page with the picture and the run at each event, which any browser opens.
 
 Exit status:
   0  the whole script was run
@@ -122,9 +127,9 @@ Exit status:
 
 Examples:
   totem trace first_reply.script
-  totem trace --format svg first_reply.script > first_reply.svg";
+  totem trace --format html first_reply.script > first_reply.html";
 
-/// What `totem explore --help` ends with.
+/// The end of `totem explore --help`.
 const EXPLORE_HELP: &str = "\
 Each script is that of `totem gen` with this seed. Prints how many seeds there were, how many events
 were run, each delivery of a pump counted, how many calls were submitted and how many answered, how
@@ -141,11 +146,11 @@ Exit status:
 Example:
   totem explore --nodes 5 --seeds 1..1000 --events 200";
 
-/// What `totem node --help` ends with.
+/// The end of `totem node --help`. It states the duties of the program that drives the node: Nodes that records drive 6.
 const NODE_HELP: &str = "\
 Records come on standard input, and what the node tells of each goes out in records on standard
 output before the next is read: docs/FORMATS.md, Records, has them. The program that drives it owns
-the network and the clock. A node that ended must not come back under its number in this group, and
+the network and brings the time. A node that ended must not come back under its number in this group, and
 only frames of this group may be handed to it.
 
 Exit status:
@@ -158,224 +163,239 @@ Exit status:
 Example:
   totem node --me 1 --of 3";
 
-/// The names of the forms in which a trace is printed.
-const FORMATS: &[&str] = &["text", "json", "svg"];
+/// The names of the formats in which a trace is printed.
+const FORMATS: &[&str] = &["text", "json", "svg", "html"];
 
-/// At most so many threads are started.
-const MOST_THREADS: u64 = 256;
+/// The most threads that are started.
+const MAX_THREADS: u64 = 256;
 
-/// A group has at most so many nodes.
-const MOST_NODES: u64 = MOST_PROCESSORS as u64;
+/// The most nodes of a group.
+const MAX_NODES: u64 = MAX_PROCESSORS as u64;
 
-/// `live` lets each client make at most so many calls.
-const MOST_LIVE_CALLS: u64 = 100;
+/// The most calls of each client of `live`.
+const MAX_LIVE_CALLS: u64 = 100;
 
 /// The word that asks whether a run is legal.
-const CHECK: Word = Word {
+const CHECK: CommandWord = CommandWord {
     name: "check",
     help: "Tells behind all else whether the run is legal",
     is_required: false,
-    takes: Takes::Nothing,
+    takes: ValueKind::Nothing,
 };
 
 /// The word that asks why a script is at fault.
-const EXPLAIN: Word = Word {
+const EXPLAIN: CommandWord = CommandWord {
     name: "explain",
     help: "Tells below a fault what stands there, and what was expected",
     is_required: false,
-    takes: Takes::Nothing,
+    takes: ValueKind::Nothing,
+};
+
+/// The word that asks why no frame begins where a listing ends.
+const EXPLAIN_FRAME: CommandWord = CommandWord {
+    name: "explain",
+    help: "Tells below a fault what stands there, and what was expected; reads the whole file first",
+    is_required: false,
+    takes: ValueKind::Nothing,
 };
 
 /// The word that names a script.
-const SCRIPT: Word = Word {
+const SCRIPT: CommandWord = CommandWord {
     name: "FILE",
     help: "The script; - is standard input",
     is_required: true,
-    takes: Takes::File,
+    takes: ValueKind::File,
 };
 
 /// The word that names a file of frames.
-const FRAMES: Word = Word {
+const FRAMES: CommandWord = CommandWord {
     name: "FILE",
     help: "The file of frames, one behind another; - is standard input",
     is_required: true,
-    takes: Takes::File,
+    takes: ValueKind::File,
 };
 
 /// The word for a number of threads.
-const THREADS: Word = Word {
+const THREADS: CommandWord = CommandWord {
     name: "threads",
     help: "How many threads work, in place of one for each processor",
     is_required: false,
-    takes: Takes::Number(1, MOST_THREADS),
+    takes: ValueKind::Number(1, MAX_THREADS),
 };
 
 /// The word for a variant of a sweep.
-const VARIANT: Word = Word {
+const VARIANT: CommandWord = CommandWord {
     name: "variant",
     help: "Prints the script of this variant, counted from 1, in place of a sweep",
     is_required: false,
-    takes: Takes::Number(1, u64::MAX),
+    takes: ValueKind::Number(1, u64::MAX),
 };
 
 /// The word for a number of nodes.
-const NODES: Word = Word {
+const NODES: CommandWord = CommandWord {
     name: "nodes",
     help: "How many nodes",
     is_required: true,
-    takes: Takes::Number(1, MOST_NODES),
+    takes: ValueKind::Number(1, MAX_NODES),
 };
 
 /// The word for a number of lines.
-const EVENTS: Word = Word {
+const EVENTS: CommandWord = CommandWord {
     name: "events",
     help: "How many lines that ask for something",
     is_required: true,
-    takes: Takes::Number(1, MOST_LINES as u64),
+    takes: ValueKind::Number(1, MAX_LINES as u64),
 };
 
 /// The word for a seed.
-const SEED: Word = Word {
+const SEED: CommandWord = CommandWord {
     name: "seed",
     help: "The seed, any number below 2^64",
     is_required: true,
-    takes: Takes::Number(0, u64::MAX),
+    takes: ValueKind::Number(0, u64::MAX),
 };
 
 /// The word for several seeds.
-const SEEDS: Word = Word {
+const SEEDS: CommandWord = CommandWord {
     name: "seeds",
     help: "The seeds A to B, both included, as A..B",
     is_required: true,
-    takes: Takes::Text,
+    takes: ValueKind::Text,
 };
 
 /// The word for the votes of all nodes.
-const VOTES: Word = Word {
+const VOTES: CommandWord = CommandWord {
     name: "votes",
-    help: "The votes of each node, parted by commas, in place of one each",
+    help: "The votes of each node, separated by commas, in place of one each",
     is_required: false,
-    takes: Takes::Text,
+    takes: ValueKind::Text,
 };
 
 /// The words of `live`.
-const LIVE_WORDS: &[Word] = &[
-    Word {
+const LIVE_WORDS: &[CommandWord] = &[
+    CommandWord {
         name: "nodes",
         help: "How many nodes, and as many clients",
         is_required: true,
-        takes: Takes::Number(1, MOST_NODES),
+        takes: ValueKind::Number(1, MAX_NODES),
     },
-    Word {
+    CommandWord {
         name: "calls",
         help: "How many adds each client makes",
         is_required: true,
-        takes: Takes::Number(1, MOST_LIVE_CALLS),
+        takes: ValueKind::Number(1, MAX_LIVE_CALLS),
     },
 ];
 
 /// The words of `node`.
-const NODE_WORDS: &[Word] = &[
-    Word {
+const NODE_WORDS: &[CommandWord] = &[
+    CommandWord {
         name: "me",
         help: "Which node of its group it is",
         is_required: true,
-        takes: Takes::Number(1, MOST_NODES),
+        takes: ValueKind::Number(1, MAX_NODES),
     },
-    Word {
+    CommandWord {
         name: "of",
         help: "How many nodes the group has",
         is_required: true,
-        takes: Takes::Number(1, MOST_NODES),
+        takes: ValueKind::Number(1, MAX_NODES),
     },
     VOTES,
+    CommandWord {
+        name: "periods",
+        help: "The timeouts' periods in ms: JOIN,RETRANSMIT,CONSENSUS,LOSS, in place of 10,20,100,300",
+        is_required: false,
+        takes: ValueKind::Text,
+    },
 ];
 
 /// The words of `trace`.
-const TRACE_WORDS: &[Word] = &[
-    Word {
+const TRACE_WORDS: &[CommandWord] = &[
+    CommandWord {
         name: "format",
-        help: "Lines for readers, as is usual; JSON, an object a line; or SVG, one picture",
+        help: "Lines for readers, as is usual; JSON, an object a line; SVG, one picture; or HTML, one page",
         is_required: false,
-        takes: Takes::Name(FORMATS),
+        takes: ValueKind::Name(FORMATS),
     },
-    Word {
+    CommandWord {
         name: "node",
         help: "Tells what happens at this node alone",
         is_required: false,
-        takes: Takes::Number(1, MOST_NODES),
+        takes: ValueKind::Number(1, MAX_NODES),
     },
-    Word {
+    CommandWord {
         name: "from",
         help: "Tells no event before this one",
         is_required: false,
-        takes: Takes::Number(1, u64::MAX),
+        takes: ValueKind::Number(1, u64::MAX),
     },
-    Word {
+    CommandWord {
         name: "to",
         help: "Tells no event behind this one",
         is_required: false,
-        takes: Takes::Number(1, u64::MAX),
+        takes: ValueKind::Number(1, u64::MAX),
     },
-    Word {
+    CommandWord {
         name: "frames",
         help: "The file into which the frames sent are written",
         is_required: false,
-        takes: Takes::Text,
+        takes: ValueKind::Text,
     },
-    Word {
+    EXPLAIN,
+    CommandWord {
         name: "FILE",
         help: "The script",
         is_required: true,
-        takes: Takes::File,
+        takes: ValueKind::File,
     },
 ];
 
 /// The commands.
-const FORMS: &[Form] = &[
-    Form {
+const FORMS: &[CommandForm] = &[
+    CommandForm {
         name: "script",
         about: "Runs a script, and prints what comes of its events",
         help: SCRIPT_HELP,
         words: &[CHECK, EXPLAIN, SCRIPT],
     },
-    Form {
+    CommandForm {
         name: "sweep",
         about: "Runs a script with a stop and a cut of each node before each event, on all processors",
         help: SWEEP_HELP,
         words: &[THREADS, VARIANT, EXPLAIN, SCRIPT],
     },
-    Form {
+    CommandForm {
         name: "frames",
         about: "Lists the frames of a file, a line each",
         help: FRAMES_HELP,
-        words: &[FRAMES],
+        words: &[EXPLAIN_FRAME, FRAMES],
     },
-    Form {
+    CommandForm {
         name: "live",
         about: "Runs nodes and clients in threads of their own",
         help: LIVE_HELP,
         words: LIVE_WORDS,
     },
-    Form {
+    CommandForm {
         name: "trace",
         about: "Runs a script, and tells what each of its events did",
         help: TRACE_HELP,
         words: TRACE_WORDS,
     },
-    Form {
+    CommandForm {
         name: "gen",
         about: "Makes a script by a seed, and prints it",
         help: GENERATE_HELP,
         words: &[NODES, SEED, EVENTS, VOTES],
     },
-    Form {
+    CommandForm {
         name: "explore",
         about: "Makes, runs and checks the scripts of many seeds, on all processors",
         help: EXPLORE_HELP,
         words: &[NODES, SEEDS, EVENTS, VOTES, THREADS],
     },
-    Form {
+    CommandForm {
         name: "node",
         about: "Runs one node, which records on standard input drive",
         help: NODE_HELP,
@@ -383,7 +403,9 @@ const FORMS: &[Form] = &[
     },
 ];
 
-/// The program's command, with all others below it.
+/// Returns the parser of the program's command line, with all commands as its subcommands.
+/// Errors: only that memory is refused.
+/// Formats: The command line
 pub(crate) fn command_of<'a>(alloc: Global) -> Result<Command<'a>, AllocError> {
     let commands = commands_of(alloc)?;
     Command::new(alloc, "totem")
@@ -395,14 +417,35 @@ pub(crate) fn command_of<'a>(alloc: Global) -> Result<Command<'a>, AllocError> {
         .bin_name("totem")
 }
 
-/// The commands below it.
+/// Returns the parser of the command of this name alone, which shows its usage as `totem NAME`. Returns `None` where there is no
+/// such command.
+/// Errors: only that memory is refused.
+/// Formats: The command line
+pub(crate) fn named_command<'a>(
+    alloc: Global,
+    name: &str,
+) -> Result<Option<Command<'a>>, AllocError> {
+    let Some(form) = form_named(name) else {
+        return Ok(None);
+    };
+    let shown = format!(in alloc; "totem {name}")?;
+    let command = command_by(alloc, form)?;
+    Ok(Some(command.bin_name(shown.as_str())?))
+}
+
+/// Returns the form of the command of this name.
+fn form_named(name: &str) -> Option<&'static CommandForm> {
+    FORMS.iter().find(|form| form.name == name)
+}
+
+/// Returns the subcommands.
 fn commands_of<'a>(alloc: Global) -> Result<Vec<Command<'a>>, AllocError> {
     let mut commands = Vec::new(alloc);
     add_commands(alloc, &mut commands)?;
     Ok(commands)
 }
 
-/// Adds them.
+/// Adds the subcommands to the list.
 fn add_commands<'a>(alloc: Global, commands: &mut Vec<Command<'a>>) -> Result<(), AllocError> {
     for form in FORMS {
         add_command(alloc, form, commands)?;
@@ -410,18 +453,18 @@ fn add_commands<'a>(alloc: Global, commands: &mut Vec<Command<'a>>) -> Result<()
     Ok(())
 }
 
-/// Adds a command of this form.
+/// Adds a command of this form to the list.
 fn add_command<'a>(
     alloc: Global,
-    form: &Form,
+    form: &CommandForm,
     commands: &mut Vec<Command<'a>>,
 ) -> Result<(), AllocError> {
     let command = command_by(alloc, form)?;
     Ok(commands.push(command)?)
 }
 
-/// A command of this form.
-fn command_by<'a>(alloc: Global, form: &Form) -> Result<Command<'a>, AllocError> {
+/// Returns a command of this form.
+fn command_by<'a>(alloc: Global, form: &CommandForm) -> Result<Command<'a>, AllocError> {
     let words = args_of(alloc, form.words)?;
     Command::new(alloc, form.name)
         .about(form.about)
@@ -429,8 +472,8 @@ fn command_by<'a>(alloc: Global, form: &Form) -> Result<Command<'a>, AllocError>
         .args(words)
 }
 
-/// These words, for the parser.
-fn args_of<'a>(alloc: Global, words: &[Word]) -> Result<Vec<Arg<'a>>, AllocError> {
+/// Returns these words, for the parser.
+fn args_of<'a>(alloc: Global, words: &[CommandWord]) -> Result<Vec<Arg<'a>>, AllocError> {
     let mut args = Vec::new(alloc);
     for word in words {
         args.push(arg_of(alloc, word))?;
@@ -438,27 +481,33 @@ fn args_of<'a>(alloc: Global, words: &[Word]) -> Result<Vec<Arg<'a>>, AllocError
     Ok(args)
 }
 
-/// A word, for the parser.
-fn arg_of<'a>(alloc: Global, word: &Word) -> Arg<'a> {
+/// Returns a word, for the parser.
+fn arg_of<'a>(alloc: Global, word: &CommandWord) -> Arg<'a> {
     let name = word.name;
     let arg = Arg::new(alloc, name)
         .help(word.help)
         .required(word.is_required)
         .action(action_of(word.takes));
     match word.takes {
-        Takes::File => arg,
-        Takes::Nothing | Takes::Text => arg.long(name),
-        Takes::Name(names) => arg.long(name).value_parser(ValueParser::Names(names)),
-        Takes::Number(least, most) => arg
-            .long(name)
-            .value_parser(ValueParser::unsigned(least, most)),
+        ValueKind::File => arg,
+        ValueKind::Nothing => arg.long(name),
+        ValueKind::Text => with_value(arg, name),
+        ValueKind::Name(names) => { with_value(arg, name).value_parser(ValueParser::Names(names)) }
+        ValueKind::Number(least, most) => {
+            with_value(arg, name).value_parser(ValueParser::unsigned(least, most))
+        }
     }
 }
 
-/// Whether a word is set by what stands behind it, or by being there.
-fn action_of(takes: Takes) -> ArgAction {
+/// Returns the word as an option with a value, which help and usage show by its own name.
+fn with_value<'a>(arg: Arg<'a>, name: &'static str) -> Arg<'a> {
+    arg.long(name).value_name(value_name(name))
+}
+
+/// Returns whether a word is set by its value or by being there.
+fn action_of(takes: ValueKind) -> ArgAction {
     match takes {
-        Takes::Nothing => ArgAction::SetTrue,
+        ValueKind::Nothing => ArgAction::SetTrue,
         _ => ArgAction::Set,
     }
 }

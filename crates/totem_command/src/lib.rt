@@ -1,13 +1,20 @@
-//! The program `totem`, over any files and writers: it reads a command line, and does what that asks for.
+//! The program `totem` over any files and writers: parses a command line and runs its command.
+//!
+//! Formats: The command line
 #![tactic(auto)]
 
 mod command_line;
 mod commands;
 mod forms;
+mod listings;
 mod node;
+mod periods;
 mod scripts;
 mod seeds;
+mod timing;
 mod traces;
+mod usage_errors;
+mod value_names;
 mod votes;
 
 pub use commands::{run, run_of, words_of};

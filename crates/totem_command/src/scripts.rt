@@ -1,9 +1,12 @@
-//! The commands that run a script.
+//! The commands `script` and `sweep`, which run a script.
+//!
+//! Formats: The command line
 
-use crate::command_line::{AskedScript, Way};
+use crate::command_line::{RunMode, ScriptArguments};
 use crate::commands::{INPUT, processors};
+use crate::timing::print_time;
 use ring_base::Fault;
-use ring_explanation::{LONGEST_TEXT, reason_by};
+use ring_input_errors::{MAX_SCRIPT_BYTES, reason_by};
 use ring_object::Object;
 use ring_sweep::{
     FAILED, Failure, Vocabulary, print_variant_of, report, script_of, sweep_of_by_threads,
@@ -12,13 +15,16 @@ use std::alloc::Global;
 use std::io::{Error, ErrorKind, Read, Write};
 use std::rt::Files;
 use std::thread::Threads;
-use std::time::Clock;
+use std::time::{Clock, Instant};
 use std::{fs, io};
 
-/// So many bytes are read of a script at most: one more than it may have, so that a longer one is seen to be one.
-const MOST_READ: u64 = LONGEST_TEXT + 1;
+/// The most bytes read of a script: one more than it may have, so that a longer one is recognized.
+const MAX_READ: u64 = MAX_SCRIPT_BYTES + 1;
 
-/// Runs the script that is asked for.
+/// Reads the script in a file or in the input, and runs it in the mode of the arguments. Returns the exit status, 0 to 2.
+/// Errors: those of the mode are reported on `err`. A file that can't be read is reported as a bad script at line 0, or as
+/// `Memory`. A bad script is explained below that where the arguments ask for it.
+/// Formats: The command line
 pub(crate) fn run_script<
     T: Object<Alloc = Global> + Send,
     V: Vocabulary,
@@ -29,40 +35,42 @@ pub(crate) fn run_script<
     P: Write,
 >(
     rt: &R,
-    asked: AskedScript<'_>,
+    asked: ScriptArguments<'_>,
     input: &mut I,
     out: &mut O,
     err: &mut E,
     progress: Option<&mut P>,
 ) -> u8 {
-    let text = match text_of(rt, asked.file, input) {
+    let text = match read_text(rt, asked.file, input) {
         Ok(text) => text,
-        Err(error) => return tell_unread(&error, asked.is_explained, err),
+        Err(error) => return report_unreadable(&error, asked.is_explained, err),
     };
-    let status = run_text::<T, V, R, O, E, P>(rt, asked.way, text.as_slice(), out, err, progress);
+    let status = run_text::<T, V, R, O, E, P>(rt, asked.mode, text.as_slice(), out, err, progress);
     if status == FAILED && asked.is_explained {
         explain::<V, E>(rt.alloc(), text.as_slice(), err);
     }
     status
 }
 
-/// What the file has, or the input, as far as a script is read.
-pub(crate) fn text_of<R: Files + AllocGlobal, I: Read>(
+/// Reads the file of this name, or the input where the name is `-`. Reads no more than 1,048,577 bytes, one more than a
+/// script may have.
+/// Errors: those of opening or reading; of kind `OutOfMemory` where memory is refused.
+pub(crate) fn read_text<R: Files + AllocGlobal, I: Read>(
     rt: &R,
     file: &str,
     input: &mut I,
 ) -> io::Result<Vec<u8>> {
     let mut text = Vec::new(rt.alloc());
     if file == INPUT {
-        input.take(MOST_READ).read_to_end(&mut text)?;
+        input.take(MAX_READ).read_to_end(&mut text)?;
     } else {
         let mut file = fs::open(rt, file)?;
-        file.take(MOST_READ).read_to_end(&mut text)?;
+        file.take(MAX_READ).read_to_end(&mut text)?;
     }
     Ok(text)
 }
 
-/// Runs a script in this way.
+/// Runs a script in this mode.
 fn run_text<
     T: Object<Alloc = Global> + Send,
     V: Vocabulary,
@@ -70,46 +78,108 @@ fn run_text<
     O: Write,
     E: Write,
     P: Write,
->(rt: &R, way: Way, text: &[u8], out: &mut O, err: &mut E, progress: Option<&mut P>) -> u8 {
+>(rt: &R, mode: RunMode, text: &[u8], out: &mut O, err: &mut E, progress: Option<&mut P>) -> u8 {
     let mut rest = text;
-    match way {
-        Way::Plain => script_of::<T, V, _, _, _>(rt.alloc(), &mut rest, false, out, err),
-        Way::Checked => script_of::<T, V, _, _, _>(rt.alloc(), &mut rest, true, out, err),
-        Way::Swept(threads) => {
-            let threads = threads.unwrap_or(processors(rt));
-            sweep_of_by_threads::<T, V, R, _, _, _, _>(
-                rt,
-                rt.alloc(),
-                &mut rest,
-                threads,
-                out,
-                err,
-                progress,
-            )
-        }
-        Way::Variant(place) => print_variant_of::<T, V, _, _>(rt.alloc(), text, place, out, err),
+    match mode {
+        RunMode::Plain => script_of::<T, V, _, _, _>(rt.alloc(), &mut rest, false, out, err),
+        RunMode::Checked => script_of::<T, V, _, _, _>(rt.alloc(), &mut rest, true, out, err),
+        RunMode::Sweep(threads) => sweep_text::<T, V, R, O, E, P>(
+            rt, threads, text, out, err, progress,
+        ),
+        RunMode::Variant(place) => print_variant_of::<T, V, _, _>(
+            rt.alloc(),
+            text,
+            place,
+            out,
+            err,
+        ),
     }
 }
 
-/// Tells below why a text is no script, if it is none.
-fn explain<V: Vocabulary, E: Write>(alloc: Global, text: &[u8], err: &mut E) {
+/// Sweeps a script with this number of threads, or one for each processor. Where there is a `progress`, it gets a last line
+/// that says how long that took.
+fn sweep_text<
+    T: Object<Alloc = Global> + Send,
+    V: Vocabulary,
+    R: AllocGlobal + Threads + Clock + Sync,
+    O: Write,
+    E: Write,
+    P: Write,
+>(
+    rt: &R,
+    threads: Option<u16>,
+    text: &[u8],
+    out: &mut O,
+    err: &mut E,
+    progress: Option<&mut P>,
+) -> u8 {
+    let threads = threads.unwrap_or(processors(rt));
+    match progress {
+        Some(watched) => {
+            let started = Instant::now(rt).ok();
+            let status = sweep_with::<T, V, R, O, E, P>(
+                rt,
+                threads,
+                text,
+                out,
+                err,
+                Some(&mut *watched),
+            );
+            print_time(rt, started, status, watched);
+            status
+        }
+        None => sweep_with::<T, V, R, O, E, P>(rt, threads, text, out, err, progress),
+    }
+}
+
+/// Sweeps a script with this number of threads.
+fn sweep_with<
+    T: Object<Alloc = Global> + Send,
+    V: Vocabulary,
+    R: AllocGlobal + Threads + Clock + Sync,
+    O: Write,
+    E: Write,
+    P: Write,
+>(rt: &R, threads: u16, text: &[u8], out: &mut O, err: &mut E, progress: Option<&mut P>) -> u8 {
+    let mut rest = text;
+    sweep_of_by_threads::<T, V, R, _, _, _, _>(
+        rt,
+        rt.alloc(),
+        &mut rest,
+        threads,
+        out,
+        err,
+        progress,
+    )
+}
+
+/// Prints the reason below the fault where a text isn't a script.
+/// Formats: The command line
+pub(crate) fn explain<V: Vocabulary, E: Write>(alloc: Global, text: &[u8], err: &mut E) {
     if let Ok(Some(reason)) = reason_by::<V>(alloc, text) {
         let _ = writeln!(err, "totem: {reason}");
     }
 }
 
-/// Tells that a file couldn't be read.
-pub(crate) fn tell_unread<E: Write>(error: &Error, is_explained: bool, err: &mut E) -> u8 {
+/// Reports on `err` that a file couldn't be read: as `Memory` where memory was refused, else as a bad script at line 0. If
+/// `is_explained`, the reason follows the bad script in a line below. Returns the exit status, always 1.
+/// Formats: The command line
+pub(crate) fn report_unreadable<E: Write>(error: &Error, is_explained: bool, err: &mut E) -> u8 {
     if error.kind() == ErrorKind::OutOfMemory {
         return report(err, Failure::Refused(Fault::Memory));
     }
     let status = report(err, Failure::BadScript(0));
     if is_explained {
-        let reason = match error.kind() {
-            ErrorKind::NotFound => "there is no file of this name",
-            _ => "the file can't be read",
-        };
-        let _ = writeln!(err, "totem: {reason}");
+        let _ = writeln!(err, "totem: {}", unreadable_reason(error));
     }
     status
+}
+
+/// Returns the reason why a file couldn't be read.
+/// Formats: The command line
+pub(crate) fn unreadable_reason(error: &Error) -> &'static str {
+    match error.kind() {
+        ErrorKind::NotFound => "there is no file of this name",
+        _ => "the file can't be read",
+    }
 }

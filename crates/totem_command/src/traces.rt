@@ -1,21 +1,26 @@
-//! The command that tells what the events of a script did.
+//! The command `trace`, which prints the effects of a script's events.
+//!
+//! Formats: The command line
 
-use crate::scripts::{tell_unread, text_of};
+use crate::scripts::{explain, read_text, report_unreadable};
 use clap::ArgMatches;
-use ring_base::{MOST_PROCESSORS, Proc};
+use ring_base::{MAX_PROCESSORS, Proc};
+use ring_input_errors::QuotedWord;
 use ring_object::Object;
 use ring_sweep::{FAILED, Vocabulary};
-use ring_trace::{Format, Replies, Selection, TraceOptions, trace_of};
+use ring_trace::{Format, ReplyVocabulary, Selection, TraceOptions, trace_of};
 use std::alloc::Global;
 use std::io::{Read, Write};
 use std::rt::Files;
 use std::{fs, io};
 
-/// What `trace` is asked for: the file of the script, the file into which the frames are written, where one is named, the form of
-/// what is told, and of which events: of the node of this number, or of all, from one event to another.
+/// The arguments of `trace`: the script's file, whether a fault in it is explained, the file for the frames, if one is named,
+/// the format, and the selected events. These are of one node or of all, from one event number to another, both included.
+/// Formats: The command line
 #[derive(Clone, Copy)]
-pub(crate) struct Traced<'a> {
+pub(crate) struct TraceArguments<'a> {
     file: &'a str,
+    is_explained: bool,
     frames: Option<&'a str>,
     format: Format,
     node: Option<u8>,
@@ -23,10 +28,12 @@ pub(crate) struct Traced<'a> {
     to: u64,
 }
 
-/// What the words of the command ask for.
-pub(crate) fn traced_in<'a>(file: &'a str, of: &ArgMatches<'a>) -> Traced<'a> {
-    Traced {
+/// Returns the arguments of `trace` in the parsed words, with this file as the script's. Without their words, the format is
+/// text, all nodes are selected, and all events.
+pub(crate) fn trace_arguments_in<'a>(file: &'a str, of: &ArgMatches<'a>) -> TraceArguments<'a> {
+    TraceArguments {
         file,
+        is_explained: of.get_flag("explain"),
         frames: of.get_str("frames"),
         format: format_in(of),
         node: of.get_one::<u8>("node"),
@@ -35,17 +42,18 @@ pub(crate) fn traced_in<'a>(file: &'a str, of: &ArgMatches<'a>) -> Traced<'a> {
     }
 }
 
-/// In which form events are told.
+/// Returns the format in the parsed words; text where none is named.
 fn format_in(of: &ArgMatches<'_>) -> Format {
     match of.get_str("format") {
         Some("json") => Format::Json,
         Some("svg") => Format::Svg,
+        Some("html") => Format::Html,
         _ => Format::Text,
     }
 }
 
-/// The same without the files. It stands apart, since no function may take processors beside words that are lent.
-fn asked_of(traced: &Traced<'_>) -> TraceOptions {
+/// Returns the options without the files. A function of its own, since no function may take a `Proc` beside borrowed words.
+fn asked_of(traced: &TraceArguments<'_>) -> TraceOptions {
     TraceOptions {
         format: traced.format,
         selection: Selection {
@@ -56,42 +64,88 @@ fn asked_of(traced: &Traced<'_>) -> TraceOptions {
     }
 }
 
-/// The processor of this number, if there is one.
+/// Returns the processor of this number, if there is one.
 fn proc_of(number: Option<u8>) -> Option<Proc> {
     match number {
-        Some(number) if 1 <= number && number <= MOST_PROCESSORS => Some(Proc::new(number)),
+        Some(number) if 1 <= number && number <= MAX_PROCESSORS => Some(Proc::new(number)),
         _ => None,
     }
 }
 
-/// Runs the script in a file, or in the input, and tells what its events did. Where a file for the frames is named that can't be
-/// made, nothing is done, and nothing told: an output fails.
+/// Runs the script in a file or in the input, and prints the effects of its events. Returns the exit status: 0 or 1.
+/// Errors: those of `trace`, and of a file that can't be read, are reported on `err`. A bad script is explained below that
+/// where the arguments ask for it.
+/// Formats: The command line
 pub(crate) fn trace_file<
     T: Object<Alloc = Global>,
-    V: Vocabulary + Replies,
+    V: Vocabulary + ReplyVocabulary,
     R: Files + AllocGlobal,
     I: Read,
     O: Write,
     E: Write,
->(rt: &R, traced: Traced<'_>, input: &mut I, out: &mut O, err: &mut E) -> u8 {
-    let text = match text_of(rt, traced.file, input) {
+>(rt: &R, traced: TraceArguments<'_>, input: &mut I, out: &mut O, err: &mut E) -> u8 {
+    let text = match read_text(rt, traced.file, input) {
         Ok(text) => text,
-        Err(error) => return tell_unread(&error, false, err),
+        Err(error) => return report_unreadable(&error, traced.is_explained, err),
     };
-    let asked = asked_of(&traced);
-    let Some(path) = traced.frames else {
-        let mut sink = io::sink();
-        return trace_of::<T, V, _, _, _>(rt.alloc(), text.as_slice(), asked, out, &mut sink, err);
-    };
+    let status = trace_text::<T, V, R, O, E>(rt, &traced, text.as_slice(), out, err);
+    if status == FAILED && traced.is_explained {
+        explain::<V, E>(rt.alloc(), text.as_slice(), err);
+    }
+    status
+}
+
+/// Runs a script and prints the effects of its events. Then writes the frames that were sent to the file for them, if one is
+/// named.
+fn trace_text<
+    T: Object<Alloc = Global>,
+    V: Vocabulary + ReplyVocabulary,
+    R: Files + AllocGlobal,
+    O: Write,
+    E: Write,
+>(rt: &R, traced: &TraceArguments<'_>, text: &[u8], out: &mut O, err: &mut E) -> u8 {
+    let asked = asked_of(traced);
+    match traced.frames {
+        Some(path) => {
+            let mut sent = Vec::new(rt.alloc());
+            let status = trace_of::<T, V, _, _, _>(rt.alloc(), text, asked, out, &mut sent, err);
+            write_sent(rt, path, sent.as_slice(), status, err)
+        }
+        None => {
+            let mut sink = io::sink();
+            trace_of::<T, V, _, _, _>(rt.alloc(), text, asked, out, &mut sink, err)
+        }
+    }
+}
+
+/// Writes these frames to the file of this path, given the exit status of the trace that sent them. Returns the exit status.
+///
+/// The file is opened after the trace is printed: where standard output is closed, the file gets its number, and would get
+/// the trace. Where the trace failed and there are no frames, the file isn't touched.
+///
+/// Errors: after a trace that is printed, a file that can't be opened is reported on `err`. A failed writing is not reported.
+/// Formats: The command line
+fn write_sent<R: Files, E: Write>(rt: &R, path: &str, sent: &[u8], status: u8, err: &mut E) -> u8 {
+    if status == FAILED && sent.is_empty() {
+        return FAILED;
+    }
     match fs::create(rt, path) {
-        Ok(mut frames) => trace_of::<T, V, _, _, _>(
-            rt.alloc(),
-            text.as_slice(),
-            asked,
-            out,
-            &mut frames,
-            err,
-        ),
-        Err(_) => FAILED,
+        Ok(mut file) => match file.write_all(sent) {
+            Ok(()) => status,
+            Err(_) => FAILED,
+        },
+        Err(_) => {
+            report_unopened(path, status, err);
+            FAILED
+        }
+    }
+}
+
+/// Reports that the file for frames can't be opened, after a trace with this exit status. Where that failed too, the status
+/// alone says so.
+fn report_unopened<E: Write>(path: &str, status: u8, err: &mut E) {
+    if status == 0 {
+        let path = QuotedWord(path);
+        let _ = writeln!(err, "totem: {path} can't be opened to write the frames");
     }
 }

@@ -1,13 +1,16 @@
-//! The votes that a command line names.
+//! Parses the votes on a command line.
+//!
+//! Formats: The command line
 
 use arrayvec::ArrayVec;
 use ring_base::PROCESSORS;
 
-/// The votes of all nodes, in order: as many as there are nodes.
+/// The votes of all nodes, one number for each node, in the order of the nodes. It takes no heap memory.
 pub(crate) type VoteList = ArrayVec<u8, PROCESSORS>;
 
-/// The votes that a word names, parted by commas, or one each where there is no word. None unless there are as many as nodes, each
-/// 1 to 255.
+/// Returns the votes of the nodes: those in a word, separated by commas, or without a word one vote for each node. Returns
+/// `None` unless there is a number from 1 to 255 for each node.
+/// Formats: The command line
 pub(crate) fn votes_of(nodes: u8, word: Option<&str>) -> Option<VoteList> {
     let votes = match word {
         Some(word) => named_votes(word),
@@ -20,7 +23,7 @@ pub(crate) fn votes_of(nodes: u8, word: Option<&str>) -> Option<VoteList> {
     }
 }
 
-/// One vote for each node.
+/// Returns one vote for each node.
 fn even_votes(nodes: u8) -> Option<VoteList> {
     let mut votes = VoteList::new();
     for _ in 0..nodes {
@@ -29,7 +32,7 @@ fn even_votes(nodes: u8) -> Option<VoteList> {
     Some(votes)
 }
 
-/// The votes that a word names.
+/// Parses the votes in a word.
 fn named_votes(word: &str) -> Option<VoteList> {
     let mut votes = VoteList::new();
     for part in word.split(',') {
@@ -38,7 +41,7 @@ fn named_votes(word: &str) -> Option<VoteList> {
     Some(votes)
 }
 
-/// The votes of one node that a word names: 1 to 255.
+/// Parses the votes of one node, 1 to 255.
 fn vote_of(word: &str) -> Option<u8> {
     match word.parse::<u8>() {
         Ok(vote) if vote > 0 => Some(vote),

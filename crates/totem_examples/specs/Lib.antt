@@ -1,3 +1,3 @@
-pub mod LockWords
+pub mod LockVocabulary
 pub mod Locks
 pub mod LocksLaws

@@ -1,68 +1,68 @@
-//! A client of three nodes, the first of which is cut off from the others: its call is answered through the second one, and
-//! takes effect once.
+//! A client of three nodes, the first of which is cut off from the others. The client's call is answered through the second node,
+//! and takes effect once.
 //!
-//! Nodes 2 and 3 hear each other, and node 1 hears nobody. The client adds 5 to a counter. It submits the call at node 1
-//! first, which takes it and waits for a ring in vain, for a ring of one of three nodes is no majority. After all its polls
-//! there the client passes on, with the same call under the same number, to node 2: nodes 2 and 3 are a majority, and
-//! their ring answers. Then all hear each other again, and node 1 learns what was committed. The call that it still waits
-//! for stands there already, so it isn't sent a second time, and the counter that the client reads at node 1 is at 5.
+//! Nodes 2 and 3 hear each other, and node 1 hears nobody. The client adds 5 to a counter. It submits the call at node 1 first,
+//! which takes it and waits for a ring in vain: a ring of one of three nodes is no majority. After all its polls there the client
+//! passes on to node 2, with the same call under the same number. Nodes 2 and 3 are a majority, and their ring answers. Then all
+//! hear each other again, and node 1 learns the committed calls. The call that it still waits for is among them, so it isn't sent
+//! a second time, and the counter that the client reads at node 1 is at 5.
 
 use std::cell::RefCell;
 use std::io;
 use std::rc::Rc;
-use totem_threads::{
-    Client, Counters, Event, Fault, Fixed, Kind, Network, Object, Port, Proc, ProcSet, Replied,
-    Reply, Shared, World, WorldPort,
+use totem_ring::{
+    Client, Counters, Event, Fault, Fixed, Kind, Network, Object, Port, Proc, ProcSet, Reply,
+    ReplyParts, Shared, World, WorldPort,
 };
 
-/// How often the client polls a node at most.
+/// The most polls of a node for one call.
 const POLLS: u64 = 200;
 
-/// How many turns the network takes once all nodes hear each other again: enough for a ring of three.
+/// The number of turns that the network takes once all nodes hear each other again: enough for a ring of three.
 const TURNS: u32 = 400;
 
-/// What came of the client's calls.
+/// The results of the client's calls.
 #[derive(Clone, Copy)]
-struct RetryStory {
+struct RetrySummary {
     /// The number of polls of its first call at node 1, all of them in vain.
-    vain: u64,
-    /// The counter, as the add's reply tells it.
+    unanswered: u64,
+    /// The counter in the reply to the add.
     added: u64,
-    /// How many calls node 1 has committed once it hears the others again.
+    /// The number of calls that node 1 has committed once it hears the others again.
     committed: u64,
-    /// How many calls the order has then.
+    /// The number of calls in the order then.
     order: u64,
-    /// The counter, as it is read then.
+    /// The counter that is read then.
     read: u64,
 }
 
-/// Prints what comes of it.
-pub fn tell<R: AllocGlobal + Print>(rt: &R) -> io::Result<()> {
+/// Runs the scenario and prints its results.
+pub fn print_results<R: AllocGlobal + Print>(rt: &R) -> io::Result<()> {
     match call_twice::<Counters>(rt.alloc()) {
-        Ok(story) => tell_story(rt, &story),
+        Ok(summary) => print_summary(rt, &summary),
         Err(fault) => println!(rt; "{fault}"),
     }
 }
 
-/// Prints a story.
-fn tell_story<R: Print>(rt: &R, story: &RetryStory) -> io::Result<()> {
-    let RetryStory {
-        vain,
+/// Prints the results.
+fn print_summary<R: Print>(rt: &R, summary: &RetrySummary) -> io::Result<()> {
+    let RetrySummary {
+        unanswered,
         added,
         committed,
         order,
         read,
-    } = story;
+    } = summary;
     println!(rt;
         "Nodes 2 and 3 hear each other; node 1 hears nobody.\n\
-        The client adds 5 at node 1: {vain} polls, no answer.\n\
+        The client adds 5 at node 1: {unanswered} polls, no answer.\n\
         It tries the same call at node 2: the counter is at {added}.\n\
         All hear each other again: node 1 has committed {committed} call, and the order has {order}.\n\
         The client reads the counter at node 1: it is at {read}."
     )
 }
 
-/// A network of three nodes, of which this one hears nobody.
+/// Returns a network of three nodes in which the node `alone` hears nobody.
 pub fn cut_network<O: Object>(
     alloc: O::Alloc,
     fixed: Fixed,
@@ -93,7 +93,7 @@ fn add_ports<O: Object>(
     add_port(shared, second, ports)
 }
 
-/// A client with a port to each of two of its nodes.
+/// Returns a client with a port to each of two nodes.
 pub fn client_of<O: Object>(
     alloc: O::Alloc,
     shared: &Shared<O>,
@@ -105,18 +105,18 @@ pub fn client_of<O: Object>(
     Ok(Client::new(alloc, 7, ports, POLLS))
 }
 
-/// The calls, between which all nodes hear each other again, and what comes of them.
+/// Makes the calls, and lets all nodes hear each other in between. Returns the results.
 fn story_of<O: Object>(
     client: &mut Client<WorldPort<O>>,
     shared: &Shared<O>,
     first: Proc,
-) -> Result<RetryStory, Fault> {
+) -> Result<RetrySummary, Fault> {
     let added = client.call(Counters::add(0, 5).as_slice())?;
-    let vain = vain_polls(client);
+    let unanswered = unanswered_polls(client);
     let (committed, order) = heal(shared, first)?;
     let read = client.call(Counters::read(0).as_slice())?;
-    Ok(RetryStory {
-        vain,
+    Ok(RetrySummary {
+        unanswered,
         added: count_of(&added),
         committed,
         order,
@@ -124,39 +124,39 @@ fn story_of<O: Object>(
     })
 }
 
-/// The story of a client that tries these nodes.
+/// Runs the scenario with a client that tries these nodes.
 fn call_over<O: Object>(
     alloc: O::Alloc,
     shared: &Shared<O>,
     first: Proc,
     second: Proc,
-) -> Result<RetryStory, Fault> {
+) -> Result<RetrySummary, Fault> {
     let mut client = client_of(alloc, shared, first, second)?;
-    let story = story_of(&mut client, shared, first);
+    let summary = story_of(&mut client, shared, first);
     drop(client);
-    story
+    summary
 }
 
-/// The story of three nodes at their opening.
-fn call_twice<O: Object>(alloc: O::Alloc) -> Result<RetryStory, Fault> {
+/// Runs the scenario on three nodes at their opening.
+fn call_twice<O: Object>(alloc: O::Alloc) -> Result<RetrySummary, Fault> {
     let fixed = Fixed::new(3)?;
     let (first, second) = (fixed.proc(1)?, fixed.proc(2)?);
     let shared = cut_network::<O>(alloc, fixed, first)?;
-    let story = call_over(alloc, &shared, first, second);
+    let summary = call_over(alloc, &shared, first, second);
     drop(shared);
-    story
+    summary
 }
 
-/// How often the first of the client's nodes was polled for its last call, if all these polls were in vain.
-fn vain_polls<P: Port>(client: &Client<P>) -> u64 {
+/// Returns the number of polls of the client's first node for the last call, if all of them were in vain; else 0.
+fn unanswered_polls<P: Port>(client: &Client<P>) -> u64 {
     match client.ports().first() {
         Some(port) if port.asked().answer.is_none() => port.asked().polls,
         _ => 0,
     }
 }
 
-/// All nodes hear each other again: this one calls for the others, and the network takes its turns. How many calls the node
-/// has committed then, and how many the order has.
+/// Lets all nodes hear each other again: this one calls for the others, and the network takes its turns. Returns the number of
+/// calls that the node has committed then, and the number in the order.
 fn heal<O: Object>(shared: &Shared<O>, node: Proc) -> Result<(u64, u64), Fault> {
     let Ok(mut network) = shared.try_borrow_mut() else {
         return Err(Fault::NoAnswer);
@@ -164,11 +164,11 @@ fn heal<O: Object>(shared: &Shared<O>, node: Proc) -> Result<(u64, u64), Fault> 
     settle(&mut *network, node)
 }
 
-/// The same of a network.
+/// Does the same on a borrowed network.
 fn settle<O: Object>(network: &mut Network<O>, node: Proc) -> Result<(u64, u64), Fault> {
     let everybody = network.world().fixed().everybody();
     network.cut(everybody);
-    network.happen(Event::Timeout(node, Kind::Join))?;
+    network.run_event(Event::Timeout(node, Kind::Join))?;
     for _ in 0..TURNS {
         network.turn()?;
     }
@@ -177,11 +177,11 @@ fn settle<O: Object>(network: &mut Network<O>, node: Proc) -> Result<(u64, u64),
     Ok((world.node(node).committed_len(), world.order_len()))
 }
 
-/// The count that a counter's reply tells, 0 where it tells none.
+/// Returns the count in a counter's reply, 0 where it has none.
 pub fn count_of(reply: &Reply) -> u64 {
-    match Replied::read(reply.as_slice()) {
+    match ReplyParts::read(reply.as_slice()) {
         Some(
-            Replied {
+            ReplyParts {
                 value: Some(count),
                 ..
             },

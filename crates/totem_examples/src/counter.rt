@@ -1,15 +1,17 @@
-//! A node of a ring and an object, driven from a program of one's own: a client's call goes round and is answered.
+//! A node of a ring with an object, driven from a user's program: a client's call goes round the ring and is answered.
 //!
-//! The node is alone in its group, so all that it sends comes back to it: as bytes, as a network would carry it.
+//! The node is alone in its group, so all its frames come back to it: as bytes, as a network would carry them.
 
 use std::io;
-use totem_threads::{Answer, Counters, Driver, Fault, Fixed, Kind, Letter, Object, Replied, Reply};
+use totem_ring::{
+    Answer, Counters, Driver, Fault, Fixed, Kind, Object, Reply, ReplyParts, ValidFrame,
+};
 
-/// The letters that the node is handed: four form its ring, and the call is answered two later.
+/// The number of frames handed to the node: four form its ring, and two more bring the call's answer.
 const LETTERS: usize = 6;
 
-/// Prints the counter, as the node's answer tells it.
-pub fn tell<R: AllocGlobal + Print>(rt: &R) -> io::Result<()> {
+/// Prints the counter in the node's answer.
+pub fn print_results<R: AllocGlobal + Print>(rt: &R) -> io::Result<()> {
     match count::<Counters>(rt.alloc()) {
         Ok(Some(count)) => println!(rt; "the counter is at {count}"),
         Ok(None) => println!(rt; "no reply"),
@@ -17,7 +19,7 @@ pub fn tell<R: AllocGlobal + Print>(rt: &R) -> io::Result<()> {
     }
 }
 
-/// The count that the call is answered with, if it is.
+/// Returns the counter in the call's answer, if there is one.
 fn count<O: Object>(alloc: O::Alloc) -> Result<Option<u64>, Fault> {
     match &answered::<O>(alloc)? {
         Some(Answer::Done(reply)) => Ok(count_of(reply)),
@@ -25,21 +27,21 @@ fn count<O: Object>(alloc: O::Alloc) -> Result<Option<u64>, Fault> {
     }
 }
 
-/// The value that a reply tells.
+/// Returns the value in a reply.
 fn count_of(reply: &Reply) -> Option<u64> {
-    Replied::read(reply.as_slice())?.value
+    ReplyParts::read(reply.as_slice())?.value
 }
 
-/// Hands the node the first letter of those that it sent.
+/// Hands the node the first frame that it has sent.
 fn pass_round<O: Object>(alloc: O::Alloc, node: &mut Driver<O>) -> Result<(), Fault> {
-    let Some((_, letter)) = node.next_send() else {
+    let Some((_, valid_frame)) = node.next_send() else {
         return Ok(());
     };
-    let bytes = letter.bytes(alloc)?;
-    node.hear(Letter::read(alloc, bytes.as_slice())?)
+    let bytes = valid_frame.bytes(alloc)?;
+    node.receive(ValidFrame::read(alloc, bytes.as_slice())?)
 }
 
-/// Submits client 7's call number 1, which adds 5 to counter 0, and hands the node its own letters until it is answered.
+/// Submits call 1 of client 7, which adds 5 to counter 0, and hands the node its own frames until the call is answered.
 fn ask<O: Object>(alloc: O::Alloc, node: &mut Driver<O>) -> Result<Option<Answer>, Fault> {
     let ticket = node.submit(7, 1, Counters::add(0, 5).as_slice())?;
     node.timeout(Kind::Join)?;
@@ -49,7 +51,7 @@ fn ask<O: Object>(alloc: O::Alloc, node: &mut Driver<O>) -> Result<Option<Answer
     Ok(node.reply(ticket))
 }
 
-/// The answer of a node at its opening.
+/// Runs `ask` on a node at its opening.
 fn answered<O: Object>(alloc: O::Alloc) -> Result<Option<Answer>, Fault> {
     let mut node = Driver::<O>::new(alloc, Fixed::new(1)?, 1)?;
     let answer = ask(alloc, &mut node);

@@ -1,13 +1,21 @@
-//! Examples that are data: each is a file that is run, and beside it what that must print. A line is printed for each.
+//! Examples that are data: each is a file to run, with its expected output beside it. A line is printed for each.
 //!
-//! `NAME.script` is run, `NAME.check` is run and its order compared with what clients saw, `NAME.sweep` is swept: run with a
-//! stop and a cut of each node before each event. `NAME.frames` is listed: frames in hexadecimal, with comments in lines that
-//! begin with `#`. `NAME.words` has the words of a command line of the program `totem`, one a line. `NAME.legal` is swept too,
-//! and of what it prints the end alone is compared. `NAME.explain` is run by `totem script --explain`. `NAME.out` has what must
-//! stand on standard output, of a `NAME.legal` what must stand at its end; and `NAME.fault` the exit status, a space, and what must
-//! stand on standard error; `...` for whatever a parser of command lines says. Where one of these is missing, nothing may stand
-//! there, and the exit status is 0. `NAME.trace` and `NAME.svg` are what `totem trace` must print of `NAME.script`, as text and as
-//! a picture.
+//! - `NAME.script` is run.
+//! - `NAME.check` is run, and its order is checked against its history.
+//! - `NAME.sweep` is swept: run with a stop and a cut of each node before each event.
+//! - `NAME.legal` is swept too, but only the end of the output is compared.
+//! - `NAME.frames` is listed: frames in hexadecimal, with comments in lines that begin with `#`.
+//! - `NAME.words` has the words of a command line of the program `totem`, one a line.
+//! - `NAME.explain` is run by `totem script --explain`.
+//! - `NAME.trace` and `NAME.svg` are the expected output of `totem trace` for `NAME.script`, as text and as a picture.
+//! - `NAME.out` is the expected standard output; of a `NAME.legal` its expected end.
+//! - `NAME.fault` has the expected exit status, a space, and the expected standard error. `2 ...` stands for a bad command line
+//!   with any message.
+//!
+//! Where `NAME.out` is missing, standard output must be empty. Where `NAME.fault` is missing, standard error must be empty and
+//! the exit status 0.
+//!
+//! Formats: The command line
 
 use ring_sweep::{BAD_COMMAND_LINE, frames, script, script_check, sweep};
 use std::alloc::Global;
@@ -19,10 +27,13 @@ use std::time::Clock;
 use std::{fs, io, str};
 use totem_command::run;
 
-/// The folder of the examples: the one that the program runs in.
+/// The `.fault` of a bad command line whose message isn't compared.
+const ANY_MESSAGE: &[u8] = b"2 ...";
+
+/// The folder of the examples: the one in which the program runs.
 const FOLDER: &str = ".";
 
-/// What is done with an example.
+/// The kind of an example.
 #[derive(Clone, Copy)]
 enum Kind {
     Script,
@@ -36,7 +47,7 @@ enum Kind {
     Picture,
 }
 
-/// In this order.
+/// The kinds, in the order in which they are run.
 const KINDS: [Kind; 9] = [
     Kind::Script,
     Kind::Check,
@@ -50,7 +61,7 @@ const KINDS: [Kind; 9] = [
 ];
 
 impl Kind {
-    /// What the name of such an example ends with.
+    /// Returns the ending of the names of such examples.
     fn ending(self) -> &'static str {
         match self {
             Kind::Script => ".script",
@@ -66,8 +77,8 @@ impl Kind {
     }
 }
 
-/// Runs these examples, prints a line for each, those of a kind in alphabetical order, and tells whether all printed what they
-/// must.
+/// Runs the examples and prints a line for each, those of a kind in alphabetical order. Returns whether all printed the expected
+/// output.
 pub fn run_all<R: Files + AllocGlobal + Print + Threads + Wait + Clock + Sync + Clone + Drop>(
     rt: &R,
 ) -> io::Result<bool> {
@@ -79,7 +90,7 @@ pub fn run_all<R: Files + AllocGlobal + Print + Threads + Wait + Clock + Sync + 
     Ok(are_right)
 }
 
-/// The same of those of one kind.
+/// Runs the examples of one kind.
 fn run_each<R: Files + AllocGlobal + Print + Threads + Wait + Clock + Sync + Clone + Drop>(
     rt: &R,
     kind: Kind,
@@ -93,26 +104,26 @@ fn run_each<R: Files + AllocGlobal + Print + Threads + Wait + Clock + Sync + Clo
     Ok(are_right)
 }
 
-/// The same of the one of this name.
+/// Runs the example of this kind and name.
 fn run_one<R: Files + AllocGlobal + Print + Threads + Wait + Clock + Sync>(
     rt: &R,
     name: &str,
     kind: Kind,
 ) -> io::Result<bool> {
-    let is_right = prints_as_told(rt, name, kind)?;
+    let is_right = prints_as_expected(rt, name, kind)?;
     let word = if is_right { "right" } else { "wrong" };
     println!(rt; "{name}: {word}")?;
     Ok(is_right)
 }
 
-/// The names of the examples of this kind, in alphabetical order.
+/// Returns the names of the examples of this kind, in alphabetical order.
 fn names_of<R: Files + AllocGlobal + Clone + Drop>(rt: &R, kind: Kind) -> io::Result<Vec<String>> {
     let mut names = Vec::new(rt.alloc());
     add_names(rt, kind, &mut names)?;
     Ok(names)
 }
 
-/// Adds them.
+/// Adds the names of the examples of this kind.
 fn add_names<R: Files + AllocGlobal + Clone + Drop>(
     rt: &R,
     kind: Kind,
@@ -125,7 +136,7 @@ fn add_names<R: Files + AllocGlobal + Clone + Drop>(
     Ok(names.sort()?)
 }
 
-/// Adds the name of an example of this kind, where a file's name is that of one.
+/// Adds the name of an example, where the file's name is that of an example of this kind.
 fn add_name(alloc: Global, file: &str, kind: Kind, names: &mut Vec<String>) -> io::Result<()> {
     match file.strip_suffix(kind.ending()) {
         Some(name) => add_word(alloc, name, names),
@@ -133,47 +144,47 @@ fn add_name(alloc: Global, file: &str, kind: Kind, names: &mut Vec<String>) -> i
     }
 }
 
-/// What an example prints: what stands on standard output and on standard error, and the exit status.
+/// The output of an example: standard output, standard error, and the exit status.
 #[derive(Drop)]
-struct Printed {
+struct ExampleOutput {
     out: Vec<u8>,
     err: Vec<u8>,
     status: u8,
 }
 
-/// Whether the example of this name prints just what it must.
-fn prints_as_told<R: Files + AllocGlobal + Threads + Wait + Clock + Sync>(
+/// Returns whether the example of this name prints exactly the expected output.
+fn prints_as_expected<R: Files + AllocGlobal + Threads + Wait + Clock + Sync>(
     rt: &R,
     name: &str,
     kind: Kind,
 ) -> io::Result<bool> {
     let input = read(rt, name, kind.ending())?;
     let alloc = rt.alloc();
-    let mut printed = Printed {
+    let mut printed = ExampleOutput {
         out: Vec::new(alloc),
         err: Vec::new(alloc),
         status: 0,
     };
     let (out, err) = (&mut printed.out, &mut printed.err);
     printed.status = run_as(rt, kind, name, input.as_slice(), out, err)?;
-    is_as_told(rt, kind, name, input.as_slice(), &printed)
+    is_as_expected(rt, kind, name, input.as_slice(), &printed)
 }
 
-/// Whether just this must be printed of an example of this kind and name whose file has these bytes.
-fn is_as_told<R: Files + AllocGlobal>(
+/// Returns whether this is exactly the expected output of an example of this kind and name whose file has these bytes.
+fn is_as_expected<R: Files + AllocGlobal>(
     rt: &R,
     kind: Kind,
     name: &str,
     input: &[u8],
-    printed: &Printed,
+    printed: &ExampleOutput,
 ) -> io::Result<bool> {
-    let is_out = is_out_told(rt, kind, name, input, printed.out.as_slice())?;
-    let is_fault = is_fault_told(rt, name, printed)?;
+    let is_out = is_output_expected(rt, kind, name, input, printed.out.as_slice())?;
+    let is_fault = is_error_expected(rt, name, printed)?;
     Ok(is_out && is_fault)
 }
 
-/// Whether this must stand on standard output.
-fn is_out_told<R: Files + AllocGlobal>(
+/// Returns whether this is the expected standard output.
+fn is_output_expected<R: Files + AllocGlobal>(
     rt: &R,
     kind: Kind,
     name: &str,
@@ -190,18 +201,21 @@ fn is_out_told<R: Files + AllocGlobal>(
     })
 }
 
-/// Whether this must stand on standard error, and the exit status is right.
-fn is_fault_told<R: Files + AllocGlobal>(
+/// Returns whether this is the expected standard error, and the exit status is right.
+fn is_error_expected<R: Files + AllocGlobal>(
     rt: &R,
     name: &str,
-    printed: &Printed,
+    printed: &ExampleOutput,
 ) -> io::Result<bool> {
     let wanted = read_any(rt, name, ".fault")?;
+    if wanted.as_slice() == ANY_MESSAGE {
+        return Ok(printed.status == BAD_COMMAND_LINE && !printed.err.is_empty());
+    }
     let fault = fault_of(rt.alloc(), printed)?;
     Ok(fault.as_slice() == wanted.as_slice())
 }
 
-/// Does what is done with an example of this kind and name whose file has these bytes.
+/// Runs an example of this kind and name whose file has these bytes.
 fn run_as<R: Files + AllocGlobal + Threads + Wait + Clock + Sync>(
     rt: &R,
     kind: Kind,
@@ -221,20 +235,20 @@ fn run_as<R: Files + AllocGlobal + Threads + Wait + Clock + Sync>(
     }
 }
 
-/// Lists the frames that a text spells.
+/// Lists the frames that a text has in hexadecimal.
 fn list(
     alloc: Global,
     text: &[u8],
     mut out: &mut dyn Write,
     mut err: &mut dyn Write,
 ) -> io::Result<u8> {
-    let bytes = spelled(alloc, text)?;
+    let bytes = decode_hex(alloc, text)?;
     let mut bytes = bytes.as_slice();
     let mut input: &mut dyn Read = &mut bytes;
     Ok(frames(alloc, &mut input, &mut out, &mut err))
 }
 
-/// Tries a command line of the program on the example of this name.
+/// Runs a command line of the program on the example of this name.
 fn try_on<R: Files + AllocGlobal + Threads + Wait + Clock + Sync>(
     rt: &R,
     kind: Kind,
@@ -251,7 +265,7 @@ fn try_on<R: Files + AllocGlobal + Threads + Wait + Clock + Sync>(
     Ok(command(rt, text.as_bytes(), out, err))
 }
 
-/// Does what the words of a command line ask for, of which a text has one in a line. There is no input.
+/// Runs the command line whose words are the lines of a text, with an empty input.
 fn command<R: Files + AllocGlobal + Threads + Wait + Clock + Sync>(
     rt: &R,
     text: &[u8],
@@ -265,7 +279,7 @@ fn command<R: Files + AllocGlobal + Threads + Wait + Clock + Sync>(
     run(rt, &words, &mut input, &mut out, &mut err, nobody)
 }
 
-/// The words of a command line, the program's own name first.
+/// Returns the words of the command line in a text, with the program's own name first.
 fn words_in(alloc: Global, text: &[u8]) -> io::Result<Vec<String>> {
     let Ok(text) = str::from_utf8(text) else {
         return Err(Error::from(ErrorKind::InvalidData));
@@ -276,7 +290,7 @@ fn words_in(alloc: Global, text: &[u8]) -> io::Result<Vec<String>> {
     Ok(words)
 }
 
-/// Adds the words of a text, of which a line has one.
+/// Adds the lines of a text as words.
 fn add_words(alloc: Global, text: &str, words: &mut Vec<String>) -> io::Result<()> {
     for word in text.lines() {
         add_word(alloc, word, words)?;
@@ -289,60 +303,56 @@ fn add_word(alloc: Global, word: &str, words: &mut Vec<String>) -> io::Result<()
     Ok(words.push(String::from_str(alloc, word)?)?)
 }
 
-/// The bytes that a text spells in hexadecimal, but for its comments.
-fn spelled(alloc: Global, text: &[u8]) -> io::Result<Vec<u8>> {
+/// Decodes the hexadecimal of a text, without its comments.
+fn decode_hex(alloc: Global, text: &[u8]) -> io::Result<Vec<u8>> {
     let Ok(text) = str::from_utf8(text) else {
         return Err(Error::from(ErrorKind::InvalidData));
     };
     let mut bytes = Vec::new(alloc);
-    spell_all(alloc, text, &mut bytes)?;
+    decode_hex_lines(alloc, text, &mut bytes)?;
     Ok(bytes)
 }
 
-/// Adds the bytes that the lines of a text spell, but for its comments.
-fn spell_all(alloc: Global, text: &str, bytes: &mut Vec<u8>) -> io::Result<()> {
+/// Adds the bytes of the lines of a text, without its comments.
+fn decode_hex_lines(alloc: Global, text: &str, bytes: &mut Vec<u8>) -> io::Result<()> {
     for line in text.lines() {
         if !line.starts_with("#") {
-            spell(alloc, line, bytes)?;
+            decode_hex_line(alloc, line, bytes)?;
         }
     }
     Ok(())
 }
 
-/// Adds the bytes that a line spells.
-fn spell(alloc: Global, line: &str, bytes: &mut Vec<u8>) -> io::Result<()> {
+/// Adds the bytes of one line.
+fn decode_hex_line(alloc: Global, line: &str, bytes: &mut Vec<u8>) -> io::Result<()> {
     match hex::decode(alloc, line) {
         Ok(more) => Ok(bytes.extend_from_slice(more.as_slice())?),
         Err(_) => Err(Error::from(ErrorKind::InvalidData)),
     }
 }
 
-/// What a `.fault` has of this: nothing where nothing stands on standard error and the exit status is 0.
-fn fault_of(alloc: Global, printed: &Printed) -> io::Result<Vec<u8>> {
+/// Returns the text of a `.fault` for this output: empty where standard error is empty and the exit status is 0.
+fn fault_of(alloc: Global, printed: &ExampleOutput) -> io::Result<Vec<u8>> {
     let mut fault = Vec::new(alloc);
     if printed.status != 0 || !printed.err.is_empty() {
-        tell_fault(printed, &mut fault)?;
+        write_fault(printed, &mut fault)?;
     }
     Ok(fault)
 }
 
-/// Adds the exit status, a space, and what stands on standard error; `...` for what a parser of command lines says.
-fn tell_fault(printed: &Printed, fault: &mut Vec<u8>) -> io::Result<()> {
+/// Adds the exit status, a space, and standard error.
+fn write_fault(printed: &ExampleOutput, fault: &mut Vec<u8>) -> io::Result<()> {
     write!(fault, "{} ", printed.status)?;
-    if printed.status == BAD_COMMAND_LINE && !printed.err.is_empty() {
-        fault.write_all(b"...")
-    } else {
-        fault.write_all(printed.err.as_slice())
-    }
+    fault.write_all(printed.err.as_slice())
 }
 
-/// The bytes of the file of this name and ending.
+/// Reads the file of this name and ending.
 fn read<R: Files + AllocGlobal>(rt: &R, name: &str, ending: &str) -> io::Result<Vec<u8>> {
     let path = format!(in rt.alloc(); "{name}{ending}")?;
     fs::read(rt, path.as_str())
 }
 
-/// The same; none where there is no such file.
+/// Reads the file of this name and ending; none where there is no such file.
 fn read_any<R: Files + AllocGlobal>(rt: &R, name: &str, ending: &str) -> io::Result<Vec<u8>> {
     match read(rt, name, ending) {
         Err(error) if error.kind() == ErrorKind::NotFound => Ok(Vec::new(rt.alloc())),

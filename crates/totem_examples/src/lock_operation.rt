@@ -1,32 +1,32 @@
-//! What may be asked of a lock table.
+//! The operations of a lock table.
 
 ghost use Rattle.std.specs.Prelude.{◌≡◌, Some};
-ghost use Rattle.totem_examples.specs.Locks.{parts_of, reading, spelling};
+ghost use Rattle.totem_examples.specs.Locks.{parts_of, decoding, encoding};
 
-use totem_ring::{Keyed, Operation};
+use totem_ring::{KeyedOperation, Operation};
 
-/// What may be asked of a lock table: 256 locks, numbered from 0. A holder is a number, and the number 0 is nobody.
+/// An operation on a lock table, which has 256 locks, numbered from 0. A holder is a number; the number 0 is nobody.
 #[derive(Clone, Copy, Debug, PartialEq, Eq)]
 pub enum LockOperation {
-    /// This lock, for this holder.
+    /// Acquires this lock for this holder.
     Acquire(u8, u64),
-    /// This lock, which this holder has.
+    /// Releases this lock, which this holder has.
     Release(u8, u64),
-    /// Who has this lock.
+    /// Asks for the holder of this lock.
     Holder(u8),
 }
 
 impl LockOperation {
-    /// The operation's bytes, which are read as it.
+    /// Returns the operation's bytes, from which `read` gives it back.
     #[tactic(auto, using(crate::specs::LocksLaws::parts_read))]
-    pub fn spell(self) -> Operation
-        ensures bytes { result ≡ spelling self }
-        ensures read { reading result ≡ Some self }
+    pub fn encode(self) -> Operation
+        ensures bytes { result ≡ encoding self }
+        ensures read { decoding result ≡ Some self }
     {
-        self.parts().spell()
+        self.parts().encode()
     }
 
-    fn parts(self) -> Keyed
+    fn parts(self) -> KeyedOperation
         ensures { result ≡ parts_of self }
     {
         let (code, key, value) = match self {
@@ -34,14 +34,14 @@ impl LockOperation {
             LockOperation::Release(lock, holder) => (2, lock, Some(holder)),
             LockOperation::Holder(lock) => (3, lock, None),
         };
-        Keyed { code, key, value }
+        KeyedOperation { code, key, value }
     }
 
-    /// The operation that the bytes are.
+    /// Decodes an operation; none where the bytes encode none.
     pub fn read(op: &[u8]) -> Option<LockOperation>
-        ensures { result ≡ reading op.now }
+        ensures { result ≡ decoding op.now }
     {
-        let Keyed { code, key, value } = Keyed::read(op)?;
+        let KeyedOperation { code, key, value } = KeyedOperation::read(op)?;
         match (code, value) {
             (1, Some(holder)) => Some(LockOperation::Acquire(key, holder)),
             (2, Some(holder)) => Some(LockOperation::Release(key, holder)),

@@ -1,24 +1,24 @@
-//! The lock table on three nodes on threads of their own, of which one has stopped, and two clients that ask for locks from threads of
-//! theirs: for the same ten locks, of which each gets some.
+//! The lock table on three nodes on threads, one of which has stopped. Two clients on threads ask for the same ten locks, and
+//! each gets some of them.
 
 use crate::lock_operation::LockOperation;
 use crate::locks::Locks;
 use std::io;
 use std::sync::Wait;
 use std::thread::Threads;
-use totem_threads::{Caller, Client, Fault, Fixed, Object, Port, run_callers};
+use totem_ring::{Caller, Client, Fault, Fixed, Object, Port, run_callers};
 
-/// How often a client tries a call anew at most that none of the nodes has answered: they may still be forming their ring.
+/// The most times that a client tries again a call that no node has answered: the nodes may still be forming their ring.
 const TRIES: u64 = 1_000;
 
-/// A client that asks for ten locks: for which holder, and the node that it tries first.
+/// A client that asks for ten locks for `holder`; `first` is the node that it tries first.
 #[derive(Drop)]
-struct Asker {
+struct LockCaller {
     holder: u64,
     first: u8,
 }
 
-impl Caller for Asker {
+impl Caller for LockCaller {
     ghost first = { λ asker. asker.first };
 
     fn first_node(&self) -> u8 {
@@ -27,7 +27,7 @@ impl Caller for Asker {
 
     fn make_calls<P: Port>(&self, client: &mut Client<P>) {
         for lock in 0..10u8 {
-            let acquire = LockOperation::Acquire(lock, self.holder).spell();
+            let acquire = LockOperation::Acquire(lock, self.holder).encode();
             if client.until_answered(acquire.as_slice(), TRIES).is_err() {
                 return;
             }
@@ -35,7 +35,7 @@ impl Caller for Asker {
     }
 }
 
-/// How many calls the one order has at the end.
+/// Returns the number of calls in the one order at the end.
 fn count<O: Object + Send, W: Threads + Wait + Sync>(
     rt: &W,
     alloc: O::Alloc,
@@ -45,11 +45,11 @@ where
 {
     let group = Fixed::new(3)?;
     let clients = [
-        Asker {
+        LockCaller {
             holder: 11,
             first: 1,
         },
-        Asker {
+        LockCaller {
             holder: 22,
             first: 3,
         },
@@ -60,8 +60,8 @@ where
     Ok(count)
 }
 
-/// Prints it.
-pub fn tell<R: AllocGlobal + Print + Threads + Wait + Sync>(rt: &R) -> io::Result<()> {
+/// Prints the number of calls.
+pub fn print_results<R: AllocGlobal + Print + Threads + Wait + Sync>(rt: &R) -> io::Result<()> {
     match count::<Locks, _>(rt, rt.alloc()) {
         Ok(count) => {
             println!(rt;

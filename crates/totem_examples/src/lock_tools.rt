@@ -1,6 +1,6 @@
-//! The lock table's own program, which has the commands of the program `totem` by its own words, and what it prints of a script.
+//! The lock table's own program, which has the commands of the program `totem` with its own words, and the output for a script.
 
-use crate::lock_words::LockWords;
+use crate::lock_vocabulary::LockVocabulary;
 use crate::locks::Locks;
 use std::alloc::Global;
 use std::io::{Read, Write};
@@ -21,8 +21,8 @@ const SCRIPT: &str = "nodes 3\n\
     call 2 7 2 raw 01070000000000000016\n\
     pump 100\n";
 
-/// Does what the words of a command line ask for, the program's own name being the first, and answers the exit status. Reader and
-/// writers come as `dyn`, so that all commands are compiled for one of each.
+/// Runs the command of these words, the first of which is the program's own name. Returns the exit status. Reader and writers are
+/// `dyn`, so that all commands are compiled for one of each.
 pub fn run<R: Files + AllocGlobal + Threads + Wait + Clock + Sync>(
     rt: &R,
     words: &io::Result<Vec<String>>,
@@ -31,30 +31,32 @@ pub fn run<R: Files + AllocGlobal + Threads + Wait + Clock + Sync>(
     mut err: &mut dyn Write,
 ) -> u8 {
     let nobody: Option<&mut Vec<u8>> = None;
-    run_of::<Locks, LockWords, _, _, _, _, _>(rt, words, &mut input, &mut out, &mut err, nobody)
+    run_of::<Locks, LockVocabulary, _, _, _, _, _>(
+        rt, words, &mut input, &mut out, &mut err, nobody,
+    )
 }
 
-/// Prints what the program prints of the script; whether the script is legal with a stop or a cut of each node before any of its
-/// events; the same of scripts that are made; and what a trace tells of replies.
-pub fn tell<R: Files + AllocGlobal + Print + Threads + Wait + Clock + Sync>(
+/// Prints four outputs of the program: of the script; of a sweep of it, with a stop or a cut of each node before any event; of
+/// made scripts; and the replies in a trace.
+pub fn print_results<R: Files + AllocGlobal + Print + Threads + Wait + Clock + Sync>(
     rt: &R,
 ) -> io::Result<()> {
     let script = SCRIPT.as_bytes();
-    tell_run(rt, script)?;
-    tell_last(
+    print_run(rt, script)?;
+    print_last_line(
         rt,
         "A stop or a cut before any event",
         "locks sweep -",
         script,
     )?;
-    tell_made(rt)?;
+    print_generated(rt)?;
     let seeds = "locks explore --nodes 3 --seeds 1..9 --events 100";
-    tell_last(rt, "The scripts of nine seeds", seeds, &[])?;
-    tell_traced(rt, script)
+    print_last_line(rt, "The scripts of nine seeds", seeds, &[])?;
+    print_trace(rt, script)
 }
 
-/// Prints what the program prints of the script.
-fn tell_run<R: Files + AllocGlobal + Print + Threads + Wait + Clock + Sync>(
+/// Prints the program's output for the script.
+fn print_run<R: Files + AllocGlobal + Print + Threads + Wait + Clock + Sync>(
     rt: &R,
     script: &[u8],
 ) -> io::Result<()> {
@@ -62,13 +64,13 @@ fn tell_run<R: Files + AllocGlobal + Print + Threads + Wait + Clock + Sync>(
     print!(rt; "{}", text_of(&run))
 }
 
-/// Prints whether a script that is made is legal.
-fn tell_made<R: Files + AllocGlobal + Print + Threads + Wait + Clock + Sync>(
+/// Prints whether a made script is legal.
+fn print_generated<R: Files + AllocGlobal + Print + Threads + Wait + Clock + Sync>(
     rt: &R,
 ) -> io::Result<()> {
     let made = printed(rt, "locks gen --nodes 3 --seed 1 --events 100", &[]);
     let script = made.as_slice();
-    tell_last(
+    print_last_line(
         rt,
         "The script that seed 1 makes",
         "locks script --check -",
@@ -76,17 +78,17 @@ fn tell_made<R: Files + AllocGlobal + Print + Threads + Wait + Clock + Sync>(
     )
 }
 
-/// Prints what a trace of the script tells of replies.
-fn tell_traced<R: Files + AllocGlobal + Print + Threads + Wait + Clock + Sync>(
+/// Prints the replies in a trace of the script.
+fn print_trace<R: Files + AllocGlobal + Print + Threads + Wait + Clock + Sync>(
     rt: &R,
     script: &[u8],
 ) -> io::Result<()> {
     let traced = printed(rt, "locks trace -", script);
-    tell_replies(rt, text_of(&traced))
+    print_replies(rt, text_of(&traced))
 }
 
-/// Prints the last line of what the program prints, and of what it says so.
-fn tell_last<R: Files + AllocGlobal + Print + Threads + Wait + Clock + Sync>(
+/// Prints the last line of the program's output, with a title.
+fn print_last_line<R: Files + AllocGlobal + Print + Threads + Wait + Clock + Sync>(
     rt: &R,
     of: &str,
     line: &str,
@@ -96,7 +98,7 @@ fn tell_last<R: Files + AllocGlobal + Print + Threads + Wait + Clock + Sync>(
     println!(rt; "{of}: {}", last_line(&told))
 }
 
-/// What the program prints on standard output, of a command line and an input.
+/// Returns the program's standard output for a command line and an input.
 fn printed<R: Files + AllocGlobal + Threads + Wait + Clock + Sync>(
     rt: &R,
     line: &str,
@@ -109,7 +111,7 @@ fn printed<R: Files + AllocGlobal + Threads + Wait + Clock + Sync>(
     out
 }
 
-/// The words of a command line, parted by spaces.
+/// Splits a command line at spaces into its words.
 fn words_in(alloc: Global, line: &str) -> io::Result<Vec<String>> {
     let mut words = Vec::new(alloc);
     add_words(alloc, line, &mut words)?;
@@ -124,18 +126,18 @@ fn add_words(alloc: Global, line: &str, words: &mut Vec<String>) -> io::Result<(
     Ok(())
 }
 
-/// What was printed, as text.
+/// Returns the output as text.
 fn text_of(printed: &Vec<u8>) -> &str {
     str::from_utf8(printed.as_slice()).unwrap_or("no text")
 }
 
-/// The last line of what was printed.
+/// Returns the last line of the output.
 fn last_line(printed: &Vec<u8>) -> &str {
     text_of(printed).lines().last().unwrap_or("nothing")
 }
 
-/// Prints what a trace tells of replies.
-fn tell_replies<R: Print>(rt: &R, trace: &str) -> io::Result<()> {
+/// Prints the replies in a trace.
+fn print_replies<R: Print>(rt: &R, trace: &str) -> io::Result<()> {
     for line in trace.lines() {
         for part in line.split("; node ") {
             if part.contains(" answers ") {

@@ -5,15 +5,17 @@ ghost use Rattle.std.specs.Prelude.{◌≡◌};
 use crate::lock_operation::LockOperation;
 use std::alloc::{Allocator, Global};
 use std::marker::Model;
-use totem_ring::{Fault, Object, Replied, Reply, Table, done, done_with, refused_with, reply_of};
+use totem_ring::{
+    Fault, Object, Reply, ReplyParts, Table, done, done_with, refused_with, reply_of,
+};
 
-/// 256 locks, at the start all free. Each is free or has a holder.
+/// A table of 256 locks, all free at the start. Each is free or has a holder.
 ///
 /// | Operation | Reply |
 /// |---|---|
-/// | acquire | done, where the lock was free or the holder's already; else not done, and who has it |
-/// | release | done, where the lock was the holder's, and it is free; else not done, and who has it |
-/// | holder | done, and who has the lock, 0 where it is free |
+/// | acquire | done where the lock was free or the holder's already; else refused, with the holder |
+/// | release | done where the lock was the holder's, and it is free now; else refused, with the holder |
+/// | holder | done, with the holder, 0 where the lock is free |
 #[derive(Drop)]
 pub struct Locks<A: Allocator + Copy = Global> {
     holders: Table<A>,
@@ -30,24 +32,24 @@ impl<A: Allocator + Copy> Model for Locks<A> {
 impl<A: Allocator + Copy + Drop> Object for Locks<A> {
     ghost use Rattle.totem_ring.specs.Table.{IsTable, zeros_IsTable, zeros, snapshot_of, table_of, tables_restore};
     ghost use Rattle.totem_ring.specs.Typed.{typed, is_read, typed_keeps, typed_replies, typed_ignores};
-    ghost use Rattle.totem_examples.specs.Locks.{spelling, reading, reply_to, after};
+    ghost use Rattle.totem_examples.specs.Locks.{encoding, decoding, reply_to, after};
     ghost use Rattle.totem_examples.specs.LocksLaws.{Fits, reads, keeps_table};
 
     type Alloc = A;
 
     ghost is_content = { IsTable 256 };
 
-    ghost is_readable = { is_read reading };
+    ghost is_readable = { is_read decoding };
 
-    ghost sequential = { typed (zeros 256) reading reply_to after snapshot_of (table_of 256) };
+    ghost sequential = { typed (zeros 256) decoding reply_to after snapshot_of (table_of 256) };
 
     ghost starts = { zeros_IsTable 256 };
 
-    ghost keeps = { typed_keeps (IsTable 256) Fits spelling reading reads after keeps_table };
+    ghost keeps = { typed_keeps (IsTable 256) Fits encoding decoding reads after keeps_table };
 
-    ghost replies = { typed_replies (IsTable 256) reading reply_to };
+    ghost replies = { typed_replies (IsTable 256) decoding reply_to };
 
-    ghost ignores = { typed_ignores reading reply_to after };
+    ghost ignores = { typed_ignores decoding reply_to after };
 
     ghost restores = { tables_restore 256 };
 
@@ -76,8 +78,8 @@ impl<A: Allocator + Copy + Drop> Object for Locks<A> {
 impl<A: Allocator + Copy + Drop> Locks<A> {
     ghost use Rattle.totem_examples.specs.Locks.{reply_to, after};
 
-    /// Does an operation, and says how it went.
-    fn answer(&mut self, operation: LockOperation) -> Replied
+    /// Does an operation and returns its reply.
+    fn answer(&mut self, operation: LockOperation) -> ReplyParts
         ensures reply { result ≡ reply_to self.old operation }
         ensures after { self.new ≡ after self.old operation }
     {

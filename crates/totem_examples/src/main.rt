@@ -1,22 +1,27 @@
-//! The examples. The exit status is 0 only where all of them could be printed, and those that are data printed what they must.
+//! The examples. The exit status is 0 only where all could be printed, and each example that is data printed the expected output.
 //!
-//! `counter` drives a node from a program of one's own. `client` has a client of three nodes, the first of which is cut off, and
-//! `outage` one that asks until it is answered, as nodes stop. `locks` is an object of one's own, a lock table, `lock_story` what two
-//! clients make of it, `lock_threads` the same on threads, and `lock_tools` its own program, which has the commands of `totem`, by
-//! `lock_words`: it is run where the command line has words. `threads` has nodes and clients on threads, and a counter. `data` runs what
-//! the program runs: scripts, sweeps, listings of frames, command lines.
+//! - `counter` drives a node from a user's program.
+//! - `client` has a client of three nodes, the first of which is cut off. `outage` has one that asks until it is answered, while
+//!   nodes stop.
+//! - `locks` is a user-defined object, a lock table. `lock_clients` has two clients of it, and `lock_threads` runs it on threads.
+//! - `lock_tools` is the lock table's own program, with the commands of `totem` and the words of `lock_vocabulary`. It runs where
+//!   the command line has words.
+//! - `threads` has nodes and clients on threads, and a counter.
+//! - `terminal` shows which commands say how long they took.
+//! - `data` runs what the program `totem` runs: scripts, sweeps, listings of frames, command lines.
 #![tactic(auto)]
 
 mod client;
 mod counter;
 mod data;
+mod lock_clients;
 mod lock_operation;
-mod lock_story;
 mod lock_threads;
 mod lock_tools;
-mod lock_words;
+mod lock_vocabulary;
 mod locks;
 mod outage;
+mod terminal;
 mod threads;
 
 use std::io::{self, Eprint, Input};
@@ -30,17 +35,17 @@ use totem_command::words_of;
 fn main(rt: HostRuntime) -> ExitCode {
     let words = words_of(&rt);
     if is_bare(&words) {
-        return tell(&rt);
+        return print_results(&rt);
     }
     let (mut input, mut out, mut err) = (rt.reader(), rt.stdout(), rt.stderr());
     ExitCode::from(lock_tools::run(&rt, &words, &mut input, &mut out, &mut err))
 }
 
-/// Prints all examples, and tells by the exit status whether all is right.
-fn tell<R: Files + AllocGlobal + Print + Eprint + Threads + Wait + Clock + Sync + Clone + Drop>(
-    rt: &R,
-) -> ExitCode {
-    match tell_all(rt) {
+/// Prints all examples. The exit status says whether all is right.
+fn print_results<
+    R: Files + AllocGlobal + Print + Eprint + Threads + Wait + Clock + Sync + Clone + Drop,
+>(rt: &R) -> ExitCode {
+    match print_all_results(rt) {
         Ok(true) => ExitCode::SUCCESS,
         Ok(false) => ExitCode::FAILURE,
         Err(error) => {
@@ -55,16 +60,17 @@ fn is_bare(words: &io::Result<Vec<String>>) -> bool {
     matches!(words, Ok(words) if words.len() < 2)
 }
 
-/// Prints all examples, and tells whether those that are data printed what they must.
-fn tell_all<R: Files + AllocGlobal + Print + Threads + Wait + Clock + Sync + Clone + Drop>(
+/// Prints all examples. Returns whether those that are data printed the expected output.
+fn print_all_results<R: Files + AllocGlobal + Print + Threads + Wait + Clock + Sync + Clone + Drop>(
     rt: &R,
 ) -> io::Result<bool> {
-    counter::tell(rt)?;
-    client::tell(rt)?;
-    outage::tell(rt)?;
-    lock_story::tell(rt)?;
-    lock_tools::tell(rt)?;
-    lock_threads::tell(rt)?;
-    threads::tell(rt)?;
+    counter::print_results(rt)?;
+    client::print_results(rt)?;
+    outage::print_results(rt)?;
+    lock_clients::print_results(rt)?;
+    lock_tools::print_results(rt)?;
+    lock_threads::print_results(rt)?;
+    threads::print_results(rt)?;
+    terminal::print_results(rt)?;
     data::run_all(rt)
 }

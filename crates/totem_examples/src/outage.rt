@@ -1,56 +1,57 @@
-//! A client in a script's place, as a test of one's own has it: code says who hears whom, who times out and who stops, and the
-//! client asks until it is answered, or until its tries are used up.
+//! A client in a scenario that code controls, as a test has it: who hears whom, who times out and who stops. The client asks
+//! until it is answered, or until its tries are used up.
 //!
 //! Three nodes keep a counter, to which the client adds 1 three times. It tries nodes 1 and 2.
 //!
-//! - Node 1 hears nobody, and node 2 calls for a ring. Node 1 waits in vain; nodes 2 and 3 are a majority, and answer.
-//! - All hear each other, node 2 stops, and node 1 calls for a ring. It answers, in a ring with node 3, which knows of the first call.
+//! - Node 1 hears nobody, and node 2 calls for a ring. Node 1 waits in vain; nodes 2 and 3 are a majority and answer.
+//! - All hear each other, node 2 stops, and node 1 calls for a ring. It answers, in a ring with node 3, which knows of the first
+//!   call.
 //! - Node 1 hears nobody again, and node 2 has stopped, so nobody can answer. After three tries the client gives up, and its call
-//!   stays open. Then all hear each other, node 1 misses its token, and the client tries the call again: all these tries have one
+//!   stays open. Then all hear each other, node 1 misses its token, and the client tries the call again. All these tries have one
 //!   number, so the counter that is read in the end is at 3.
 
 use crate::client::{client_of, count_of, cut_network};
 use std::io;
-use totem_threads::{
+use totem_ring::{
     Client, Counters, Event, Fault, Fixed, Kind, Object, Operation, Port, Proc, ProcSet, Shared,
     WorldPort,
 };
 
-/// How often a call is tried anew that no node has answered.
+/// The number of times that a call without an answer is tried again.
 const TRIES: u64 = 2;
 
-/// What came of the client's calls.
+/// The results of the client's calls.
 #[derive(Clone, Copy)]
-struct OutageStory {
-    /// The counter, as the reply to the first add tells it.
+struct OutageSummary {
+    /// The counter in the reply to the first add.
     first: u64,
-    /// The same of the second.
+    /// The counter in the reply to the second add.
     second: u64,
-    /// What the third was refused with, if it was.
+    /// The refusal of the third add, if it was refused.
     refused: Option<Fault>,
-    /// The counter, as the reply to the third add tells it once that is tried again.
+    /// The counter in the reply to the third add, once that is tried again.
     third: u64,
-    /// The counter, as it is read in the end.
+    /// The counter that is read in the end.
     read: u64,
 }
 
-/// Prints what comes of it.
-pub fn tell<R: AllocGlobal + Print>(rt: &R) -> io::Result<()> {
+/// Runs the scenario and prints its results.
+pub fn print_results<R: AllocGlobal + Print>(rt: &R) -> io::Result<()> {
     match call_through::<Counters>(rt.alloc()) {
-        Ok(story) => tell_story(rt, &story),
+        Ok(summary) => print_summary(rt, &summary),
         Err(fault) => println!(rt; "{fault}"),
     }
 }
 
-/// Prints a story.
-fn tell_story<R: Print>(rt: &R, story: &OutageStory) -> io::Result<()> {
-    let OutageStory {
+/// Prints the results.
+fn print_summary<R: Print>(rt: &R, summary: &OutageSummary) -> io::Result<()> {
+    let OutageSummary {
         first,
         second,
         refused,
         third,
         read,
-    } = story;
+    } = summary;
     println!(rt;
         "Node 1 hears nobody, and the client adds 1: the counter is at {first}.\n\
         All hear each other, node 2 stops, and it adds 1: the counter is at {second}.\n\
@@ -59,7 +60,7 @@ fn tell_story<R: Print>(rt: &R, story: &OutageStory) -> io::Result<()> {
     )
 }
 
-/// From now on these nodes alone hear each other.
+/// Lets only these nodes hear each other from now on.
 fn cut<O: Object>(shared: &Shared<O>, nodes: ProcSet) -> Result<(), Fault> {
     let Ok(mut network) = shared.try_borrow_mut() else {
         return Err(Fault::NoAnswer);
@@ -68,42 +69,42 @@ fn cut<O: Object>(shared: &Shared<O>, nodes: ProcSet) -> Result<(), Fault> {
     Ok(())
 }
 
-/// A timeout comes at a node.
+/// Makes a node time out.
 fn time_out<O: Object>(shared: &Shared<O>, node: Proc, kind: Kind) -> Result<(), Fault> {
     let Ok(mut network) = shared.try_borrow_mut() else {
         return Err(Fault::NoAnswer);
     };
-    network.happen(Event::Timeout(node, kind))
+    network.run_event(Event::Timeout(node, kind))
 }
 
-/// A node stops.
+/// Stops a node.
 fn stop<O: Object>(shared: &Shared<O>, node: Proc) -> Result<(), Fault> {
     let Ok(mut network) = shared.try_borrow_mut() else {
         return Err(Fault::NoAnswer);
     };
-    network.happen(Event::Stop(node))
+    network.run_event(Event::Stop(node))
 }
 
-/// Asks for this until it is answered, and answers the count.
+/// Calls with this operation until it is answered. Returns the count in the reply.
 fn ask<P: Port>(client: &mut Client<P>, operation: &Operation) -> Result<u64, Fault> {
     let reply = client.until_answered(operation.as_slice(), TRIES)?;
     Ok(count_of(&reply))
 }
 
-/// Tries the open call again, and answers the count.
+/// Tries the open call again. Returns the count in the reply.
 fn again<P: Port>(client: &mut Client<P>) -> Result<u64, Fault> {
     let reply = client.again()?;
     Ok(count_of(&reply))
 }
 
-/// The calls, and what becomes of the nodes between them. At first this one of the nodes hears nobody; the other stops.
+/// Makes the calls, and changes the network between them. At first the node `alone` hears nobody; the node `stopping` stops.
 fn story_of<O: Object>(
     client: &mut Client<WorldPort<O>>,
     shared: &Shared<O>,
     fixed: Fixed,
     alone: Proc,
     stopping: Proc,
-) -> Result<OutageStory, Fault> {
+) -> Result<OutageSummary, Fault> {
     let everybody = fixed.everybody();
     time_out(shared, stopping, Kind::Join)?;
     let add = Counters::add(0, 1);
@@ -116,7 +117,7 @@ fn story_of<O: Object>(
     let refused = ask(client, &add).err();
     cut(shared, everybody)?;
     time_out(shared, alone, Kind::Loss)?;
-    Ok(OutageStory {
+    Ok(OutageSummary {
         first,
         second,
         refused,
@@ -125,26 +126,26 @@ fn story_of<O: Object>(
     })
 }
 
-/// The story of a client that tries these nodes, of which the first hears nobody.
+/// Runs the scenario with a client that tries these nodes, the first of which hears nobody.
 fn call_over<O: Object>(
     alloc: O::Alloc,
     shared: &Shared<O>,
     fixed: Fixed,
     one: Proc,
     two: Proc,
-) -> Result<OutageStory, Fault> {
+) -> Result<OutageSummary, Fault> {
     let mut client = client_of(alloc, shared, one, two)?;
-    let story = story_of(&mut client, shared, fixed, one, two);
+    let summary = story_of(&mut client, shared, fixed, one, two);
     drop(client);
-    story
+    summary
 }
 
-/// The story of three nodes at their opening.
-fn call_through<O: Object>(alloc: O::Alloc) -> Result<OutageStory, Fault> {
+/// Runs the scenario on three nodes at their opening.
+fn call_through<O: Object>(alloc: O::Alloc) -> Result<OutageSummary, Fault> {
     let fixed = Fixed::new(3)?;
     let (one, two) = (fixed.proc(1)?, fixed.proc(2)?);
     let shared = cut_network::<O>(alloc, fixed, one)?;
-    let story = call_over(alloc, &shared, fixed, one, two);
+    let summary = call_over(alloc, &shared, fixed, one, two);
     drop(shared);
-    story
+    summary
 }

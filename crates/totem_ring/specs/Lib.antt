@@ -5,9 +5,12 @@ pub use Rattle.ring_object.specs.Snapshots
 pub use Rattle.ring_things.specs.Numbers
 pub use Rattle.ring_things.specs.Outcome
 pub use Rattle.ring_things.specs.Table
-pub use Rattle.ring_typed.specs.Keyed
-pub use Rattle.ring_typed.specs.KeyedLaws
-pub use Rattle.ring_typed.specs.Reads
-pub use Rattle.ring_typed.specs.Typed
+pub use Rattle.ring_things.specs.KeyedOperation
+pub use Rattle.ring_things.specs.KeyedLaws
+pub use Rattle.ring_things.specs.Reads
+pub use Rattle.ring_things.specs.Typed
+pub use Rattle.ring_seat.specs.Seats
+pub use Rattle.ring_client_threads.specs.Callers
+pub use Rattle.ring_client_threads.specs.Arguments
 pub mod Types
 pub mod Words

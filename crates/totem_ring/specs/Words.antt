@@ -1,3 +1,3 @@
--- The words of operations, as definitions of one's own name them.
-pub use Rattle.ring_script.specs.Operations.{Form}
+-- The words of operations, for the definitions of a user's program.
+pub use Rattle.ring_script.specs.Operations.{OperationForm}
 pub use Rattle.ring_script.specs.declared.vocabulary.Argument.TheVariants.{Key, Value, Name}

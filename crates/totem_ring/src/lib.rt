@@ -1,53 +1,73 @@
-//! Totem as one library: what a program of one's own needs of it, by plain names.
+//! Totem as one library: the public names that a user's program needs.
 //!
-//! Up to 16 processors agree on one order of calls, over which each keeps the same object. What to take for what:
+//! Up to 16 processors agree on one order of calls, and each applies it to its own copy of an object. Which names to use:
 //!
-//! | To | Take |
-//! |---|---|
-//! | simulate a group on one thread: say which frames come and which are lost, who times out and who stops | [`World`], by its [`Event`]s; [`Pump`] keeps the copies under way |
-//! | call a simulated group as a client would | [`Client`] over [`WorldPort`]s, which share a [`Network`] |
-//! | run a node over a network of one's own | [`Driver`], which is handed [`Letter`]s and hands out letters with their receivers, and knows no clock and no socket |
-//! | the same with frames that one checks oneself | [`Node`], by its [`Input`]s, which gives [`Outs`] |
-//! | replicate registers, counters, a queue, names, or four of these | [`Registers`], [`Counters`], [`Queue`], [`Names`], [`Shelf`] |
-//! | replicate an object of one's own | [`Object`], made of [`Keyed`], [`Table`] and [`reply_of`]; `docs/TUTORIAL.md` makes one |
-//! | run ring cores without objects, where virtual synchrony is all that is wanted | [`Rings`], by its [`RingEvent`]s |
-//! | test that one order explains what was replied | [`is_linearization`] |
-//! | say operations of an object of one's own in scripts | [`Vocabulary`], by [`Form`]s; or [`NoWords`], where their bytes do |
-//! | make a script of one's own object by a seed | [`made_script_by`], [`generate_by`] |
-//! | run a script of one's own object, and check it | [`script_of`] |
-//! | the same with a stop and a cut of each node before each event | [`sweep_of`] |
-//! | see what each event of such a script did | [`trace_of`], with the words of replies as [`Replies`] |
+//! - To simulate a group on one thread, with chosen deliveries, losses, timeouts and stops: [`World`] with its [`Event`]s.
+//!   [`Pump`] keeps the copies under way.
+//! - To call a simulated group as a client would: [`Client`] over [`WorldPort`]s, which share a [`Network`].
+//! - To run a node over your own network: [`Driver`]. It takes [`ValidFrame`]s and the time, and returns frames with their
+//!   receivers. It has no socket and measures no time.
+//! - To keep the timeouts of a node without it: [`Timers`], by the time that your program brings.
+//! - To run a node with frames that you check yourself: [`Node`] with its [`Input`]s, which returns [`Outs`].
+//! - To replicate registers, counters, a queue, names, or four of these: [`Registers`], [`Counters`], [`Queue`], [`Names`],
+//!   [`Shelf`].
+//! - To replicate a user-defined object: [`Object`], made of [`KeyedOperation`], [`Table`] and [`reply_of`]. `docs/TUTORIAL.md`
+//!   makes one.
+//! - To run ring cores without objects, where virtual synchrony is enough: [`Rings`] with its [`RingEvent`]s.
+//! - To test that an order is a linearization of a history: [`is_linearization`].
+//! - To name the operations of a user-defined object in scripts: [`Vocabulary`] with [`OperationForm`]s, or [`EmptyVocabulary`],
+//!   which has only their bytes.
+//! - To make a script of a user-defined object from a seed: [`generate_script_by`], [`generate_by`].
+//! - To run a script of a user-defined object and check it: [`script_of`].
+//! - To check such a script with a stop and a cut of each node before each event: [`sweep_of`].
+//! - To see the effect of each event of such a script: [`trace_of`], with [`ReplyVocabulary`] for the words of replies.
 //!
-//! Nodes on threads of their own are in `totem_threads`, which passes on all that is here.
+//! Nodes on threads: [`run_callers`] runs the nodes of a group on threads while clients call. Each client is a [`Caller`] on its
+//! own thread. The result is the one order of their calls, and its history.
 //!
-//! A group is a [`Fixed`] number of processors with their votes, and a processor of it a [`Proc`]. Each call that is refused
-//! says why by a [`Fault`], of which there are fifteen. An operation is bytes: the ready objects spell theirs
-//! ([`Operation`]), and [`Replied::read`] reads what a reply says.
+//! The parts of such a run can be combined in other ways. A [`Host`] keeps the nodes of an [`Opening`]. [`Host::run`] runs each
+//! on a thread with a [`Seat`], until the host is closed. A [`Gate`] decides between turns whether a node may rest. [`OpenGate`]
+//! never rests; under [`PacedGate`] a host that has nothing to do rests. A client calls over [`HostPort`]s, each with its own
+//! seat, and any thread may stop a node. A [`BookName`] names the opening in types, so that all results of a host are of that
+//! opening's run; `std::marker::Brand` is one.
 //!
-//! In contracts, `Rattle.totem_ring.specs` has the definitions that a program's own clauses may cite. What is promised, call by
-//! call: `docs/PROMISES.md`; its laws, as functions that cost nothing and whose clauses a proof may use, are [`object_law`],
-//! [`linear_law`] (of every run whose calls keep the limits there is one order), [`call_keeps_law`] (each call of code that fits a
-//! frame does), [`node_fits_law`] (a node keeps the limits of frames) and [`stopped_for_memory_law`] (a world tells exactly which node
-//! stopped for want of memory, of an event that is run alone).
+//! A group's configuration is a [`Fixed`]: the number of processors, with their votes. A processor of it is a [`Proc`]. Each
+//! refused call returns one of fifteen [`Fault`]s. An operation is bytes: an [`Operation`] has those for a ready object, a
+//! [`ShelfOperation`] those for an object on a shelf. [`ReplyParts::read`] decodes a reply.
+//!
+//! `Rattle.totem_ring.specs` has the definitions that the contracts of a user's program may cite. `docs/PROMISES.md` has the
+//! promises of each call. Laws are functions without cost whose postconditions a proof may use:
+//!
+//! - [`object_law`]: the laws of an object.
+//! - [`linear_law`]: every run whose calls keep the limits of snapshots has one order.
+//! - [`call_keeps_law`]: a call that keeps the limits of frames keeps those of snapshots, too.
+//! - [`node_fits_law`]: a node keeps the limits of frames, and so does each frame that it sends.
+//! - [`stopped_for_memory_law`]: after an event that is run alone, a world knows exactly which node stopped for want of memory.
 #![tactic(auto)]
 
-pub use ring_base::{Fault, Fixed, Kind, MOST_PROCESSORS, Proc, ProcSet, RingId, State};
+pub use ring_base::{Fault, Fixed, Kind, MAX_PROCESSORS, Proc, ProcSet, RingId, State};
 pub use ring_client::{Asked, Client, Port};
-pub use ring_driver::{
-    Driver, Input, Letter, Node, Outs, Sent, call_keeps_law, linear_law, node_fits_law,
+pub use ring_client_threads::{
+    Book, BookName, Caller, ClientCalls, Gate, GatePlace, Gauge, Host, HostPort, HostTicket,
+    OpenGate, Opening, PacedGate, Seat, Turn, TurnActivity, run_callers,
 };
-pub use ring_object::{Object, Reply, Short, object_law};
+pub use ring_core_world::{RingEvent, Rings};
+pub use ring_driver::{
+    Driver, Input, Node, OutgoingFrame, Outs, ValidFrame, call_keeps_law, linear_law, node_fits_law,
+};
+pub use ring_explore::{ExplorePlan, explore_of};
+pub use ring_object::{Object, Reply, ShortBytes, object_law};
 pub use ring_payload::Call;
-pub use ring_runs::{RingEvent, Rings};
-pub use ring_script::{Argument, Form, NoWords, ShelfWords, Vocabulary};
-pub use ring_script_maker::{generate_by, made_script_by};
-pub use ring_session::{Answer, Answered, Ticket};
+pub use ring_script::{Argument, EmptyVocabulary, OperationForm, ShelfVocabulary, Vocabulary};
+pub use ring_script_generator::{generate_by, generate_script_by};
+pub use ring_session::{Answer, Ticket, TicketAnswer};
 pub use ring_sweep::{is_linearization, script_of, sweep_of};
 pub use ring_things::{
-    Counters, Names, Operation, Outcome, Place, Queue, Registers, Replied, Shelf, ShelfOperation,
+    Counters, KeyedOperation, Names, Operation, Outcome, Queue, Registers, ReplyParts, Shelf,
+    ShelfOperation, ShelfPlace, Table, done, done_with, refused_with, reply_of,
 };
-pub use ring_trace::{Format, Replies, ReplyForm, Selection, TraceOptions, trace_of};
-pub use ring_typed::{Keyed, Table, done, done_with, refused_with, reply_of};
+pub use ring_timers::{Periods, StepOutcome, Timers, timers_law};
+pub use ring_trace::{Format, ReplyForm, ReplyVocabulary, Selection, TraceOptions, trace_of};
 pub use ring_wire::{Frame, decode_frame};
 pub use ring_world_port::{
     Event, Item, Network, Noise, Pump, Shared, Told, World, WorldPort, stopped_for_memory_law,

@@ -2,7 +2,7 @@ use Rattle.std.proofs.Common.{ℕ, ◌+◌, ◌<◌, ◌≤◌, sym, subst, inl,
 use Rattle.std.proofs.Math.Nat.{eq-or-lt_of_le}
 use Rattle.refusing_alloc.proofs.refuse_in_turn.Goals as goal
 
--- what holds at each number below n and at n holds at each below n + 1
+-- a fact that holds at each number below n and at n holds at each below n + 1
 below-add-one : (P : ℕ → Type 0) (n : ℕ) → ((k : ℕ) → k < n → P k) → P n → (k : ℕ) → k < n + 1 → P k
 below-add-one P n all last k below =
     let up_to : k ≤ n = omega arith in

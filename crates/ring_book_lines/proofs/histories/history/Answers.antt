@@ -10,7 +10,7 @@ loop-line-preserved g c =
     let l = c.line-item.result in
     let at = slice_get_read c.args.lines.now (length c.args.lines.now) k l refl c.loop-line-test.true c.line-item.is in
     rw (add-one, history_of-take c.args.lines.now k l at)
-    (c.in_ok-tell.ensures.ok ∙ ap (λ xs. xs ++ items_in l.step.input l.step.answers) c.loop-line.invariant)
+    (c.in_ok-add_items.ensures.ok ∙ ap (λ xs. xs ++ items_in l.step.input l.step.answers) c.loop-line.invariant)
 
 pub returns-clause-ok : goal.returns-clause-ok
 returns-clause-ok g c = c.loop-line.invariant ∙ history_of-all c.args.lines.now c.loop-line.line-index c.loop-line-test.false

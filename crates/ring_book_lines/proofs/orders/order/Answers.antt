@@ -1,7 +1,7 @@
 use Rattle.std.proofs.Common.{ap, ◌∙◌, add-one, get_or, take}
 use Rattle.std.proofs.lemmas.Option.{slice_get-get_or}
 use Rattle.ring_session.specs.Deduplicated.{deduplicated}
-use Rattle.ring_book_lines.specs.declared.log.Segment.{Segment}
+use Rattle.ring_book_lines.specs.declared.log.LogSegment.{LogSegment}
 use Rattle.ring_book_lines.specs.Logs.{calls_at}
 use Rattle.ring_book_lines.proofs.Logging.{calls_at-take, calls_at-all}
 use Rattle.ring_book_lines.proofs.orders.order.Goals as goal
@@ -9,7 +9,7 @@ use Rattle.ring_book_lines.proofs.orders.order.Goals as goal
 pub loop-segment-preserved : goal.loop-segment-preserved
 loop-segment-preserved g c =
     let k = c.loop-segment.segment-index in
-    let none : Segment = record { line = 0; from = 0 } in
+    let none : LogSegment = record { line = 0; from = 0 } in
     let s = get_or c.args.segments.now k none in
     let at = slice_get-get_or c.args.segments.now k none c.loop-segment-test.true in
     rw (add-one, calls_at-take c.args.lines.now c.args.segments.now k s at)

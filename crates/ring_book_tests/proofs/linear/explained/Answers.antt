@@ -1,6 +1,6 @@
 use Rattle.std.proofs.Common.{subst, sym}
-use Rattle.ring_rules.specs.Histories.{IsLinearization}
-use Rattle.ring_rules.specs.Worlds.{order, run, world_opening}
+use Rattle.ring_node_spec.specs.Histories.{IsLinearization}
+use Rattle.ring_node_spec.specs.Worlds.{order, run, world_opening}
 use Rattle.ring_book_lines.specs.Events.{events_of, history_of}
 use Rattle.ring_book_tests.proofs.linear.explained.Goals as goal
 

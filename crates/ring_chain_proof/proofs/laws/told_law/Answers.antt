@@ -1,4 +1,4 @@
-use Rattle.ring_chain_proof.proofs.SafeTold.{unformed_told}
+use Rattle.ring_chain_proof.proofs.SafeOutputs.{unformed_told}
 use Rattle.ring_chain_proof.proofs.OnlyRing.{formed_of_formed}
 use Rattle.ring_chain_proof.proofs.laws.told_law.Goals as goal
 

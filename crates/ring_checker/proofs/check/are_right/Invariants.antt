@@ -1,6 +1,6 @@
 use Rattle.std.proofs.Common.{◌≤◌, length, take}
 use Rattle.ring_checker.specs.Checks.{AreIssuedBefore, IsRightIn}
-use Rattle.ring_rules.proofs.FirstPassing.{EachUpTo}
+use Rattle.ring_node_spec.proofs.FirstMatch.{EachUpTo}
 use Rattle.ring_checker.proofs.check.are_right.Given as goal
 
 abbrev pub invariant-loop-k : goal.invariant-loop-k

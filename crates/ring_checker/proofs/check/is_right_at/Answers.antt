@@ -1,4 +1,4 @@
--- At each return: there is such a place, and its reply is the same or another; or there is no such place.
+-- At each return: there is such a place, and its reply is equal or not; or there is no such place.
 use Rattle.std.proofs.Common.{◌≡◌, Some, None, slice_get, arith, sym, ◌∙◌}
 use Rattle.std.proofs.lemmas.Grind.{common_steps}
 use Rattle.std.proofs.lemmas.Option.{gets}

@@ -1,9 +1,9 @@
--- One more item is noted.
+-- One more item is recorded.
 use Rattle.std.proofs.Common.{List, length, take, refl, sym, subst, length-take-le, ◌≤◌, arith}
 use Rattle.std.proofs.lemmas.List.{take_all}
 use Rattle.std.proofs.lemmas.Option.{slice_get_read}
 use Rattle.ring_base.proofs.Rows.{take-more}
-use Rattle.ring_rules.specs.declared.item.Item.{Item}
+use Rattle.ring_node_spec.specs.declared.item.Item.{Item}
 use Rattle.ring_checker.specs.Checks.{ArePlaces}
 use Rattle.ring_checker.proofs.check.note_issues.Goals as goal
 

@@ -1,4 +1,4 @@
--- A call that stands at a place of a numbered order is found there.
+-- A call at a place of a numbered order is found there.
 use Rattle.ring_payload.specs.SameCalls.{is_same-self}
 use Rattle.ring_checker.proofs.Indexes.{place-found}
 use Rattle.ring_checker.proofs.index.place_by.Goals as goal

@@ -1,4 +1,4 @@
--- What the index finds is where the call stands, unless another operation is there.
+-- The index finds the call's place, unless another operation is there.
 use Rattle.std.proofs.Common.{length, refl, sym, ◌∙◌, arith}
 use Rattle.std.proofs.lemmas.Option.{slice_get_read, slice_get_within}
 use Rattle.ring_checker.proofs.Indexes.{place-none, place-other, place-found}

@@ -1,4 +1,4 @@
--- What is left decides.
+-- The rest decides.
 use Rattle.std.proofs.Common.{◌≡◌, drop}
 use Rattle.ring_commit.specs.Reports.{reports_of, none_behind as is_none_behind}
 use Rattle.ring_commit.proofs.rounds.none_behind.Given as goal

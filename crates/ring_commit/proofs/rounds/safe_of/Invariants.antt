@@ -1,4 +1,4 @@
--- What was read and what is left decide.
+-- The part read and the rest decide.
 use Rattle.std.proofs.Common.{◌≡◌, drop}
 use Rattle.ring_commit.specs.Reports.{reports_of, safe_of}
 use Rattle.ring_commit.proofs.Reporting.{safe_from}

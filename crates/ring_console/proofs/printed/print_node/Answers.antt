@@ -3,9 +3,9 @@ use Rattle.std.specs.Prelude.{codes}
 use Rattle.std.specs.Fmt.{decimal}
 use Rattle.std.specs.Io.KnownBytes.{Appends}
 use Rattle.ring_base.specs.Rings.{ring_text}
-use Rattle.ring_report.specs.Texts.{line_of}
-use Rattle.ring_report.specs.Texts.{state_text}
-use Rattle.ring_console.specs.Printed.{node_text, trimmed_text}
+use Rattle.ring_failure.specs.Texts.{line_of}
+use Rattle.ring_failure.specs.Texts.{state_name_text}
+use Rattle.ring_console.specs.OutputLines.{node_text, trimmed_text}
 use Rattle.ring_console.proofs.printed.print_node.Goals as goal
 
 -- eleven pieces and the end of a line, as `writeln!` joins them
@@ -21,9 +21,9 @@ returns-clause-line g c =
     let Told : List ℕ → Type 0 = λ text. OnOk c.writeln.result (Appends (g.W.Write.contents a.out.now) (g.W.Write.contents c.writeln.new.self) text) in
     let named = c.number-node.ensures.value in
     let written : Told _ = rw named at c.writeln.ensures.bytes in
-    let word = c.state_word-state.ensures in
+    let word = c.state_name-state.ensures in
     let told : Told (line_of (node_text a.node a.state a.ring a.committed a.log a.trimmed)) =
-    subst Told (joined (codes "node ") (decimal a.node) (codes " ") (state_text a.state) (codes " ")
+    subst Told (joined (codes "node ") (decimal a.node) (codes " ") (state_name_text a.state) (codes " ")
     (ring_text a.ring) (codes " committed ") (decimal a.committed) (codes " log ") (decimal a.log) (trimmed_text a.trimmed))
     (rw word at written) in
     search (rules, told)

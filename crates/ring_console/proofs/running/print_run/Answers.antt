@@ -1,5 +1,5 @@
 use Rattle.std.proofs.Common.{rules}
-use Rattle.ring_report.proofs.LentLemmas.{given_back, where_known}
+use Rattle.ring_failure.proofs.BorrowedWriterLemmas.{given_back, where_known}
 use Rattle.ring_console.proofs.PrintedLines.{at_true}
 use Rattle.ring_console.proofs.running.print_run.Goals as goal
 

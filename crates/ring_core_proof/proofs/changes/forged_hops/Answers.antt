@@ -1,7 +1,7 @@
 use Rattle.std.proofs.Common.{refl}
 use Rattle.std.proofs.lemmas.Bool.{false≢true}
 use Rattle.ring_base.specs.Processors.{elements}
-use Rattle.ring_core.specs.Stepping.{ring_step}
+use Rattle.ring_core_spec.specs.Stepping.{ring_step}
 use Rattle.ring_core_proof.proofs.changes.forged_hops.Goals as goal
 
 pub returns-clause-unproposed : goal.returns-clause-unproposed

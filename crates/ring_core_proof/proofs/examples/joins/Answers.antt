@@ -1,15 +1,15 @@
 use Rattle.std.proofs.Common.{refl}
 use Rattle.ring_base.specs.Processors.{elements}
-use Rattle.ring_core.specs.Stepping.{ring_step}
+use Rattle.ring_core_spec.specs.Stepping.{ring_step}
 use Rattle.ring_core_proof.proofs.examples.joins.Goals as goal
 
 pub returns-clause-own : goal.returns-clause-own
 unfolding ring_step elements
 returns-clause-own c = refl
 
-pub returns-clause-given_up : goal.returns-clause-given_up
+pub returns-clause-silent_given_up : goal.returns-clause-silent_given_up
 unfolding ring_step elements
-returns-clause-given_up c = refl
+returns-clause-silent_given_up c = refl
 
 pub returns-clause-same : goal.returns-clause-same
 unfolding ring_step elements

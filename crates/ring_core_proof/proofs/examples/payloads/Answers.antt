@@ -1,6 +1,6 @@
 use Rattle.std.proofs.Common.{refl}
 use Rattle.ring_base.specs.Processors.{elements}
-use Rattle.ring_core.specs.Stepping.{ring_step}
+use Rattle.ring_core_spec.specs.Stepping.{ring_step}
 use Rattle.ring_core_proof.proofs.examples.payloads.Goals as goal
 
 pub returns-clause-queued : goal.returns-clause-queued
@@ -15,9 +15,9 @@ pub returns-clause-wrapped : goal.returns-clause-wrapped
 unfolding ring_step elements
 returns-clause-wrapped c = refl
 
-pub returns-clause-packed : goal.returns-clause-packed
+pub returns-clause-packed_payloads : goal.returns-clause-packed_payloads
 unfolding ring_step elements
-returns-clause-packed c = refl
+returns-clause-packed_payloads c = refl
 
 pub returns-clause-piece : goal.returns-clause-piece
 unfolding ring_step elements

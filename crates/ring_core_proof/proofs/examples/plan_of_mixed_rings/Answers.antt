@@ -1,11 +1,11 @@
 use Rattle.std.proofs.Common.{refl}
 use Rattle.ring_base.specs.Processors.{elements}
-use Rattle.ring_core.specs.Stepping.{ring_step}
+use Rattle.ring_core_spec.specs.Stepping.{ring_step}
 use Rattle.ring_core_proof.proofs.examples.plan_of_mixed_rings.Goals as goal
 
-pub returns-clause-mates : goal.returns-clause-mates
+pub returns-clause-transitional_members : goal.returns-clause-transitional_members
 unfolding ring_step elements
-returns-clause-mates c = refl
+returns-clause-transitional_members c = refl
 
 pub returns-clause-least_mark : goal.returns-clause-least_mark
 unfolding ring_step elements

@@ -1,4 +1,4 @@
-use Rattle.ring_core_proof.proofs.ActLimits.{step_fits}
+use Rattle.ring_core_proof.proofs.TransitionLimits.{step_fits}
 use Rattle.ring_core_proof.proofs.RunLimits.{opening_fits, formed_fits, halted_fits}
 use Rattle.ring_core_proof.proofs.limits_laws.fits_law.Goals as goal
 

@@ -1,8 +1,8 @@
 use Rattle.std.proofs.Common.{[], sym, ◌∙◌}
 use Rattle.std.proofs.lemmas.List.{append-nil}
 use Rattle.std.proofs.lemmas.Result.{err_from_is_err_and}
-use Rattle.ring_wire.specs.Frames.{spelling_of}
-use Rattle.ring_wire.specs.SpellsLaws.{spelled}
+use Rattle.ring_wire.specs.Frames.{encoding_of}
+use Rattle.ring_wire.specs.FrameEncodingLaws.{encoded}
 use Rattle.ring_host.proofs.ReadFrames.{got-read, got-none}
 use Rattle.ring_host.proofs.item.read_frame.Goals as goal
 
@@ -13,7 +13,7 @@ returns-clause-read g c =
 pub returns-in_err-len-clause-bad : goal.returns-in_err-len-clause-bad
 returns-in_err-len-clause-bad g c =
     let p = err_from_is_err_and c.from_residual.result c.from_residual.ensures.1 in
-    rw (p.1, p.2) (λ h f spells. let s = spelled f c.args.bytes.now spells in c.in_err-len.ensures.bad h f [] s.0 (s.1 ∙ sym (append-nil (spelling_of f))))
+    rw (p.1, p.2) (λ h f encodes. let s = encoded f c.args.bytes.now encodes in c.in_err-len.ensures.bad h f [] s.0 (s.1 ∙ sym (append-nil (encoding_of f))))
 
 pub returns-then-len-bytes-clause-bad : goal.returns-then-len-bytes-clause-bad
 returns-then-len-bytes-clause-bad g c =

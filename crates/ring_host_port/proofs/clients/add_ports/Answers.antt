@@ -1,6 +1,6 @@
 -- The host has the node, and a seat is left for each port.
 use Rattle.std.proofs.Common.{rules, ◌≡◌, ◌∷◌, ◌++◌, [], ℕ, ◌<◌, arith, ◌∙◌, ap}
-use Rattle.ring_client.specs.Asking.{unasked}
+use Rattle.ring_client.specs.Asking.{new_asked}
 use Rattle.ring_client.specs.declared.asked.Asked.{Asked}
 use Rattle.ring_host_port.specs.Clients.{node_after}
 use Rattle.ring_host_port.proofs.Ports.{node_after-le, AreAsWanted-push}
@@ -26,7 +26,7 @@ loop-passed-preserved g c =
     let nodes : c.len-nodes.result ≡ c.args.host.now.words = search rules in
     let put : c.push.new.self.items ≡ l.ports.items ++ c.in_ok-port.port ∷ [] = search rules in
     let to : c.in_ok-port.port.node ≡ wanted l.passed = c.in_ok-port.ensures.port.0 ∙ c.node_after.ensures ∙ ap (λ (n : ℕ). node_after n c.args.first l.passed) nodes in
-    let none : ℕ → Asked = λ k. unasked in
+    let none : ℕ → Asked = λ k. new_asked in
     let taken = c.in_ok-port.ensures.taken in
     let left = l.invariant.left in
     record {

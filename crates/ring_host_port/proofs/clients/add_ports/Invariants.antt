@@ -1,5 +1,5 @@
 use Rattle.std.proofs.Common.{◌≡◌, ℕ, ◌+◌, All, length, slice_get, Some}
-use Rattle.ring_client.specs.Asking.{unasked}
+use Rattle.ring_client.specs.Asking.{new_asked}
 use Rattle.ring_seat.specs.Seats.{IsAt}
 use Rattle.ring_host_port.specs.Clients.{node_after}
 use Rattle.ring_host_port.proofs.clients.add_ports.Given as goal
@@ -10,5 +10,5 @@ invariant-loop-passed g l = record {
   left : length l.seats.items + l.passed ≡ l.host.words;
   long : length l.ports.items ≡ l.passed;
   order : (k : ℕ) (port : _) → slice_get l.ports.items k ≡ Some port → port.node ≡ node_after l.host.words l.first k;
-  fresh : (k : ℕ) (port : _) → slice_get l.ports.items k ≡ Some port → port.asked ≡ unasked;
+  fresh : (k : ℕ) (port : _) → slice_get l.ports.items k ≡ Some port → port.asked ≡ new_asked;
 }

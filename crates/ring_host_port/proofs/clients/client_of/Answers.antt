@@ -1,4 +1,4 @@
--- The client has the ports that were put there.
+-- The client has the ports of the list.
 use Rattle.std.proofs.Common.{refl}
 use Rattle.ring_host_port.proofs.clients.client_of.Goals as goal
 

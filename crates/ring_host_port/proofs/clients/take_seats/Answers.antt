@@ -1,4 +1,4 @@
--- What is split off are the last seats, as many as there are nodes.
+-- The seats split off are the last ones, as many as there are nodes.
 use Rattle.std.proofs.Common.{rules, ◌≡◌, ◌+◌, ◌-◌, length, take, drop}
 use Rattle.ring_host_port.proofs.Taken.{first_seats, last_seats}
 use Rattle.ring_host_port.proofs.clients.take_seats.Goals as goal

@@ -1,5 +1,5 @@
 use Rattle.ring_host_tests.proofs.alone.counted_many.Given as goal
 
--- the opening that was just made
+-- The opening that was just made.
 abbrev pub ghosts-many : goal.ghosts-many
 ghosts-many g a = record { name = a.opening }

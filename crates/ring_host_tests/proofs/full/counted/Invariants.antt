@@ -1,5 +1,5 @@
 use Rattle.ring_host_tests.proofs.full.counted.Given as goal
 
--- the opening that was just made
+-- The opening that was just made.
 abbrev pub ghosts-opened : goal.ghosts-opened
 ghosts-opened g a = record { name = a.opening }

@@ -10,7 +10,7 @@ scoped-requires g c =
       at = λ a. (
         c.requires.seats,
         (
-          c.requires.callers,
+          c.requires.live_clients,
           (
             record { owned = b.send-O.owned; leaving = λ k. Quiet-if (k (of_param 0)) unseen unseen (λ x w. tt) (λ x w. tt) },
             record { owned = b.send-K.owned; leaving = λ k. Quiet-if (k (of_param 1)) unseen unseen (λ x w. tt) (λ x w. tt) },

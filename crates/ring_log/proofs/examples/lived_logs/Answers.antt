@@ -1,4 +1,4 @@
--- Which rings are primary is computed with the members' list.
+-- Whether a ring is primary is computed with the list of its members.
 use Rattle.std.proofs.Common.{refl}
 use Rattle.ring_base.specs.Processors.{elements}
 use Rattle.ring_log.proofs.examples.lived_logs.Goals as goal

@@ -1,5 +1,5 @@
 use Rattle.ring_log.proofs.WholeExchanges.{handed, ends, later, handed-based, handed-snapshot}
-use Rattle.ring_log.proofs.HeardPieces.{pieces-heard}
+use Rattle.ring_log.proofs.ReceivedPieces.{pieces-heard}
 use Rattle.ring_log.proofs.laws.exchange_law.Goals as goal
 
 pub returns-clause-handed : goal.returns-clause-handed

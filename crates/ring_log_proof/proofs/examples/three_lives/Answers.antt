@@ -1,6 +1,6 @@
 use Rattle.std.proofs.Common.{refl}
 use Rattle.ring_base.specs.Processors.{elements}
-use Rattle.ring_log_proof.proofs.Worked.{three-facts, three-discipline}
+use Rattle.ring_log_proof.proofs.WorkedFacts.{three-facts, three-discipline}
 use Rattle.ring_log_proof.proofs.examples.three_lives.Goals as goal
 
 pub returns-clause-facts : goal.returns-clause-facts

@@ -1,9 +1,9 @@
-use Rattle.ring_log_proof.proofs.Refused.{refuses-unheard, refuses-misheard, refuses-smaller, refuses-silent, refuses-falling, refuses-older_head}
-use Rattle.ring_log_proof.proofs.Refused.{refuses-late_head, refuses-wrong_part}
+use Rattle.ring_log_proof.proofs.RefutedExamples.{refuses-missing_heads, refuses-misheard, refuses-smaller, refuses-silent, refuses-falling, refuses-older_head}
+use Rattle.ring_log_proof.proofs.RefutedExamples.{refuses-late_head, refuses-wrong_part}
 use Rattle.ring_log_proof.proofs.examples.wrong_lives.Goals as goal
 
-pub returns-clause-unheard : goal.returns-clause-unheard
-returns-clause-unheard c = refuses-unheard
+pub returns-clause-missing_heads : goal.returns-clause-missing_heads
+returns-clause-missing_heads c = refuses-missing_heads
 
 pub returns-clause-misheard : goal.returns-clause-misheard
 returns-clause-misheard c = refuses-misheard

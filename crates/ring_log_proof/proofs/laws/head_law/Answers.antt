@@ -4,8 +4,8 @@ use Rattle.ring_log_proof.proofs.laws.head_law.Goals as goal
 
 pub returns-clause-heads : goal.returns-clause-heads
 returns-clause-heads g c = λ group m r.
-    text-heads group m.lives m.members m.text m.facts m.discipline r (views-all group m.lives m.members m.text m.facts m.discipline r.seq)
+    text-heads group m.node_epochs m.members m.text m.facts m.discipline r (views-all group m.node_epochs m.members m.text m.facts m.discipline r.seq)
 
 pub returns-clause-parts : goal.returns-clause-parts
 returns-clause-parts g c = λ group m r.
-    text-parts group m.lives m.members m.text m.facts m.discipline r (views-all group m.lives m.members m.text m.facts m.discipline r.seq)
+    text-parts group m.node_epochs m.members m.text m.facts m.discipline r (views-all group m.node_epochs m.members m.text m.facts m.discipline r.seq)

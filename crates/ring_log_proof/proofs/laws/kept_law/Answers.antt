@@ -1,4 +1,4 @@
-use Rattle.ring_log_proof.proofs.KeptLogs.{view, head-is, sound-same}
+use Rattle.ring_log_proof.proofs.KnownLogSuffixes.{view, head-is, sound-same}
 use Rattle.ring_log_proof.proofs.Moment.{view-at, sound-at, keeps-known}
 use Rattle.ring_log_proof.proofs.laws.kept_law.Goals as goal
 
@@ -13,7 +13,7 @@ returns-clause-sound g c = sound-same
 
 pub returns-clause-orderly : goal.returns-clause-orderly
 returns-clause-orderly g c = λ group m p.
-    (view-at group m.lives m.members m.text m.facts m.discipline p, sound-at group m.lives m.members m.text m.facts m.discipline p)
+    (view-at group m.node_epochs m.members m.text m.facts m.discipline p, sound-at group m.node_epochs m.members m.text m.facts m.discipline p)
 
 pub returns-clause-keeps : goal.returns-clause-keeps
-returns-clause-keeps g c = λ group m. keeps-known group m.lives m.members m.text m.facts m.discipline
+returns-clause-keeps g c = λ group m. keeps-known group m.node_epochs m.members m.text m.facts m.discipline

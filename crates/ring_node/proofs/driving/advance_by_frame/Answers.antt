@@ -1,17 +1,17 @@
--- No mark falls, and the core runs on.
+-- No mark falls, and the core still runs.
 use Rattle.std.proofs.Common.{ap, ◌∙◌}
-use Rattle.ring_core.specs.State.{Core}
-use Rattle.ring_core.specs.declared.input.Input.TheVariants.{Frame as FrameInput}
-use Rattle.ring_replica.specs.NodeRules.{is_stopped}
-use Rattle.ring_replica.proofs.StayMarks.{rises_step, going_step}
-use Rattle.ring_node.proofs.FramesApart.{rises-apart}
+use Rattle.ring_core_spec.specs.State.{Core}
+use Rattle.ring_core_spec.specs.declared.input.Input.TheVariants.{Frame as FrameInput}
+use Rattle.ring_replica.specs.NodeSpec.{is_stopped}
+use Rattle.ring_replica.proofs.EpochMarks.{rises_step, going_step}
+use Rattle.ring_node.proofs.FramesFiltered.{rises-apart}
 use Rattle.ring_node.proofs.NodeSteps.{follows-step}
 use Rattle.ring_node.proofs.driving.advance_by_frame.Goals as goal
 
 pub follow-requires-clause-rises : goal.follow-requires-clause-rises
 follow-requires-clause-rises g c =
-    rises-apart c.in_ok-told.ensures.given c.args.replica.now.life
-    (rises_step c.args.core.now c.args.replica.now.life (FrameInput c.args.frame.now) c.requires.runs.marked)
+    rises-apart c.in_ok-told.ensures.given c.args.replica.now.epochs
+    (rises_step c.args.core.now c.args.replica.now.epochs (FrameInput c.args.frame.now) c.requires.runs.marked)
 
 pub follow-requires-clause-runs : goal.follow-requires-clause-runs
 follow-requires-clause-runs g c =

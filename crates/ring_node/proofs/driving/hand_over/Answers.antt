@@ -1,14 +1,14 @@
--- One payload more, which a core that runs takes.
+-- One more payload, which a running core takes.
 use Rattle.std.proofs.Common.{rules, ◌≡◌, refl, false, ap, sym, ◌∙◌, subst, if◌then◌else◌}
 use Rattle.std.proofs.lemmas.List.{map-id}
 use Rattle.std.proofs.lemmas.Iterator.Adapters.{YieldsList-from_vec}
 use Rattle.std.proofs.lemmas.Iterator.Consumers.{YieldsList-end}
 use Rattle.ring_base.specs.declared.fault.Fault.TheVariants.{Memory, Stopped as StoppedFault}
-use Rattle.ring_core.specs.State.{Core}
-use Rattle.ring_core.specs.Stepping.{ring_step}
-use Rattle.ring_core.specs.declared.input.Input.TheVariants.{Send as SendInput}
-use Rattle.ring_replica.specs.NodeRules.{is_stopped, handed_over}
-use Rattle.ring_replica.proofs.StayMarks.{going_step}
+use Rattle.ring_core_spec.specs.State.{Core}
+use Rattle.ring_core_spec.specs.Stepping.{ring_step}
+use Rattle.ring_core_spec.specs.declared.input.Input.TheVariants.{Send as SendInput}
+use Rattle.ring_replica.specs.NodeSpec.{is_stopped, handed_over}
+use Rattle.ring_replica.proofs.EpochMarks.{going_step}
 use Rattle.ring_node.proofs.NodeSteps.{handed-next}
 use Rattle.ring_node.proofs.driving.hand_over.Goals as goal
 

@@ -1,6 +1,6 @@
--- What the payloads so far made of the core, which runs.
+-- The core after the payloads so far; it runs.
 use Rattle.std.proofs.Common.{◌≡◌, false}
-use Rattle.ring_replica.specs.NodeRules.{is_stopped, handed_over}
+use Rattle.ring_replica.specs.NodeSpec.{is_stopped, handed_over}
 use Rattle.ring_node.proofs.driving.hand_over.Given as goal
 
 abbrev pub invariant-loop-payload : goal.invariant-loop-payload

@@ -1,5 +1,5 @@
 use Rattle.ring_order_proof.proofs.DisciplinedWorlds.{own_keep, own_drop, own_on, lives_keep}
-use Rattle.ring_order_proof.proofs.Orderly.{lives_on}
+use Rattle.ring_order_proof.proofs.ConsistentRuns.{lives_on}
 use Rattle.ring_order_proof.proofs.Between.{between_rules, between_on}
 use Rattle.ring_order_proof.proofs.RunFacts.{node_is}
 use Rattle.ring_order_proof.proofs.discipline_laws.discipline_law.Goals as goal

@@ -1,4 +1,4 @@
-use Rattle.ring_core_proof.proofs.ActLimits.{step_fits}
+use Rattle.ring_core_proof.proofs.TransitionLimits.{step_fits}
 use Rattle.ring_order_proof.proofs.NodeLimits.{node_log_fits, node_sent_fits, stepped_fits}
 use Rattle.ring_order_proof.proofs.WorldLimits.{world_fits, sent_fits}
 use Rattle.ring_order_proof.proofs.frame_laws.frames_law.Goals as goal

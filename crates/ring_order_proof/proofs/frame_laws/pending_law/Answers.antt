@@ -1,5 +1,5 @@
 use Rattle.std.proofs.Common.{arith}
-use Rattle.ring_rules.specs.Worlds.{world_opening, run}
+use Rattle.ring_node_spec.specs.Worlds.{world_opening, run}
 use Rattle.ring_order_proof.proofs.AnswerCounts.{few_answers}
 use Rattle.ring_order_proof.proofs.PendingTickets.{pending_few}
 use Rattle.ring_order_proof.proofs.frame_laws.pending_law.Goals as goal

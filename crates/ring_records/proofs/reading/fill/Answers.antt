@@ -1,4 +1,4 @@
--- What was taken stands at the front of the room.
+-- The bytes taken are at the beginning of the buffer.
 use Rattle.std.proofs.Common.{◌≡◌, ℕ, List, rules, take, subst, arith, length-take-le, take_all}
 use Rattle.std.specs.Io.KnownBytes.{Consumes}
 use Rattle.ring_records.proofs.Parts.{kept_by_zero, filled_upto, fewer_kept}

@@ -1,4 +1,4 @@
--- What was read into the room is what the vector has; where less was, fewer bytes are taken.
+-- The vector has the bytes read into the buffer; if there were less, fewer bytes are taken.
 use Rattle.std.proofs.Common.{◌<◌, vec_capacity, arith}
 use Rattle.std.proofs.KnownBytes.{Keeps-refl}
 use Rattle.ring_base.proofs.Results.{on-err}

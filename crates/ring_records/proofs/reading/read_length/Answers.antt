@@ -1,4 +1,4 @@
--- Where it is refused, none of the two bytes is taken, or the first alone.
+-- If refused, none of the two bytes is taken, or only the first.
 use Rattle.std.proofs.Common.{[], ◌∷◌, arith}
 use Rattle.ring_base.proofs.Results.{on-err}
 use Rattle.ring_records.proofs.Parts.{fewer_kept, none_kept}

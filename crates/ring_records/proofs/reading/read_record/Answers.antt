@@ -1,4 +1,4 @@
--- Where it is refused, less than a record is taken: nothing, a front of its kind and its length, or both and fewer bytes than it tells.
+-- If refused, less than a record is taken: nothing, a prefix of its kind and length, or both and fewer bytes than the length.
 use Rattle.std.proofs.Common.{arith}
 use Rattle.ring_base.proofs.Results.{on-err}
 use Rattle.ring_records.proofs.Parts.{unfinished_none, unfinished_head, unfinished_bytes}

@@ -2,6 +2,6 @@ use Rattle.std.proofs.Common.{◌≡◌, length}
 use Rattle.std.specs.Io.KnownBytes.{Keeps}
 use Rattle.ring_records.proofs.reading.read_some.Given as goal
 
--- the room keeps its length, and reads that were interrupted took nothing
+-- The buffer keeps its length, and interrupted reads took nothing.
 abbrev pub invariant-loop : goal.invariant-loop
 invariant-loop g l = (length l.room ≡ length l.initial.room) × Keeps (g.R.Read.remaining l.initial.input) (g.R.Read.remaining l.input)

@@ -1,4 +1,4 @@
--- One that is set and not held is enough.
+-- One set bit whose number isn't held decides.
 use Rattle.std.proofs.Common.{sym, ◌∙◌, arith}
 use Rattle.ring_window.specs.Held.{holds}
 use Rattle.ring_recover.proofs.NumbersPassing.{chosen_pass}

@@ -1,4 +1,4 @@
--- What was read and what is left decide.
+-- The reports read and those remaining decide.
 use Rattle.std.proofs.Common.{◌≡◌, max, drop}
 use Rattle.ring_commit.specs.Reports.{safe_of}
 use Rattle.ring_recover.proofs.reports.greatest_mark.Given as goal

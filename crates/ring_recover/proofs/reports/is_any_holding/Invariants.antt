@@ -1,4 +1,4 @@
--- What is left decides.
+-- The remaining reports decide.
 use Rattle.std.proofs.Common.{◌≡◌, ◌+◌, true, drop}
 use Rattle.std.specs.List.{list_any}
 use Rattle.ring_commit.specs.Reports.{none_behind}

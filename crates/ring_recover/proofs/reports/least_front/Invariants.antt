@@ -1,4 +1,4 @@
--- What was read and what is left decide.
+-- The reports read and those remaining decide.
 use Rattle.std.proofs.Common.{◌≡◌, ◌∷◌, map, drop}
 use Rattle.ring_commit.specs.Tokens.{CommitEntry}
 use Rattle.ring_recover.specs.Plans.{least}

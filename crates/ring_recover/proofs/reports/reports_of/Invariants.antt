@@ -1,4 +1,4 @@
--- What was read of them.
+-- The matching entries among those read.
 use Rattle.std.proofs.Common.{◌≡◌, ◌≤◌, length, take}
 use Rattle.ring_commit.specs.Reports.{reports_of}
 use Rattle.ring_recover.proofs.reports.reports_of.Given as goal

@@ -1,10 +1,10 @@
 use Rattle.std.proofs.Common.{refl}
 use Rattle.std.proofs.Math.Nat.{le_refl}
-use Rattle.ring_replica.proofs.StayMarks.{rises_step, marked_step, marked_handed, going_step, me_step, me_handed, state_handed, installed_handed}
+use Rattle.ring_replica.proofs.EpochMarks.{rises_step, marked_step, marked_handed, going_step, me_step, me_handed, state_handed, installed_handed}
 use Rattle.ring_replica.proofs.mark_laws.marks_law.Goals as goal
 
 pub returns-clause-opening : goal.returns-clause-opening
-returns-clause-opening g c = λ total me. record { stay = _; older = _; parts = refl; ring = refl; marked = le_refl 0; ready = refl }
+returns-clause-opening g c = λ total me. record { epoch = _; older = _; parts = refl; ring = refl; marked = le_refl 0; ready = refl }
 
 pub returns-clause-rises : goal.returns-clause-rises
 returns-clause-rises g c = rises_step

@@ -1,8 +1,8 @@
--- Bytes are restored only where a snapshot was; whether they are one is told by the sessions.
+-- Bytes are restored only if a snapshot was; the sessions decide whether they are one.
 use Rattle.std.proofs.Common.{sym, ◌∙◌, subst}
-use Rattle.ring_object.specs.Snapshots.{Refuses}
+use Rattle.ring_object.specs.Snapshots.{IsSnapshotRefusal}
 use Rattle.ring_session.specs.Snapshots.{restored_table}
-use Rattle.ring_replica.proofs.TablesOn.{kept-table, kept-fits, restored-table, restored-fits, lost-fits}
+use Rattle.ring_replica.proofs.SessionTableSteps.{kept-table, kept-fits, restored-table, restored-fits, lost-fits}
 use Rattle.ring_replica.proofs.replica.restore.Goals as goal
 
 pub returns-then-not-is_restored : goal.returns-then-not-is_restored
@@ -29,7 +29,7 @@ pub returns-in-Err-BadSnapshot : goal.returns-in-Err-BadSnapshot
 returns-in-Err-BadSnapshot g c =
     let object = g.O.Object.sequential in
     let some = sym c.is_restored.ensures ∙ c.if-not-is_restored.false in
-    let refused = subst (λ fault. Refuses (restored_table object.restored c.snapshot.result.now) fault) c.in-Err-BadSnapshot.field-0-is
+    let refused = subst (λ fault. IsSnapshotRefusal (restored_table object.restored c.snapshot.result.now) fault) c.in-Err-BadSnapshot.field-0-is
     c.in-Err-BadSnapshot.ensures.refused in
     let lost = lost-fits object c.args.held.now c.snapshot.result.now c.snapshot.ensures some refused in
     record {

@@ -3,7 +3,7 @@ use Rattle.std.proofs.lemmas.List.{take_more_set, length-set}
 use Rattle.std.proofs.lemmas.Result.{err_from_is_err_and}
 use Rattle.ring_base.specs.Group.{Group}
 use Rattle.ring_base.specs.Processors.{IsProc}
-use Rattle.ring_script.proofs.RefusalsPassOn.{Misses-passes}
+use Rattle.ring_script.proofs.RefusalsPassOn.{IsBadScript-passes}
 use Rattle.ring_script.proofs.Voting.{votes_more, votes_none, votes_all, votes_made}
 use Rattle.ring_script.specs.Numbers.{number_at}
 use Rattle.ring_script.specs.Votes.{votes_at}
@@ -15,7 +15,7 @@ returns-in_err-votes-clause-read c =
     let left : c.from-count.result - c.loop-i.i ≡ suc (c.from-count.result - (c.loop-i.i + 1)) = omega arith in
     let read = rw left at c.loop-i.invariant.read in
     rw (p.1, p.2, ← c.count.ensures.value, ← c.from-count.ensures)
-    (Misses-passes c.in_err-votes.field-0.0 (number_at 1 255 c.loop-i.words) (votes_at c.from-count.result c.args.words.now) c.in_err-votes.ensures.read
+    (IsBadScript-passes c.in_err-votes.field-0.0 (number_at 1 255 c.loop-i.words) (votes_at c.from-count.result c.args.words.now) c.in_err-votes.ensures.read
     (λ none. sym read ∙ votes_none (take c.loop-i.i c.loop-i.votes) (c.from-count.result - (c.loop-i.i + 1)) c.loop-i.words none))
 
 pub loop-i-preserved : goal.loop-i-preserved

@@ -1,8 +1,8 @@
--- The maker makes the seat of the next node, which stands behind those that were made.
+-- The maker makes the seat of the next node, which is appended to those made before.
 use Rattle.std.proofs.Common.{◌≡◌, ◌<◌, ◌++◌, ◌∷◌, [], suc, ap, ◌∙◌, arith, length-append, rules}
-use Rattle.ring_seat.specs.Gauges.{made}
+use Rattle.ring_seat.specs.Gauges.{maker_after_seat}
 use Rattle.ring_seat.specs.Seats.{new_seat, node_at}
-use Rattle.ring_seat.proofs.Rising.{owner_splits}
+use Rattle.ring_seat.proofs.GaugeRule.{owner_splits}
 use Rattle.ring_seat.proofs.Seating.{seats_add, new_of_node}
 use Rattle.ring_seat.proofs.gauge.seats_of_nodes.Goals as goal
 
@@ -29,7 +29,7 @@ loop-node-preserved g c =
     (new_of_node gauge c.split_seat-seat.result.table_id c.args.nodes c.loop-node.node c.new.result c.split_seat-seat.result.me.0.published
     c.split_seat-seat.result.me.0.seen table number lt (ap (λ v. v.published) own) (ap (λ v. v.seen) own)) in
     record {
-      maker = maker ∙ ap made i.maker;
+      maker = maker ∙ ap maker_after_seat i.maker;
       table_is = e.0 ∙ i.table_is;
       count = rw p (omega (arith, length-append c.loop-node.seats.items, i.count));
       each = rw p (seats_add gauge c.args.nodes c.loop-node.node c.loop-node.seats.items seat i.count is i.each);

@@ -1,4 +1,4 @@
-use Rattle.ring_base.specs.Fronts.{front_append}
+use Rattle.ring_base.specs.Prefixes.{prefix_append}
 use Rattle.ring_session.specs.Deduplicated.{deduplicated}
 use Rattle.ring_session.specs.DeduplicatedLaws.{deduplicated-front, deduplicated-numbered, deduplicated-stands, numbered_once}
 use Rattle.std.proofs.Common.{◌++◌}
@@ -9,5 +9,5 @@ returns g c = record {
   from_list = deduplicated-stands;
   numbered = deduplicated-numbered;
   once = λ calls. numbered_once (deduplicated calls) (deduplicated-numbered calls);
-  grows = λ calls more. deduplicated-front calls (calls ++ more) (front_append calls more);
+  grows = λ calls more. deduplicated-front calls (calls ++ more) (prefix_append calls more);
 }

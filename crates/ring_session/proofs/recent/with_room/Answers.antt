@@ -1,4 +1,4 @@
--- One answer more is copied.
+-- One more answer is copied.
 use Rattle.std.proofs.Common.{◌++◌, ◌∷◌, [], ap, sym, ◌∙◌, rules, arith}
 use Rattle.ring_base.proofs.Rows.{take-next}
 use Rattle.ring_session.proofs.recent.with_room.Goals as goal

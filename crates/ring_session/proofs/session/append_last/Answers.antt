@@ -1,4 +1,4 @@
--- What was there stays a front, whatever was appended.
+-- The old content stays a prefix, whatever is appended.
 use Rattle.std.proofs.Common.{◌≡◌, ap, ◌∙◌, take, rules}
 use Rattle.ring_session.proofs.Parts.{stays-whole, stays-on}
 use Rattle.ring_session.proofs.session.append_last.Goals as goal

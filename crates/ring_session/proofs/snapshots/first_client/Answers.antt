@@ -2,8 +2,8 @@ use Rattle.std.proofs.Common.{sym}
 use Rattle.ring_session.proofs.Parts.{reply_short, next-no_client, next-no_number, next-zero, next-no_operation, next-no_reply, next-below, next-there}
 use Rattle.ring_session.proofs.snapshots.first_client.Goals as goal
 
-pub invariant_of-told : goal.invariant_of-told
-invariant_of-told c = reply_short c.in_ok-operation.rest.now (c.in_ok-reply.reply.now, c.in_ok-reply.rest.now) (sym c.in_ok-reply.ensures)
+pub invariant_of-client_entry : goal.invariant_of-client_entry
+invariant_of-client_entry c = reply_short c.in_ok-operation.rest.now (c.in_ok-reply.reply.now, c.in_ok-reply.rest.now) (sym c.in_ok-reply.ensures)
 
 pub returns-in_err-client : goal.returns-in_err-client
 returns-in_err-client c = rw c.from_residual.ensures (sym (next-no_client c.args.low c.args.bytes.now (sym c.in_err-client.ensures.value)))

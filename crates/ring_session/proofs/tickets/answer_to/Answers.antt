@@ -1,7 +1,7 @@
--- From place to place of the call's bucket.
+-- From position to position of the call's bucket.
 use Rattle.std.proofs.Common.{◌≡◌, ◌++◌, ◌∷◌, [], arith, ap, sym, if◌then◌else◌}
 use Rattle.std.proofs.lemmas.List.{append-nil}
-use Rattle.ring_session.specs.declared.answered.Answered.{Answered}
+use Rattle.ring_session.specs.declared.answered.TicketAnswer.{TicketAnswer}
 use Rattle.ring_session.proofs.BucketPlaces.{found-first, found-next, gone-start, gone-step, gone-end, answers-start, answers-step}
 use Rattle.ring_session.proofs.tickets.answer_to.Goals as goal
 use Rattle.ring_session.proofs.tickets.answer_to.Goals.{then-take+in_ok-answered+in_ok-push, else-take}
@@ -37,7 +37,7 @@ loop-place-preserved g c =
     let p = c.index-pending-place.result in
     let next = found-next pending c.args.buckets.now.first c.args.buckets.now.next c.requires.chained call i k p c.loop-place-test.true
     c.index-pending-place.is c.loop-place.invariant.bucket c.next_of-place.ensures in
-    let one : Answered g.row.A.Denot = record { ticket = p.ticket; call = p.call; answer = c.args.answer } in
+    let one : TicketAnswer g.row.A.Denot = record { ticket = p.ticket; call = p.call; answer = c.args.answer } in
     let items = c.loop-place.answers.items in
     let given : c.if-take.answers.items ≡ items ++ (if c.take.result then one ∷ [] else []) =
     elim c.if-take.branch [

@@ -1,4 +1,4 @@
--- Where no ticket waits none has an answer.
+-- Without pending tickets there are no answers.
 use Rattle.std.proofs.Common.{◌≡◌, ◌∙◌, [], length, sym}
 use Rattle.std.proofs.lemmas.Bool.{eqb-true}
 use Rattle.ring_session.proofs.BucketPlaces.{answers_behind-empty}

@@ -1,4 +1,4 @@
--- One committed call more: it goes through the sessions.
+-- One more committed call: it goes through the sessions.
 use Rattle.std.proofs.Common.{ℕ, ◌+◌, drop, fold, ap, sym, ◌∙◌, arith, if◌then◌else◌}
 use Rattle.ring_session.specs.Table.{table_next}
 use Rattle.ring_session.specs.TicketEffects.{done_after}

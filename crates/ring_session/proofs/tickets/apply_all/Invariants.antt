@@ -1,4 +1,4 @@
--- What is done so far, and what the calls to come do.
+-- The calls done so far, and the calls to come.
 use Rattle.std.proofs.Common.{◌≡◌, ◌+◌, ◌≤◌, drop, fold}
 use Rattle.ring_session.specs.Table.{table_next}
 use Rattle.ring_session.specs.TicketEffects.{done_after}

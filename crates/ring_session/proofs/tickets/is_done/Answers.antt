@@ -1,4 +1,4 @@
--- An answer is told by its variant.
+-- The variant of an answer decides.
 use Rattle.std.proofs.Common.{rules}
 use Rattle.ring_session.proofs.tickets.is_done.Goals as goal
 

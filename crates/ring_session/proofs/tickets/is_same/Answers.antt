@@ -1,4 +1,4 @@
--- Calls of different numbers aren't the same.
+-- Calls with different numbers are different.
 use Rattle.std.proofs.Common.{◌==◌, ◌&&◌, ◌∙◌, sym}
 use Rattle.std.specs.Str.{bytes_eq}
 use Rattle.std.proofs.lemmas.Bool.{ne_eqb, and_left, and_right}

@@ -1,4 +1,4 @@
--- The users' messages so far, and one more at each turn.
+-- The user messages so far, and one more in each iteration.
 use Rattle.std.proofs.Common.{◌+◌, ◌≤◌, max, ◌++◌, ap, sym, ◌∙◌, append_assoc, arith}
 use Rattle.std.proofs.lemmas.List.{append-nil}
 use Rattle.std.specs.Option.{option_copied}

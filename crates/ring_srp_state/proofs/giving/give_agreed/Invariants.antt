@@ -1,4 +1,4 @@
--- Those up to here are given.
+-- The outputs of the numbers so far are appended.
 use Rattle.std.proofs.Common.{◌≡◌, ◌≤◌, ◌++◌, max}
 use Rattle.ring_window.specs.Held.{front_of}
 use Rattle.ring_srp_state.specs.Users.{agreed_in}

@@ -1,10 +1,10 @@
--- What the window has of a number is found.
+-- The message that the window keeps under a number is the one found.
 use Rattle.std.proofs.Common.{◌≡◌, ◌++◌, List, Some, None, ap, sym, ◌∙◌}
 use Rattle.std.specs.Option.{option_copied}
 use Rattle.std.proofs.lemmas.List.{append-nil}
 use Rattle.std.proofs.lemmas.Result.{on_ok_weaker}
 use Rattle.ring_window.specs.Windows.{kept}
-use Rattle.ring_core.specs.declared.out.Out.{Out}
+use Rattle.ring_core_spec.specs.declared.out.Out.{Out}
 use Rattle.ring_srp_state.proofs.Rests.{rest_some, rest_none}
 use Rattle.ring_srp_state.proofs.giving.give_number.Goals as goal
 

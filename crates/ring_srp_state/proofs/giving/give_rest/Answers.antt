@@ -1,8 +1,8 @@
--- Each number came, and gave what the window has of it.
+-- Each number was read, and the window's message of it appended.
 use Rattle.std.proofs.Common.{◌≡◌, ◌++◌, ◌∷◌, [], ℕ, List, ap, sym, ◌∙◌, append_assoc}
 use Rattle.std.proofs.lemmas.List.{map-id}
 use Rattle.std.proofs.lemmas.Iterator.Consumers.{YieldsList-from_first, YieldsList-end}
-use Rattle.ring_core.specs.declared.out.Out.{Out}
+use Rattle.ring_core_spec.specs.declared.out.Out.{Out}
 use Rattle.ring_srp_state.specs.Rests.{rest_of}
 use Rattle.ring_srp_state.proofs.Rests.{rest_parts}
 use Rattle.ring_srp_state.proofs.giving.give_rest.Goals as goal
@@ -23,6 +23,6 @@ returns-clause-ok g c =
     let begun = c.into_iter-number-iterator in
     let road = YieldsList-from_first (λ (n : ℕ). n) (λ (ns : List ℕ). ns) {s = begun.result} c.args.numbers.now (begun.ensures.into_iter_gives
     ∙ c.iter-number-items.ensures) in
-    let came = (YieldsList-end road c.loop-number.yielded _ c.loop-number.yielded_by _ _ c.in-None.is c.next.ensures.steps).0 in
-    let same : c.loop-number.yielded ≡ c.args.numbers.now = sym (map-id c.loop-number.yielded) ∙ came in
+    let received = (YieldsList-end road c.loop-number.yielded _ c.loop-number.yielded_by _ _ c.in-None.is c.next.ensures.steps).0 in
+    let same : c.loop-number.yielded ≡ c.args.numbers.now = sym (map-id c.loop-number.yielded) ∙ received in
     c.loop-number.invariant ∙ ap (λ (ns : List ℕ). c.args.outs.now.items ++ rest_of c.args.window.now ns) same

@@ -1,4 +1,4 @@
--- What the numbers so far give.
+-- The outputs of the numbers so far.
 use Rattle.std.proofs.Common.{◌≡◌, ◌++◌}
 use Rattle.ring_srp_state.specs.Rests.{rest_of}
 use Rattle.ring_srp_state.proofs.giving.give_rest.Given as goal

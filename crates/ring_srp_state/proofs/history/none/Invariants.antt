@@ -1,6 +1,6 @@
--- What the value is now.
+-- The chosen ghost value.
 use Rattle.std.proofs.Common.{[]}
 use Rattle.ring_srp_state.proofs.history.none.Given as goal
 
-abbrev pub ghost-past_of : goal.ghost-past_of
-ghost-past_of g a = []
+abbrev pub ghost-ghost_of : goal.ghost-ghost_of
+ghost-ghost_of g a = []

@@ -1,4 +1,4 @@
--- The run's length is what was counted, and what is left of it.
+-- The run's length is the number counted so far and that of the rest of the run.
 use Rattle.ring_srp_state.proofs.QueueTaken.{IsCounted}
 use Rattle.ring_srp_state.proofs.packing.run_length.Given as goal
 

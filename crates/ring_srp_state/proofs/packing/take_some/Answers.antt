@@ -1,6 +1,6 @@
 use Rattle.std.proofs.Common.{◌≡◌, ◌-◌, [], ap, sym, ◌∙◌}
 use Rattle.std.specs.Prelude.{option_to_list}
-use Rattle.ring_payload.specs.Packing.{packed}
+use Rattle.ring_payload.specs.Packing.{packed_payloads}
 use Rattle.ring_srp_state.proofs.QueueTaken.{taken-begun, left-begun, taken-more, left-more, taken-none, left-all, taken-all}
 use Rattle.ring_srp_state.proofs.QueueTaken.{left-end, left-whole, left-twice, left-behind}
 use Rattle.ring_base.proofs.Results.{on-err}
@@ -16,12 +16,12 @@ loop-init g c =
 
 pub returns-in_default-clause-items : goal.returns-in_default-clause-items
 returns-in_default-clause-items g c =
-    let none : [] ≡ packed 1 c.loop.queue.items = ap option_to_list (sym c.in_default.is) ∙ c.in_ok-payload.ensures.message in
+    let none : [] ≡ packed_payloads 1 c.loop.queue.items = ap option_to_list (sym c.in_default.is) ∙ c.in_ok-payload.ensures.message in
     taken-none (c.args.most - c.loop.counter) c.loop.payloads.items c.loop.queue.items _ none c.loop.invariant.taken
 
 pub returns-in_default-clause-queue : goal.returns-in_default-clause-queue
 returns-in_default-clause-queue g c =
-    let none : [] ≡ packed 1 c.loop.queue.items = ap option_to_list (sym c.in_default.is) ∙ c.in_ok-payload.ensures.message in
+    let none : [] ≡ packed_payloads 1 c.loop.queue.items = ap option_to_list (sym c.in_default.is) ∙ c.in_ok-payload.ensures.message in
     left-all (c.args.most - c.loop.counter) c.loop.queue.items c.take_message.new.queue.items _ none c.in_ok-payload.ensures.queue c.loop.invariant.left
 
 pub loop-preserved : goal.loop-preserved

@@ -1,6 +1,6 @@
--- One round, and those behind it.
+-- One round, and those after it.
 use Rattle.std.proofs.Common.{◌≤◌, arith}
-use Rattle.ring_shares.proofs.Sharing.{round_grows, round_within}
+use Rattle.ring_failure.proofs.Sharing.{round_grows, round_within}
 use Rattle.ring_sweep.proofs.Trying.{tried_end, tried_rest}
 use Rattle.ring_sweep.proofs.rounds.+try_rounds.Goals as goal
 

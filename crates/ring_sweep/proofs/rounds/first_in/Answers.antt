@@ -1,9 +1,9 @@
 use Rattle.std.proofs.Common.{◌≡◌, ◌≤◌, ◌+◌, ◌-◌, max, ℕ, length, sym, subst, Option, ◌∙◌, arith}
 use Rattle.std.proofs.lemmas.Iterator.Adapters.{YieldsList-from_vec}
 use Rattle.std.proofs.lemmas.Iterator.Consumers.{YieldsList-turn, YieldsList-end}
-use Rattle.ring_shares.specs.Shares.{share_begin}
-use Rattle.ring_shares.proofs.Sharing.{found_of, one_longer, shares_end}
-use Rattle.ring_sweep.specs.declared.upset.Upset.{Upset}
+use Rattle.ring_failure.specs.Shares.{share_begin}
+use Rattle.ring_failure.proofs.Sharing.{found_of, one_longer, shares_end}
+use Rattle.ring_sweep.specs.declared.injection.Injection.{Injection}
 use Rattle.ring_sweep.specs.Variants.{AreTriedIn}
 use Rattle.ring_sweep.proofs.Trying.{tried_share}
 use Rattle.ring_sweep.proofs.rounds.first_in.Goals as goal
@@ -25,12 +25,12 @@ loop-one-preserved g c =
     let len = parts.ok.0 in
     let given = c.requires.each k c.in-Some.one (omega (arith, less, all, len)) in
     let found = found_of c.in-Some.one _ c.in_ok-found.found
-    (λ (f : Option Upset). AreTriedIn g.O.Object.sequential nodes lines (from + share_begin many shares k) (from + share_begin many shares (k + 1)) f)
+    (λ (f : Option Injection). AreTriedIn g.O.Object.sequential nodes lines (from + share_begin many shares k) (from + share_begin many shares (k + 1)) f)
     turn.1 c.in_ok-found.was given in
     let more = tried_share g.O.Object.sequential nodes lines from many shares k c.loop-one.illegal c.in_ok-found.found c.loop-one.invariant found in
     let next = one_longer c.loop-one.yielded c.in-Some.one in
     subst (λ (n : ℕ). AreTriedIn g.O.Object.sequential nodes lines from (from + share_begin many shares n) c.or-illegal.result) next
-    (subst (λ (f : Option Upset). AreTriedIn g.O.Object.sequential nodes lines from (from + share_begin many shares (k + 1)) f) (sym c.or-illegal.ensures) more)
+    (subst (λ (f : Option Injection). AreTriedIn g.O.Object.sequential nodes lines from (from + share_begin many shares (k + 1)) f) (sym c.or-illegal.ensures) more)
 
 pub returns-clause-ok : goal.returns-clause-ok
 returns-clause-ok g c =

@@ -1,5 +1,5 @@
 use Rattle.std.proofs.Common.{◌+◌, ◌-◌, length}
-use Rattle.ring_shares.specs.Shares.{share_begin}
+use Rattle.ring_failure.specs.Shares.{share_begin}
 use Rattle.ring_sweep.specs.Variants.{AreTriedIn}
 use Rattle.ring_sweep.proofs.rounds.first_in.Given as goal
 

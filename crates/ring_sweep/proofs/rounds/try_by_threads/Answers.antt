@@ -1,4 +1,4 @@
--- All variants in one part.
+-- All variants in one range.
 use Rattle.ring_sweep.proofs.Trying.{tried_whole}
 use Rattle.ring_sweep.proofs.rounds.try_by_threads.Goals as goal
 

@@ -1,3 +1,4 @@
+use Rattle.std.proofs.Common.{inl, inr}
 use Rattle.ring_console.proofs.NotRead.{no_script_read}
 use Rattle.ring_sweep.proofs.sweeping.sweep_of.Goals as goal
 
@@ -14,3 +15,13 @@ pub returns-in-Ok-clause-no_script : goal.returns-in-Ok-clause-no_script
 returns-in-Ok-clause-no_script g c = λ bytes known none.
     absurd (no_script_read g.V.Vocabulary.forms c.in-Ok.script (g.R.Read.remaining c.args.input.now) c.in-Ok.ensures.read.0 bytes
     c.in-Ok.ensures.read.1 c.in-Ok.ensures.read.2 known none)
+
+pub returns-in-Ok-clause-kept : goal.returns-in-Ok-clause-kept
+returns-in-Ok-clause-kept g c = λ one_is.
+    elim (c.sweep_script.ensures.kept one_is) [
+      | inl quiet ↦ inl quiet
+      | inr told ↦ inr (elim told [
+        | inl same ↦ inl same
+        | inr printed ↦ inr (c.in-Ok.script, c.in-Ok.ensures.read.0, c.in-Ok.ensures.read.1, c.in-Ok.ensures.read.2, printed)
+      ])
+    ]

@@ -1,5 +1,5 @@
 use Rattle.ring_synchrony_proof.proofs.Unwrapped.{all_hold_ends}
-use Rattle.ring_synchrony_proof.proofs.Inner.{all_recover}
+use Rattle.ring_synchrony_proof.proofs.WrappedIsHeld.{all_recover}
 use Rattle.ring_synchrony_proof.proofs.change_laws.recovery_law.Goals as goal
 
 pub returns-clause-ends : goal.returns-clause-ends

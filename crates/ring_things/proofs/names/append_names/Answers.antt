@@ -1,4 +1,4 @@
--- What was there stays in front, and each name more stands behind the others.
+-- The old content stays a prefix, and each name is appended to the others.
 use Rattle.std.proofs.Common.{length, append_assoc, sym}
 use Rattle.std.proofs.lemmas.List.{take_at}
 use Rattle.byteorder.specs.Endian.{big_bytes}

@@ -1,4 +1,4 @@
--- Each number more stands behind the others.
+-- Each number is appended to the others.
 use Rattle.std.proofs.Common.{arith, ap, length}
 use Rattle.ring_things.proofs.Appended.{number_appended}
 use Rattle.ring_things.proofs.numbers.append_numbers.Goals as goal

@@ -1,11 +1,11 @@
--- Those taken so far and what is left of both make the same.
+-- The numbers taken so far and the rest of both lists give the same result.
 use Rattle.std.proofs.Common.{◌-◌, length, take}
 use Rattle.ring_base.specs.Numbers.{merged}
 use Rattle.ring_token.proofs.Merging.{AreTaken}
 use Rattle.ring_token.proofs.requests.requests_after.Given as goal
 
-abbrev pub invariant-loop-left : goal.invariant-loop-left
-invariant-loop-left l = AreTaken l.smallest l.left l.lacking (take 32 (merged l.stays l.missing))
+abbrev pub invariant-loop-requests_left : goal.invariant-loop-requests_left
+invariant-loop-requests_left l = AreTaken l.smallest l.requests_left l.lacking (take 32 (merged l.remaining_requests l.missing))
 
-abbrev pub decreases-loop-left : goal.decreases-loop-left
-decreases-loop-left l = 32 - length l.smallest
+abbrev pub decreases-loop-requests_left : goal.decreases-loop-requests_left
+decreases-loop-requests_left l = 32 - length l.smallest

@@ -2,6 +2,6 @@ use Rattle.std.proofs.Common.{◌≡◌, drop}
 use Rattle.ring_wire.specs.Ascending.{ascends as ascends_to}
 use Rattle.ring_wire.proofs.token.ascends.Given as goal
 
--- what is left decides
+-- the rest decides
 abbrev pub invariant-loop-index : goal.invariant-loop-index
 invariant-loop-index l = ascends_to l.low l.greatest (drop l.index l.numbers) ≡ ascends_to 0 l.greatest l.numbers

@@ -1,4 +1,4 @@
--- The frame that is spelled there is the one that is put into the place.
+-- The frame that the bytes encode is put into the place.
 use Rattle.std.proofs.Common.{rules, ◌≡◌}
 use Rattle.std.specs.Prelude.{slice_range}
 use Rattle.ring_base.specs.declared.fault.Fault.TheVariants.{Memory}
@@ -6,13 +6,13 @@ use Rattle.ring_world.proofs.Storing.{put_is, put_refused}
 use Rattle.ring_world.proofs.frames.decode.Goals as goal
 
 pub returns : goal.returns
-returns g c = λ frame spelled.
-    put_is (slice_range c.args.bytes.now c.args.mark.start c.args.mark.end) c.get_into.new.place c.in_ok-get_into.field-0 frame spelled
-    c.spelling_law.ensures c.one_spelling_law.ensures c.in_ok-get_into.ensures.found c.in_ok-get_into.ensures.placed
+returns g c = λ frame encoded.
+    put_is (slice_range c.args.bytes.now c.args.mark.start c.args.mark.end) c.get_into.new.place c.in_ok-get_into.field-0 frame encoded
+    c.encoding_law.ensures c.unique_encoding_law.ensures c.in_ok-get_into.ensures.found c.in_ok-get_into.ensures.placed
 
 pub returns-in_err-get_into : goal.returns-in_err-get_into
-returns-in_err-get_into g c = λ frame spelled.
+returns-in_err-get_into g c = λ frame encoded.
     let plain : c.in_err-get_into.field-0.0 ≡ Memory =
-    put_refused (slice_range c.args.bytes.now c.args.mark.start c.args.mark.end) c.in_err-get_into.field-0.0 frame spelled
-    c.spelling_law.ensures c.in_err-get_into.ensures.bad c.in_err-get_into.ensures.faults in
+    put_refused (slice_range c.args.bytes.now c.args.mark.start c.args.mark.end) c.in_err-get_into.field-0.0 frame encoded
+    c.encoding_law.ensures c.in_err-get_into.ensures.bad c.in_err-get_into.ensures.faults in
     search (rules, plain)

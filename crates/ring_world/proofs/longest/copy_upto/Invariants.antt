@@ -1,4 +1,4 @@
--- The calls so far are copied, and none too many.
+-- The calls so far are copied, and no more than `many`.
 use Rattle.std.proofs.Common.{◌≡◌, ◌-◌, ◌≤◌, ◌++◌, take, length}
 use Rattle.ring_world.proofs.longest.copy_upto.Given as goal
 

@@ -1,10 +1,10 @@
--- One segment more.
+-- One more segment.
 use Rattle.std.proofs.Common.{◌++◌, length, take, refl, ap, ◌∙◌, sym, subst}
 use Rattle.std.proofs.lemmas.List.{take_all}
 use Rattle.std.proofs.lemmas.Option.{slice_get_read}
 use Rattle.ring_session.specs.Deduplicated.{deduplicated}
 use Rattle.ring_session.specs.Effects.{AreOf}
-use Rattle.ring_world.specs.Longest.{calls_of}
+use Rattle.ring_world.specs.LongestCommitted.{calls_of}
 use Rattle.ring_world.proofs.Segments.{calls_of-more}
 use Rattle.ring_world.proofs.longest.order_of.Goals as goal
 

@@ -1,7 +1,7 @@
--- Those of the segments so far.
+-- The effective calls of the segments so far.
 use Rattle.std.proofs.Common.{take}
 use Rattle.ring_session.specs.Effects.{AreOf}
-use Rattle.ring_world.specs.Longest.{calls_of}
+use Rattle.ring_world.specs.LongestCommitted.{calls_of}
 use Rattle.ring_world.proofs.longest.order_of.Given as goal
 
 abbrev pub invariant-loop-segment : goal.invariant-loop-segment

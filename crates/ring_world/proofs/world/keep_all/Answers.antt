@@ -1,10 +1,10 @@
--- One frame more is kept.
+-- One more frame is stored.
 use Rattle.std.proofs.Common.{◌≡◌, ◌+◌, ◌-◌, [], ◌∷◌, ◌++◌, map, take, length, refl, ap, ◌∙◌, sym, subst, arith, append_assoc}
 use Rattle.std.proofs.lemmas.List.{map-append}
 use Rattle.std.proofs.lemmas.Option.{slice_get_read}
-use Rattle.ring_core.specs.State.{Sent, Carried}
-use Rattle.ring_rules.specs.Worlds.{carried}
-use Rattle.ring_world.specs.Stored.{HasRoom}
+use Rattle.ring_core_spec.specs.State.{OutgoingFrame, Transmission}
+use Rattle.ring_node_spec.specs.Worlds.{carried_frames}
+use Rattle.ring_world.specs.StoredFramesView.{HasRoom}
 use Rattle.ring_base.proofs.Rows.{take-more}
 use Rattle.ring_world.proofs.world.keep_all.Goals as goal
 
@@ -15,11 +15,11 @@ loop-sent-preserved g c =
     let i = c.loop-sent.sent-index in
     let within = c.loop-sent-test.true in
     let at = slice_get_read xs (length xs) i x refl within c.sent-item.is in
-    let carries : Sent g.row.A.Denot → Carried g.row.A.Denot = λ s. record { from = c.args.from; to = s.to; frame = s.frame } in
+    let carries : OutgoingFrame g.row.A.Denot → Transmission g.row.A.Denot = λ s. record { from = c.args.from; to = s.to; frame = s.frame } in
     let left : (length xs - (i + 1)) + 1 ≡ length xs - i = omega (arith, within) in (
-      c.keep.ensures.frames ∙ ap (λ (s : Sent g.row.A.Denot). c.loop-sent.frames.frames ++ carries s ∷ [])
+      c.keep.ensures.frames ∙ ap (λ (s : OutgoingFrame g.row.A.Denot). c.loop-sent.frames.frames ++ carries s ∷ [])
           c.sent.view_is ∙ ap (λ fs. fs ++ carries x ∷ []) c.loop-sent.invariant.0
-          ∙ append_assoc c.args.frames.now.frames (carried c.args.from (take i xs)) (carries x ∷ [])
+          ∙ append_assoc c.args.frames.now.frames (carried_frames c.args.from (take i xs)) (carries x ∷ [])
           ∙ ap (λ fs. c.args.frames.now.frames ++ fs) (sym (map-append carries (take i xs) (x ∷ [])) ∙ ap (map carries) (sym (take-more xs i x at))),
       c.keep.ensures.room (length xs - (i + 1)) (subst (λ n. HasRoom n c.loop-sent.frames) (sym left) c.loop-sent.invariant.1),
     )

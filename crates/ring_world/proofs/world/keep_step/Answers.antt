@@ -1,4 +1,4 @@
--- The frames that are lent are those that the step gave.
+-- The borrowed frames are those that the step sent.
 use Rattle.ring_world.proofs.world.keep_step.Goals as goal
 
 pub keep_all-requires-clause-fit : goal.keep_all-requires-clause-fit

@@ -1,8 +1,8 @@
--- One event more keeps the limits.
+-- One more event is within the limits.
 use Rattle.std.proofs.Common.{subst, sym}
 use Rattle.std.specs.List.{AllByRecursion}
 use Rattle.ring_base.proofs.Each.{each-push}
-use Rattle.ring_rules.specs.WorldLimits.{EventFits}
+use Rattle.ring_node_spec.specs.WorldLimits.{EventFits}
 use Rattle.ring_world_tests.proofs.events.events_of.Goals as goal
 
 pub loop-line-preserved : goal.loop-line-preserved

@@ -1,6 +1,6 @@
--- The events so far keep the limits.
+-- The events so far are within the limits.
 use Rattle.std.specs.List.{AllByRecursion}
-use Rattle.ring_rules.specs.WorldLimits.{EventFits}
+use Rattle.ring_node_spec.specs.WorldLimits.{EventFits}
 use Rattle.ring_world_tests.proofs.events.events_of.Given as goal
 
 abbrev pub invariant-loop-line : goal.invariant-loop-line

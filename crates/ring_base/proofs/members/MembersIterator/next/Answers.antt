@@ -7,12 +7,12 @@ use Rattle.ring_base.proofs.members.MembersIterator.next.Goals as goal
 pub returns-in_err-first-clause-steps : goal.returns-in_err-first-clause-steps
 returns-in_err-first-clause-steps c =
     let nothing : c.args.self.now ≡ nobody = sym c.self.view_is ∙ c.in_err-first.ensures.none.0 refl in
-    let left : elements c.args.self.now ≡ [] = ap elements nothing ∙ elements-nobody in
-    rw c.from_residual.ensures (left, left)
+    let unvisited : elements c.args.self.now ≡ [] = ap elements nothing ∙ elements-nobody in
+    rw c.from_residual.ensures (unvisited, unvisited)
 
 pub returns-clause-steps : goal.returns-clause-steps
 returns-clause-steps c =
-    rw (← c.self.view_is) (elements-taken c.self.inside.left c.in_ok-first.first c.only.result
+    rw (← c.self.view_is) (elements-taken c.self.inside.unvisited c.in_ok-first.first c.only.result
     c.less-self-inside.result c.in_ok-first.ensures.found c.in_ok-first.ensures.member c.only.ensures.value
     c.less-self-inside.ensures.value)
 

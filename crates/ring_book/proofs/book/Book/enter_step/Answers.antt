@@ -2,7 +2,7 @@ use Rattle.std.proofs.Common.{◌≡◌, ℕ, ◌<◌, ◌-◌, ◌++◌, arith,
 use Rattle.rtrb.specs.Ring.{known_items, known_free, sent}
 use mathlib.Core.List.{IsPrefix}
 use Rattle.ring_book.specs.Cells.{AllOf}
-use Rattle.ring_book_lines.specs.Lines.{steps_of, IsFound}
+use Rattle.ring_book_lines.specs.Lines.{steps_of, IsDeliverable}
 use Rattle.ring_book_lines.specs.Machines.{node_machine}
 use Rattle.ring_book_lines.specs.Steps.{StepView, LineView}
 use Rattle.ring_book.proofs.Entering.{book_looks, all_entered, Popped, book_enters, book_same}
@@ -54,27 +54,27 @@ returns-then-slots_beside-eq0 g c =
     let entered = subst (λ (k : ℕ). sent c.cell.inside.journal ≡ steps_of k c.self.inside.lines.items) own.0 all in
     rw (← c.self.view_is, ← c.cell.view_is) (refl, refl, rw l.producer.1 refl, inr (inl entered))
 
-pub is_found-requires : goal.is_found-requires
-is_found-requires g c = c.self.invariant.text
+pub is_deliverable-requires : goal.is_deliverable-requires
+is_deliverable-requires g c = c.self.invariant.text
 
-pub invariant_of-self-then-not-is_found : goal.invariant_of-self-then-not-is_found
-invariant_of-self-then-not-is_found g c =
+pub invariant_of-self-then-not-is_deliverable : goal.invariant_of-self-then-not-is_deliverable
+invariant_of-self-then-not-is_deliverable g c =
     let i = c.number.result - 1 in
     let own = own_end c.self.invariant c.cell.invariant c.number.ensures.value c.index_mut-end.ensures.value in
     book_looks (node_machine g.O.Object.sequential g.K.BookName.name.group)
     g.K.BookName.name c.self.inside.lines.items c.self.inside.reserved c.self.inside.ends.items _ _ _ _ _ _ i
     c.index_mut-end.result.now c.slots_beside.new.self c.self.invariant own.1 c.slots_beside.ensures.looked.0
-    c.slots_beside.ensures.looked.1 c.is_found.ensures.room
+    c.slots_beside.ensures.looked.1 c.is_deliverable.ensures.room
 
-pub invariant_of-cell-then-not-is_found : goal.invariant_of-cell-then-not-is_found
-invariant_of-cell-then-not-is_found g c =
+pub invariant_of-cell-then-not-is_deliverable : goal.invariant_of-cell-then-not-is_deliverable
+invariant_of-cell-then-not-is_deliverable g c =
     let l = c.slots_beside.ensures.producer in
     cell_looks (node_machine g.O.Object.sequential g.K.BookName.name.group) g.K.BookName.name c.cell.inside.me
     c.cell.inside.ahead c.cell.inside.node c.cell.inside.journal c.slots_beside.new.producer _ c.cell.invariant l.0
     l.1 l.2
 
-pub returns-then-not-is_found : goal.returns-then-not-is_found
-returns-then-not-is_found g c =
+pub returns-then-not-is_deliverable : goal.returns-then-not-is_deliverable
+returns-then-not-is_deliverable g c =
     let i = c.number.result - 1 in
     let own = own_end c.self.invariant c.cell.invariant c.number.ensures.value c.index_mut-end.ensures.value in
     let l = c.slots_beside.ensures in
@@ -83,8 +83,8 @@ returns-then-not-is_found g c =
     let x : StepView g.row.O-Alloc.Denot = c.peek_known.result.now in
     let next = comes g.K.BookName.name c.self.inside.lines.items i c.cell.inside.me c.cell.inside.journal c.slots_beside.new.producer
     c.index_mut-end.result.now c.slots_beside.new.self x own.0 (c.self.invariant.each i c.index_mut-end.result.now own.1) look c.peek_known.ensures in
-    let lost : IsFound c.self.inside.lines.items x.node x.input
-    → ⊥ = (λ h. let no_way = c.if-not-is_found.ensures.found.1 (rw c.as_slice.ensures.value h) in cc) in
+    let lost : IsDeliverable c.self.inside.lines.items x.node x.input
+    → ⊥ = (λ h. let no_way = c.if-not-is_deliverable.ensures.found.1 (rw c.as_slice.ensures.value h) in cc) in
     rw (← c.self.view_is, ← c.cell.view_is) (refl, refl, rw l.producer.1 refl, inr (inr (x, next.last, lost)))
 
 pub slots_beside-number-requires : goal.slots_beside-number-requires
@@ -119,23 +119,23 @@ invariant_of-self-2 g c =
     c.pop_known-step.ensures.ring c.pop_known-step.ensures.received.0 c.slots_beside-number.ensures.consumer.0
     c.slots_beside-number.ensures.consumer.1 in
     let found = found_first c.self.inside.lines.items (known_items c.slots_beside.new.self) x c.peek_known.result.now
-    c.peek_known.ensures pre (rw c.as_slice.ensures.value at (c.if-not-is_found.ensures.found.0 refl)) in
+    c.peek_known.ensures pre (rw c.as_slice.ensures.value at (c.if-not-is_deliverable.ensures.found.0 refl)) in
     let there = own_told c.self.invariant c.cell.invariant c.number.ensures.value c.index_mut.ensures.value in
     let y : LineView g.row.O-Alloc.Denot = record { number = length c.self.inside.lines.items; step = x } in
     let lines : c.push_reserved.new.self.items ≡ c.self.inside.lines.items ++ y ∷ [] =
     rw (c.new.ensures, c.len-number.ensures, c.self.inside.lines.ok.0) at c.push_reserved.ensures.items in
-    let log = rw (c.len-number.ensures, c.self.inside.lines.ok.0) at c.note.ensures.log in
+    let log = rw (c.len-number.ensures, c.self.inside.lines.ok.0) at c.extend_log.ensures.log in
     book_same (node_machine g.O.Object.sequential g.K.BookName.name.group) g.K.BookName.name
     (c.self.inside.lines.items ++ y ∷ []) c.push_reserved.new.self.items
     (c.self.inside.reserved - 1) _ _ _ _ _ _ _ _ _
     (book_enters (node_machine g.O.Object.sequential g.K.BookName.name.group)
     g.K.BookName.name c.self.inside.lines.items c.self.inside.reserved c.self.inside.ends.items
-    c.self.inside.told.items _ _ _ _ _ i c.cell.inside.me c.cell.inside.ahead c.cell.inside.node
+    c.self.inside.answer_indexes.items _ _ _ _ _ i c.cell.inside.me c.cell.inside.ahead c.cell.inside.node
     c.cell.inside.journal c.slots_beside.new.producer c.index_mut-end.result.now c.slots_beside.new.self
     c.slots_beside-number.new.consumer x
-    c.index_mut.result.now c.tell.new.self _ own.0 c.self.invariant c.cell.invariant own.1 there c.tell.ensures.answers
-    c.tell.ensures.room c.if-not-is_found.ensures.room look next.last pop found (omega (arith, c.if-self-eq0.false)))
-    lines log c.push_reserved.ensures.capacity c.note.ensures.capacity
+    c.index_mut.result.now c.add_answers.new.self _ own.0 c.self.invariant c.cell.invariant own.1 there c.add_answers.ensures.answers
+    c.add_answers.ensures.room c.if-not-is_deliverable.ensures.room look next.last pop found (omega (arith, c.if-self-eq0.false)))
+    lines log c.push_reserved.ensures.capacity c.extend_log.ensures.capacity
 
 pub invariant_of-cell-2 : goal.invariant_of-cell-2
 invariant_of-cell-2 g c =
@@ -176,7 +176,7 @@ returns g c =
     let next = comes g.K.BookName.name c.self.inside.lines.items i c.cell.inside.me c.cell.inside.journal c.slots_beside.new.producer
     c.index_mut-end.result.now c.slots_beside.new.self x own.0 (c.self.invariant.each i c.index_mut-end.result.now own.1) look pre in
     let found = found_first c.self.inside.lines.items (known_items c.slots_beside.new.self) x c.peek_known.result.now
-    c.peek_known.ensures pre (rw c.as_slice.ensures.value at (c.if-not-is_found.ensures.found.0 refl)) in
+    c.peek_known.ensures pre (rw c.as_slice.ensures.value at (c.if-not-is_deliverable.ensures.found.0 refl)) in
     let mine : x.node ≡ c.cell.inside.me = AllOf-last c.cell.inside.me
     (steps_of c.cell.inside.me c.self.inside.lines.items) x
     (subst (λ (xs : List (StepView g.row.O-Alloc.Denot)). AllOf c.cell.inside.me xs) next.last c.cell.invariant.mine) in
@@ -194,11 +194,11 @@ returns g c =
       cell_is = rw (m.looked.1, l.producer.1) refl;
     }
 
-pub tell-requires : goal.tell-requires
-tell-requires g c =
+pub add_answers-requires : goal.add_answers-requires
+add_answers-requires g c =
     let i = c.number.result - 1 in
     let there = own_told c.self.invariant c.cell.invariant c.number.ensures.value c.index_mut.ensures.value in
     omega (arith, (c.self.invariant.tells i c.index_mut.result.now there).room, c.if-self-eq0.false)
 
-pub note-requires : goal.note-requires
-note-requires g c = omega (arith, c.self.invariant.log_room, c.if-self-eq0.false, c.self.inside.segments.ok.0)
+pub extend_log-requires : goal.extend_log-requires
+extend_log-requires g c = omega (arith, c.self.invariant.log_room, c.if-self-eq0.false, c.self.inside.segments.ok.0)

@@ -8,12 +8,12 @@ invariant_of-self g c =
     let e = c.make_room.ensures in
     book_grows (node_machine g.O.Object.sequential g.K.BookName.name.group)
     g.K.BookName.name c.self.inside.lines.items c.make_room.new.lines.items c.self.inside.reserved
-    c.self.inside.reserved c.self.inside.ends.items c.self.inside.told.items
-    c.make_room.new.told.items _ _ _ _ _ _ _ c.self.invariant e.lines
+    c.self.inside.reserved c.self.inside.ends.items c.self.inside.answer_indexes.items
+    c.make_room.new.answer_indexes.items _ _ _ _ _ _ _ c.self.invariant e.lines
     (ap (λ ss. record { total = c.self.inside.total; segments = ss }) e.segments)
-    (roomier-length c.self.inside.told.items c.make_room.new.told.items e.told)
-    (told_stays c.self.inside.lines.items c.self.inside.reserved c.self.inside.told.items c.make_room.new.told.items
-    e.told c.self.invariant.tells)
+    (roomier-length c.self.inside.answer_indexes.items c.make_room.new.answer_indexes.items e.answer_indexes)
+    (told_stays c.self.inside.lines.items c.self.inside.reserved c.self.inside.answer_indexes.items c.make_room.new.answer_indexes.items
+    e.answer_indexes c.self.invariant.tells)
     (omega (arith, e.lines_stay, c.self.invariant.room)) (omega (arith, e.segments_stay, c.self.invariant.log_room)) c.self.invariant.limit
 
 pub invariant_of-self-2 : goal.invariant_of-self-2
@@ -24,11 +24,11 @@ invariant_of-self-2 g c =
     let seen = ap (λ b. length b.lines + b.reserved) c.self.view_is in
     book_grows (node_machine g.O.Object.sequential g.K.BookName.name.group)
     g.K.BookName.name c.self.inside.lines.items c.make_room.new.lines.items c.self.inside.reserved
-    (c.self.inside.reserved + 1) c.self.inside.ends.items c.self.inside.told.items
-    c.make_room.new.told.items _ _ _ _ _ _ _ c.self.invariant e.lines
+    (c.self.inside.reserved + 1) c.self.inside.ends.items c.self.inside.answer_indexes.items
+    c.make_room.new.answer_indexes.items _ _ _ _ _ _ _ c.self.invariant e.lines
     (ap (λ ss. record { total = c.self.inside.total; segments = ss }) e.segments)
-    (roomier-length c.self.inside.told.items c.make_room.new.told.items e.told)
+    (roomier-length c.self.inside.answer_indexes.items c.make_room.new.answer_indexes.items e.answer_indexes)
     (told_roomier c.self.inside.lines.items c.self.inside.reserved (c.self.inside.reserved + 1)
-    c.self.inside.told.items c.make_room.new.told.items e.told c.self.invariant.tells e.told_room)
+    c.self.inside.answer_indexes.items c.make_room.new.answer_indexes.items e.answer_indexes c.self.invariant.tells e.told_room)
     (omega (arith, e.lines_room, lines, c.make_room.new.lines.ok.0)) (omega (arith, e.segments_room, segments, c.make_room.new.segments.ok.0))
     (omega (arith, c.self.invariant.limit, c.places.ensures, c.if-places-eq-PLACES.false, seen))

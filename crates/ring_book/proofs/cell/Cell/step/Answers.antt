@@ -1,8 +1,8 @@
 use Rattle.std.proofs.Common.{◌≡◌, ◌+◌, refl, subst, sym, ap, ◌∙◌, length}
 use Rattle.rtrb.specs.Ring.{sent}
 use Rattle.ring_book_lines.specs.Limits.{NodeFits}
-use Rattle.ring_rules.specs.declared.input.Input.TheVariants.{Stop}
-use Rattle.ring_rules.specs.Nodes.{Node}
+use Rattle.ring_node_spec.specs.declared.input.Input.TheVariants.{Stop}
+use Rattle.ring_node_spec.specs.Nodes.{Node}
 use Rattle.ring_book.specs.Cells.{IsCell}
 use Rattle.ring_book_lines.specs.Machines.{node_machine}
 use Rattle.ring_book_lines.specs.Runs.{IsStep}
@@ -10,7 +10,7 @@ use Rattle.ring_book.specs.Seen.{CellView}
 use Rattle.ring_book.proofs.Journaling.{cell_adds}
 use Rattle.ring_book.proofs.NodeFrameLimits.{node_sound}
 use Rattle.ring_book.proofs.Stops.{memory_runs, other_stopped}
-use Rattle.ring_rules.proofs.NodeChanges.{stopped_same}
+use Rattle.ring_node_spec.proofs.NodeChanges.{stopped_same}
 use Rattle.ring_book.proofs.cell.Cell.step.Goals as goal
 
 pub step_of-requires : goal.step_of-requires

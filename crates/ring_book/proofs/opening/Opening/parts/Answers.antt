@@ -23,12 +23,12 @@ new-requires g c =
     let all = ap (λ n. n.group.count) e in
     start_book (node_machine g.O.Object.sequential g.K.BookName.name.group)
     g.K.BookName.name c.self.inside.nodes.items c.self.inside.writers.items c.self.inside.ends.items
-    c.in_ok-told.told.items _
+    c.in_ok-answer_indexes.answer_indexes.items _
     (subst (λ (gr : Group). AllStart (node_machine g.O.Object.sequential gr)
     1 c.self.inside.nodes.items c.self.inside.writers.items) (ap (λ n. n.group) e) c.self.invariant.0)
     c.self.invariant.1
     (subst (λ (n : ℕ). n ≤ 16) all c.self.invariant.3) (sym (c.self.invariant.2 ∙ all)) (sym (ap (λ n. n.rings) e))
-    (c.in_ok-told.ensures.count ∙ (c.len.ensures ∙ (c.self.inside.nodes.ok.0 ∙ (c.self.invariant.2 ∙ all)))) c.in_ok-told.ensures.none
+    (c.in_ok-answer_indexes.ensures.count ∙ (c.len.ensures ∙ (c.self.inside.nodes.ok.0 ∙ (c.self.invariant.2 ∙ all)))) c.in_ok-answer_indexes.ensures.none
     (text_room (length c.in_ok-text.text.items) c.in_ok-text.text.spare c.in_ok-text.ensures.spare)
 
 pub returns-clause-counted : goal.returns-clause-counted

@@ -1,9 +1,9 @@
--- The call keeps the limits as it was made, so the submit does.
+-- The call is within the limits as it is made, so the node stays within them.
 use Rattle.std.proofs.Common.{arith, refl}
 use Rattle.ring_base.proofs.Results.{ok_always}
 use Rattle.ring_order_proof.proofs.NodeLimits.{takes}
 use Rattle.ring_payload.specs.Calls.{CallFits}
-use Rattle.ring_driver.specs.Driving.{Driven}
+use Rattle.ring_driver.specs.Driving.{DriverView}
 use Rattle.ring_driver.proofs.DriverLimits.{taken_as, kept_as, not_taken}
 use Rattle.ring_driver.proofs.driver.Driver.submit.Goals as goal
 
@@ -32,12 +32,15 @@ returns-clause-taken g c = rw (← c.self.view_is) c.submit.ensures.taken
 pub returns-clause-ok : goal.returns-clause-ok
 returns-clause-ok g c =
     let s = c.self.inside in
-    let driven : Driven _ = record {
+    let driven : DriverView _ = record {
+      group = s.group;
       node = s.node;
+      clock = s.clock;
       sends = s.sends.items;
       committed = s.committed.items;
       dropped = s.dropped.items;
       restored = s.restored;
+      has_installed = s.has_installed;
     } in
     rw (← c.self.view_is) (taken_as driven c.submit.new.self
     c.in_ok-call.call c.args.client c.args.number c.args.operation.now c.submit.result c.in_ok-call.ensures.2 c.submit.ensures.ok)
@@ -45,24 +48,30 @@ returns-clause-ok g c =
 pub returns-clause-err : goal.returns-clause-err
 returns-clause-err g c =
     let s = c.self.inside in
-    let driven : Driven _ = record {
+    let driven : DriverView _ = record {
+      group = s.group;
       node = s.node;
+      clock = s.clock;
       sends = s.sends.items;
       committed = s.committed.items;
       dropped = s.dropped.items;
       restored = s.restored;
+      has_installed = s.has_installed;
     } in
     rw (← c.self.view_is) (kept_as driven c.submit.new.self c.submit.result c.submit.ensures.err)
 
 pub returns-clause-refused : goal.returns-clause-refused
 returns-clause-refused g c =
     let s = c.self.inside in
-    let driven : Driven _ = record {
+    let driven : DriverView _ = record {
+      group = s.group;
       node = s.node;
+      clock = s.clock;
       sends = s.sends.items;
       committed = s.committed.items;
       dropped = s.dropped.items;
       restored = s.restored;
+      has_installed = s.has_installed;
     } in
     let made = c.in_ok-call.ensures in
     rw (← c.self.view_is) (not_taken driven c.args.client c.args.number c.args.operation.now c.submit.result (made.0, made.1, refl) c.submit.ensures.refused)

@@ -5,3 +5,6 @@ pub returns-clause-clock : goal.returns-clause-clock
 returns-clause-clock g c =
     rw c.turn_of.ensures.length (is_counted_so g.row.O-Alloc.Denot g.O.Object.sequential g.K.BookName.name.group c.in_ok-done.done c.args.seat.now.clock
     c.gated_turn.new.seat.clock c.in_ok-done.ensures.clock)
+
+pub returns-clause-step : goal.returns-clause-step
+returns-clause-step g c = (c.in_ok-done.done, c.turn_of.ensures.length, c.in_ok-done.ensures.clock)

@@ -3,7 +3,7 @@ use denote.Exit.{unseen}
 use denote.Param.Send.{Quiet-if}
 use Rattle.ring_host.proofs.run.HostOf+Cell+O+K+Book+O+K+O+Alloc.run.Goals as goal
 
--- src/run.rt:67:9
+-- The requirement of the thread scope: other threads may use the host, the gate and the runtime.
 pub scoped-requires : goal.scoped-requires
 scoped-requires g c =
     let b = c.type_bounds in

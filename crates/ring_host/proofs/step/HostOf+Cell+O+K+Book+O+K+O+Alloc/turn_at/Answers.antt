@@ -7,17 +7,17 @@ use Rattle.ring_host.proofs.step.HostOf+Cell+O+K+Book+O+K+O+Alloc.turn_at.Goals 
 
 pub returns-in_ok-done-in-Some-clause-clock : goal.returns-in_ok-done-in-Some-clause-clock
 returns-in_ok-done-in-Some-clause-clock g c =
-    let found : Option (Task g.row.O-Alloc.Denot) → Result (Option (Task g.row.O-Alloc.Denot)) Fault = λ x. Ok x in
+    let task_kind : Option (Task g.row.O-Alloc.Denot) → Result (Option (Task g.row.O-Alloc.Denot)) Fault = λ x. Ok x in
     record {
       place = c.task.new.place;
       task = c.in-Some.task;
       fits = subst (λ (x : Option (Task g.row.O-Alloc.Denot)). IfSome x (TaskFits c.task.new.place)) c.in-Some.is c.in_ok-task.ensures.fits;
-      timeout = task_due c.args.due c.task.result c.in-Some.task (c.in_ok-task.was ∙ ap found c.in-Some.is) c.task.ensures.due c.task.ensures.item;
+      timeout = task_due c.args.due c.task.result c.in-Some.task (c.in_ok-task.was ∙ ap task_kind c.in-Some.is) c.task.ensures.due c.task.ensures.item;
       did = c.in_ok-done-in-Some.ensures.done;
       noted = c.in_ok-done-in-Some.ensures.clock;
     }
 
 pub returns-in-None-clause-clock : goal.returns-in-None-clause-clock
 returns-in-None-clause-clock g c =
-    let found : Option (Task g.row.O-Alloc.Denot) → Result (Option (Task g.row.O-Alloc.Denot)) Fault = λ x. Ok x in
-    (none_was_due c.args.due c.task.result (c.in_ok-task.was ∙ ap found c.in-None.is) c.task.ensures.due, refl)
+    let task_kind : Option (Task g.row.O-Alloc.Denot) → Result (Option (Task g.row.O-Alloc.Denot)) Fault = λ x. Ok x in
+    (none_was_due c.args.due c.task.result (c.in_ok-task.was ∙ ap task_kind c.in-None.is) c.task.ensures.due, refl)

@@ -1,6 +1,6 @@
--- The join is one more that counts.
+-- One more counted join.
 use Rattle.std.proofs.Common.{◌∷◌}
 use Rattle.ring_join.proofs.gather.Gather.agree.Given as goal
 
-abbrev pub ghost-past_of : goal.ghost-past_of
-ghost-past_of a = a.from.now.1.now ∷ a.from.now.0.now.value
+abbrev pub ghost-ghost_of : goal.ghost-ghost_of
+ghost-ghost_of a = a.from.now.1.now ∷ a.from.now.0.now.value

@@ -1,4 +1,4 @@
--- Each join that counts says the node's sets, and is of a processor.
+-- Each counted join has the node's sets, and is from a processor.
 use Rattle.std.proofs.Common.{◌≡◌, ◌↔◌, true, rules, ap, arith}
 use Rattle.std.specs.Prelude.{IsSome}
 use Rattle.ring_join.specs.Gathering.{has_consensus, HasConsensus}

@@ -7,5 +7,5 @@ returns g c =
     let log = c.args.self.now in
     let base = c.args.base.now in
     begins_based (log.committed - log.trimmed) (base.from - log.trimmed) (log.trimmed - base.from) c.min-same.result c.min-dropped.result log.calls
-    c.committed_calls-committed.result.now base.calls c.as_slice-brought.result.now c.begins.result
-    c.committed_calls-committed.ensures (omega arith) c.as_slice-brought.ensures (omega arith) c.begins.ensures
+    c.committed_calls-committed.result.now base.calls c.as_slice-received_calls.result.now c.begins.result
+    c.committed_calls-committed.ensures (omega arith) c.as_slice-received_calls.ensures (omega arith) c.begins.ensures

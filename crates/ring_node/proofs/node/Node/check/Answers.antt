@@ -1,6 +1,6 @@
--- A submit is refused as the replica refuses it.
+-- A submit is refused exactly as the replica refuses it.
 use Rattle.std.proofs.Common.{◌≡◌, Some, None, sym, ap, ◌∙◌}
-use Rattle.ring_replica.specs.NodeRules.{submit_fault}
+use Rattle.ring_replica.specs.NodeSpec.{submit_fault}
 use Rattle.ring_replica.specs.Replicas.{submit_refusal}
 use Rattle.ring_node.proofs.NodeSteps.{fault-is, err-as}
 use Rattle.ring_base.proofs.Results.{on-ok}

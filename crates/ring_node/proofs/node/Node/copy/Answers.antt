@@ -1,4 +1,4 @@
--- Each part is the same.
+-- Each part is equal.
 use Rattle.std.proofs.Common.{◌≡◌, ◌∙◌, subst}
 use Rattle.std.specs.Prelude.{IfOk}
 use Rattle.std.proofs.lemmas.Result.{err_from_is_err_and, IfErr-at_err}

@@ -1,8 +1,8 @@
--- A call goes to the core at once where an adopted ring runs.
+-- A call is handed to the core at once if an adopted ring runs.
 use Rattle.std.proofs.Common.{true, false, sym, ap, ◌∙◌}
 use Rattle.ring_payload.specs.declared.content.Payload.TheVariants.{Call}
-use Rattle.ring_core.specs.Stepping.{ring_step}
-use Rattle.ring_core.specs.declared.input.Input.TheVariants.{Send as SendInput}
+use Rattle.ring_core_spec.specs.Stepping.{ring_step}
+use Rattle.ring_core_spec.specs.declared.input.Input.TheVariants.{Send as SendInput}
 use Rattle.ring_node.specs.declared.node.Node.TheInside.{Inside}
 use Rattle.ring_node.proofs.NodeSteps.{given-node}
 use Rattle.ring_node.proofs.node.Node.take.Goals as goal

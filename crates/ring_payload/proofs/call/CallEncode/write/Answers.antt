@@ -1,4 +1,4 @@
-use Rattle.ring_layout.proofs.Writes.{and_then}
+use Rattle.ring_codec.proofs.Writes.{and_then}
 use Rattle.ring_payload.proofs.call.CallEncode.write.Goals as goal
 
 pub returns : goal.returns

@@ -1,5 +1,5 @@
 use Rattle.std.proofs.Common.{arith}
-use Rattle.ring_layout.proofs.Writes.{and_then}
+use Rattle.ring_codec.proofs.Writes.{and_then}
 use Rattle.ring_payload.specs.Heads.{is_whole, is_trimmed}
 use Rattle.ring_payload.proofs.head.HeadEncode.write.Goals as goal
 

@@ -1,4 +1,4 @@
--- An End is counted as its sender's, a users' message as one, and any other as none of these.
+-- An End is counted for its sender, a user message as one, and any other message as neither.
 use Rattle.std.proofs.Common.{true, sym, ◌∙◌, ap}
 use Rattle.std.specs.Prelude.{◌||◌}
 use Rattle.std.proofs.lemmas.Bool.{or_right}
@@ -13,13 +13,13 @@ invariant_of-self g c =
     rw c.one_after.ensures (elim c.if-is_end.branch [
       | then-is_end w ↦
           let h = sym c.is_end.ensures ∙ w.if-is_end.true in
-          rw (w.self-inside-is, w.max-self-inside.ensures) (counted_end c.self.inside.past.value x _ _ _ _ _ c.self.invariant h
+          rw (w.self-inside-is, w.max-self-inside.ensures) (counted_end c.self.inside.history.value x _ _ _ _ _ c.self.invariant h
           (end_no_user x.payload h) w.insert.ensures.members)
       | else-is_end+then-is_user w ↦
-          rw w.self-inside-is (counted_other c.self.inside.past.value x _ _ _ _ true c.self.invariant (sym c.is_end.ensures
+          rw w.self-inside-is (counted_other c.self.inside.history.value x _ _ _ _ true c.self.invariant (sym c.is_end.ensures
           ∙ w.if-is_end.false) (sym (or_right c.self.inside.has_user _ (sym w.is_user.ensures ∙ w.if-is_user.true))))
       | else-is_end+else-is_user w ↦
-          rw w.self-inside-is (counted_other c.self.inside.past.value x _ _ _ _ c.self.inside.has_user c.self.invariant (sym c.is_end.ensures
+          rw w.self-inside-is (counted_other c.self.inside.history.value x _ _ _ _ c.self.inside.has_user c.self.invariant (sym c.is_end.ensures
           ∙ w.if-is_end.false)
           (sym (ap (λ b. c.self.inside.has_user || b) (sym w.is_user.ensures ∙ w.if-is_user.false) ∙ or-false c.self.inside.has_user)))
     ])

@@ -1,4 +1,4 @@
--- Those so far are set.
+-- The bits so far are set.
 use Rattle.std.proofs.Common.{◌≡◌, ℕ, ◌<◌, true}
 use Rattle.ring_window.specs.Bits.{is_set}
 use Rattle.ring_recover.proofs.offsets.Offsets.first_clear.Given as goal

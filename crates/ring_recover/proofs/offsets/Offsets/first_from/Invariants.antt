@@ -1,4 +1,4 @@
--- Those so far are clear.
+-- The bits so far are clear.
 use Rattle.std.proofs.Common.{◌≡◌, ℕ, ◌<◌, ◌≤◌, false}
 use Rattle.ring_window.specs.Bits.{is_set}
 use Rattle.ring_recover.proofs.offsets.Offsets.first_from.Given as goal

@@ -1,10 +1,10 @@
--- What is kept is what the reports say.
+-- The fields are those that the reports give.
 use Rattle.std.proofs.Common.{◌≡◌, ◌+◌, true, List, map, refl, sym, ap, ◌∙◌, arith}
 use Rattle.std.specs.List.{list_any}
 use Rattle.ring_base.specs.Processors.{elements}
 use Rattle.ring_commit.specs.Tokens.{CommitEntry}
 use Rattle.ring_commit.specs.Reports.{reports_of, safe_of, none_behind}
-use Rattle.ring_recover.specs.Plans.{least, mates_among, is_reported}
+use Rattle.ring_recover.specs.Plans.{least, transitional_members_among, is_reported}
 use Rattle.ring_recover.proofs.Planning.{safe_low}
 use Rattle.ring_recover.proofs.plan.Plan.from_commit.Goals as goal
 
@@ -16,10 +16,10 @@ invariant_of-result g c =
     ∙ ap (reports_of old) c.as_slice-entries.ensures.value in
     let none : none_behind (safe_of rs) rs ≡ true = ap (λ n. none_behind n rs) (sym c.greatest_mark-safe.ensures) ∙ sym c.none_behind.ensures
     ∙ c.if-not-none_behind.false in
-    rw (c.past_of-plan.ensures, c.nothing_seen.ensures) record {
+    rw (c.ghost_of-plan.ensures, c.nothing_seen.ensures) record {
       old_is = refl;
-      mates_is = c.mates_among.ensures
-          ∙ ap (λ (es : List CommitEntry). mates_among old (elements c.args.token.now.members) es) c.as_slice-entries.ensures.value;
+      transitional_members_is = c.transitional_members_among.ensures
+          ∙ ap (λ (es : List CommitEntry). transitional_members_among old (elements c.args.token.now.members) es) c.as_slice-entries.ensures.value;
       least_is = c.least_mark.ensures ∙ ap (λ (es : List CommitEntry). least (map (λ (e : CommitEntry). e.mark) es)) reports;
       safe_is = c.greatest_mark-safe.ensures ∙ ap safe_of reports;
       low_is = c.least_front.ensures ∙ ap (λ (es : List CommitEntry). least (map (λ (e : CommitEntry). e.front) es)) reports;

@@ -1,38 +1,38 @@
--- Number by number, up to the first that is left.
+-- Number by number, up to the first that is left to wrap.
 use Rattle.std.proofs.Common.{◌≡◌, ◌+◌, ◌<◌, ◌≤◌, true, false, refl, sym, ap, ◌∙◌, arith}
 use Rattle.std.specs.Prelude.{not, ◌&&◌}
 use Rattle.ring_window.specs.Held.{highest}
 use Rattle.ring_window.specs.Windows.{kept}
 use Rattle.ring_recover.specs.Plans.{safe}
-use Rattle.ring_recover.specs.Recovering.{Recovering, is_users, next_to_wrap}
+use Rattle.ring_recover.specs.RecoveryState.{RecoveryState, is_users, next_to_wrap}
 use Rattle.ring_recover.proofs.HandedNext.{is_left, search_on, search_ends, left_here, neither}
 use Rattle.ring_recover.proofs.plan.Plan.to_wrap.Goals.{else-not-has-via-then-not-has+else-has_users, else-not-has-via-else-not-has}
 use Rattle.ring_recover.proofs.plan.Plan.to_wrap.Goals as goal
 
 pub returns-then-has_users : goal.returns-then-has_users
 returns-then-has_users g c =
-    let r : Recovering g.row.A.Denot = record { me = c.self.inside.me; plan = c.self.inside.plan.value; seen = c.self.inside.seen.value } in
+    let r : RecoveryState g.row.A.Denot = record { me = c.self.inside.me; plan = c.self.inside.plan.value; seen = c.self.inside.seen.value } in
     let w = c.args.window.now in
     let k = c.loop-before.before in
     let high = c.self.inside.safe in
-    let same : high ≡ safe c.args.self.now.plan = c.self.invariant.safe_is ∙ ap (λ (x : Recovering g.row.A.Denot). safe x.plan) c.self.view_is in
-    let ring = c.requires.ring ∙ sym (ap (λ (x : Recovering g.row.A.Denot). x.plan.old) c.self.view_is) in
+    let same : high ≡ safe c.args.self.now.plan = c.self.invariant.safe_is ∙ ap (λ (x : RecoveryState g.row.A.Denot). safe x.plan) c.self.view_is in
+    let ring = c.requires.ring ∙ sym (ap (λ (x : RecoveryState g.row.A.Denot). x.plan.old) c.self.view_is) in
     let top : k < highest w.held w.ring = omega (arith, c.loop-before-test.true, c.highest-before-end.ensures) in
     let here : is_left r w.held (k + 1) ≡ (true && not false) =
     left_here r _ _ _ high _ _ c.self.inside.wrapped.words _ w k true false c.self.invariant ring (omega
     (arith, c.requires.mark, same)) c.loop-before.invariant.1 (omega (arith, c.requires.near, same))
     (sym c.if-has_users.true ∙ c.has_users.ensures) (sym c.if-not-has.true ∙ c.has.ensures) in
     sym (search_ends r w.held k (highest w.held w.ring) top here) ∙ c.loop-before.invariant.0
-    ∙ ap (λ (x : Recovering g.row.A.Denot). next_to_wrap x w.held) c.self.view_is
+    ∙ ap (λ (x : RecoveryState g.row.A.Denot). next_to_wrap x w.held) c.self.view_is
 
 pub loop-before-preserved : goal.loop-before-preserved
 loop-before-preserved g c =
-    let r : Recovering g.row.A.Denot = record { me = c.self.inside.me; plan = c.self.inside.plan.value; seen = c.self.inside.seen.value } in
+    let r : RecoveryState g.row.A.Denot = record { me = c.self.inside.me; plan = c.self.inside.plan.value; seen = c.self.inside.seen.value } in
     let w = c.args.window.now in
     let k = c.loop-before.before in
     let high = c.self.inside.safe in
-    let same : high ≡ safe c.args.self.now.plan = c.self.invariant.safe_is ∙ ap (λ (x : Recovering g.row.A.Denot). safe x.plan) c.self.view_is in
-    let ring = c.requires.ring ∙ sym (ap (λ (x : Recovering g.row.A.Denot). x.plan.old) c.self.view_is) in
+    let same : high ≡ safe c.args.self.now.plan = c.self.invariant.safe_is ∙ ap (λ (x : RecoveryState g.row.A.Denot). safe x.plan) c.self.view_is in
+    let ring = c.requires.ring ∙ sym (ap (λ (x : RecoveryState g.row.A.Denot). x.plan.old) c.self.view_is) in
     let top : k < highest w.held w.ring = omega (arith, c.loop-before-test.true, c.highest-before-end.ensures) in
     let mark : w.mark ≤ high = omega (arith, c.requires.mark, same) in
     let near : k < high + 256 = omega (arith, c.requires.near, same) in

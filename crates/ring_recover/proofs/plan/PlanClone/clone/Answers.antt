@@ -1,4 +1,4 @@
--- The plan and what was seen are equal, so what is kept of them in the copy is what the plan keeps.
+-- The plan and the messages seen are equal, so the copy's fields fit them as the plan's do.
 use Rattle.std.proofs.Common.{◌≡◌}
 use Rattle.ring_recover.proofs.plan.PlanClone.clone.Goals as goal
 

@@ -1,4 +1,4 @@
--- The tickets tell whether one may be given.
+-- The tickets determine whether one may be given.
 use Rattle.ring_replica.proofs.Replicas.{may-give, may-not}
 use Rattle.ring_base.proofs.Results.{on-ok, if-err}
 use Rattle.ring_replica.proofs.replica.Replica.check.Goals as goal

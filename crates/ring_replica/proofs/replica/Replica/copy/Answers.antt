@@ -1,19 +1,19 @@
--- Each part is the same.
+-- Each part is equal.
 use Rattle.std.proofs.Common.{◌≡◌}
 use Rattle.ring_replica.proofs.replica.Replica.copy.Goals as goal
 
 pub invariant_of-result : goal.invariant_of-result
 invariant_of-result g c =
-    let course = c.in_ok-course.ensures.course in
-    let sessions = c.in_ok-course.ensures.sessions in
+    let replication = c.in_ok-replication.ensures.replication in
+    let sessions = c.in_ok-replication.ensures.sessions in
     let tickets = c.in_ok-tickets.ensures.tickets in
     let leaving = c.in_ok-tickets.ensures.leaving in
-    let story : c.in_ok-story.story.value ≡ c.self.inside.story.value = c.in_ok-story.ensures.cases in
-    rw (course, sessions, tickets, leaving, story) c.self.invariant
+    let history : c.in_ok-history.history.value ≡ c.self.inside.history.value = c.in_ok-history.ensures.cases in
+    rw (replication, sessions, tickets, leaving, history) c.self.invariant
 
 pub returns-clause-ok : goal.returns-clause-ok
 returns-clause-ok g c =
-    let course = c.in_ok-course.ensures.course in
+    let replication = c.in_ok-replication.ensures.replication in
     let leaving = c.in_ok-tickets.ensures.leaving in
-    let story : c.in_ok-story.story.value ≡ c.self.inside.story.value = c.in_ok-story.ensures.cases in
-    rw (course, leaving, story) c.self.view_is
+    let history : c.in_ok-history.history.value ≡ c.self.inside.history.value = c.in_ok-history.ensures.cases in
+    rw (replication, leaving, history) c.self.view_is

@@ -1,11 +1,11 @@
--- A step that is done is told; a replica that stopped tells what it told.
+-- A finished step is reported; a stopped replica reports what it did before.
 use Rattle.std.proofs.Common.{Option, ap, sym, ◌∙◌, subst}
 use Rattle.std.proofs.lemmas.Bool.{cond-true, cond-false}
 use Rattle.ring_log.specs.Logs.{Log, log_length}
-use Rattle.ring_course.specs.Courses.{Holding}
-use Rattle.ring_replica.specs.Replicas.{Replica, tale_done, replica_done, ahead_log, more_in, told_replica, IsCounted}
+use Rattle.ring_replication.specs.Replications.{HeldLog}
+use Rattle.ring_replica.specs.Replicas.{Replica, ghost_state_after_step, replica_done, current_log, newly_committed_calls, replica_view, IsCounted}
 use Rattle.ring_replica.proofs.Replicas.{finished-counted, done-told, left-told, none-left}
-use Rattle.ring_replica.proofs.SteadyLives.{steady-known}
+use Rattle.ring_replica.proofs.SteadyEpochs.{steady-known}
 use Rattle.ring_replica.proofs.replica.Replica.finish.Goals as goal
 
 pub returns-then-self : goal.returns-then-self
@@ -19,14 +19,14 @@ returns-then-self g c =
 pub invariant_of-self : goal.invariant_of-self
 invariant_of-self g c =
     let s = c.self.inside in
-    let tale = s.story.value in
-    let fine = (c.self.invariant.kept.runs c.if-self.false).fine in
-    let more = c.more_in-more.result.now in
-    let told = c.done.ensures ∙ ap (λ life. tale_done tale life more c.args.answers.now) c.life.ensures in
-    let log_is = c.log-log.ensures ∙ ap (λ (h : Holding _). h.log) c.held-2.ensures.held in
+    let ghost_state = s.history.value in
+    let consistent = (c.self.invariant.kept.runs c.if-self.false).consistent in
+    let more = c.newly_committed_calls-more.result.now in
+    let told = c.done.ensures ∙ ap (λ epochs. ghost_state_after_step ghost_state epochs more c.args.answers.now) c.epochs.ensures in
+    let log_is = c.log-log.ensures ∙ ap (λ (h : HeldLog _). h.log) c.held-2.ensures.held in
     subst (λ (l : Option (Log _)). IsCounted g.O.Object.sequential c.end_step.new.self s.sessions c.keep.new.self l c.length-self-inside.result
-    c.committed_length-self-inside.result c.trimmed-self-inside.result s.reached s.reached s.stopped c.done.result.value) (sym c.take_leaving.ensures.taken)
-    (finished-counted c.self.invariant more c.args.answers.now c.if-self.false (c.held.ensures.log fine) (steady-known (c.held.ensures.steady fine))
+    c.committed_length-self-inside.result c.trimmed-self-inside.result s.effects_in_step s.effects_in_step s.stopped c.done.result.value) (sym c.take_leaving.ensures.taken)
+    (finished-counted c.self.invariant more c.args.answers.now c.if-self.false (c.held.ensures.log consistent) (steady-known (c.held.ensures.steady consistent))
     c.end_step.ensures c.keep.ensures (c.length-self-inside.ensures ∙ ap (λ (l : Log _). log_length l) log_is)
     (c.committed_length-self-inside.ensures ∙ ap (λ (l : Log _). l.committed) log_is) (c.trimmed-self-inside.ensures ∙ ap (λ (l : Log _). l.trimmed) log_is)
     told)
@@ -34,14 +34,14 @@ invariant_of-self g c =
 pub returns : goal.returns
 returns g c =
     let s = c.self.inside in
-    let tale = s.story.value in
-    let more = c.more_in-more.result.now in
-    let told = c.done.ensures ∙ ap (λ life. tale_done tale life more c.args.answers.now) c.life.ensures in
-    let log_is = c.log-log.ensures ∙ ap (λ (h : Holding _). h.log) c.held-2.ensures.held in
-    let behind = c.more_in-more.ensures ∙ ap (more_in s.committed) (c.ahead_log.ensures ∙ ap (λ (h : Holding _). ahead_log h s.leaving) c.held.ensures.held) in
+    let ghost_state = s.history.value in
+    let more = c.newly_committed_calls-more.result.now in
+    let told = c.done.ensures ∙ ap (λ epochs. ghost_state_after_step ghost_state epochs more c.args.answers.now) c.epochs.ensures in
+    let log_is = c.log-log.ensures ∙ ap (λ (h : HeldLog _). h.log) c.held-2.ensures.held in
+    let behind = c.newly_committed_calls-more.ensures ∙ ap (newly_committed_calls s.committed) (c.current_log.ensures ∙ ap (λ (h : HeldLog _). current_log h s.leaving) c.held.ensures.held) in
     let runs = ap (λ (v : Replica _). v.stopped) (sym c.self.view_is) ∙ c.if-self.false in
     record {
-      replica = ap (λ (l : Option (Log _)). told_replica c.end_step.new.self l c.committed_length-self-inside.result s.stopped c.done.result.value)
+      replica = ap (λ (l : Option (Log _)). replica_view c.end_step.new.self l c.committed_length-self-inside.result s.stopped c.done.result.value)
           c.take_leaving.ensures.taken ∙ done-told c.self.invariant.kept c.args.answers.now c.if-self.false c.self.view_is behind c.end_step.ensures
           (c.committed_length-self-inside.ensures ∙ ap (λ (l : Log _). l.committed) log_is) told
           ∙ sym (cond-false c.args.self.now.stopped c.args.self.now (replica_done c.args.self.now c.args.answers.now) runs);

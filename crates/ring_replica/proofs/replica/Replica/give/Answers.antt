@@ -1,4 +1,4 @@
--- A ticket more.
+-- One more ticket.
 use Rattle.ring_replica.proofs.Replicas.{is-open, given-counted}
 use Rattle.ring_replica.proofs.replica.Replica.give.Goals as goal
 
@@ -7,4 +7,4 @@ give-requires g c = (is-open c.self.invariant.kept c.self.view_is c.requires.ope
 
 pub invariant_of-self : goal.invariant_of-self
 invariant_of-self g c =
-    given-counted c.self.invariant c.args.call c.has_adopted-runs.result c.hand_call.ensures c.give.ensures.tickets c.given.ensures
+    given-counted c.self.invariant c.args.call c.has_adopted-runs.result c.record_call.ensures c.give.ensures.tickets c.given.ensures

@@ -1,4 +1,4 @@
--- The answers that are kept are those of the last tickets answered.
+-- The kept answers are those of the last answered tickets.
 use Rattle.std.proofs.Common.{◌∙◌}
 use Rattle.ring_replica.proofs.Replicas.{reply-is}
 use Rattle.ring_replica.proofs.replica.Replica.reply.Goals as goal

@@ -1,4 +1,4 @@
--- The tickets that are kept as waiting are those without an answer.
+-- The pending tickets that are stored are the unanswered ones.
 use Rattle.std.proofs.Common.{◌∙◌, ap}
 use Rattle.std.specs.Prelude.{length}
 use Rattle.ring_replica.proofs.Replicas.{waiting-is}

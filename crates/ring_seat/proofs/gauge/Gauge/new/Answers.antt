@@ -1,6 +1,6 @@
 -- A gauge of words that are 0, and new seats at it.
 use Rattle.std.proofs.Common.{◌≡◌, rules, replicate}
-use Rattle.ring_seat.proofs.Rising.{first_rises}
+use Rattle.ring_seat.proofs.GaugeRule.{first_rises}
 use Rattle.ring_seat.proofs.Seating.{all_at}
 use Rattle.ring_seat.proofs.gauge.Gauge.new.Goals as goal
 
@@ -10,4 +10,4 @@ of_words-requires g c =
     rw (c.as_slice.ensures.value, zeros, c.from-count.ensures) (first_rises c.args.nodes)
 
 pub returns-clause-at : goal.returns-clause-at
-returns-clause-at g c = all_at c.in_ok-table.table.shared.table_id c.args.nodes c.add_guests.new.seats.items c.in_ok-add_guests.ensures.seats
+returns-clause-at g c = all_at c.in_ok-table.table.shared.table_id c.args.nodes c.add_foreign_seats.new.seats.items c.in_ok-add_foreign_seats.ensures.seats

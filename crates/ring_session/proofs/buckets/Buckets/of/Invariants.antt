@@ -1,4 +1,4 @@
--- The places from the last of them on are chained.
+-- The positions from the last one handled on are chained.
 use Rattle.ring_session.specs.Buckets.{AreChained}
 use Rattle.ring_session.proofs.buckets.Buckets.of.Given as goal
 

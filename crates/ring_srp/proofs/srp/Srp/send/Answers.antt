@@ -1,17 +1,17 @@
 -- No installation is due after a payload was sent, or where memory was refused.
 use Rattle.std.proofs.Common.{◌≡◌, false, Option, subst}
-use Rattle.ring_core.specs.State.{Core}
-use Rattle.ring_core.specs.Giving.{may_install}
-use Rattle.ring_core.specs.Stepping.{ring_step}
-use Rattle.ring_core.specs.declared.input.Input.TheVariants.{Send as SendInput}
+use Rattle.ring_core_spec.specs.State.{Core}
+use Rattle.ring_core_spec.specs.Giving.{may_install}
+use Rattle.ring_core_spec.specs.Stepping.{ring_step}
+use Rattle.ring_core_spec.specs.declared.input.Input.TheVariants.{Send as SendInput}
 use Rattle.ring_srp.specs.Ended.{IsEnded}
-use Rattle.ring_core.proofs.Quiet.{stepped_is}
+use Rattle.ring_core_spec.proofs.Quiet.{stepped_is}
 use Rattle.ring_base.proofs.Results.{ok_or_err}
 use Rattle.ring_srp.proofs.srp.Srp.send.Goals as goal
 
 pub invariant_of-self-2 : goal.invariant_of-self-2
 invariant_of-self-2 g c =
-    ok_or_err (λ (x : Core g.row.A.Denot). may_install x ≡ false) c.send.result c.send.new.machine
-    (ring_step c.in-Some.machine (SendInput c.args.payload)).core c.in-Some.machine c.send.ensures.ok c.send.ensures.kept
-    (stepped_is c.in-Some.machine (SendInput c.args.payload))
+    ok_or_err (λ (x : Core g.row.A.Denot). may_install x ≡ false) c.send.result c.send.new.running_core
+    (ring_step c.in-Some.running_core (SendInput c.args.payload)).core c.in-Some.running_core c.send.ensures.ok c.send.ensures.kept
+    (stepped_is c.in-Some.running_core (SendInput c.args.payload))
     (subst (λ (o : Option (Core g.row.A.Denot)). IsEnded o c.self.inside.before.value c.self.inside.last) c.in-Some.is c.self.invariant)

@@ -8,4 +8,4 @@ pub invariant_of-result : goal.invariant_of-result
 invariant_of-result g c =
     let bytes = c.args.bytes.now in
     let are = AreBytes-take (length bytes - 2) (drop 2 bytes) (AreBytes-drop 2 bytes (AreBytes-fits bytes c.type_inv.bytes)) in
-    (IsSet-names_of c.read_u16-count.result _ _ c.if-count-gt-MOST.false are c.in_ok-names.ensures.ok).0
+    (IsSet-names_of c.read_u16-count.result _ _ c.if-count-gt-MAX_NAMES.false are c.in_ok-names.ensures.ok).0

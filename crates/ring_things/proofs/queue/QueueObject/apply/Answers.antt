@@ -1,4 +1,4 @@
--- The queue stays one, whatever was asked.
+-- The queue is still a queue after every operation.
 use Rattle.std.proofs.Common.{Some, sym, ap, ◌∙◌, arith}
 use Rattle.ring_object.specs.Bytes.{AreBytes-fits}
 use Rattle.ring_things.proofs.QueueSteps.{pushed, popped}
@@ -11,7 +11,7 @@ pub invariant_of-self-in-Some-Push : goal.invariant_of-self-in-Some-Push
 invariant_of-self-in-Some-Push g c =
     rw c.in_ok-push_back-in-Some-Push.ensures.items (pushed c.self.inside.items.items c.args.op.now c.in-Some-Push.value
     (AreBytes-fits c.args.op.now c.type_inv.op) (sym c.read.ensures ∙ c.in-Some-Push.is ∙ ap Some c.in-Some-Push.field-0-is)
-    (λ full. c.if-len-eq-MOST.false (omega (arith, full, c.len.ensures, c.self.inside.items.ok.0))) c.self.invariant)
+    (λ full. c.if-len-eq-MAX_ITEMS.false (omega (arith, full, c.len.ensures, c.self.inside.items.ok.0))) c.self.invariant)
 
 pub invariant_of-self-in-Some-Pop : goal.invariant_of-self-in-Some-Pop
 invariant_of-self-in-Some-Pop g c = popped _ _ _ c.pop_front.ensures.items c.self.invariant

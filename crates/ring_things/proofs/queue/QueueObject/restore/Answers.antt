@@ -8,4 +8,4 @@ pub invariant_of-result : goal.invariant_of-result
 invariant_of-result g c =
     let bytes = c.args.bytes.now in
     let are = AreBytes-take (length bytes - 2) (drop 2 bytes) (AreBytes-drop 2 bytes (AreBytes-fits bytes c.type_inv.bytes)) in
-    rw (c.from_vec-items.ensures.items ∙ c.in_ok-read_numbers.ensures.ok) (IsQueue-numbers_of c.read_u16-count.result _ c.if-count-gt-MOST.false are)
+    rw (c.from_vec-items.ensures.items ∙ c.in_ok-read_numbers.ensures.ok) (IsQueue-numbers_of c.read_u16-count.result _ c.if-count-gt-MAX_ITEMS.false are)

@@ -1,5 +1,5 @@
 use Rattle.std.proofs.Common.{◌∙◌, sym, subst, arith}
-use Rattle.ring_console.specs.Running.{RunView, Turns}
+use Rattle.ring_console.specs.Running.{RunView, IsTurnDone}
 use Rattle.ring_console.proofs.RunGoesOn.{one_more, pumped}
 use Rattle.ring_console.proofs.Turning.{none_open, one_turn}
 use Rattle.ring_trace.proofs.tracer.Tracer.pump.Goals as goal
@@ -7,9 +7,9 @@ use Rattle.ring_trace.proofs.tracer.Tracer.pump.Goals as goal
 pub loop-preserved : goal.loop-preserved
 loop-preserved g c =
     let turn = one_turn g.O.Object.sequential c.loop.self.run c.perform.new.self c.in-Some.pair c.in_ok-perform.ensures.ends
-    (sym c.first_open.ensures ∙ c.in-Some.is) in
-    one_more g.O.Object.sequential c.loop.counter c.args.self.now.run c.loop.self.run c.look_at_turn.new.self.run c.loop.invariant
-    (subst (λ (r : RunView g.row.O-Alloc.Denot). Turns g.O.Object.sequential c.loop.self.run r) (sym c.look_at_turn.ensures) turn)
+    (sym c.first_open_copy.ensures ∙ c.in-Some.is) in
+    one_more g.O.Object.sequential c.loop.counter c.args.self.now.run c.loop.self.run c.trace_turn.new.self.run c.loop.invariant
+    (subst (λ (r : RunView g.row.O-Alloc.Denot). IsTurnDone g.O.Object.sequential c.loop.self.run r) (sym c.trace_turn.ensures) turn)
 
 pub returns : goal.returns
 returns g c =
@@ -19,4 +19,4 @@ returns g c =
 pub returns-in_default : goal.returns-in_default
 returns-in_default g c =
     pumped g.O.Object.sequential c.args.turns c.loop.counter c.args.self.now.run c.loop.self.run c.loop.auto.counter-end
-    (λ less. none_open c.loop.self.run.open_pairs (sym c.first_open.ensures ∙ c.in_default.is)) c.loop.invariant
+    (λ less. none_open c.loop.self.run.open_copies (sym c.first_open_copy.ensures ∙ c.in_default.is)) c.loop.invariant

@@ -10,6 +10,6 @@ loop-offset-preserved g c =
     rw c.push.ensures (counted_more _ _ _ _ _ c.self.invariant c.args.upto _ _ _ _ c.loop-offset.invariant
     c.loop-offset-test.true (omega (arith, ap length c.as_slice.ensures.value)) c.first_clear-offset.ensures)
 
-pub returns-else-as_slice-lt-MOST_REQUESTS : goal.returns-else-as_slice-lt-MOST_REQUESTS
-returns-else-as_slice-lt-MOST_REQUESTS g c = rw (← c.self.view_is) (counted_full _ _ _ _ _ _ c.loop-offset.invariant
+pub returns-else-as_slice-lt-MAX_REQUESTS : goal.returns-else-as_slice-lt-MAX_REQUESTS
+returns-else-as_slice-lt-MAX_REQUESTS g c = rw (← c.self.view_is) (counted_full _ _ _ _ _ _ c.loop-offset.invariant
     (omega (arith, ap length c.as_slice.ensures.value)))

@@ -8,7 +8,7 @@ overflow_sub-number g c =
     let t = taken_is (record {
       ring = c.self.inside.ring;
       mark = c.self.inside.mark;
-      held = c.self.inside.past.value;
+      held = c.self.inside.history.value;
     }) c.args.message (rw (← c.self.view_is) at (sym c.if-not-takes.ensures)) in
     omega (arith, t.above)
 
@@ -17,7 +17,7 @@ overflow_sub-number-2 g c =
     let t = taken_is (record {
       ring = c.self.inside.ring;
       mark = c.self.inside.mark;
-      held = c.self.inside.past.value;
+      held = c.self.inside.history.value;
     }) c.args.message (rw (← c.self.view_is) at (sym c.if-not-takes.ensures)) in
     omega (arith, t.above)
 
@@ -26,18 +26,18 @@ set-requires g c =
     let t = taken_is (record {
       ring = c.self.inside.ring;
       mark = c.self.inside.mark;
-      held = c.self.inside.past.value;
+      held = c.self.inside.history.value;
     }) c.args.message (rw (← c.self.view_is) at (sym c.if-not-takes.ensures)) in
     omega (arith, t.above, t.inside)
 
 pub front_with-self-inside-requires-clause-above : goal.front_with-self-inside-requires-clause-above
 front_with-self-inside-requires-clause-above g c =
-    (taken_is (record { ring = c.self.inside.ring; mark = c.self.inside.mark; held = c.self.inside.past.value })
+    (taken_is (record { ring = c.self.inside.ring; mark = c.self.inside.mark; held = c.self.inside.history.value })
     c.args.message (rw (← c.self.view_is) at (sym c.if-not-takes.ensures))).above
 
 pub front_with-self-inside-requires-clause-inside : goal.front_with-self-inside-requires-clause-inside
 front_with-self-inside-requires-clause-inside g c =
-    (taken_is (record { ring = c.self.inside.ring; mark = c.self.inside.mark; held = c.self.inside.past.value })
+    (taken_is (record { ring = c.self.inside.ring; mark = c.self.inside.mark; held = c.self.inside.history.value })
     c.args.message (rw (← c.self.view_is) at (sym c.if-not-takes.ensures))).inside
 
 pub front_with-self-inside-requires-clause-fits : goal.front_with-self-inside-requires-clause-fits
@@ -45,7 +45,7 @@ front_with-self-inside-requires-clause-fits g c =
     let t = taken_is (record {
       ring = c.self.inside.ring;
       mark = c.self.inside.mark;
-      held = c.self.inside.past.value;
+      held = c.self.inside.history.value;
     }) c.args.message (rw (← c.self.view_is) at (sym c.if-not-takes.ensures)) in
     bits_fit _ c.args.message _ _ _ _ _ c.self.invariant t c.set.ensures.this c.set.ensures.others (2 ^ 64) (omega arith) (omega arith)
 
@@ -54,7 +54,7 @@ invariant_of-self g c =
     let t = taken_is (record {
       ring = c.self.inside.ring;
       mark = c.self.inside.mark;
-      held = c.self.inside.past.value;
+      held = c.self.inside.history.value;
     }) c.args.message (rw (← c.self.view_is) at (sym c.if-not-takes.ensures)) in
     let f = c.front_with-self-inside.ensures in
     rw (c.one_more.ensures, c.max-self-inside.ensures, c.put.ensures) (elim (cases_eq c.args.message.number (suc c.self.inside.front)) [

@@ -1,4 +1,4 @@
--- What was held and the places are equal, so the invariant of the copy is that of the window.
+-- The held messages and the places are equal, so the copy has the window's invariant.
 use Rattle.ring_window.proofs.window.WindowClone.clone.Goals as goal
 
 pub invariant_of-result : goal.invariant_of-result

@@ -1,4 +1,4 @@
--- The event is kept, and changes nothing.
+-- The event is recorded, and changes nothing.
 use Rattle.std.proofs.Common.{ap, ◌∙◌, ◌++◌, ◌∷◌, []}
 use Rattle.ring_world.proofs.WorldOfNodes.{idle_world, idle_goes}
 use Rattle.ring_world.proofs.world.World.idle.Goals as goal

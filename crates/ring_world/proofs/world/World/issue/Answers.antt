@@ -1,15 +1,15 @@
--- A submit gives a ticket, whose call has a second copy; or it is refused, and told.
+-- A submit gives a ticket, whose call has a second copy; or it is refused, and its refusal is recorded.
 use Rattle.std.proofs.Common.{◌-◌, ◌<◌, ap, ◌∙◌, sym, subst}
-use Rattle.ring_rules.specs.Worlds.{happens, issued_if}
-use Rattle.ring_world.specs.Played.{Played, world_of}
-use Rattle.ring_world.specs.Spares.{Spares}
+use Rattle.ring_node_spec.specs.Worlds.{happens, issued_if}
+use Rattle.ring_world.specs.WorldView.{WorldView, world_of}
+use Rattle.ring_world.specs.SpareCalls.{SpareCalls}
 use Rattle.ring_world.proofs.NodePlaces.{Stands, stands, unknown, roomy, spared, spare_put}
 use Rattle.ring_world.proofs.WorldOfNodes.{issue_world, issue_goes, refusal_world, refusal_goes}
 use Rattle.ring_world.proofs.world.World.issue.Given.{Over}
 use Rattle.ring_world.proofs.world.World.issue.Goals.{In_ok-make_room}
 use Rattle.ring_world.proofs.world.World.issue.Goals as goal
 
--- where the node stands, once there is room
+-- the node's place in the list, once there is room
 place : (g : Over) (c : In_ok-make_room g) → Stands g.O.Object.sequential
     (record { group = c.self.inside.fixed; events = c.make_room.new.self.events.items; told = c.make_room.new.self.told.items; done = c.self.inside.done })
     c.args.self.now c.self.inside.nodes.items c.self.inside.spares.items c.make_room.new.self.frames.frames c.make_room.new.self.history.items
@@ -41,7 +41,7 @@ invariant_of-self-in_err-copies g c =
 pub keep_issue-requires-clause-spares_room : goal.keep_issue-requires-clause-spares_room
 keep_issue-requires-clause-spares_room g c =
     let same = spare_put (place g (goal.at.keep_issue-requires-clause-spares_room g c).In_ok-make_room) c.make_room-2.new.self c.index_mut-in-Ok.ensures.value in
-    subst (λ (x : Spares g.row.O-Alloc.Denot). 0 < x.places) (sym same) c.in_ok-make_room-2.ensures.room
+    subst (λ (x : SpareCalls g.row.O-Alloc.Denot). 0 < x.places) (sym same) c.in_ok-make_room-2.ensures.room
 
 pub invariant_of-self-in-Ok : goal.invariant_of-self-in-Ok
 invariant_of-self-in-Ok g c =
@@ -76,6 +76,6 @@ returns-in-Err g c =
       ok = refusal_goes spare c.in_ok-copies.copies.event c.requires.event copies.event c.index_mut-2.ensures.value c.in-Err.ensures.refused
           copies.call c.refuse.ensures.left_out c.refuse.ensures.kept c.refuse.ensures.told;
       err = tt;
-      done = ap (λ (r : Played g.row.O-Alloc.Denot). r.done) c.self.view_is;
+      done = ap (λ (r : WorldView g.row.O-Alloc.Denot). r.done) c.self.view_is;
       refused = tt;
     }

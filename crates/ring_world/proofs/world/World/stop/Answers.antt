@@ -1,18 +1,18 @@
--- The node has stopped, whatever memory does.
+-- The node has stopped, whether or not memory was refused.
 use Rattle.std.proofs.Common.{◌-◌, refl, ap, ◌∙◌}
-use Rattle.ring_rules.specs.Worlds.{happens, stopped_if}
-use Rattle.ring_world.specs.Played.{world_of}
+use Rattle.ring_node_spec.specs.Worlds.{happens, stopped_if}
+use Rattle.ring_world.specs.WorldView.{world_of}
 use Rattle.ring_world.proofs.NodePlaces.{Stands, stands, unknown, roomy}
 use Rattle.ring_world.proofs.WorldOfNodes.{stop_world, stop_goes}
 use Rattle.ring_world.proofs.world.World.stop.Given.{Over}
 use Rattle.ring_world.proofs.world.World.stop.Goals.{After-reserve}
 use Rattle.ring_world.proofs.world.World.stop.Goals as goal
 
--- where the node stands, once there is room
+-- the node's place in the list, once there is room
 place : (g : Over) (c : After-reserve g) → Stands g.O.Object.sequential
-    (record { group = c.self.inside.fixed; events = c.reserve.new.self.items; told = c.self.inside.chronicle.told.items; done = c.self.inside.done })
-    c.args.self.now c.self.inside.nodes.items c.self.inside.spares.items c.self.inside.chronicle.frames.frames c.self.inside.chronicle.history.items
-    c.self.inside.chronicle.longest.calls c.args.node (c.from-place.result - 1)
+    (record { group = c.self.inside.fixed; events = c.reserve.new.self.items; told = c.self.inside.run_record.told.items; done = c.self.inside.done })
+    c.args.self.now c.self.inside.nodes.items c.self.inside.spares.items c.self.inside.run_record.frames.frames c.self.inside.run_record.history.items
+    c.self.inside.run_record.longest.calls c.args.node (c.from-place.result - 1)
 place g c =
     let there = stands c.self.view_is c.self.invariant c.number.ensures.value c.number.ensures.in_range c.from-place.ensures
     c.self.inside.nodes.ok.0 c.len.ensures c.if-place-len.false in
@@ -27,7 +27,7 @@ idle-requires-clause-same g c =
 
 pub invariant_of-self-2 : goal.invariant_of-self-2
 invariant_of-self-2 g c =
-    stop_world (place g (goal.at.invariant_of-self-2 g c).After-reserve) c.index_mut.ensures.value c.halt.ensures c.push_reserved.ensures.items
+    stop_world (place g (goal.at.invariant_of-self-2 g c).After-reserve) c.index_mut.ensures.value c.stop_node.ensures c.push_reserved.ensures.items
 
 pub returns-clause-ok : goal.returns-clause-ok
 returns-clause-ok g c = stop_goes (place g (goal.at.returns-clause-ok g c).After-reserve) c.requires c.push_reserved.ensures.items

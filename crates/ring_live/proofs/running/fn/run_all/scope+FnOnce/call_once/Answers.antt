@@ -3,7 +3,7 @@ use Rattle.ring_live.proofs.running.fn.run_all.scope+FnOnce.call_once.Goals as g
 pub scope-requires : goal.scope-requires
 scope-requires g c =
     let seats = c.requires.1.1.1.1.1.0 in
-    let callers = c.requires.1.1.1.1.1.1.0 in
+    let live_clients = c.requires.1.1.1.1.1.1.0 in
     let b = c.requires.1.1.1.1.1.1.1 in (
       record { owned = b.0.owned; leaving = b.0.leaving },
       (
@@ -12,7 +12,7 @@ scope-requires g c =
           record { owned = b.2.owned; leaving = b.2.leaving },
           (
             record { shared = b.3.shared },
-            (record { shared = b.4.shared }, (record { shared = b.5.shared }, (record { shared = b.6.shared }, (record { frees = b.7.frees }, (seats, callers))))),
+            (record { shared = b.4.shared }, (record { shared = b.5.shared }, (record { shared = b.6.shared }, (record { frees = b.7.frees }, (seats, live_clients))))),
           ),
         ),
       ),

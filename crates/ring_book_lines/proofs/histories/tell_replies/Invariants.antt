@@ -1,6 +1,0 @@
-use Rattle.std.proofs.Common.{◌≡◌, ◌++◌, take}
-use Rattle.ring_rules.specs.Worlds.{items_of as replies}
-use Rattle.ring_book_lines.proofs.histories.tell_replies.Given as goal
-
-abbrev pub invariant-loop-answered : goal.invariant-loop-answered
-invariant-loop-answered g l = l.items.items ≡ l.initial.items.items ++ replies (take l.answered-index l.answers)

@@ -1,6 +1,0 @@
--- What the value is now.
-use Rattle.ring_book_lines.specs.Kept.{some_step}
-use Rattle.ring_book_lines.proofs.stories.no_step.Given as goal
-
-abbrev pub ghost-past_of : goal.ghost-past_of
-ghost-past_of g a = some_step

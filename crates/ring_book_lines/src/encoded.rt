@@ -1,0 +1,155 @@
+//! Frames that are sent, stored as bytes with their receivers.
+//! Formats: Frames
+
+ghost use Rattle.std.specs.Prelude.{◌≡◌, ◌+◌, ◌≤◌, ◌↔◌, IsTrue, IsSomeAnd, Some, length, OnOk, IfOk, IfErr};
+ghost use Rattle.ring_base.specs.Processors.{has};
+ghost use Rattle.ring_base.specs.declared.fault.Fault.TheVariants.{Memory};
+ghost use Rattle.ring_wire.specs.Frames.{FrameFits, encoding_of};
+ghost use Rattle.ring_book_lines.specs.Lines.{frame_for};
+ghost use Rattle.ring_base.specs.Numbers.{max_frame_bytes};
+
+use crate::models::{FrameModel, frame_model};
+use bytes::BytesMut;
+use ring_base::{Fault, Ghost, Proc, ProcSet};
+use ring_codec::Encode;
+use ring_wire::Frame;
+use std::alloc::{Allocator, Global};
+use std::marker::Model;
+
+/// A sent frame, stored as its encoding of at most 8,192 bytes, with its receivers. Contracts see the frame.
+/// Formats: Frames
+#[derive(Drop)]
+pub struct EncodedFrame<A: Allocator + Copy + Drop = Global> {
+    receivers: ProcSet,
+    bytes: Vec<u8, A>,
+    frame: Ghost<FrameModel<A>>,
+}
+
+impl<A: Allocator + Copy + Drop> Model for EncodedFrame<A> {
+    ghost use Rattle.std.specs.Prelude.{◌≡◌};
+    ghost use Rattle.ring_core_spec.specs.State.{OutgoingFrame};
+    ghost use Rattle.ring_wire.specs.Frames.{FrameFits, encoding_of};
+
+    ghost Value = { OutgoingFrame A };
+
+    ghost view = { λ s. record { to = s.receivers; frame = s.frame.value } };
+
+    ghost invariant = { λ s. FrameFits s.frame.value × (s.bytes.items ≡ encoding_of s.frame.value) };
+}
+
+/// Returns a copy of the bytes.
+/// Errors: `Memory`.
+fn copied<A: Allocator + Copy + Drop>(alloc: A, text: &[u8]) -> Result<Vec<u8, A>, Fault>
+    ensures ok { IfOk result (λ bytes. bytes.items ≡ text.now) }
+    ensures refused { IfErr result (λ fault. fault ≡ Memory) }
+{
+    let mut bytes = Vec::with_capacity(alloc, text.len())?;
+    bytes.extend_from_slice(text)?;
+    Ok(bytes)
+}
+
+/// Replaces the contents of `text` with the frame's encoding. The frame is within the limits of frames, and `text` has
+/// room for every frame. So it takes no memory.
+/// Formats: Frames
+pub(crate) fn write_in<A: Allocator + Copy + Drop>(frame: &Frame<A>, text: &mut BytesMut<A>)
+    requires fits { FrameFits frame.now }
+    requires room { max_frame_bytes ≤ length text.old.items + text.old.spare }
+    ensures text { text.new.items ≡ encoding_of frame.now }
+    ensures room { max_frame_bytes ≤ length text.new.items + text.new.spare }
+{
+    text.clear();
+    frame.write(text);
+}
+
+/// Returns whether the two are the same bytes: equally many, in the same order.
+pub(crate) fn is_same_text(text: &[u8], bytes: &[u8]) -> bool
+    ensures { IsTrue result ↔ (text.now ≡ bytes.now) }
+{
+    text == bytes
+}
+
+impl<A: Allocator + Copy + Drop> EncodedFrame<A> {
+    /// Encodes a frame that was sent to these receivers. The frame is within the limits of frames. `text` is a scratch
+    /// buffer with room for every frame.
+    /// Errors: `Memory` where room for the bytes is refused.
+    /// Formats: Frames
+    pub fn encode(
+        alloc: A,
+        receivers: ProcSet,
+        frame: &Frame<A>,
+        text: &mut BytesMut<A>,
+    ) -> Result<EncodedFrame<A>, Fault>
+        requires fits { FrameFits frame.now }
+        requires room { max_frame_bytes ≤ length text.old.items + text.old.spare }
+        ensures ok { IfOk result (λ encoded. encoded ≡ record { to = receivers; frame = frame.now }) }
+        ensures room { max_frame_bytes ≤ length text.new.items + text.new.spare }
+        ensures refused { IfErr result (λ fault. fault ≡ Memory) }
+    {
+        write_in(frame, text);
+        Ok(EncodedFrame {
+            receivers,
+            bytes: copied(alloc, text.as_slice())?,
+            frame: frame_model(frame),
+        })
+    }
+
+    /// Returns the processors to which the frame was sent. The sender may be one of them.
+    pub fn receivers(&self) -> ProcSet
+        ensures { result ≡ self.now.to }
+    {
+        self.receivers
+    }
+
+    /// Returns the frame's encoding, at most 8,192 bytes.
+    /// Formats: Frames
+    pub fn bytes(&self) -> &[u8]
+        ensures { result.now ≡ encoding_of self.now.frame }
+    {
+        self.bytes.as_slice()
+    }
+
+    /// Returns whether the frame was sent to this node: whether the node is one of its receivers.
+    pub fn goes_to(&self, node: Proc) -> bool
+        ensures { result ≡ has self.now.to node }
+    {
+        self.receivers.contains(node)
+    }
+
+    /// Returns whether the frame's encoding is exactly these bytes.
+    /// Formats: Frames
+    pub fn has_bytes(&self, bytes: &[u8]) -> bool
+        ensures { IsTrue result ↔ (encoding_of self.now.frame ≡ bytes.now) }
+    {
+        is_same_text(self.bytes.as_slice(), bytes)
+    }
+
+    /// Returns whether the stored frame equals this one, which is within the limits of frames. It compares their
+    /// encodings, since no two frames have the same encoding. `text` is a scratch buffer with room for every frame.
+    pub fn is_frame(&self, frame: &Frame<A>, text: &mut BytesMut<A>) -> bool
+        requires fits { FrameFits frame.now }
+        requires room { max_frame_bytes ≤ length text.old.items + text.old.spare }
+        ensures same { IsTrue result ↔ (self.now.frame ≡ frame.now) }
+        ensures room { max_frame_bytes ≤ length text.new.items + text.new.spare }
+    {
+        write_in(frame, text);
+        is_same_text(self.bytes.as_slice(), text.as_slice())
+    }
+
+    /// Returns whether the stored frame equals this one and the node is one of its receivers. `frame` is within the
+    /// limits of frames. `text` is a scratch buffer with room for every frame.
+    pub fn is_for(&self, node: Proc, frame: &Frame<A>, text: &mut BytesMut<A>) -> bool
+        requires fits { FrameFits frame.now }
+        requires room { max_frame_bytes ≤ length text.old.items + text.old.spare }
+        ensures found { IsTrue result ↔ (frame_for node self.now ≡ Some frame.now) }
+        ensures room { max_frame_bytes ≤ length text.new.items + text.new.spare }
+    {
+        self.goes_to(node) && self.is_frame(frame, text)
+    }
+
+    /// Returns whether the frame's encoding is exactly these bytes and the node is one of its receivers.
+    pub fn holds(&self, node: Proc, bytes: &[u8]) -> bool
+        ensures { IsTrue result ↔ IsSomeAnd (frame_for node self.now) (λ f. encoding_of f ≡ bytes.now) }
+    {
+        self.goes_to(node) && self.has_bytes(bytes)
+    }
+}

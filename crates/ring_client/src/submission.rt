@@ -1,0 +1,131 @@
+//! A call tried at one port, and at one port after another.
+//! Rules: Clients 4 and 5
+
+ghost use Rattle.std.specs.Prelude.{◌≡◌, ◌≤◌, Some, IfOk, IfErr, IfSome, IfNone};
+ghost use Rattle.ring_base.specs.Fault.{fault_number};
+ghost use Rattle.ring_base.specs.declared.fault.Fault.TheVariants.{Memory};
+ghost use Rattle.ring_session.specs.SessionAnswer.{refusal, reply_in};
+ghost use Rattle.ring_client.specs.Asking.{just_submitted, asked_after_submit, IsClientVisible, HasNoAnswer, HasAnswered};
+ghost use Rattle.ring_client.specs.Outcomes.{IsOutcome};
+
+use crate::asked::Op;
+use crate::port::Port;
+use ring_base::Fault;
+use ring_object::Reply;
+use ring_payload::{Call, CallOperation};
+use ring_session::Answer;
+use std::alloc::Allocator;
+
+/// A call as a client tries it at its ports, one after another.
+/// Rules: Clients 4
+#[derive(Clone, Copy)]
+pub struct PortRequest {
+    /// The number of the client.
+    pub client: u32,
+    /// The number of the call, from 1.
+    pub number: u64,
+    /// The operation, 0 to 1,024 bytes.
+    pub op: Op,
+}
+
+impl PortRequest {
+    /// Returns the call for one port.
+    /// Errors: `Memory`.
+    fn call<A: Allocator + Copy>(&self, alloc: A) -> Result<Call<A>, Fault>
+        ensures ok { IfOk result (λ call. asked_after_submit call ≡ just_submitted self.now.client self.now.number self.now.op) }
+        ensures refused { IfErr result (λ fault. fault ≡ Memory) }
+    {
+        Ok(Call {
+            client: self.client,
+            number: self.number,
+            op: CallOperation::from_slice(alloc, self.op.as_slice())?,
+        })
+    }
+}
+
+/// The outcome of a call that was tried at the ports in order.
+/// Rules: Clients 5
+#[derive(Clone, Copy)]
+pub enum CallOutcome {
+    /// A port returned this answer, and the ports after it weren't tried.
+    TicketAnswer(Answer),
+    /// Each port refused the call, or was polled in vain; also where there is no port.
+    Unanswered,
+    /// There was no memory for the first port's copy of the call, so it was submitted nowhere.
+    NotSubmitted,
+    /// There was no memory for a later port's copy of the call; it was submitted at the ports before, or refused there.
+    NoMemoryAfterSubmit,
+}
+
+/// Submits the call at the ports in order, until a poll returns an answer. Returns the outcome.
+/// It submits once at each port and then polls at most `turns` times, 0 included. A port that refuses the submit is
+/// passed over. The copy of the call for each port takes memory of `alloc`.
+/// Rules: Clients 4
+pub fn submit_in_order<P: Port>(
+    ports: &mut [P],
+    alloc: P::Alloc,
+    request: &PortRequest,
+    turns: u64,
+) -> CallOutcome
+    ensures { IsOutcome P.asked_of (just_submitted request.now.client request.now.number request.now.op) turns ports.old ports.new result }
+{
+    for i in 0..ports.len() {
+        let Ok(call) = request.call(alloc) else {
+            return if i == 0 {
+                CallOutcome::NotSubmitted
+            } else {
+                CallOutcome::NoMemoryAfterSubmit
+            };
+        };
+        if let Some(answer) = submit_and_poll(&mut ports[i], &call, turns) {
+            return CallOutcome::TicketAnswer(answer);
+        }
+    }
+    CallOutcome::Unanswered
+}
+
+/// Submits a call at a port, and returns the answer if it arrives within `turns` polls.
+fn submit_and_poll<P: Port>(port: &mut P, call: &Call<P::Alloc>, turns: u64) -> Option<Answer>
+    ensures answered { IfSome result (λ answer. HasAnswered (asked_after_submit call.now) turns answer (P.asked_of port.new)) }
+    ensures told { IfSome result IsClientVisible }
+    ensures in_vain { IfNone result (HasNoAnswer (asked_after_submit call.now) turns (P.asked_of port.new)) }
+{
+    let Ok(ticket) = port.submit(call) else {
+        return None;
+    };
+    for _ in 0..turns {
+        let answer = port.poll(&ticket);
+        if answer.is_some() {
+            return answer;
+        }
+    }
+    None
+}
+
+/// Returns the reply in an answer that a client can get: that of `Done` or `Kept`.
+/// Errors: the refusal whose number a `Refused` has, 4 to 7: `Conflict`, `Stale`, `NumberGap` or `SessionsFull`.
+/// Rules: Clients 5; Sessions 3 and 4
+pub fn reply_of(answer: Answer) -> Result<Reply, Fault>
+    requires { IsClientVisible answer }
+    ensures ok { IfOk result (λ reply. reply_in answer ≡ Some reply) }
+    ensures refused { IfErr result (λ fault. answer ≡ refusal fault) }
+{
+    match answer {
+        Answer::Done(reply) => Ok(reply),
+        Answer::Kept(reply) => Ok(reply),
+        Answer::Refused(number) => Err(refusal_of(number)),
+    }
+}
+
+/// Returns the refusal of this number, 4 to 7.
+fn refusal_of(number: u8) -> Fault
+    requires { (4 ≤ number) × (number ≤ 7) }
+    ensures { fault_number result ≡ number }
+{
+    match number {
+        4 => Fault::Conflict,
+        5 => Fault::Stale,
+        6 => Fault::NumberGap,
+        _ => Fault::SessionsFull,
+    }
+}

@@ -1,0 +1,61 @@
+//! Clients that make their calls on threads of their own.
+//!
+//! Rules: The book and the threads 28; Clients 3 to 6
+
+ghost use Rattle.std.specs.Prelude.{◌≡◌, ℕ, IfErr};
+ghost use Rattle.ring_base.specs.declared.fault.Fault.TheVariants.{Memory};
+ghost use Rattle.ring_host_port.specs.Clients.{AreForAll};
+
+use ring_base::Fault;
+use ring_client::{Client, Port};
+use ring_host_port::{BookName, Host, Seat, client_of};
+use ring_object::Object;
+use std::sync::Wait;
+
+/// The work of a client on its own thread. The thread only borrows the caller, so what it keeps for later readers is in an atomic
+/// or behind a lock.
+///
+/// Rules: The book and the threads 28
+pub trait Caller {
+    /// The number of the node that the client tries first.
+    ghost first: { Self → ℕ };
+
+    /// Returns the number of the node that the client tries first, 1 to the number of nodes. The client passes on to the next
+    /// node where this one refuses a call or doesn't answer it within 1,000,000 polls. It tries the nodes in the order of their
+    /// numbers, with node 1 after the last, and makes the same call under the same number.
+    ///
+    /// Rules: Clients 4; The book and the threads 28
+    fn first_node(&self) -> u8
+        ensures { result ≡ first self.now };
+
+    /// Makes the client's calls; the run calls this once. It may wait for their answers.
+    ///
+    /// A call returns `NoAnswer` where each node was tried in vain, as happens while the nodes form a ring; so use
+    /// `until_answered`. A caller that makes calls for ever never ends, and neither does the run.
+    ///
+    /// Rules: Clients 3 to 6
+    fn make_calls<P: Port>(&self, client: &mut Client<P>);
+}
+
+/// Makes the calls of the client of this number, with ports that take these seats of the host, one for each node. Returns once
+/// the caller has made all its calls.
+///
+/// Errors: `Memory` where the ports can't be made; no call was made then.
+///
+/// Rules: The book and the threads 28
+pub(crate) fn call_from<O: Object, K: BookName<O::Alloc>, C: Caller, W: Wait>(
+    rt: &W,
+    alloc: O::Alloc,
+    host: &Host<O, K>,
+    seats: Vec<Seat<O::Alloc>, O::Alloc>,
+    number: u32,
+    caller: &C,
+) -> Result<(), Fault>
+    requires { AreForAll host.now seats.items }
+    ensures refused { IfErr result (λ fault. fault ≡ Memory) }
+{
+    let first = caller.first_node();
+    let mut client = client_of(rt, alloc, host, seats, number, first)?;
+    caller.make_calls(&mut client);
+    Ok(())
+}

@@ -1,0 +1,20 @@
+//! Runs the nodes of a group on threads, and clients on threads that call them.
+//!
+//! [`run_callers`] runs each node and each client on a thread of its own. A [`Caller`] says what a client does. The result is
+//! [`ClientCalls`]: the one order of the clients' calls, and its history.
+//!
+//! Rules: The book and the threads 28
+#![tactic(auto)]
+
+mod caller;
+mod checking;
+mod running;
+mod running_clients;
+
+pub use caller::Caller;
+pub use checking::MAX_PORTS;
+pub use ring_host_port::{
+    Book, BookName, ClientCalls, Gate, GatePlace, Gauge, Host, HostPort, HostTicket, OpenGate,
+    Opening, PacedGate, Seat, Turn, TurnActivity,
+};
+pub use running::run_callers;

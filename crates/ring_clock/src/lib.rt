@@ -1,0 +1,13 @@
+//! The clock of a node that a program drives: its timers, from the first time that the program brings, and the outcome of a step,
+//! as far as they depend on it.
+//!
+//! Nothing here waits, takes memory or refuses.
+//! Rules: A node with a clock 5 and 9; Nodes that records drive 3
+#![tactic(auto)]
+
+mod node_clock;
+mod step_outcomes;
+
+pub use node_clock::NodeClock;
+pub use ring_timers::{Periods, StepOutcome, Timers};
+pub use step_outcomes::{has_sent, is_token, step_outcome, timeout_in};

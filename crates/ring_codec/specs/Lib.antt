@@ -1,0 +1,11 @@
+pub mod Base
+pub mod Cases
+pub mod Faults
+pub mod Formats
+pub mod Prefixes
+pub mod NumberFormats
+pub mod Processors
+pub mod Reading
+pub mod ReadingLaws
+pub mod Rings
+pub mod EncodedNumbers

@@ -1,0 +1,62 @@
+//! How a value is encoded and decoded: encoded whole where there is room, decoded from the front of bytes.
+//!
+//! A type states its encoding, the limits of its values and how they are read. Its law `format` proves that the
+//! reading is exact.
+//! Formats: Numbers and parts; Frames
+
+ghost use Rattle.std.specs.Prelude.{◌≡◌, ℕ, ◌+◌, ◌^◌, ◌<◌, ◌≤◌, List, ◌++◌, length, Option};
+ghost use Rattle.ring_codec.specs.Reading.{IsFormat, IsReadResult, Appends};
+
+use crate::reader::Reader;
+use bytes::BytesMut;
+use ring_base::Fault;
+use std::alloc::Allocator;
+
+/// A type whose values have exactly one encoding each, a list of bytes. The law `format` proves that reading is exact.
+/// Formats: Numbers and parts; Frames
+pub trait Encode: Sized {
+    /// The value's encoding: a list of bytes.
+    ghost encoding: { Self → List ℕ };
+
+    /// The greatest length of an encoding of this type, in bytes.
+    ghost most: { ℕ };
+
+    /// Holds of the values that keep the limits of their format. Only these are written.
+    ghost fits: { Self → Type 0 };
+
+    /// Reads from the front of bytes: the value there with the bytes after it, or nothing where no encoding begins the
+    /// bytes.
+    ghost at: { List ℕ → Option (Self × List ℕ) };
+
+    /// Returns the length of the value's encoding in bytes. That the value keeps its limits is the caller's condition.
+    /// Formats: Numbers and parts; Frames
+    fn size(&self) -> usize
+        requires { fits self.now }
+        ensures value { result ≡ length (encoding self.now) }
+        ensures small { result ≤ most };
+
+    /// Appends the value's encoding to `out`, and changes nothing before it.
+    /// That the value keeps its limits and that `out` has room for the encoding is the caller's condition. So the call
+    /// takes no memory.
+    /// Formats: Numbers and parts; Frames
+    fn write<B: Allocator + Copy>(&self, out: &mut BytesMut<B>)
+        requires fits { fits self.now }
+        requires room { length (encoding self.now) ≤ out.old.spare }
+        ensures { Appends out.old out.new (encoding self.now) };
+
+    /// States that reading is exact: where the encoding of a value that keeps the limits begins the bytes, `at` gives
+    /// that value. Elsewhere it gives nothing.
+    ghost format: { IsFormat encoding fits at };
+}
+
+/// A type whose values are decoded from the front of bytes, into memory of the allocator.
+/// Formats: Numbers and parts; Frames
+pub trait Decode<A: Allocator + Copy>: Encode {
+    /// Decodes the value at the front of `from`, and moves `from` past its encoding.
+    /// A decoded value keeps the limits of its format.
+    /// Errors: `BadFrame`, only if no value's encoding begins `from`; `Memory`, in either case. How much is then left
+    /// to read is unspecified.
+    /// Formats: Numbers and parts; Frames
+    fn read(alloc: A, from: &mut Reader<'_>) -> Result<Self, Fault>
+        ensures { IsReadResult result from.new (Self.at from.old) };
+}

@@ -1,0 +1,26 @@
+//! How values are encoded in bytes: numbers, processors, sets, rings, counted lists, length-prefixed values. Every
+//! value has exactly one encoding.
+//! [`Encode`] writes a value whole where there is room for it; [`Decode`] reads it from the front of bytes. [`Wire`]
+//! does the same with bytes that grow: it appends the encoding or refuses, and reads a value with the length of its
+//! encoding.
+//! Formats: Numbers and parts; Frames
+#![tactic(auto)]
+
+mod arrays;
+mod codec;
+mod many;
+mod numbers;
+mod processors;
+mod reader;
+mod rings;
+mod sized;
+mod wire;
+mod words;
+
+pub use codec::{Decode, Encode};
+pub use many::{read_in_place, read_many, size_many, write_many};
+pub use reader::Reader;
+pub use ring_base::{Fault, Ghost, MAX, PROCESSORS, Proc, ProcSet, RingId, WINDOW_SIZE, ghost_of};
+pub use sized::{read_sized, write_sized};
+pub use wire::Wire;
+pub use words::EncodedNumbers;

@@ -1,0 +1,79 @@
+//! Several values, one after the other.
+
+ghost use Rattle.std.specs.Prelude.{◌≡◌, ℕ, ◌+◌, ◌^◌, ◌<◌, ◌≤◌, List, [], ◌++◌, length, All};
+ghost use Rattle.std.specs.List.{flat_map};
+ghost use Rattle.ring_codec.specs.Reading.{IsReadResultBy, Appends, times_at};
+ghost use Rattle.ring_base.specs.Numbers.{max_frame_bytes};
+
+use crate::codec::{Decode, Encode};
+use crate::reader::Reader;
+use arrayvec::ArrayVec;
+use bytes::BytesMut;
+use ring_base::Fault;
+use std::alloc::Allocator;
+
+/// Appends the encodings of the values to `out`, in order, and nothing for an empty list.
+/// The number of values isn't written. That the values keep their limits and that `out` has room is the caller's
+/// condition. So the call takes no memory.
+pub fn write_many<T: Encode, B: Allocator + Copy>(items: &[T], out: &mut BytesMut<B>)
+    requires fits { All T.fits items.now }
+    requires room { length (flat_map T.encoding items.now) ≤ out.old.spare }
+    ensures { Appends out.old out.new (flat_map T.encoding items.now) }
+{
+    for item in items {
+        item.write(out);
+    }
+}
+
+/// Returns the length of all the values' encodings together, in bytes.
+/// That the values keep their limits and that this length is at most 8,192 is the caller's condition.
+pub fn size_many<T: Encode>(items: &[T]) -> usize
+    requires fits { All T.fits items.now }
+    requires small { length (flat_map T.encoding items.now) ≤ max_frame_bytes }
+    ensures { result ≡ length (flat_map T.encoding items.now) }
+{
+    let mut size = 0;
+    for item in items {
+        size += item.size();
+    }
+    size
+}
+
+/// Decodes the `count` values at the front of `from` into a new vector, in order, and moves `from` past them.
+/// Errors: `BadFrame`, only if the encodings of `count` values don't begin `from`; `Memory`. How much is then left to
+/// read is unspecified.
+pub fn read_many<A: Allocator + Copy, T: Decode<A> + Drop>(
+    alloc: A,
+    count: usize,
+    from: &mut Reader<'_>,
+) -> Result<Vec<T, A>, Fault>
+    ensures { IsReadResultBy (λ items. items.items) result from.new (times_at count T.at from.old) }
+{
+    let mut items = Vec::with_capacity(alloc, count)?;
+    for _ in 0..count {
+        let item = T::read(alloc, from)?;
+        items.push(item)?;
+    }
+    Ok(items)
+}
+
+/// Decodes the `count` values at the front of `from` into `place`, in order, and moves `from` past them.
+/// That `place` is empty and has room for `count` values is the caller's condition.
+/// Errors: `BadFrame`, only if the encodings of `count` values don't begin `from`; `Memory`. The content of `place`,
+/// and how much is left to read, are then unspecified.
+pub fn read_in_place<A: Allocator + Copy, T: Decode<A> + Drop, const N: usize>(
+    alloc: A,
+    count: usize,
+    from: &mut Reader<'_>,
+    place: &mut ArrayVec<T, N>,
+) -> Result<(), Fault>
+    requires room { count ≤ N }
+    requires empty { place.old.items ≡ [] }
+    ensures { IsReadResultBy (λ _. place.new.items) result from.new (times_at count T.at from.old) }
+{
+    for _ in 0..count {
+        let item = T::read(alloc, from)?;
+        place.push(item);
+    }
+    Ok(())
+}

@@ -1,0 +1,47 @@
+//! Length-prefixed values: the length is a number of four bytes.
+//! Formats: Frames
+
+ghost use Rattle.std.specs.Prelude.{◌≡◌, ℕ, ◌+◌, ◌^◌, ◌<◌, ◌≤◌, List, [], ◌∷◌, ◌++◌, length};
+ghost use Rattle.byteorder.specs.Endian.{big_bytes};
+ghost use Rattle.ring_codec.specs.Reading.{Appends, IsReadResult, sized_at, ◌⊕◌};
+
+use crate::codec::{Decode, Encode};
+use crate::reader::Reader;
+use bytes::BytesMut;
+use ring_base::Fault;
+use std::alloc::Allocator;
+
+/// Decodes a length of four bytes from the front of `from`, then a value that takes exactly that many bytes.
+/// Moves `from` past both.
+/// Errors: `BadFrame`, only if `from` doesn't begin with a length and a value of just that length; `Memory`. How much
+/// is then left to read is unspecified.
+/// Formats: Frames
+pub fn read_sized<A: Allocator + Copy, T: Decode<A> + Drop>(
+    alloc: A,
+    from: &mut Reader<'_>,
+) -> Result<T, Fault>
+    ensures { IsReadResult result from.new (sized_at T.at from.old) }
+{
+    let len: u32 = Decode::read(alloc, from)?;
+    let mut body = Reader::new(from.take(len as usize)?);
+    let value = T::read(alloc, &mut body)?;
+    if body.len() != 0 {
+        return Err(Fault::BadFrame);
+    }
+    Ok(value)
+}
+
+/// Appends the length of the value's encoding to `out`, in four bytes, then the encoding.
+/// That the value keeps its limits and that `out` has room for both is the caller's condition. So the call takes no
+/// memory.
+/// Formats: Frames
+pub fn write_sized<T: Encode, B: Allocator + Copy>(value: &T, out: &mut BytesMut<B>)
+    requires fits { T.fits value.now }
+    requires short { T.most < 2 ^ 32 }
+    requires room { 4 + length (T.encoding value.now) ≤ out.old.spare }
+    ensures { Appends out.old out.new
+        (big_bytes 4 (length (T.encoding value.now)) ⊕ T.encoding value.now) }
+{
+    (value.size() as u32).write(out);
+    value.write(out);
+}

@@ -1,2 +1,0 @@
--- Words of windows, passed on to what stands on the ring core.
-pub use Rattle.ring_recover.specs.Windows.{found, holds, of_ring, front_of, is_numbered, highest, is_new, in_window, missing, held_bits, bytes_of}

@@ -1,0 +1,16 @@
+//! The types and definitions of the ring core: one processor's part in the rings, as a state machine that takes one
+//! input and returns its outputs. It has no clock and no network.
+//! Rules: Processors and sets 5 and 6; Rings and states 3 to 14; Outputs 1 to 7
+#![tactic(auto)]
+
+pub mod input;
+mod naming;
+pub mod out;
+mod sent;
+
+pub use input::Input;
+pub use naming::is_named;
+pub use out::Out;
+pub use ring_recover::{Configuration, bits_law, finish_law, front_law};
+pub use ring_token::{Call, Frame, safe_law};
+pub use sent::OutgoingFrame;

@@ -1,0 +1,108 @@
+//! Checks that a frame names processors of the group alone.
+//! Rules: Processors and sets 5
+
+ghost use Rattle.std.specs.Prelude.{◌≡◌, ◌&&◌, nat_le};
+ghost use Rattle.std.specs.List.{list_all};
+ghost use Rattle.ring_base.specs.Processors.{within, everybody};
+ghost use Rattle.ring_token.specs.Frames.{CommitEntry as OneEntry};
+ghost use Rattle.ring_token.specs.FrameVariants.{Join as JoinFrame, Commit as CommitFrame};
+ghost use Rattle.ring_core_spec.specs.Naming.{last_named, holder_named, content_named, payload_named, is_named};
+
+use ring_base::{Fixed, Proc, RingId};
+use ring_token::{CommitEntry, Content, Frame, Payload};
+use std::alloc::Allocator;
+
+/// Returns whether every processor that the frame names, in whatever field, is one of the group's, 1 to N. A core
+/// ignores any other frame, in every state.
+/// Rules: Processors and sets 5
+pub fn is_named<A: Allocator + Copy>(fixed: Fixed, frame: &Frame<A>) -> bool
+    ensures { result ≡ is_named fixed.count frame.now }
+{
+    let all = fixed.everybody();
+    match frame {
+        Frame::Message(message) => {
+            is_ring_named(fixed, &message.ring)
+                && is_proc_named(fixed, message.sender)
+                && is_payload_named(fixed, &message.payload)
+        }
+        Frame::Token(token) => {
+            is_ring_named(fixed, &token.ring) && is_holder_named(fixed, token.aru_id)
+        }
+        Frame::Join(join) => {
+            is_proc_named(fixed, join.sender)
+                && join.proc_set.is_subset(all)
+                && join.fail_set.is_subset(all)
+        }
+        Frame::Commit(boxed) => {
+            let token = boxed.token();
+            is_ring_named(fixed, &token.ring)
+                && token.members.is_subset(all)
+                && are_entries_named(fixed, token.entries.as_slice())
+        }
+    }
+}
+
+fn is_proc_named(fixed: Fixed, proc: Proc) -> bool
+    ensures { result ≡ nat_le proc fixed.count }
+{
+    proc.number() <= fixed.count()
+}
+
+fn is_ring_named(fixed: Fixed, ring: &RingId) -> bool
+    ensures { result ≡ nat_le ring.now.rep fixed.count }
+{
+    is_proc_named(fixed, ring.rep)
+}
+
+/// Returns whether the representative of a last primary, if there is one, is a processor of the group.
+fn is_last_named(fixed: Fixed, last: Option<RingId>) -> bool
+    ensures { result ≡ last_named fixed.count last }
+{
+    match last {
+        None => true,
+        Some(ring) => is_ring_named(fixed, &ring),
+    }
+}
+
+/// Returns whether the processor that holds `aru` back, if any, is a processor of the group.
+fn is_holder_named(fixed: Fixed, holder: Option<Proc>) -> bool
+    ensures { result ≡ holder_named fixed.count holder }
+{
+    match holder {
+        None => true,
+        Some(proc) => is_proc_named(fixed, proc),
+    }
+}
+
+/// Returns whether the representative of each entry's old ring is a processor of the group.
+fn are_entries_named(fixed: Fixed, entries: &[CommitEntry]) -> bool
+    ensures { result ≡ list_all (λ (e : OneEntry). nat_le e.old.rep fixed.count) entries.now }
+{
+    entries
+        .iter()
+        .all(|entry| entry.old.rep.number() <= fixed.count())
+}
+
+fn is_content_named<A: Allocator + Copy>(fixed: Fixed, content: &Content<A>) -> bool
+    ensures { result ≡ content_named fixed.count content.now }
+{
+    match content {
+        Content::Head(head) => is_last_named(fixed, head.last),
+        Content::Call(_) | Content::Part(_) | Content::Pack(_) | Content::Snap(_) => true,
+    }
+}
+
+fn is_payload_named<A: Allocator + Copy>(fixed: Fixed, payload: &Payload<A>) -> bool
+    ensures { result ≡ payload_named fixed.count payload.now }
+{
+    match payload {
+        Payload::Wrapped(wrapped) => {
+            is_ring_named(fixed, &wrapped.ring)
+                && is_proc_named(fixed, wrapped.sender)
+                && is_content_named(fixed, &wrapped.payload)
+        }
+        Payload::Head(head) => is_last_named(fixed, head.last),
+        Payload::Call(_) | Payload::End | Payload::Part(_) | Payload::Pack(_) | Payload::Snap(_) =>
+            true,
+    }
+}

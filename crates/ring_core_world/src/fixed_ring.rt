@@ -1,0 +1,98 @@
+//! Runs ring cores from a formed ring.
+//! Rules: Rings and states 14 and 15
+
+ghost use Rattle.std.specs.Prelude.{◌≡◌, ℕ, ◌<◌, true, false, length, IfOk, IfErr, OnOk, OnErr};
+ghost use Rattle.std.specs.List.{AllByRecursion};
+ghost use Rattle.ring_base.specs.declared.fault.Fault.TheVariants.{Memory};
+ghost use Rattle.ring_base.specs.declared.ring_id.RingId.{RingId as OneRing};
+ghost use Rattle.ring_base.specs.Numbers.{numbers_from};
+ghost use Rattle.ring_chain_proof.specs.ChainFacts.{AllIsOfFormed, OutputsAreHeld, agreed_numbers};
+ghost use Rattle.ring_core_spec.specs.State.{all_of};
+ghost use Rattle.ring_core_spec.specs.Views.{front};
+ghost use Rattle.ring_core_proof.specs.Limits.{EventFits};
+ghost use Rattle.ring_core_proof.specs.Texts.{HasOneText};
+ghost use Rattle.ring_core_proof.specs.Worlds.{run_formed};
+
+use crate::cores::Cores;
+use crate::running::run_acting;
+use ring_base::{Fault, Fixed, Proc};
+use ring_core_proof::RingEvent;
+use ring_core_spec::Out;
+use std::alloc::{Allocator, Global};
+use std::marker::Model;
+
+/// The ring cores of all processors in the formed ring (1, 1): nothing is held, and the first token has visited the
+/// representative.
+/// They run once, by one call of `run`.
+/// Rules: Rings and states 14 and 15
+#[derive(Drop)]
+pub struct FixedRing<A: Allocator + Copy = Global> {
+    fixed: Fixed,
+    /// `None` after the run.
+    cores: Option<Cores<A>>,
+    done: u64,
+}
+
+impl<A: Allocator + Copy> Model for FixedRing<A> {
+    ghost use Rattle.ring_core_world.specs.Running.{SingleRun, IsUnrun, is_there, empty_formed_run};
+
+    ghost Value = { SingleRun };
+
+    ghost view = { λ r. record { count = r.fixed.count; is_fresh = is_there r.cores; done = r.done } };
+
+    ghost invariant = { λ r. IsUnrun (empty_formed_run r.fixed.count) r.cores };
+}
+
+impl<A: Allocator + Copy> FixedRing<A> {
+    /// Returns the cores of the formed ring of all processors 1 to N, ready to run once.
+    /// Frame 1 is what its representative sent at the opening: the token of number 1.
+    /// Errors: `Memory` where an allocation fails.
+    /// Rules: Rings and states 14
+    pub fn new(alloc: A, fixed: Fixed) -> Result<FixedRing<A>, Fault>
+        ensures ok { IfOk result (λ ring. ring ≡ record { count = fixed.count; is_fresh = true; done = 0 }) }
+        ensures refused { IfErr result (λ fault. fault ≡ Memory) }
+    {
+        let cores = Cores::formed(alloc, fixed)?;
+        Ok(FixedRing {
+            fixed,
+            cores: Some(cores),
+            done: 0,
+        })
+    }
+
+    /// Runs a list of events from the formed ring, and returns all outputs in order, each with its processor. Those of
+    /// the opening aren't among them.
+    /// `run` may be called once. Only the retransmit timeout has an effect here. A payload in an event must be within the
+    /// limits of frames, as every decoded payload is.
+    /// Errors: `Memory` where an allocation fails; the cores have then been dropped. In either case `done` returns the
+    /// number of events done: all of them after a success, fewer after a refusal.
+    /// Rules: Rings and states 14 and 15
+    pub fn run(&mut self, events: &[RingEvent<A>]) -> Result<Vec<(Proc, Out<A>), A>, Fault>
+        requires fresh { self.old.is_fresh ≡ true }
+        requires fit { AllByRecursion EventFits events.now }
+        ensures outs { IfOk result (λ outs. outs.items ≡ (run_formed self.old.count events.now).outs) }
+        ensures text { (ring : OneRing) → HasOneText (run_formed self.old.count events.now) ring }
+        ensures held { OutputsAreHeld (run_formed self.old.count events.now) }
+        ensures agreed { (i : ℕ) → agreed_numbers (run_formed self.old.count events.now) i
+            ≡ numbers_from 1 (front ((run_formed self.old.count events.now).cores i) (all_of self.old.count).ring) }
+        ensures safe { AllIsOfFormed self.old.count (run_formed self.old.count events.now) }
+        ensures spent { self.new.is_fresh ≡ false }
+        ensures count { self.new.count ≡ self.old.count }
+        ensures all { OnOk result (self.new.done ≡ length events.now) }
+        ensures some { OnErr result (self.new.done < length events.now) }
+        ensures refused { IfErr result (λ fault. fault ≡ Memory) }
+    {
+        // No effect at run time. The proof uses it: the group has a processor, as the laws of a formed ring require.
+        prove!(self.fixed.count() >= 1);
+        let cores = self.cores.take().ok_or(Fault::Memory)?;
+        run_acting(cores, true, events, &mut self.done)
+    }
+
+    /// Returns the number of events done in the run: 0 before it, and all of them after it unless it was refused.
+    /// Rules: Rings and states 15
+    pub fn done(&self) -> u64
+        ensures { result ≡ self.now.done }
+    {
+        self.done
+    }
+}

@@ -1,0 +1,75 @@
+//! Runs a list of events, from either opening.
+//! Rules: Rings and states 14 and 15
+
+ghost use Rattle.std.specs.Prelude.{◌≡◌, ◌<◌, [], ◌∷◌, length, filter, IfOk, IfErr, OnOk, OnErr};
+ghost use Rattle.std.specs.List.{AllByRecursion};
+ghost use Rattle.ring_base.specs.declared.fault.Fault.TheVariants.{Memory};
+ghost use Rattle.ring_core_proof.specs.Limits.{EventFits};
+ghost use Rattle.ring_core_proof.specs.Worlds.{acts_on_formed};
+ghost use Rattle.ring_core_world.specs.Running.{world_of, run_extended, acts};
+
+use crate::cores::Cores;
+use ring_base::{Fault, Kind, Proc};
+use ring_core_proof::RingEvent;
+use ring_core_spec::Out;
+use std::alloc::Allocator;
+
+/// Runs the events that act, and returns all outputs in order, each with its processor.
+/// From the opening all events act, from a formed ring all but three kinds of timeout. `done` is set to the number of
+/// events done, those that don't act included.
+/// Errors: `Memory` where an allocation fails; `done` is then below the number of events.
+/// Rules: Rings and states 14 and 15
+pub(crate) fn run_acting<A: Allocator + Copy>(
+    cores: Cores<A>,
+    formed: bool,
+    events: &[RingEvent<A>],
+    done: &mut u64,
+) -> Result<Vec<(Proc, Out<A>), A>, Fault>
+    requires fit { AllByRecursion EventFits events.now }
+    ensures outs { IfOk result (λ outs. outs.items ≡ (world_of (run_extended cores (filter (acts formed) events.now))).outs) }
+    ensures all { OnOk result (done.new ≡ length events.now) }
+    ensures some { OnErr result (done.new < length events.now) }
+    ensures refused { IfErr result (λ fault. fault ≡ Memory) }
+{
+    let mut world = cores;
+    *done = 0;
+    for event in events {
+        world = step_if_acting(world, formed, event)?;
+        *done += 1;
+    }
+    Ok(world.into_outs())
+}
+
+/// Applies an event, if it acts.
+fn step_if_acting<A: Allocator + Copy>(
+    world: Cores<A>,
+    formed: bool,
+    event: &RingEvent<A>,
+) -> Result<Cores<A>, Fault>
+    requires { EventFits event.now }
+    ensures ok { IfOk result (λ after. after ≡ run_extended world (filter (acts formed) (event.now ∷ []))) }
+    ensures refused { IfErr result (λ fault. fault ≡ Memory) }
+{
+    if acts(formed, event) {
+        world.happens(event)
+    } else {
+        Ok(world)
+    }
+}
+
+/// Returns whether an event acts: from the opening every event does.
+fn acts<A: Allocator + Copy>(formed: bool, event: &RingEvent<A>) -> bool
+    ensures { result ≡ acts formed event.now }
+{
+    !formed || acts_on_formed(event)
+}
+
+/// Returns whether an event acts from a formed ring: of the timeouts retransmit alone does.
+fn acts_on_formed<A: Allocator + Copy>(event: &RingEvent<A>) -> bool
+    ensures { result ≡ acts_on_formed event.now }
+{
+    match event {
+        RingEvent::Timeout(_, kind) => matches!(kind, Kind::Retransmit),
+        RingEvent::Send(_, _) | RingEvent::Deliver(_, _) | RingEvent::Stop(_) => true,
+    }
+}

@@ -1,7 +1,0 @@
-use Rattle.std.specs.Prelude.{ℕ, List}
-use Rattle.ring_console.specs.Running.{Runs}
-use Rattle.ring_explore.proofs.one.Seen.take.Given as goal
-
--- the lines so far are done
-abbrev pub invariant-loop-numbered : goal.invariant-loop-numbered
-invariant-loop-numbered g l = (text : List ℕ) × Runs g.O.Object.sequential l.yielded l.initial.self.run l.self.run text

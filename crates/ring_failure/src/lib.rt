@@ -1,0 +1,18 @@
+//! How the program ends: the reason for ending early, the line on standard error that reports it, and the exit status. Also a
+//! borrowed writer for its buffers, the progress of long work, and the names of the states.
+//! Formats: The command line
+#![tactic(auto)]
+
+mod borrowed_writer;
+mod failure;
+mod meter;
+mod share;
+mod state_names;
+mod status;
+
+pub use borrowed_writer::BorrowedWriter;
+pub use failure::{Failure, exit_status, output_result, report};
+pub use meter::ProgressMeter;
+pub use share::{round_end, share_begin};
+pub use state_names::state_name;
+pub use status::{BAD_COMMAND_LINE, FAILED, NOT_LEGAL};

@@ -1,0 +1,120 @@
+//! The progress of long work, shown on a terminal.
+//! Formats: The command line
+
+ghost use Rattle.std.specs.Prelude.{◌≡◌, true, false};
+ghost use Rattle.ring_failure.specs.Progress.{round_size, IsSizeAfter, HasEndedRound};
+
+use std::io::Write;
+use std::time::{Clock, Instant};
+
+/// A round that takes less than this, in milliseconds, is followed by one twice as large.
+const SHORT: u128 = 200;
+
+/// A round that takes more than this, in milliseconds, is followed by one half as large.
+const LONG: u128 = 800;
+
+/// The most rounds, about: each has at least the work divided by this. A round recurses into the next, so this bounds the stack's
+/// depth too.
+const MAX_ROUNDS: u64 = 500;
+
+/// Nothing is shown of work that takes less than this, in milliseconds.
+const SILENT: u128 = 1_000;
+
+/// The progress of long-running work that is done in rounds. It sizes the rounds so that the terminal is updated a few
+/// times a second.
+/// Formats: The command line
+#[derive(Clone, Copy)]
+pub struct ProgressMeter {
+    /// The number of items to do.
+    many: u64,
+    /// When the work began, if the clock could be read.
+    started: Option<Instant>,
+    /// The milliseconds from the start to the end of the last round.
+    gone: u128,
+    /// The number of items of the next round, before the bound by `MAX_ROUNDS`.
+    size: u64,
+    is_shown: bool,
+}
+
+impl ProgressMeter {
+    /// Starts to measure work of `many` items, none of which is done yet. `size` is the wanted number of items of the first
+    /// round. Where `clock` can't be read, no progress is ever shown.
+    pub fn new<C: Clock>(clock: &C, many: u64, size: u64) -> ProgressMeter
+        ensures work { (result.many ≡ many) × (result.size ≡ size) }
+        ensures hidden { result.is_shown ≡ false }
+    {
+        ProgressMeter {
+            many,
+            started: Instant::now(clock).ok(),
+            gone: 0,
+            size,
+            is_shown: false,
+        }
+    }
+
+    /// Returns the number of items that the next round should have. It is at least the work divided by 500, may be 0, and
+    /// may be more than what is left.
+    pub fn size(&self) -> u64
+        ensures { result ≡ round_size self.now }
+    {
+        self.size.max(self.many / MAX_ROUNDS)
+    }
+
+    /// Ends a round, where `done` is the number of items finished since the start. Fits the size of the next round to the
+    /// time that this one took.
+    /// From the first second on it shows the share done and the estimated seconds left, over the line shown before; until then
+    /// `out` is unchanged. Errors of `clock` and of `out` are ignored.
+    /// Formats: The command line
+    pub fn end_round<C: Clock, W: Write>(&mut self, clock: &C, out: &mut W, done: u64)
+        ensures round { HasEndedRound self.old self.new }
+        ensures quiet { self.new.is_shown ≡ false → out.new ≡ out.old }
+    {
+        let Some(started) = self.started else {
+            return;
+        };
+        let Ok(elapsed) = started.elapsed(clock) else {
+            return;
+        };
+        let millis = elapsed.as_millis();
+        self.size = size_after(self.size, millis.saturating_sub(self.gone));
+        self.gone = millis;
+        if millis >= SILENT {
+            self.is_shown = true;
+            write_progress(out, done, self.many, millis);
+        }
+    }
+
+    /// Clears the line of progress from the terminal, if one was shown. Errors of `out` are ignored.
+    /// Formats: The command line
+    pub fn clear<W: Write>(&self, out: &mut W)
+        ensures { self.now.is_shown ≡ false → out.new ≡ out.old }
+    {
+        if self.is_shown {
+            let _ = write!(out, "\r\x1b[K");
+            let _ = out.flush();
+        }
+    }
+}
+
+/// Returns the size of the round after one of this size that took this many milliseconds.
+fn size_after(size: u64, millis: u128) -> u64
+    ensures { IsSizeAfter size result }
+{
+    if millis < SHORT {
+        size.saturating_mul(2)
+    } else if millis > LONG {
+        size / 2
+    } else {
+        size
+    }
+}
+
+/// Shows that `done` of `many` items took this many milliseconds.
+fn write_progress<W: Write>(out: &mut W, done: u64, many: u64, millis: u128) {
+    let share = u128::from(done).saturating_mul(100) / u128::from(many.max(1));
+    let left = millis.saturating_mul(u128::from(many.saturating_sub(done)))
+        / u128::from(done.max(1))
+        / 1_000;
+    let _ = write!(out, "\r{share} % of {many}, {left} s left\x1b[K");
+    let _ = out.flush();
+}

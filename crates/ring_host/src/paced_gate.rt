@@ -1,0 +1,141 @@
+//! A gate for long-running hosts, under which nodes that have nothing to do rest.
+//!
+//! Rules: The book and the threads 29
+
+ghost use Rattle.std.specs.Prelude.{◌≡◌, vec_len, IfOk, IfErr};
+ghost use Rattle.ring_base.specs.declared.fault.Fault.TheVariants.{Memory};
+
+use crate::event_count::EventCount;
+use crate::gate::{Gate, GatePlace, TurnActivity};
+use crate::host::HostOf;
+use crate::inbox::Inbox;
+use ring_base::{Fault, Proc};
+use std::alloc::{Allocator, Global};
+use std::sync::Wait;
+use std::sync::atomic::{AtomicU64, Ordering};
+use std::time::Duration;
+
+/// A node rests after more quiet tokens than this since it last had something to do.
+const QUIET_TOKENS_TO_REST: u64 = 100;
+
+/// The longest rest, in milliseconds.
+const MAX_REST_MILLIS: u64 = 200;
+
+/// The rest of a node with calls that wait for an answer, in milliseconds.
+const SHORT_REST_MILLIS: u64 = 1;
+
+/// A gate under which a host that has nothing to do rests. A ring that idles at full speed fills the book within seconds.
+///
+/// A node *rests* once it has had more than 100 quiet tokens since it last had something to do. It then waits after each turn
+/// that isn't busy: at first for as many milliseconds as there are nodes, and for each further quiet token a millisecond longer,
+/// up to 200. A node with calls that have no answer waits for one millisecond: its ring lacks others, which it has to find. All
+/// rests end when a node of the host takes a submit or is stopped, and when the host closes. The nodes then run at full speed
+/// until they have been quiet for as long again.
+///
+/// Timeouts count turns, and an empty turn takes less than a microsecond. A node must not give up others whose threads wait for a
+/// processor, and a thread that yields waits longest where a machine is loaded. So a node that finds nothing doesn't yield. It
+/// *sleeps* after 50 turns in a row that find nothing, and after each further 200, until an item comes: node 1 for at most 2
+/// milliseconds, and each next node for 0.8 more. Node 1 gives up a ring that lost its token after some 190 sleeps. In Gather
+/// nodes nap as under [`OpenGate`](crate::OpenGate).
+///
+/// Rules: The book and the threads 29
+#[derive(Drop)]
+pub struct PacedGate<'a, W: Wait, A: Allocator + Copy + Drop = Global> {
+    rt: &'a W,
+    event_count: &'a EventCount,
+    inboxes: &'a Vec<Inbox<A>, A>,
+    quiet_counts: Vec<QuietCount, A>,
+    first_rest_millis: u64,
+}
+
+/// The quiet tokens of one node.
+#[derive(Drop)]
+struct QuietCount {
+    /// The number of notifications when the node last had something to do.
+    count: AtomicU64,
+    /// The number of quiet tokens since then.
+    turns: AtomicU64,
+}
+
+impl<C, B, A: Allocator + Copy + Drop> HostOf<C, B, A> {
+    /// Makes the gate for this host's `run` under which nodes that have nothing to do rest. No quiet token is counted yet. The
+    /// gate waits by `rt`.
+    ///
+    /// Errors: `Memory` where an allocation fails.
+    ///
+    /// Rules: The book and the threads 29
+    pub fn paced_gate<'a, W: Wait>(&'a self, rt: &'a W) -> Result<PacedGate<'a, W, A>, Fault>
+        ensures quiet_counts { IfOk result (λ gate. vec_len gate.quiet_counts ≡ self.now.words) }
+        ensures refused { IfErr result (λ fault. fault ≡ Memory) }
+    {
+        let mut quiet_counts = Vec::new(self.alloc);
+        let nodes = self.inboxes.len();
+        for _ in 0..nodes {
+            quiet_counts.push(QuietCount {
+                count: AtomicU64::new(0),
+                turns: AtomicU64::new(0),
+            })?;
+        }
+        Ok(PacedGate {
+            rt,
+            event_count: &self.event_count,
+            inboxes: &self.inboxes,
+            quiet_counts,
+            first_rest_millis: nodes as u64,
+        })
+    }
+}
+
+impl QuietCount {
+    /// Counts a turn that is over. Returns the length of the rest that is due, in milliseconds, or `None` where none is. `first`
+    /// is the length of the first rest, and `count` the number of notifications.
+    fn rest_after(&self, activity: TurnActivity, count: u64, first: u64) -> Option<u64> {
+        if activity == TurnActivity::Busy || self.count.load(Ordering::SeqCst) != count {
+            self.count.store(count, Ordering::SeqCst);
+            self.turns.store(0, Ordering::SeqCst);
+            return None;
+        }
+        if activity == TurnActivity::Quiet {
+            self.turns.fetch_add(1, Ordering::SeqCst);
+        }
+        let turns = self.turns.load(Ordering::SeqCst);
+        if turns <= QUIET_TOKENS_TO_REST {
+            return None;
+        }
+        let more = turns.saturating_sub(QUIET_TOKENS_TO_REST + 1);
+        Some(first.saturating_add(more).min(MAX_REST_MILLIS))
+    }
+}
+
+impl<'a, W: Wait, A: Allocator + Copy + Drop> Gate for PacedGate<'a, W, A> {
+    /// Does nothing: this gate holds a thread up only between its turns.
+    fn at(&self, _node: Proc, _place: GatePlace) {}
+
+    /// Counts the turn, and waits where the node is to rest, to sleep or to nap, as [`PacedGate`] says. For a processor that the
+    /// host doesn't have it returns at once.
+    ///
+    /// Rules: The book and the threads 29
+    fn after_turn(&self, node: Proc, activity: TurnActivity) {
+        let at = node.number() as usize - 1;
+        let (Some(quiet), Some(inbox)) = (self.quiet_counts.get(at), self.inboxes.get(at)) else {
+            return;
+        };
+        // Read before the wait, so that a submit in between ends the wait at once.
+        let count = self.event_count.count();
+        if let Some(millis) = quiet.rest_after(activity, count, self.first_rest_millis) {
+            let most = if inbox.has_waiting_calls() {
+                SHORT_REST_MILLIS
+            } else {
+                millis
+            };
+            self.event_count
+                .wait(self.rt, count, Duration::from_millis(most));
+        } else if activity == TurnActivity::Nothing {
+            inbox.wait_paced(self.rt, node);
+        }
+    }
+
+    fn has_own_waits(&self) -> bool {
+        true
+    }
+}

@@ -1,0 +1,25 @@
+//! Explanations of faulty files, for people: what stands at the fault, what was expected there, and what was perhaps meant.
+//!
+//! - Of a script: nothing here decides whether it is at fault. `ring_script` does, and finds the line.
+//! - Of a file of frames: where it goes on with no frame, its next bytes.
+//!
+//! Formats: Scripts; Frames; The command line
+#![tactic(auto)]
+
+mod closest_name;
+mod comment;
+mod form;
+mod frame_head;
+mod frames;
+mod groups;
+mod line;
+mod name_list;
+mod operation;
+mod quoted_word;
+mod reason;
+mod word_meaning;
+
+pub use frames::frames_reason;
+pub use quoted_word::QuotedWord;
+pub use reason::reason_by;
+pub use ring_script::MAX_SCRIPT_BYTES;

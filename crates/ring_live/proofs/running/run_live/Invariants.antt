@@ -1,5 +1,0 @@
-use Rattle.ring_live.proofs.running.run_live.Given as goal
-
--- the opening that was just made
-abbrev pub ghosts-run_named : goal.ghosts-run_named
-ghosts-run_named g a = record { name = a.opening }

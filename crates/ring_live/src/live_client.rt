@@ -1,0 +1,156 @@
+//! The clients of a live run.
+//!
+//! Rules: Objects 7
+//! Formats: The command line
+
+ghost use Rattle.std.specs.Prelude.{◌≡◌, ◌+◌, ◌≤◌, IfOk, IfErr};
+ghost use Rattle.ring_client.specs.Calling.{CallRefused};
+ghost use Rattle.ring_live.specs.LiveClients.{HasSeats, count_in_reply, read_bytes, HasRead};
+
+use ring_base::Fault;
+use ring_client::{Client, Port};
+use ring_host_port::{BookName, Host, Seat, client_of};
+use ring_object::{Object, Reply};
+use ring_things::{Counters, ReplyParts, ShelfPlace};
+use std::alloc::{Allocator, Global};
+use std::mem::replace;
+use std::sync::Wait;
+use std::sync::atomic::{AtomicU64, Ordering};
+use std::thread::{self, Parker};
+use std::time::Duration;
+
+/// The place of the counters on the program's shelf.
+const COUNTERS: ShelfPlace = ShelfPlace::Second;
+
+/// The number of looks in vain after which a client that waits for the others starts to sleep.
+const PATIENCE: u64 = 1_000;
+
+/// The length of a sleep, in microseconds.
+const NAP: u64 = 50;
+
+/// A client with a thread of its own: its number, a seat of the host for each of its ports, and the results of its calls.
+///
+/// Formats: The command line
+#[derive(Drop)]
+pub(crate) struct LiveClient<A: Allocator + Copy + Drop = Global> {
+    /// The client's number, from 1, which is also the number of the node that it tries first.
+    pub(crate) number: u8,
+    /// A seat of the host for each node; none once the client has made its ports.
+    pub(crate) seats: Vec<Seat<A>, A>,
+    /// The number of its adds that were answered.
+    pub(crate) answered: u64,
+    /// The counter that client 1 read, 0 for any other client; or why there is none: `NoAnswer` before the client calls.
+    pub(crate) counter: Result<u64, Fault>,
+}
+
+impl<A: Allocator + Copy + Drop> LiveClient<A> {
+    /// Makes the client of this number, before it calls: no add is answered, and its counter is the fault `NoAnswer`.
+    pub(crate) fn new(number: u8, seats: Vec<Seat<A>, A>) -> LiveClient<A>
+        ensures { result.seats ≡ seats }
+    {
+        LiveClient {
+            number,
+            seats,
+            answered: 0,
+            counter: Err(Fault::NoAnswer),
+        }
+    }
+}
+
+/// Makes `calls` adds, one after the other, or ends at the first fault. Client 1 then reads the counter, once no other client
+/// runs. The last client to end closes the host. `running` is the number of clients that run, with this one. The results are in
+/// `live_client`.
+///
+/// Rules: Objects 7
+/// Formats: The command line
+pub(crate) fn call<O: Object, K: BookName<O::Alloc>, W: Wait>(
+    rt: &W,
+    alloc: O::Alloc,
+    host: &Host<O, K>,
+    calls: u8,
+    running: &AtomicU64,
+    live_client: &mut LiveClient<O::Alloc>,
+)
+    requires { HasSeats host.now live_client.old }
+{
+    let counter = try_call(rt, alloc, host, calls, running, &mut *live_client);
+    live_client.counter = counter;
+    if running.fetch_sub(1, Ordering::SeqCst) == 1 {
+        host.close();
+    }
+}
+
+/// Makes the client's calls. Returns the counter that client 1 read, and 0 for any other client.
+fn try_call<O: Object, K: BookName<O::Alloc>, W: Wait>(
+    rt: &W,
+    alloc: O::Alloc,
+    host: &Host<O, K>,
+    calls: u8,
+    running: &AtomicU64,
+    live_client: &mut LiveClient<O::Alloc>,
+) -> Result<u64, Fault>
+    requires { HasSeats host.now live_client.old }
+{
+    let number = live_client.number;
+    let seats = replace(&mut live_client.seats, Vec::new(alloc));
+    let mut client = client_of(rt, alloc, host, seats, u32::from(number), number)?;
+    live_client.answered = add(&mut client, calls);
+    if number != 1 {
+        return Ok(0);
+    }
+    wait_for_others(rt, running);
+    read_counter(&mut client)
+}
+
+/// Makes `calls` adds, or ends at the first fault. Returns the number answered, by which the client's next number has risen.
+fn add<P: Port>(client: &mut Client<P>, calls: u8) -> u64
+    ensures most { result ≤ calls }
+    ensures answered { client.new.next ≡ client.old.next + result }
+{
+    let add = COUNTERS.operation(&Counters::add(0, 1));
+    for answered in 0..calls {
+        if client.call(add.as_slice()).is_err() {
+            return u64::from(answered);
+        }
+    }
+    u64::from(calls)
+}
+
+/// Reads the counter by a call like any other. Refuses as [`Client::call`] does.
+///
+/// Rules: Objects 7
+fn read_counter<P: Port>(client: &mut Client<P>) -> Result<u64, Fault>
+    ensures counter { IfOk result (HasRead P.asked_of client.old client.new) }
+    ensures refused { IfErr result (CallRefused P.asked_of client.old client.new read_bytes) }
+{
+    let read = COUNTERS.operation(&Counters::read(0));
+    match client.call(read.as_slice()) {
+        Ok(reply) => Ok(count_in(&reply)),
+        Err(fault) => Err(fault),
+    }
+}
+
+/// Waits until only one client runs. Each look that finds more yields, and after many looks also sleeps.
+fn wait_for_others<W: Wait>(rt: &W, running: &AtomicU64) {
+    let mut looks = 0u64;
+    for _ in rt.forever() {
+        if running.load(Ordering::SeqCst) <= 1 {
+            return;
+        }
+        thread::yield_now();
+        looks = looks.saturating_add(1);
+        if looks >= PATIENCE {
+            Parker::new().park_timeout(rt, Duration::from_micros(NAP));
+        }
+    }
+}
+
+/// Returns the count in a reply, 0 where it has none.
+fn count_in(reply: &Reply) -> u64
+    ensures { result ≡ count_in_reply reply.now }
+{
+    match ReplyParts::read(reply.as_slice()) {
+        Some(replied) => replied.value.unwrap_or(0),
+        None => 0,
+    }
+}

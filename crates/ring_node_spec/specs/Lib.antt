@@ -1,0 +1,11 @@
+pub mod EpochHistories
+pub mod Nodes
+pub mod DueSends
+pub mod Stepping
+pub mod NodeLimits
+pub mod Histories
+pub mod WorldLimits
+pub mod Orders
+pub mod Worlds
+pub mod Outs
+pub mod OutVariants

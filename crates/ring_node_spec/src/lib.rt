@@ -1,0 +1,20 @@
+//! The definitions of nodes and of worlds of nodes, of linearizability, and of the steps by which a run keeps it.
+//! A node is a ring core, the replicated log over it, and the clients' calls that wait for answers. A world is the nodes, all
+//! frames ever sent, and the history of calls and replies.
+//! Rules: The replicated log 1, 2, 7 to 10, 12 to 15, 18 and 20; Sessions 9 to 11; The book and the threads 1 to 6
+#![tactic(auto)]
+
+mod event;
+pub mod input;
+mod item;
+mod laws;
+mod noise;
+mod told;
+
+pub use event::Event;
+pub use input::Input;
+pub use item::Item;
+pub use laws::{linearization_law, order_law};
+pub use noise::Noise;
+pub use ring_core_spec::{Out, OutgoingFrame};
+pub use told::Told;

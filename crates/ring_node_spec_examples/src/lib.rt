@@ -1,0 +1,103 @@
+//! Worked runs of worlds of nodes, computed from the definitions.
+//! Rules: The replicated log 2 to 14 and 20
+//! Formats: first reply; nine calls in one visit; dropped places
+#![tactic(auto)]
+
+ghost use Rattle.std.specs.Prelude.{◌≡◌, length, [], ◌∷◌, None, Some, drop, map};
+ghost use Rattle.std.specs.declared.alloc.Global.{Global};
+ghost use Rattle.ring_session.specs.declared.answer.Answer.TheVariants.{Done};
+ghost use Rattle.ring_session.specs.declared.answered.TicketAnswer.{TicketAnswer};
+ghost use Rattle.ring_node_spec.specs.Nodes.{node_committed, node_pending, node_reply, node_snapshot, node_trimmed};
+ghost use Rattle.ring_node_spec.specs.Worlds.{committed_in, order};
+ghost use Rattle.ring_node_spec_examples.specs.Rows.{world_of, call_of_seven, done_at, kept_at, nine_answers, refused_at, one_too_many};
+ghost use Rattle.ring_node_spec_examples.specs.Rows.{late_submit, strange_events, shown, sent_one, answered_one};
+ghost use Rattle.ring_node_spec_examples.specs.Rows.{sent_again, answered_again, sent_nine, answered_nine, answered_three};
+ghost use Rattle.ring_node_spec_examples.specs.Rows.{counter, after_lots, snapshot_of_seven, two_after, joined_after, asked_after, known_there};
+
+/// States a worked example: one node alone. A call is appended to its log at a visit, and is committed and answered at the next
+/// one.
+/// Rules: The replicated log 11, 12 and 14
+/// Formats: first reply
+pub fn ring_of_one()
+    ensures sent { shown sent_one 1 ≡ (0, 1) ∷ [] }
+    ensures answered { shown answered_one 1 ≡ (1, 1) ∷ [] }
+    ensures told { answered_one.told ≡ done_at 1 1 ∷ [] }
+    ensures ordered { order answered_one ≡ call_of_seven 1 ∷ [] }
+    ensures undone { (sent_one.nodes 1).done ≡ [] }
+    ensures done { (answered_one.nodes 1).done ≡ call_of_seven 1 ∷ [] }
+    ensures waiting { node_reply (sent_one.nodes 1) 0 ≡ None }
+    ensures reply { node_reply (answered_one.nodes 1) 0 ≡ Some (Done (0 ∷ [])) }
+{}
+
+/// States a worked example: nine calls are sent at one visit, as one Pack, and all are answered at the next one.
+/// Rules: The replicated log 11, 12 and 14
+/// Formats: nine calls in one visit
+pub fn nine_calls()
+    ensures sent { shown sent_nine 1 ≡ (0, 9) ∷ [] }
+    ensures answered { shown answered_nine 1 ≡ (9, 9) ∷ [] }
+    ensures told { length answered_nine.told ≡ 9 }
+    ensures answers { map (λ (a : TicketAnswer Global). (a.ticket, a.answer)) (answered_nine.nodes 1).answers ≡ nine_answers }
+    ensures ordered { length (order answered_nine) ≡ 9 }
+{}
+
+/// States a worked example: three nodes form a ring. A call is answered where it was submitted, and is committed and done
+/// everywhere.
+/// Rules: The replicated log 12 and 14
+pub fn ring_of_three()
+    ensures shown { shown answered_three 3 ≡ (1, 1) ∷ (1, 1) ∷ (1, 1) ∷ [] }
+    ensures told { answered_three.told ≡ done_at 2 1 ∷ [] }
+    ensures done { (answered_three.nodes 3).done ≡ call_of_seven 1 ∷ [] }
+    ensures answers { (answered_three.nodes 3).answers ≡ [] }
+    ensures ordered { order answered_three ≡ call_of_seven 1 ∷ [] }
+{}
+
+/// States a worked example: a call that is submitted again after it was done belongs to a later ticket.
+/// The call is done again, and is answered by the session table as it is then.
+/// Rules: The replicated log 14; Sessions 3
+pub fn submitted_again()
+    ensures waiting { shown sent_again 1 ≡ (1, 2) ∷ [] }
+    ensures pending { length (node_pending (sent_again.nodes 1)) ≡ 1 }
+    ensures done { (answered_again.nodes 1).done ≡ call_of_seven 1 ∷ call_of_seven 1 ∷ [] }
+    ensures told { answered_again.told ≡ done_at 1 1 ∷ kept_at 1 1 ∷ [] }
+    ensures ordered { order answered_again ≡ call_of_seven 1 ∷ [] }
+{}
+
+/// States a worked example: after four batches of 64 calls, 256 places are committed, and they are dropped.
+/// A snapshot of the session table stands for them, and all lengths still count them. The calls are answered as before, and are
+/// in the order.
+/// Rules: The replicated log 20
+/// Formats: dropped places
+pub fn dropped_places()
+    ensures before { shown (after_lots 3) 1 ≡ (192, 192) ∷ [] }
+    ensures kept { node_trimmed ((after_lots 3).nodes 1) ≡ 0 }
+    ensures after { shown (after_lots 4) 1 ≡ (256, 256) ∷ [] }
+    ensures dropped { node_trimmed ((after_lots 4).nodes 1) ≡ 256 }
+    ensures undropped { node_committed ((after_lots 4).nodes 1) ≡ [] }
+    ensures snapshot { node_snapshot counter ((after_lots 4).nodes 1) ≡ snapshot_of_seven }
+    ensures waiting { node_pending ((after_lots 4).nodes 1) ≡ [] }
+    ensures told { drop 63 (after_lots 1).told ≡ done_at 1 64 ∷ [] }
+    ensures ordered { length (order (after_lots 4)) ≡ 256 }
+{}
+
+/// States a worked example: a node that was away while 256 calls were committed and dropped receives their snapshot as it joins,
+/// and restores it.
+/// The snapshot's places are then committed and dropped, though the node did none of their calls. Considered together with the
+/// others' lives, it has committed the same 256 calls. A call submitted there is done after them.
+/// Rules: The replicated log 6, 14 and 20
+pub fn restored_snapshot()
+    ensures away { shown (two_after 4).world 3 ≡ (256, 256) ∷ (256, 256) ∷ (0, 0) ∷ [] }
+    ensures known { known_there (joined_after 60) ≡ 256 ∷ 256 ∷ 256 ∷ 256 ∷ 0 ∷ [] }
+    ensures snapshot { node_snapshot counter ((joined_after 60).world.nodes 3) ≡ snapshot_of_seven }
+    ensures whole { map length (committed_in (joined_after 60).world) ≡ 256 ∷ 256 ∷ 256 ∷ [] }
+    ensures on { known_there (asked_after 30) ≡ 257 ∷ 257 ∷ 256 ∷ 256 ∷ 1 ∷ [] }
+    ensures reply { node_reply ((asked_after 30).world.nodes 3) 0 ≡ Some (Done (256 ∷ [])) }
+{}
+
+/// States worked examples: the 65th unanswered ticket is refused, and so is each submit at a stopped node.
+/// An unknown node, and a frame that wasn't sent, change nothing.
+/// Rules: The replicated log 13; The book and the threads 4
+pub fn refused_submits()
+    ensures full { one_too_many.told ≡ refused_at 1 65 2 ∷ [] }
+    ensures stopped { late_submit.told ≡ refused_at 1 1 8 ∷ [] }
+    ensures strange { strange_events ≡ world_of 1 }
+{}

@@ -1,0 +1,22 @@
+-- Bytes stored inline, followed by zeros.
+use Rattle.std.proofs.Common.{◌≡◌, ℕ, ◌-◌, ◌≤◌, List, ◌++◌, length, take, drop, replicate}
+use Rattle.std.proofs.lemmas.List.{take_at, drop-replicate}
+
+-- the bytes, followed by zeros up to n places
+abbrev pub filled : ℕ → List ℕ → List ℕ
+filled n bytes = bytes ++ replicate (n - length bytes) 0
+
+-- the first `len` of n places hold bytes, the others zeros
+pub record IsFilled (n len : ℕ) (places : List ℕ) : Type 0 where
+  pub fits : len ≤ n
+  pub exact : length (take len places) ≡ len
+  pub zeros : filled n (take len places) ≡ places
+
+-- zeros whose first places were overwritten by the bytes
+pub IsFilled-overwritten : (n : ℕ) (bytes places : List ℕ) → length bytes ≤ n → places ≡ bytes ++ drop (length bytes)
+    (replicate {A = ℕ} n 0) → IsFilled n (length bytes) places
+IsFilled-overwritten n bytes places le is =
+    let rest : drop {A = ℕ} (length bytes) (replicate {A = ℕ} n 0) ≡ replicate (n - length bytes) 0 = drop-replicate (length bytes) n 0 in
+    let front : take (length bytes) (bytes ++ replicate (n - length bytes) 0) ≡ bytes = take_at bytes
+    (replicate (n - length bytes) 0) (length bytes) (λ i. length bytes) in
+    rw (is, rest) (record { fits = le; exact = rw front (λ i. length bytes); zeros = rw front (λ i. bytes ++ replicate (n - length bytes) 0) })

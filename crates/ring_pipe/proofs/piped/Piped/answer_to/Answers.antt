@@ -1,4 +1,0 @@
-use Rattle.ring_pipe.proofs.piped.Piped.answer_to.Goals as goal
-
-pub operation_in-requires : goal.operation_in-requires
-operation_in-requires g c = c.requires c.in-Call.client c.in-Call.number c.in-Call.is

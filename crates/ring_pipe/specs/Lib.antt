@@ -1,4 +1,0 @@
-pub mod Telling
-pub mod Piping
-pub mod Serving
-pub mod Embedding

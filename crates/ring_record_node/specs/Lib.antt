@@ -1,0 +1,4 @@
+pub mod NodeOutputs
+pub mod RecordNodes
+pub mod Serving
+pub mod BufferedNodeView

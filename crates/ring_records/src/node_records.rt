@@ -1,0 +1,208 @@
+//! Writing the records of a node's outputs other than frames.
+//! Rules: Nodes that records drive 3 and 4
+//! Formats: Records
+
+ghost use Rattle.std.specs.Prelude.{◌≡◌, ◌++◌, OnOk};
+ghost use Rattle.std.specs.Io.KnownBytes.{Appends};
+ghost use Rattle.ring_records.specs.NodeRecords.{answer_record, answers_text, committed_record, all_committed_text, ticket_record, refusal_record};
+ghost use Rattle.ring_records.specs.NodeRecords.{restored_text, state_number, status_bytes, status_record, members_record, end_record};
+
+use crate::kinds;
+use crate::membership::Membership;
+use crate::timed_end::TimedEnd;
+use crate::token_outcome::TokenOutcome;
+use crate::writing::write_record;
+use byteorder::{BigEndian, ByteOrder};
+use ring_base::{Fault, RingId, State};
+use ring_payload::Call;
+use ring_session::{Answer, Ticket, TicketAnswer};
+use std::alloc::Allocator;
+use std::io::{self, Write};
+
+/// Writes a record `D`, `K` or `R` for each answer, in order: the ticket in 8 bytes, then the reply, or the number of
+/// the refusal.
+///
+/// Errors: the writer's; its content is then unspecified.
+/// Rules: Nodes that records drive 3
+/// Formats: Records
+pub fn write_answers<A: Allocator + Copy + Drop, W: Write>(
+    answers: &[TicketAnswer<A>],
+    out: &mut W,
+) -> io::Result<()>
+    ensures { OnOk result (Appends (W.contents out.old) (W.contents out.new) (answers_text answers.now)) }
+{
+    for answered in answers {
+        write_answer(answered.ticket, &answered.answer, out)?;
+    }
+    Ok(())
+}
+
+/// Writes the record of one answer.
+fn write_answer<W: Write>(ticket: Ticket, answer: &Answer, out: &mut W) -> io::Result<()>
+    ensures { OnOk result (Appends (W.contents out.old) (W.contents out.new) (answer_record ticket answer.now)) }
+{
+    let mut word = [0; 8];
+    BigEndian::write_u64(&mut word, ticket.number());
+    match answer {
+        Answer::Done(reply) => write_record(out, kinds::DONE, &word, reply.as_slice()),
+        Answer::Kept(reply) => write_record(out, kinds::KEPT, &word, reply.as_slice()),
+        Answer::Refused(number) => write_record(out, kinds::NO_EFFECT, &word, &[*number]),
+    }
+}
+
+/// Writes a record `C` for each newly committed call, in order: the client in 4 bytes, the number in 8, and the
+/// operation.
+///
+/// Errors: the writer's; its content is then unspecified. An operation of more than 65,523 bytes is an error too.
+/// Rules: Nodes that records drive 3
+/// Formats: Records
+pub fn write_all_committed<A: Allocator + Copy + Drop, W: Write>(
+    calls: &[Call<A>],
+    out: &mut W,
+) -> io::Result<()>
+    ensures { OnOk result (Appends (W.contents out.old) (W.contents out.new) (all_committed_text calls.now)) }
+{
+    for call in calls {
+        write_committed(call, out)?;
+    }
+    Ok(())
+}
+
+/// Writes the record of one newly committed call.
+fn write_committed<A: Allocator + Copy + Drop, W: Write>(
+    call: &Call<A>,
+    out: &mut W,
+) -> io::Result<()>
+    ensures { OnOk result (Appends (W.contents out.old) (W.contents out.new) (committed_record call.now)) }
+{
+    let mut words = [0; 12];
+    BigEndian::write_u32(&mut words[..4], call.client);
+    BigEndian::write_u64(&mut words[4..], call.number);
+    write_record(out, kinds::CALL, &words, call.op.as_slice())
+}
+
+/// Writes a record `G` with the number, in 8 bytes, of first places of the log that a restored snapshot replaces.
+/// Writes nothing for `None`, which means that the step restored nothing.
+///
+/// Errors: the writer's; its content is then unspecified.
+/// Rules: Nodes that records drive 3
+/// Formats: Records
+pub fn write_restored<W: Write>(restored: Option<u64>, out: &mut W) -> io::Result<()>
+    ensures { OnOk result (Appends (W.contents out.old) (W.contents out.new) (restored_text restored)) }
+{
+    let Some(places) = restored else {
+        return Ok(());
+    };
+    let mut word = [0; 8];
+    BigEndian::write_u64(&mut word, places);
+    write_record(out, kinds::RESTORED, &word, &[])
+}
+
+/// Writes a record `T` with the ticket of a submitted call, in 8 bytes.
+///
+/// Errors: the writer's; its content is then unspecified.
+/// Rules: Nodes that records drive 3
+/// Formats: Records
+pub fn write_ticket<W: Write>(ticket: Ticket, out: &mut W) -> io::Result<()>
+    ensures { OnOk result (Appends (W.contents out.old) (W.contents out.new) (ticket_record ticket)) }
+{
+    let mut word = [0; 8];
+    BigEndian::write_u64(&mut word, ticket.number());
+    write_record(out, kinds::TICKET, &word, &[])
+}
+
+/// Writes a record `X` with the number, in one byte, of the fault with which an input was refused.
+///
+/// Errors: the writer's; its content is then unspecified.
+/// Rules: Nodes that records drive 4
+/// Formats: Records
+pub fn write_refusal<W: Write>(fault: Fault, out: &mut W) -> io::Result<()>
+    ensures { OnOk result (Appends (W.contents out.old) (W.contents out.new) (refusal_record fault)) }
+{
+    write_record(out, kinds::REFUSED, &[fault.number()], &[])
+}
+
+/// Writes a record `Q` with the status of a node: its state, its last installed ring, and the committed length, the
+/// length and the trimmed length of its log. The three lengths count places from the beginning of the log, dropped
+/// places included. The members of the ring come last; `None` leaves them out.
+///
+/// Errors: the writer's; its content is then unspecified.
+/// Rules: Nodes that records drive 3 and 7
+/// Formats: Records
+pub fn write_status_record<W: Write>(
+    state: State,
+    ring: RingId,
+    committed: u64,
+    log: u64,
+    trimmed: u64,
+    members: Option<Membership>,
+    out: &mut W,
+) -> io::Result<()>
+    ensures { OnOk result (Appends (W.contents out.old) (W.contents out.new) (status_record state ring committed log trimmed members)) }
+{
+    let bytes = bytes_of_status(state, ring, committed, log, trimmed);
+    match members {
+        Some(members) => write_record(out, kinds::STATUS, &bytes, &members.bytes()),
+        None => write_record(out, kinds::STATUS, &bytes, &[]),
+    }
+}
+
+/// Encodes the status of a node.
+fn bytes_of_status(state: State, ring: RingId, committed: u64, log: u64, trimmed: u64) -> [u8; 34]
+    ensures { result ≡ status_bytes state ring committed log trimmed }
+{
+    let mut bytes = [0; 34];
+    bytes[0] = number_of(state);
+    BigEndian::write_u64(&mut bytes[1..9], ring.seq);
+    bytes[9] = ring.rep.number();
+    BigEndian::write_u64(&mut bytes[10..18], committed);
+    BigEndian::write_u64(&mut bytes[18..26], log);
+    BigEndian::write_u64(&mut bytes[26..34], trimmed);
+    bytes
+}
+
+/// Writes a record `M` with an installed ring and its members.
+///
+/// Errors: the writer's; its content is then unspecified.
+/// Rules: Nodes that records drive 7
+/// Formats: Records
+pub fn write_members<W: Write>(ring: RingId, members: Membership, out: &mut W) -> io::Result<()>
+    ensures { OnOk result (Appends (W.contents out.old) (W.contents out.new) (members_record ring members)) }
+{
+    let mut bytes = [ring.rep.number(); 9];
+    BigEndian::write_u64(&mut bytes[..8], ring.seq);
+    write_record(out, kinds::MEMBERS, &bytes, &members.bytes())
+}
+
+/// Writes a record `E`, which ends the records that an input gives: the node's state after the input, and the outcome
+/// of a token, in one byte each. What a node with a clock adds comes last; `None` leaves it out.
+///
+/// Errors: the writer's; its content is then unspecified.
+/// Rules: Nodes that records drive 3 and 7
+/// Formats: Records
+pub fn write_end<W: Write>(
+    state: State,
+    token: TokenOutcome,
+    timed: Option<TimedEnd>,
+    out: &mut W,
+) -> io::Result<()>
+    ensures { OnOk result (Appends (W.contents out.old) (W.contents out.new) (end_record state token timed)) }
+{
+    let bytes = [number_of(state), token.number()];
+    match timed {
+        Some(timed) => write_record(out, kinds::END, &bytes, &timed.bytes()),
+        None => write_record(out, kinds::END, &bytes, &[]),
+    }
+}
+
+fn number_of(state: State) -> u8
+    ensures { result ≡ state_number state }
+{
+    match state {
+        State::Gather => 0,
+        State::Commit => 1,
+        State::Recovery => 2,
+        State::Operational => 3,
+        State::Stopped => 4,
+    }
+}

@@ -1,0 +1,47 @@
+//! The outcome of an input for the clock that is kept outside the node.
+//! Rules: Nodes that records drive 3
+//! Formats: Records
+
+ghost use Rattle.std.specs.Prelude.{◌≡◌};
+ghost use Rattle.ring_records.specs.NodeRecords.{token_outcome_number, token_outcome_of};
+
+/// The outcome of an input for a clock outside the node: whether it was a token or a commit token, and whether the node
+/// took it. The clock must know: a token that is taken restarts the retransmit, consensus and loss timeouts.
+/// Rules: Nodes that records drive 3
+/// Formats: Records
+#[derive(Clone, Copy, Debug, PartialEq, Eq)]
+pub enum TokenOutcome {
+    /// The input was neither a token nor a commit token, or it could not be read for want of memory.
+    NoToken,
+    /// The input was a token or a commit token that the node took.
+    Taken,
+    /// The input was a token or a commit token that the node ignored.
+    Ignored,
+}
+
+impl TokenOutcome {
+    /// Returns the outcome of an input, from whether it was a token or a commit token and whether the node took it.
+    /// `is_taken` doesn't matter where `is_token` is false.
+    /// Rules: Nodes that records drive 3
+    pub fn new(is_token: bool, is_taken: bool) -> TokenOutcome
+        ensures { result ≡ token_outcome_of is_token is_taken }
+    {
+        match (is_token, is_taken) {
+            (false, _) => TokenOutcome::NoToken,
+            (true, true) => TokenOutcome::Taken,
+            (true, false) => TokenOutcome::Ignored,
+        }
+    }
+
+    /// Returns the byte that encodes the outcome in a record: 0 `NoToken`, 1 `Taken`, 2 `Ignored`.
+    /// Formats: Records
+    pub(crate) fn number(self) -> u8
+        ensures { result ≡ token_outcome_number self }
+    {
+        match self {
+            TokenOutcome::NoToken => 0,
+            TokenOutcome::Taken => 1,
+            TokenOutcome::Ignored => 2,
+        }
+    }
+}

@@ -1,0 +1,3 @@
+pub mod Replications
+pub mod InputVariants
+pub mod NodeSpec

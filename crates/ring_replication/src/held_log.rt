@@ -1,0 +1,193 @@
+//! The log as a node stores it, with its snapshot and with the log from before a restore.
+//! Rules: The replicated log 1, 2, 6, 11, 12 and 20
+
+ghost use Rattle.std.specs.Prelude.{◌≡◌, ◌+◌, ◌∷◌, [], true, is_some, option_map, unwrap_or, length, Some, None, if◌then◌else◌, IfOk, IfErr, OnOk, OnErr};
+ghost use Rattle.ring_base.specs.Prefixes.{IsListPrefix};
+ghost use Rattle.ring_base.specs.declared.fault.Fault.TheVariants.{Memory};
+ghost use Rattle.ring_log.specs.Logs.{appended, committed_upto, committed_log, committed_calls, log_length, is_log_length, is_adoptable};
+ghost use Rattle.ring_replication.specs.Replications.{held_log_opening, reported_log, held_log_adopted, held_log_trimmed};
+
+use ring_base::{Fault, RingId};
+use ring_log::{Adoption, Base, Log, Snapshot};
+use ring_payload::Call;
+use std::alloc::{AllocError, Allocator, Global};
+use std::marker::Model;
+
+/// A node's log as the node stores it, with the snapshot of its dropped places. Contracts see three things.
+/// They are the log; the log as it was at the end of the last step, if the present step has restored a snapshot; and the bytes of
+/// the snapshot of the dropped places. The node sends these bytes if they are wanted.
+/// Rules: The replicated log 1, 6 and 20
+#[derive(Drop)]
+pub struct HeldLog<A: Allocator + Copy = Global> {
+    log: Log<A>,
+    before: Option<Log<A>>,
+    snapshot: Snapshot<A>,
+}
+
+impl<A: Allocator + Copy> Model for HeldLog<A> {
+    ghost use Rattle.ring_replication.specs.Replications.{HeldLog as HeldLogValue};
+
+    ghost Value = { HeldLogValue A };
+
+    ghost view = { λ h. record { log = h.log; before = h.before; snapshot = h.snapshot } };
+}
+
+impl<A: Allocator + Copy> Clone for HeldLog<A> {
+    ghost is_clone = { λ held_log copy. copy ≡ held_log };
+
+    fn clone(&self) -> Result<HeldLog<A>, AllocError> {
+        Ok(HeldLog {
+            snapshot: self.snapshot.clone()?,
+            log: self.log.clone()?,
+            before: self.before.clone()?,
+        })
+    }
+}
+
+impl<A: Allocator + Copy + Drop> HeldLog<A> {
+    /// Creates the stored log of the opening: an empty log and no snapshot.
+    pub(crate) fn new(alloc: A) -> HeldLog<A>
+        ensures { result ≡ held_log_opening }
+    {
+        HeldLog {
+            log: Log::new(alloc),
+            before: None,
+            snapshot: Snapshot::from_vec(Vec::new(alloc)),
+        }
+    }
+
+    /// Returns the log as the present step has left it so far.
+    /// Rules: The replicated log 1
+    pub fn log(&self) -> &Log<A>
+        ensures { result.now ≡ self.now.log }
+    {
+        &self.log
+    }
+
+    /// Returns the log as it was at the end of the last step, if the present step has restored a snapshot; else `None`.
+    /// Rules: The replicated log 6
+    pub fn before(&self) -> Option<&Log<A>>
+        ensures { option_map (λ log. log.now) result ≡ self.now.before }
+    {
+        self.before.as_ref()
+    }
+
+    /// Returns whether the present step has restored a snapshot. Between steps it is false.
+    /// Rules: The replicated log 6
+    pub fn is_restored(&self) -> bool
+        ensures { result ≡ is_some self.now.before }
+    {
+        self.before.is_some()
+    }
+
+    /// Returns the number of places of the snapshot that the present step has restored; `None` if it has restored none.
+    /// Rules: The replicated log 6 and 18
+    pub fn restored_places(&self) -> Option<u64>
+        ensures { result ≡ (if is_some self.now.before then Some self.now.log.trimmed else None) }
+    {
+        if self.before.is_some() {
+            Some(self.log.trimmed())
+        } else {
+            None
+        }
+    }
+
+    /// Returns the bytes of the snapshot of the dropped places; no bytes while none have been dropped.
+    /// Rules: The replicated log 2 and 20
+    pub fn snapshot(&self) -> &[u8]
+        ensures { result.now ≡ self.now.snapshot }
+    {
+        self.snapshot.as_slice()
+    }
+
+    /// Adopts a ring's base and returns true, if it may be adopted. Otherwise returns false and changes nothing.
+    /// If the base restores the log, its snapshot is kept in place of the one before.
+    /// Errors: `Memory` where an allocation fails; nothing has changed then.
+    /// Rules: The replicated log 6 and 8
+    pub(crate) fn adopt(&mut self, ring: RingId, base: Base<A>) -> Result<bool, Fault>
+        ensures fits { IfOk result (λ fits. fits ≡ is_adoptable self.old.log base) }
+        ensures held { OnOk result (is_adoptable self.old.log base ≡ true → self.new ≡ held_log_adopted self.old ring base) }
+        ensures front { IsListPrefix (committed_calls (reported_log self.old)) (committed_calls (reported_log self.new)) }
+        ensures refused { IfErr result (λ fault. fault ≡ Memory) }
+    {
+        match self.log.adopt(ring, base)? {
+            Adoption::Refused => Ok(false),
+            Adoption::Joined => Ok(true),
+            Adoption::Restored(snapshot, before) => {
+                self.restored(snapshot, before);
+                Ok(true)
+            }
+        }
+    }
+
+    /// Records that a snapshot was restored, and the log as it was before.
+    fn restored(&mut self, snapshot: Snapshot<A>, before: Log<A>)
+        ensures log { self.new.log ≡ self.old.log }
+        ensures before { self.new.before ≡ Some (unwrap_or self.old.before before) }
+        ensures snapshot { self.new.snapshot ≡ snapshot }
+    {
+        self.snapshot = snapshot;
+        if self.before.is_none() {
+            self.before = Some(before);
+        }
+    }
+
+    /// Appends a call and returns true. If the log would then have more than 2^62 places, returns false and changes nothing.
+    /// Errors: `Memory` where an allocation fails; nothing has changed then.
+    /// Rules: The replicated log 9 and 11
+    pub(crate) fn append(&mut self, call: Call<A>) -> Result<bool, Fault>
+        ensures fits { IfOk result (λ fits. fits ≡ is_log_length (log_length self.old.log + 1)) }
+        ensures held { OnOk result (is_log_length (log_length self.old.log + 1) ≡ true
+            → self.new ≡ record self.old { log = appended self.old.log (call ∷ []) }) }
+        ensures front { IsListPrefix (committed_calls (reported_log self.old)) (committed_calls (reported_log self.new)) }
+        ensures refused { IfErr result (λ fault. fault ≡ Memory) }
+    {
+        self.log.append(call)
+    }
+
+    /// Appends calls, in their order, and returns true. If the log would then have more than 2^62 places, returns false and
+    /// changes nothing.
+    /// Errors: `Memory` where an allocation fails; nothing has changed then.
+    /// Rules: The replicated log 9 and 11
+    pub(crate) fn append_all(&mut self, calls: &[Call<A>]) -> Result<bool, Fault>
+        ensures fits { IfOk result (λ fits. fits ≡ is_log_length (log_length self.old.log + length calls.now)) }
+        ensures held { OnOk result (is_log_length (log_length self.old.log + length calls.now) ≡ true
+            → self.new ≡ record self.old { log = appended self.old.log calls.now }) }
+        ensures front { IsListPrefix (committed_calls (reported_log self.old)) (committed_calls (reported_log self.new)) }
+        ensures refused { IfErr result (λ fault. fault ≡ Memory) }
+    {
+        self.log.append_all(calls)
+    }
+
+    /// Raises the log's committed length to `n`, or to its length if that is less. It never falls: a smaller `n` changes nothing.
+    /// Rules: The replicated log 12
+    pub(crate) fn commit_upto(&mut self, n: u64)
+        ensures held { self.new ≡ record self.old { log = committed_upto self.old.log n } }
+        ensures front { IsListPrefix (committed_calls (reported_log self.old)) (committed_calls (reported_log self.new)) }
+    {
+        self.log.commit_upto(n);
+    }
+
+    /// Drops the committed places, keeps this snapshot of them, and returns the log of these places alone.
+    /// Errors: `Memory` where an allocation fails; nothing has changed then.
+    /// Rules: The replicated log 20
+    pub(crate) fn trim(&mut self, snapshot: Snapshot<A>) -> Result<Log<A>, Fault>
+        ensures dropped { IfOk result (λ log. log ≡ committed_log self.old.log) }
+        ensures ok { OnOk result (self.new ≡ held_log_trimmed self.old (Some snapshot)) }
+        ensures err { OnErr result (self.new ≡ self.old) }
+        ensures refused { IfErr result (λ fault. fault ≡ Memory) }
+    {
+        let dropped = self.log.trim()?;
+        self.snapshot = snapshot;
+        Ok(dropped)
+    }
+
+    /// Ends a step: drops the log from before a restore. It takes no memory.
+    pub(crate) fn end_step(&mut self)
+        ensures { self.new ≡ record self.old { before = None } }
+    {
+        if self.before.is_some() {
+            self.before = None;
+        }
+    }
+}

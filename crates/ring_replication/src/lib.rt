@@ -1,0 +1,19 @@
+//! How a node's log follows the outputs of its core.
+//! An output is a message of the newest ring, which advances the exchange and the log; a safe mark, which commits; or a new ring.
+//! The owner of a `Replication` applies the committed calls to its sessions, and hands the due payloads to the core.
+//! Rules: The replicated log 1 to 12 and 20
+#![tactic(auto)]
+
+mod delivery_context;
+mod due_sends;
+mod held_log;
+mod history;
+mod reach;
+mod receiving;
+mod replication;
+mod stage;
+
+pub use held_log::HeldLog;
+pub use history::EpochHistory;
+pub use replication::Replication;
+pub use ring_node_spec::Input;

@@ -1,0 +1,452 @@
+//! A node's log, driven by the outputs of its core.
+//! `hear` and `install_ring` are functions of their own to keep their large stack slots out of their caller.
+//! Rules: The replicated log 1, 2, 7 to 12 and 20
+
+ghost use Rattle.std.specs.Prelude.{◌≡◌, ◌++◌, ◌&&◌, [], ◌∷◌, true, length, is_some, option_map, None, IfOk, IfErr, OnOk, OnErr};
+ghost use Rattle.ring_base.specs.Prefixes.{IsListPrefix};
+ghost use Rattle.ring_base.specs.declared.fault.Fault.TheVariants.{Memory};
+ghost use Rattle.ring_log.specs.Logs.{committed_calls, committed_upto, committed_log, is_due_to_trim};
+ghost use Rattle.ring_log.specs.Epochs.{epochs_with_message, epochs_with_mark, epochs_with_sends, epoch_opening};
+ghost use Rattle.ring_log.specs.KnownLog.{is_known_log_sound, known_log_of, retained_log};
+ghost use Rattle.ring_replication.specs.Replications.{replication_opening, replication_trimmed, StepContext as OneStepContext, due_sends_on_message, due_sends_at, due_sends_by};
+ghost use Rattle.ring_replication.specs.Replications.{is_running, is_risen, rises_at, rises, handed_if, covered_places, left, reported_log, IsRestoredSnapshotHeld, IsHeldLogContinued, HasSoundEpochs};
+ghost use Rattle.ring_node_spec.specs.Nodes.{is_closed};
+ghost use Rattle.ring_node_spec.specs.DueSends.{due_at_regular};
+ghost use Rattle.ring_node_spec.specs.EpochHistories.{epochs_after_event, epochs_after};
+
+use crate::delivery_context::DeliveryContext;
+use crate::held_log::HeldLog;
+use crate::history::{
+    EpochHistory, dropped, epochs_opening, heard, history_with_call, history_with_epoch,
+    history_with_mark, history_with_sends,
+};
+use crate::reach::{LogWatermark, copy_watermarks, pop_covered};
+use crate::receiving::{hear, watermark_at};
+use crate::stage::{ExchangeStage, opening_stage};
+use ring_base::{Fault, Fixed, Ghost, Proc, ProcSet, RingId};
+use ring_log::{Log, Snapshot};
+use ring_node_spec::Out;
+use ring_payload::{Call, Payload};
+use ring_session::Pending;
+use ring_wire::Message;
+use std::alloc::{AllocError, Allocator, Global};
+use std::collections::VecDeque;
+use std::marker::Model;
+
+/// A node's replicated log, as it follows the outputs of the core.
+/// It has the stored log, the stage of the newest ring's exchange, that ring's safe mark, and the log's length after each message
+/// that isn't safe yet. Contracts see the life that made it, the stored log, and whether it is consistent.
+/// It is inconsistent after a base that lacks committed places, and after a log that is too long. Then, and after `Memory`, only
+/// the places committed before the step are specified.
+/// Rules: The replicated log 1, 8, 9 and 12
+#[derive(Drop)]
+pub struct Replication<A: Allocator + Copy + Drop = Global> {
+    alloc: A,
+    fixed: Fixed,
+    me: Proc,
+    held: HeldLog<A>,
+    ring: RingId,
+    stage: ExchangeStage<A>,
+    mark: u64,
+    watermarks: VecDeque<LogWatermark, A>,
+    consistent: bool,
+    epochs: Ghost<EpochHistory<A>>,
+}
+
+impl<A: Allocator + Copy + Drop> Model for Replication<A> {
+    ghost use Rattle.ring_replication.specs.Replications.{Replication as ReplicationValue, IsReplicationConsistent};
+
+    ghost Value = { ReplicationValue A };
+
+    ghost view = { λ c. record { group = c.fixed; me = c.me; epochs = c.epochs.value; held = c.held; consistent = c.consistent } };
+
+    ghost invariant = { λ c. IsReplicationConsistent c.fixed c.epochs.value c.consistent c.held c.ring c.stage c.mark c.watermarks.items };
+}
+
+impl<A: Allocator + Copy + Drop> Clone for Replication<A> {
+    ghost is_clone = { λ replication copy. copy ≡ replication };
+
+    fn clone(&self) -> Result<Replication<A>, AllocError> {
+        Ok(Replication {
+            alloc: self.alloc,
+            fixed: self.fixed,
+            me: self.me,
+            ring: self.ring,
+            mark: self.mark,
+            consistent: self.consistent,
+            epochs: self.epochs.clone()?,
+            watermarks: copy_watermarks(&self.watermarks)?,
+            stage: self.stage.clone()?,
+            held: self.held.clone()?,
+        })
+    }
+}
+
+impl<A: Allocator + Copy + Drop> Replication<A> {
+    /// Creates the replication of processor `me` at the opening: an empty log, and no exchange. It takes no memory.
+    /// Rules: The replicated log 1
+    pub fn new(alloc: A, fixed: Fixed, me: Proc) -> Replication<A>
+        ensures { result ≡ replication_opening fixed me }
+    {
+        Replication {
+            alloc,
+            fixed,
+            me,
+            held: HeldLog::new(alloc),
+            ring: RingId { seq: 0, rep: me },
+            stage: opening_stage(alloc, fixed, ProcSet::only(me)),
+            mark: 0,
+            watermarks: VecDeque::new(alloc),
+            consistent: true,
+            epochs: epochs_opening(me),
+        }
+    }
+
+    /// Returns whether the log is valid: false once a base that may not be adopted has come, or the log would have been too long.
+    /// After `Memory` it is unspecified.
+    /// Rules: The replicated log 8 and 9
+    pub fn is_consistent(&self) -> bool
+        ensures value { result ≡ self.now.consistent }
+        ensures sound { self.now.consistent ≡ true → is_known_log_sound self.now.group self.now.epochs ≡ true }
+        ensures steady { self.now.consistent ≡ true → HasSoundEpochs self.now.group self.now.epochs }
+        ensures log { self.now.consistent ≡ true → self.now.held.log ≡ retained_log (known_log_of self.now.group self.now.epochs) }
+    {
+        self.consistent
+    }
+
+    /// Returns the stored log, with the snapshot of its dropped places.
+    /// Rules: The replicated log 1
+    pub fn held(&self) -> &HeldLog<A>
+        ensures held { result.now ≡ self.now.held }
+        ensures log { self.now.consistent ≡ true → self.now.held.log ≡ retained_log (known_log_of self.now.group self.now.epochs) }
+        ensures restored { self.now.consistent ≡ true → IsRestoredSnapshotHeld (known_log_of self.now.group self.now.epochs) self.now.held.snapshot }
+        ensures steady { self.now.consistent ≡ true → HasSoundEpochs self.now.group self.now.epochs }
+        ensures sound { self.now.consistent ≡ true → is_known_log_sound self.now.group self.now.epochs ≡ true }
+    {
+        &self.held
+    }
+
+    /// Returns whether no exchange is open: the newest ring's is complete, or that ring isn't primary. Only then may places be
+    /// dropped.
+    /// Rules: The replicated log 4 and 20
+    pub fn is_closed(&self) -> bool
+        ensures { self.now.consistent ≡ true → result ≡ is_closed self.now.group self.now.epochs }
+    {
+        match &self.stage {
+            ExchangeStage::NotPrimary | ExchangeStage::Adopted => true,
+            ExchangeStage::Exchanging(_) => false,
+        }
+    }
+
+    /// Returns the node's epochs, one for each ring that it installed, the newest first. A ghost value: only contracts can
+    /// use it.
+    /// Rules: Outputs 9
+    pub fn epochs(&self) -> &Ghost<EpochHistory<A>>
+        ensures { result.now.value ≡ self.now.epochs }
+    {
+        &self.epochs
+    }
+
+    /// Applies the outputs of a core's step, in their order, and appends to `due` the payloads to be handed to the core.
+    /// `running` is the ring in which the core is Operational after the step, `committed` the number of places committed before
+    /// it. The log is consistent at the call. If an output makes the log invalid, `is_consistent` is false afterwards, and the
+    /// rest is ignored.
+    /// Errors: `Memory` where an allocation fails; then only the places committed before the step are specified, unchanged.
+    /// Rules: The replicated log 1, 2, 7 and 10 to 12
+    pub fn apply_outputs(
+        &mut self,
+        running: &Option<RingId>,
+        pending: &[Pending<A>],
+        committed: u64,
+        outs: &[Out<A>],
+        due: &mut Vec<Payload<A>, A>,
+    ) -> Result<(), Fault>
+        requires consistent { self.old.consistent ≡ true }
+        requires sound { is_known_log_sound self.old.group self.old.epochs ≡ true }
+        requires log { self.old.held.log ≡ retained_log (known_log_of self.old.group self.old.epochs) }
+        requires rises { rises self.old.epochs outs.now ≡ true }
+        ensures sound { OnOk result (self.new.consistent ≡ is_known_log_sound self.old.group (epochs_after self.old.epochs outs.now)) }
+        ensures epochs { OnOk result (self.new.consistent ≡ true → self.new.epochs ≡ epochs_after self.old.epochs outs.now) }
+        ensures due { let moment : OneStepContext A = record {
+          group = self.old.group;
+          me = self.old.me;
+          running = running.now;
+          pending = pending.now;
+          committed = committed;
+          trimmed = self.old.held.log.trimmed;
+          snapshot = self.old.held.snapshot;
+        } in
+            OnOk result (self.new.consistent ≡ true → due.new.items ≡ due.old.items ++ due_sends_by moment self.old.epochs outs.now) }
+        ensures onward { OnOk result (self.new.consistent ≡ true
+            → IsHeldLogContinued self.old.held self.new.held (known_log_of self.old.group self.old.epochs) (known_log_of self.new.group self.new.epochs)) }
+        ensures front { IsListPrefix (committed_calls (reported_log self.old.held)) (committed_calls (reported_log self.new.held)) }
+        ensures group { self.new.group ≡ self.old.group }
+        ensures me { self.new.me ≡ self.old.me }
+        ensures refused { IfErr result (λ fault. fault ≡ Memory) }
+    {
+        for out in outs {
+            self.go(running, pending, committed, out, due)?;
+        }
+        Ok(())
+    }
+
+    /// Applies one output, unless the replication is inconsistent already.
+    fn go(
+        &mut self,
+        running: &Option<RingId>,
+        pending: &[Pending<A>],
+        committed: u64,
+        out: &Out<A>,
+        due: &mut Vec<Payload<A>, A>,
+    ) -> Result<(), Fault>
+        requires rises { self.old.consistent ≡ true → rises_at self.old.epochs out.now ≡ true }
+        ensures sound { OnOk result (self.new.consistent ≡ self.old.consistent && is_known_log_sound self.old.group (epochs_after_event self.old.epochs out.now)) }
+        ensures epochs { OnOk result (self.new.consistent ≡ true → self.new.epochs ≡ epochs_after_event self.old.epochs out.now) }
+        ensures due { let moment : OneStepContext A = record {
+          group = self.old.group;
+          me = self.old.me;
+          running = running.now;
+          pending = pending.now;
+          committed = committed;
+          trimmed = self.old.held.log.trimmed;
+          snapshot = self.old.held.snapshot;
+        } in
+            OnOk result (self.new.consistent ≡ true → due.new.items ≡ due.old.items ++ due_sends_at moment self.old.epochs out.now) }
+        ensures onward { OnOk result (self.new.consistent ≡ true
+            → IsHeldLogContinued self.old.held self.new.held (known_log_of self.old.group self.old.epochs) (known_log_of self.new.group self.new.epochs)) }
+        ensures front { IsListPrefix (committed_calls (reported_log self.old.held)) (committed_calls (reported_log self.new.held)) }
+        ensures group { self.new.group ≡ self.old.group }
+        ensures me { self.new.me ≡ self.old.me }
+        ensures refused { IfErr result (λ fault. fault ≡ Memory) }
+    {
+        if self.is_consistent() {
+            self.take(running, pending, committed, out, due)
+        } else {
+            Ok(())
+        }
+    }
+
+    /// Applies one output.
+    #[tactic(auto, using(crate::proofs::ReplicationSteps::goes_none))]
+    fn take(
+        &mut self,
+        running: &Option<RingId>,
+        pending: &[Pending<A>],
+        committed: u64,
+        out: &Out<A>,
+        due: &mut Vec<Payload<A>, A>,
+    ) -> Result<(), Fault>
+        requires consistent { self.old.consistent ≡ true }
+        requires sound { is_known_log_sound self.old.group self.old.epochs ≡ true }
+        requires log { self.old.held.log ≡ retained_log (known_log_of self.old.group self.old.epochs) }
+        requires rises { rises_at self.old.epochs out.now ≡ true }
+        ensures sound { OnOk result (self.new.consistent ≡ is_known_log_sound self.old.group (epochs_after_event self.old.epochs out.now)) }
+        ensures epochs { OnOk result (self.new.epochs ≡ epochs_after_event self.old.epochs out.now) }
+        ensures due { let moment : OneStepContext A = record {
+          group = self.old.group;
+          me = self.old.me;
+          running = running.now;
+          pending = pending.now;
+          committed = committed;
+          trimmed = self.old.held.log.trimmed;
+          snapshot = self.old.held.snapshot;
+        } in
+            OnOk result (self.new.consistent ≡ true → due.new.items ≡ due.old.items ++ due_sends_at moment self.old.epochs out.now) }
+        ensures onward { OnOk result (self.new.consistent ≡ true
+            → IsHeldLogContinued self.old.held self.new.held (known_log_of self.old.group self.old.epochs) (known_log_of self.new.group self.new.epochs)) }
+        ensures front { IsListPrefix (committed_calls (reported_log self.old.held)) (committed_calls (reported_log self.new.held)) }
+        ensures group { self.new.group ≡ self.old.group }
+        ensures me { self.new.me ≡ self.old.me }
+        ensures refused { IfErr result (λ fault. fault ≡ Memory) }
+    {
+        match out {
+            Out::Agreed(ring, _, message) => {
+                let runs = is_running(running, ring);
+                self.hear(runs, pending, committed, message, due)
+            }
+            Out::Safe(_, upto) => {
+                self.mark(*upto);
+                Ok(())
+            }
+            Out::Regular(ring, members) => self.install_ring(*ring, *members, due),
+            Out::Trans(_, _, _) => Ok(()),
+            Out::Rest(_, _, _) => Ok(()),
+            // A frame changes nothing of the log. A node's frames are in a list of their own, so none occurs among these outputs.
+            Out::Send(_, _) => Ok(()),
+        }
+    }
+
+    /// Applies a message of the newest ring.
+    #[inline(never)]
+    fn hear(
+        &mut self,
+        runs: bool,
+        pending: &[Pending<A>],
+        committed: u64,
+        message: &Message<A>,
+        due: &mut Vec<Payload<A>, A>,
+    ) -> Result<(), Fault>
+        requires consistent { self.old.consistent ≡ true }
+        ensures sound { OnOk result (self.new.consistent ≡ is_known_log_sound self.old.group (epochs_with_message message.now self.old.epochs)) }
+        ensures epochs { OnOk result (self.new.epochs ≡ epochs_with_message message.now self.old.epochs) }
+        ensures due { let moment : OneStepContext A = record {
+          group = self.old.group;
+          me = self.old.me;
+          running = None;
+          pending = pending.now;
+          committed = committed;
+          trimmed = self.old.held.log.trimmed;
+          snapshot = self.old.held.snapshot;
+        } in
+            OnOk result (self.new.consistent ≡ true → due.new.items ≡ due.old.items ++ due_sends_on_message moment runs self.old.epochs message.now (epochs_with_message message.now self.old.epochs)) }
+        ensures onward { OnOk result (self.new.consistent ≡ true
+            → IsHeldLogContinued self.old.held self.new.held (known_log_of self.old.group self.old.epochs) (known_log_of self.new.group self.new.epochs)) }
+        ensures front { IsListPrefix (committed_calls (reported_log self.old.held)) (committed_calls (reported_log self.new.held)) }
+        ensures group { self.new.group ≡ self.old.group }
+        ensures me { self.new.me ≡ self.old.me }
+        ensures refused { IfErr result (λ fault. fault ≡ Memory) }
+    {
+        self.consistent = false;
+        let number = message.number;
+        let delivery_context = DeliveryContext {
+            ring: self.ring,
+            runs,
+            me: self.me,
+            committed,
+        };
+        let fits = hear(
+            self.alloc,
+            &delivery_context,
+            pending,
+            &mut self.stage,
+            message,
+            &mut self.held,
+            due,
+        )?;
+        let places = watermark_at(&self.stage, self.held.log());
+        self.watermarks.push_back(LogWatermark { number, places })?;
+        commit_covered(&mut self.watermarks, self.mark, &mut self.held);
+        self.epochs = heard(&self.epochs, message);
+        self.consistent = fits;
+        Ok(())
+    }
+
+    /// Raises the safe mark to `upto`.
+    fn mark(&mut self, upto: u64)
+        requires consistent { self.old.consistent ≡ true }
+        requires risen { is_risen self.old.epochs upto ≡ true }
+        ensures epochs { self.new.epochs ≡ epochs_with_mark upto self.old.epochs }
+        ensures sound { is_known_log_sound self.old.group (epochs_with_mark upto self.old.epochs) ≡ true }
+        ensures onward { IsHeldLogContinued self.old.held self.new.held (known_log_of self.old.group self.old.epochs) (known_log_of self.new.group self.new.epochs) }
+        ensures front { IsListPrefix (committed_calls (reported_log self.old.held)) (committed_calls (reported_log self.new.held)) }
+        ensures consistent { self.new.consistent ≡ true }
+        ensures group { self.new.group ≡ self.old.group }
+        ensures me { self.new.me ≡ self.old.me }
+    {
+        let epochs = history_with_mark(&self.epochs, upto);
+        self.mark = upto;
+        commit_covered(&mut self.watermarks, upto, &mut self.held);
+        self.epochs = epochs;
+    }
+
+    /// Installs a ring of these members: its exchange begins, and a Head becomes due if it is primary.
+    #[inline(never)]
+    fn install_ring(
+        &mut self,
+        ring: RingId,
+        members: ProcSet,
+        due: &mut Vec<Payload<A>, A>,
+    ) -> Result<(), Fault>
+        requires consistent { self.old.consistent ≡ true }
+        ensures epochs { OnOk result (self.new.epochs ≡ epoch_opening ring members ∷ self.old.epochs) }
+        ensures due { OnOk result (due.new.items ≡ due.old.items ++ due_at_regular self.old.group members self.old.epochs) }
+        ensures sound { OnOk result (is_known_log_sound self.old.group (epoch_opening ring members ∷ self.old.epochs) ≡ true) }
+        ensures onward { OnOk result (IsHeldLogContinued self.old.held self.new.held (known_log_of self.old.group self.old.epochs) (known_log_of self.new.group self.new.epochs)) }
+        ensures front { IsListPrefix (committed_calls (reported_log self.old.held)) (committed_calls (reported_log self.new.held)) }
+        ensures consistent { OnOk result (self.new.consistent ≡ true) }
+        ensures group { self.new.group ≡ self.old.group }
+        ensures me { self.new.me ≡ self.old.me }
+        ensures refused { IfErr result (λ fault. fault ≡ Memory) }
+    {
+        if self.fixed.is_primary(members) {
+            due.push(Payload::Head(self.held.log().head()))?;
+        }
+        self.ring = ring;
+        self.stage = opening_stage(self.alloc, self.fixed, members);
+        self.mark = 0;
+        self.watermarks.clear();
+        self.epochs = history_with_epoch(&self.epochs, self.ring, members);
+        Ok(())
+    }
+
+    /// Records in the life that these payloads are handed to the core, in this order. Nothing else changes. It takes no memory.
+    /// Rules: The replicated log 1 and 2
+    pub fn record_sends(&mut self, due: &Vec<Payload<A>, A>)
+        ensures { self.new ≡ record self.old { epochs = epochs_with_sends due.now.items self.old.epochs } }
+    {
+        self.epochs = history_with_sends(&self.epochs, due);
+    }
+
+    /// Records in the life that this call is handed to the core, if `runs`: if the core is Operational in an adopted ring.
+    /// Nothing else changes. It takes no memory.
+    /// Rules: The replicated log 10
+    pub fn record_call(&mut self, call: &Call<A>, runs: bool)
+        ensures { self.new ≡ record self.old { epochs = epochs_with_sends (handed_if runs call.now) self.old.epochs } }
+    {
+        self.epochs = history_with_call(&self.epochs, call, runs);
+    }
+
+    /// Drops the committed places, keeps their snapshot, and returns the log of these places alone. Does nothing and returns
+    /// `None` if no snapshot is given.
+    /// A snapshot may be given only if no exchange is open and the log is due to be trimmed.
+    /// Errors: `Memory` where an allocation fails; nothing has changed then.
+    /// Rules: The replicated log 20
+    pub fn trim(&mut self, snapshot: Option<Snapshot<A>>) -> Result<Option<Log<A>>, Fault>
+        requires consistent { self.old.consistent ≡ true }
+        requires closed { is_some snapshot ≡ true → is_closed self.old.group self.old.epochs ≡ true }
+        requires ripe { is_some snapshot ≡ true → is_due_to_trim self.old.held.log ≡ true }
+        ensures dropped { IfOk result (λ log. log ≡ option_map (λ bytes. committed_log self.old.held.log) snapshot) }
+        ensures ok { OnOk result (self.new ≡ replication_trimmed self.old snapshot) }
+        ensures err { OnErr result (self.new ≡ self.old) }
+        ensures refused { IfErr result (λ fault. fault ≡ Memory) }
+    {
+        let Some(snapshot) = snapshot else {
+            return Ok(None);
+        };
+        let log = self.held.trim(snapshot)?;
+        self.epochs = dropped(&self.epochs, log.committed_length());
+        Ok(Some(log))
+    }
+
+    /// Ends a step: afterwards no snapshot counts as restored by the present step. Nothing else changes. It takes no memory.
+    /// Rules: The replicated log 6
+    pub fn end_step(&mut self)
+        ensures { self.new ≡ record self.old { held = record self.old.held { before = None } } }
+    {
+        self.held.end_step();
+    }
+}
+
+/// Commits the places that the mark covers.
+fn commit_covered<A: Allocator + Copy + Drop>(
+    watermarks: &mut VecDeque<LogWatermark, A>,
+    mark: u64,
+    held: &mut HeldLog<A>,
+)
+    ensures watermarks { watermarks.new.items ≡ left mark watermarks.old.items }
+    ensures held { held.new ≡ record held.old { log = committed_upto held.old.log (covered_places mark 0 watermarks.old.items) } }
+    ensures front { IsListPrefix (committed_calls (reported_log held.old)) (committed_calls (reported_log held.new)) }
+{
+    let places = pop_covered(watermarks, mark);
+    held.commit_upto(places);
+}
+
+/// Returns whether `ring` is the ring in which the core is Operational.
+fn is_running(running: &Option<RingId>, ring: &RingId) -> bool
+    ensures { result ≡ is_running running.now ring.now }
+{
+    match running {
+        Some(running) => running == ring,
+        None => false,
+    }
+}

@@ -1,2 +1,0 @@
--- LentLemmas: What a lent writer holds once the buffer over it is empty.
-pub mod LentLemmas

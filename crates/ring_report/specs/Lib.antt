@@ -1,3 +1,0 @@
-pub mod Failures
-pub mod Lents
-pub mod Texts

@@ -1,7 +1,0 @@
--- What was given so far is noted.
-use Rattle.std.proofs.Common.{◌≡◌, ◌++◌, map}
-use Rattle.ring_runs.specs.Running.{places_from}
-use Rattle.ring_runs.proofs.cores.note.Given as goal
-
-abbrev pub invariant-loop-out : goal.invariant-loop-out
-invariant-loop-out g l = (l.outs.items ≡ l.fn.outs.items ++ map (λ o. (l.node, o)) l.yielded) × (l.places.items ≡ places_from 0 l.outs.items)

@@ -1,0 +1,100 @@
+//! The sides of a cut.
+
+use crate::draws::RandomDraws;
+use ring_base::{MAX_PROCESSORS, Proc, ProcSet};
+use std::fmt;
+
+/// The sides that a cut splits the nodes into: each node is on one of three sides, of which some may be empty. Without a
+/// cut all are on the first. It is displayed as the groups of a line `cut`, each with a space before it.
+#[derive(Clone, Copy)]
+pub(crate) struct CutSides {
+    first: ProcSet,
+    second: ProcSet,
+    third: ProcSet,
+}
+
+/// The percentage of cuts with at most two sides.
+const TWO_SIDES: u32 = 75;
+
+impl CutSides {
+    /// Returns the sides with all of these nodes on the first: no cut.
+    pub fn joined(nodes: ProcSet) -> CutSides {
+        CutSides {
+            first: nodes,
+            second: ProcSet::new(),
+            third: ProcSet::new(),
+        }
+    }
+
+    /// Returns the sides with this node alone on the first, and all others of `nodes` on the second.
+    pub fn isolation(nodes: ProcSet, node: Proc) -> CutSides {
+        let own = ProcSet::only(node);
+        CutSides {
+            first: own,
+            second: nodes.less(own),
+            third: ProcSet::new(),
+        }
+    }
+
+    /// Draws a side for each of these nodes: one of two sides in 75 of 100 cases, else one of three. All nodes may get the
+    /// same side, so it may be no cut.
+    pub fn draw(draws: &mut RandomDraws, nodes: ProcSet) -> CutSides {
+        let many = if draws.draw_bool(TWO_SIDES) { 2 } else { 3 };
+        let mut drawn = CutSides::joined(ProcSet::new());
+        for before in 0..MAX_PROCESSORS {
+            let node = Proc::new(before + 1);
+            let side = draws.draw_below(many);
+            if nodes.contains(node) {
+                drawn.put(side, node);
+            }
+        }
+        drawn
+    }
+
+    /// Puts the node on the side with this number.
+    fn put(&mut self, side: u32, node: Proc) {
+        let own = ProcSet::only(node);
+        match side {
+            0 => self.first = self.first.union(own),
+            1 => self.second = self.second.union(own),
+            _ => self.third = self.third.union(own),
+        }
+    }
+
+    /// Returns the three sides, empty ones included.
+    pub fn all(&self) -> [ProcSet; 3] {
+        [self.first, self.second, self.third]
+    }
+
+    /// Returns a copy of these sides.
+    pub fn copied(&self) -> CutSides {
+        CutSides {
+            first: self.first,
+            second: self.second,
+            third: self.third,
+        }
+    }
+
+    /// Returns whether this is a cut: at least two sides have nodes.
+    pub fn is_cut(&self) -> bool {
+        let mut many = 0u8;
+        for side in self.all() {
+            if !side.is_empty() {
+                many = many.saturating_add(1);
+            }
+        }
+        many > 1
+    }
+}
+
+/// Displays the sides as a line `cut` names them.
+impl fmt::Display for CutSides {
+    fn fmt<W: fmt::Write>(&self, f: &mut fmt::Formatter<W>) -> fmt::Result {
+        for side in self.all() {
+            if !side.is_empty() {
+                write!(f, " {side}")?;
+            }
+        }
+        Ok(())
+    }
+}

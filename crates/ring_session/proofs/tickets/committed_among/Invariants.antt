@@ -1,0 +1,7 @@
+-- The tickets of the calls so far are marked.
+use Rattle.std.proofs.Common.{take}
+use Rattle.ring_session.specs.Buckets.{AreCommitted}
+use Rattle.ring_session.proofs.tickets.committed_among.Given as goal
+
+abbrev pub invariant-loop-call : goal.invariant-loop-call
+invariant-loop-call g l = AreCommitted l.gone.places (take l.call-index l.committed) l.pending

@@ -1,0 +1,134 @@
+//! A client's last call that took effect, with its reply.
+//! Rules: Sessions 2, 3 and 5
+
+ghost use Rattle.std.specs.Prelude.{◌≡◌, ◌+◌, ◌≤◌, ◌==◌, length, IfOk, IfErr, OnOk, OnErr};
+ghost use Rattle.ring_payload.specs.Faults.{Memory};
+ghost use Rattle.ring_session_entry.specs.LastCalls.{last_call, no_call};
+
+use ring_object::{Object, Reply};
+use ring_payload::{Call, Fault};
+use std::alloc::{AllocError, Allocator};
+use std::marker::Model;
+
+/// The last call of a client that took effect: its number, its operation, and the reply to it.
+/// Rules: Sessions 2
+#[derive(Drop)]
+pub struct LastCall<A: Allocator + Copy> {
+    number: u64,
+    operation: Vec<u8, A>,
+    reply: Reply,
+}
+
+impl<A: Allocator + Copy> Model for LastCall<A> {
+    ghost use Rattle.ring_session_entry.specs.LastCalls.{LastCall as OneCall};
+
+    ghost Value = { OneCall };
+
+    ghost view = { λ last. record { number = last.number; operation = last.operation.items; reply = last.reply } };
+}
+
+impl<A: Allocator + Copy> Clone for LastCall<A> {
+    ghost is_clone = { λ last copy. copy ≡ last };
+
+    fn clone(&self) -> Result<LastCall<A>, AllocError> {
+        Ok(LastCall {
+            number: self.number,
+            operation: self.operation.clone()?,
+            reply: self.reply,
+        })
+    }
+}
+
+impl<A: Allocator + Copy> LastCall<A> {
+    /// Returns the entry of a client of which no call has taken effect yet: number 0, an empty operation and an empty
+    /// reply. Takes no memory.
+    /// Rules: Sessions 2
+    pub fn none(alloc: A) -> LastCall<A>
+        ensures { result ≡ no_call }
+    {
+        LastCall {
+            number: 0,
+            operation: Vec::new(alloc),
+            reply: Reply::from_slice(&[]),
+        }
+    }
+
+    /// Returns the entry with this number, a copy of this operation, and this reply.
+    /// That the reply has at most 64 bytes is the caller's condition.
+    ///
+    /// Errors: `Memory`.
+    /// Rules: Sessions 2
+    pub fn of(alloc: A, number: u64, operation: &[u8], reply: &[u8]) -> Result<LastCall<A>, Fault>
+        requires { length reply.now ≤ 64 }
+        ensures ok { IfOk result (λ last. last
+            ≡ record { number = number; operation = operation.now; reply = reply.now }) }
+        ensures refused { IfErr result (λ fault. fault ≡ Memory) }
+    {
+        Ok(LastCall {
+            number,
+            operation: Vec::from_slice(alloc, operation)?,
+            reply: Reply::from_slice(reply),
+        })
+    }
+
+    /// Returns the number of the last call that took effect, 0 before the first.
+    /// Rules: Sessions 2
+    pub fn number(&self) -> u64
+        ensures { result ≡ self.now.number }
+    {
+        self.number
+    }
+
+    /// Returns the bytes of the last call's operation. There are none before the first call.
+    /// Rules: Sessions 2
+    pub fn operation(&self) -> &[u8]
+        ensures { result.now ≡ self.now.operation }
+    {
+        self.operation.as_slice()
+    }
+
+    /// Returns the reply to the last call, 0 to 64 bytes. It is empty before the first call.
+    /// Rules: Sessions 2
+    pub fn reply(&self) -> Reply
+        ensures { result ≡ self.now.reply }
+    {
+        self.reply
+    }
+
+    /// Returns whether `number` is the client's next: one more than the number of its last call.
+    /// After 2^64 - 1 there is none.
+    /// Rules: Sessions 3
+    pub fn is_next(&self, number: u64) -> bool
+        ensures { result ≡ (number == self.now.number + 1) }
+    {
+        self.number.checked_add(1) == Some(number)
+    }
+
+    /// Applies the call's operation to the object, stores the call with its reply as the client's last, and returns the
+    /// reply. That the call is the client's next is not checked.
+    ///
+    /// Errors: `Memory`; the entry and the object are then unchanged.
+    /// Rules: Sessions 3 and 5
+    pub fn apply<O: Object<Alloc = A>>(
+        &mut self,
+        object: &mut O,
+        call: &Call<A>,
+    ) -> Result<Reply, Fault>
+        ensures reply { IfOk result (λ reply. reply ≡ O.sequential.reply object.old call.now.op) }
+        ensures kept { OnOk result (self.new ≡ last_call call.now (O.sequential.reply object.old call.now.op)) }
+        ensures applied { OnOk result (object.new ≡ O.sequential.next object.old call.now.op) }
+        ensures err { OnErr result (self.new ≡ self.old) }
+        ensures content { OnErr result (object.new ≡ object.old) }
+        ensures refused { IfErr result (λ fault. fault ≡ Memory) }
+    {
+        let operation = call.op.as_slice();
+        let more = operation.len().saturating_sub(self.operation.len());
+        self.operation.reserve(more)?;
+        let reply = object.apply(operation)?;
+        self.operation.clear();
+        self.operation.extend_from_slice(operation).unwrap();
+        self.number = call.number;
+        self.reply = reply;
+        Ok(reply)
+    }
+}

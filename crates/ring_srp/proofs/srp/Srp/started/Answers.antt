@@ -1,8 +1,0 @@
--- No installation is due once the first token was visited.
-use Rattle.std.proofs.Common.{ap}
-use Rattle.ring_core.specs.State.{Core}
-use Rattle.ring_core.specs.Giving.{may_install}
-use Rattle.ring_srp.proofs.srp.Srp.started.Goals as goal
-
-pub running-requires : goal.running-requires
-running-requires g c = ap (λ (x : Core g.row.A.Denot). may_install x) c.in_ok-machine-2.ensures.core

@@ -1,6 +1,0 @@
--- Sending changes nothing of the core.
-use Rattle.std.proofs.lemmas.Result.{on_ok_weaker}
-use Rattle.ring_srp_acts.proofs.machine.Machine.pass_token.Goals as goal
-
-pub returns-clause-core : goal.returns-clause-core
-returns-clause-core g c = on_ok_weaker c.repeat.result (λ _. c.in_ok-pass_on.ensures.core) c.repeat.ensures.ok

@@ -1,0 +1,6 @@
+-- Sending doesn't change the core.
+use Rattle.std.proofs.lemmas.Result.{on_ok_weaker}
+use Rattle.ring_srp_transitions.proofs.running_core.RunningCore.pass_token.Goals as goal
+
+pub returns-clause-core : goal.returns-clause-core
+returns-clause-core g c = on_ok_weaker c.repeat.result (λ _. c.in_ok-pass_on.ensures.core) c.repeat.ensures.ok

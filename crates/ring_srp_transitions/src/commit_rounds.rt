@@ -1,0 +1,155 @@
+//! Commit tokens by which a core takes part in a ring: the proposal and the first round.
+//! A function marked `inline(never)` keeps the large stack slot of a commit token out of its caller.
+//! Rules: Gather 10; The commit token 4 and 5
+
+ghost use Rattle.std.specs.Prelude.{◌≡◌, ◌==◌, ◌∷◌, ◌++◌, ◌<◌, true, Some, IfErr, OnOk};
+ghost use Rattle.ring_base.specs.Processors.{IsMember, size, smallest};
+ghost use Rattle.ring_base.specs.declared.fault.Fault.TheVariants.{Memory};
+ghost use Rattle.ring_base.specs.declared.state.State.TheVariants.{Gather as InGather, Commit as InCommit};
+ghost use Rattle.ring_core_spec.specs.State.{floor};
+ghost use Rattle.ring_core_spec.specs.Giving.{addressed};
+ghost use Rattle.ring_core_spec.specs.Joining.{proposes};
+ghost use Rattle.ring_core_spec.specs.Handing.{ring_joined, commit_filled};
+ghost use Rattle.ring_core_spec.specs.Transitions.{without_sends, with_proposal_if};
+ghost use Rattle.ring_core_spec.specs.Views.{own_entry};
+ghost use Rattle.ring_join.specs.Gathering.{candidates, may_propose};
+ghost use Rattle.ring_srp_transitions.specs.Allowing.{FillAllowed};
+
+use crate::running_core::RunningCore;
+use ring_base::{Fault, MAX, ProcSet, RingId, State};
+use ring_commit::{CommitOutcome, propose, receiver};
+use ring_core_spec::OutgoingFrame;
+use ring_srp_state::with_ring;
+use ring_wire::{CommitBox, Frame};
+use std::alloc::Allocator;
+
+impl<A: Allocator + Copy> RunningCore<A> {
+    /// Proposes a ring, if the core is in Gather with consensus and is the smallest candidate. The core is then in
+    /// Commit, and the first hop is appended to `sends`.
+    /// The new number is one more than the greatest known. If it is above 2^62, and in every other case, nothing
+    /// changes.
+    /// Errors: `Memory` where an allocation fails; the core's state and the contents of `sends` are then unspecified.
+    /// Rules: Gather 10; The commit token 4
+    pub fn propose_if_due(&mut self, sends: &mut Vec<OutgoingFrame<A>, A>) -> Result<(), Fault>
+        ensures core { OnOk result (self.new ≡ (with_proposal_if (proposes self.old) (without_sends self.old)).core) }
+        ensures sends { OnOk result (sends.new.items ≡ sends.old.items ++ addressed (with_proposal_if (proposes self.old) (without_sends self.old)).sends) }
+        ensures refused { IfErr result (λ fault. fault ≡ Memory) }
+    {
+        if self.proposes() {
+            self.propose(sends)
+        } else {
+            Ok(())
+        }
+    }
+
+    /// Proposes a ring and takes part in it.
+    #[inline(never)]
+    fn propose(&mut self, sends: &mut Vec<OutgoingFrame<A>, A>) -> Result<(), Fault>
+        requires { proposes self.old ≡ true }
+        ensures core { OnOk result (self.new ≡ (with_proposal_if (proposes self.old) (without_sends self.old)).core) }
+        ensures sends { OnOk result (sends.new.items ≡ sends.old.items ++ addressed (with_proposal_if (proposes self.old) (without_sends self.old)).sends) }
+        ensures refused { IfErr result (λ fault. fault ≡ Memory) }
+    {
+        let greatest = self.gather.greatest_number();
+        let candidates = self.gather.candidates();
+        match propose(self.me, greatest, candidates, self.own_entry()) {
+            CommitOutcome::Pass(token) => {
+                let boxed = CommitBox::new(self.alloc, token)?;
+                self.join(boxed, sends)
+            }
+            _ => Ok(()),
+        }
+    }
+
+    /// Returns whether the core may propose: it is in Gather with consensus, is the smallest candidate, and knows no
+    /// number as great as 2^62.
+    fn proposes(&self) -> bool
+        ensures { result ≡ proposes self.now }
+    {
+        match self.state {
+            State::Gather => self.may_propose(),
+            State::Commit | State::Recovery | State::Operational | State::Stopped => false,
+        }
+    }
+
+    fn may_propose(&self) -> bool
+        requires { self.now.state ≡ InGather }
+        ensures { result ≡ may_propose self.now.me (floor self.now) self.now.gathering }
+    {
+        self.gather.agreed().is_some() && self.is_smallest() && self.gather.greatest_number() < MAX
+    }
+
+    fn is_smallest(&self) -> bool
+        ensures { result ≡ (smallest (candidates self.now.gathering) == self.now.me) }
+    {
+        match self.gather.candidates().smallest() {
+            Some(proc) => proc == self.me,
+            None => false,
+        }
+    }
+
+    /// Takes a commit token in the first round. The core adds its own entry, takes part in the ring and is in Commit.
+    /// The next hop is appended to `sends`.
+    /// The token has passed the tests of `RunningCore::decide`, which chose `Fill`.
+    /// Errors: `Memory` where an allocation fails; the core's state and the contents of `sends` are then unspecified.
+    /// Rules: The commit token 5
+    pub fn fill(
+        &mut self,
+        boxed: CommitBox<A>,
+        sends: &mut Vec<OutgoingFrame<A>, A>,
+    ) -> Result<(), Fault>
+        requires { FillAllowed self.old boxed }
+        ensures core { OnOk result (self.new ≡ (commit_filled self.old boxed).core) }
+        ensures sends { OnOk result (sends.new.items ≡ sends.old.items ++ addressed (commit_filled self.old boxed).sends) }
+        ensures refused { IfErr result (λ fault. fault ≡ Memory) }
+    {
+        let mut forwarded = boxed;
+        forwarded.advance_hop();
+        forwarded.report(self.own_entry());
+        self.join(forwarded, sends)
+    }
+
+    /// Takes part in the ring of a commit token, and sends the token.
+    fn join(
+        &mut self,
+        boxed: CommitBox<A>,
+        sends: &mut Vec<OutgoingFrame<A>, A>,
+    ) -> Result<(), Fault>
+        requires state { self.old.state ≡ InGather }
+        requires newer { floor self.old < boxed.ring.seq }
+        requires member { IsMember boxed.members self.old.me }
+        requires some { 0 < size boxed.members }
+        ensures core { OnOk result (self.new ≡ (ring_joined self.old boxed).core) }
+        ensures sends { OnOk result (sends.new.items ≡ sends.old.items ++ addressed (ring_joined self.old boxed).sends) }
+        ensures refused { IfErr result (λ fault. fault ≡ Memory) }
+    {
+        let token = boxed.token();
+        let (ring, members) = (token.ring, token.members);
+        let to = ProcSet::only(receiver(token));
+        self.take_part(ring, members, to, Frame::Commit(boxed));
+        self.repeat(sends)
+    }
+
+    /// Takes part in a ring: the core's own entry goes into its history, and the frame becomes the kept token.
+    fn take_part(&mut self, ring: RingId, members: ProcSet, to: ProcSet, frame: Frame<A>)
+        requires state { self.old.state ≡ InGather }
+        requires newer { floor self.old < ring.seq }
+        requires member { IsMember members self.old.me }
+        ensures { self.new ≡ record self.old {
+          state = InCommit;
+          running = record { ring = ring; members = members };
+          last_sent = Some (record { to = to; frame = frame });
+          rings = record { ring = ring; members = members }
+              ∷ self.old.rings;
+          reports = record { ring = ring; entry = own_entry self.old } ∷ self.old.reports;
+        } }
+    {
+        let own = self.own_entry();
+        self.state = State::Commit;
+        self.running.ring = ring;
+        self.running.members = members;
+        self.last_sent = Some(OutgoingFrame { to, frame });
+        let history = with_ring(&self.history, self.running, &own);
+        self.history = history;
+    }
+}

@@ -1,0 +1,314 @@
+//! Chooses the transition for an input. All conditions are tested here.
+//! Rules: Processors and sets 5; Rings and states 8 and 9; Timeouts 2; Gather 4, 12 and 13; The commit token 5 to 8;
+//! Token and window 6 and 11
+
+ghost use Rattle.std.specs.Prelude.{◌≡◌, ◌&&◌, true, None, IfSome, if◌then◌else◌};
+ghost use Rattle.ring_payload.specs.Packing.{is_queued};
+ghost use Rattle.ring_token.specs.Turns.{first_token};
+ghost use Rattle.ring_srp_transitions.specs.CodeTransitions.{transition_of};
+ghost use Rattle.ring_core_spec.specs.Deciding.{decide, decide_frame, decide_token, decide_join, decide_commit};
+ghost use Rattle.ring_core_spec.specs.Deciding.{decide_round, decide_time, decide_payload, decide_user, transition_in_gather};
+ghost use Rattle.ring_core_spec.specs.Deciding.{transition_into_gather, decide_join_elsewhere, is_taken};
+ghost use Rattle.ring_core_spec.specs.Deciding.{Take as TakeAct, Visit as VisitAct, Ignore as IgnoreAct};
+ghost use Rattle.ring_core_spec.specs.declared.input.Input.TheVariants.{Frame as FrameInput};
+ghost use Rattle.ring_core_spec.specs.Joining.{is_gather_trigger};
+ghost use Rattle.ring_core_spec.specs.Handing.{takes_first_round, takes_second_round, takes_start};
+ghost use Rattle.ring_srp_transitions.specs.RunningCores.{is_running, ring_in_use};
+ghost use Rattle.ring_core_spec.specs.Views.{takes_number};
+ghost use Rattle.ring_base.specs.Rings.{same_ring};
+ghost use Rattle.ring_base.specs.Processors.{has};
+ghost use Rattle.ring_core_spec.specs.Visiting.{accepts};
+
+use crate::running_core::RunningCore;
+use crate::transition::Transition;
+use ring_base::{Kind, RingId, State};
+use ring_commit::{Configuration, is_at, is_first_round, is_second_round, is_start};
+use ring_core_spec::{Input, is_named};
+use ring_join::JoinEffect;
+use ring_payload::Payload;
+use ring_srp_state::is_queued;
+use ring_wire::{CommitBox, CommitToken, Frame, Join, Message, Requests, Token};
+use std::alloc::Allocator;
+
+impl<A: Allocator + Copy> RunningCore<A> {
+    /// Returns the transition that the core makes for an input in its present state; `Ignore` for an input without
+    /// effect.
+    /// All conditions of the rules are tested here. The core is borrowed, so nothing changes.
+    /// Rules: Processors and sets 5 and 6; Rings and states 8 and 9; Timeouts 2
+    pub fn decide(&self, input: Input<A>) -> Transition<A>
+        ensures { transition_of result ≡ decide self.now input }
+    {
+        match input {
+            Input::Frame(frame) => {
+                if is_named(self.fixed, &frame) {
+                    self.decide_frame(frame)
+                } else {
+                    Transition::Ignore
+                }
+            }
+            Input::Timeout(kind) => self.decide_time(kind),
+            Input::Send(payload) => self.decide_payload(payload),
+        }
+    }
+
+    /// Returns the token that a frame is, if the core would accept it now; `None` for every other frame.
+    /// The token is borrowed from the frame, so a visit needs no copy of it.
+    /// Rules: Token and window 6
+    pub fn visited_by<'a>(&self, frame: &'a Frame<A>) -> Option<&'a Token>
+        ensures { IfSome result (λ token. VisitAct token.now ≡ decide self.now (FrameInput frame.now)) }
+    {
+        match frame {
+            Frame::Token(token) => {
+                if is_named(self.fixed, frame) && self.visits(token) {
+                    Some(token)
+                } else {
+                    None
+                }
+            }
+            _ => None,
+        }
+    }
+
+    /// Returns the message that a frame is, if the core would take it now; `None` for every other frame.
+    /// The message is borrowed from the frame, so only a message that is taken is copied.
+    /// Rules: Token and window 11
+    pub fn taken_by<'a>(&self, frame: &'a Frame<A>) -> Option<&'a Message<A>>
+        ensures { IfSome result (λ message. TakeAct message.now ≡ decide self.now (FrameInput frame.now)) }
+    {
+        match frame {
+            Frame::Message(message) => {
+                if is_named(self.fixed, frame) && self.takes(message) {
+                    Some(message)
+                } else {
+                    None
+                }
+            }
+            _ => None,
+        }
+    }
+
+    fn decide_frame(&self, frame: Frame<A>) -> Transition<A>
+        ensures { transition_of result ≡ decide_frame self.now frame }
+    {
+        match frame {
+            Frame::Message(message) => {
+                if self.takes(&message) {
+                    Transition::Take(message)
+                } else {
+                    Transition::Ignore
+                }
+            }
+            Frame::Token(token) => self.decide_token(token),
+            Frame::Join(join) => self.decide_join(join),
+            Frame::Commit(boxed) => self.decide_commit(boxed),
+        }
+    }
+
+    /// Returns whether a message is taken: its ring is the running one, or in Gather the installed one until the core
+    /// takes part in a newer ring; its sender is a member, and its number is new.
+    fn takes(&self, message: &Message<A>) -> bool
+        ensures { result ≡ is_taken self.now message.now }
+    {
+        match self.state {
+            State::Recovery | State::Operational => self.takes_in(&self.running, message),
+            State::Gather => {
+                self.floor() == message.ring.seq && self.takes_in(&self.installed, message)
+            }
+            State::Commit | State::Stopped => false,
+        }
+    }
+
+    /// Returns whether a message is of this ring and of a member, and its number is new.
+    fn takes_in(&self, configuration: &Configuration, message: &Message<A>) -> bool
+        requires { configuration.now.ring ≡ ring_in_use self.now.state self.now }
+        ensures { result ≡ (same_ring message.now.ring configuration.now.ring
+            && has configuration.now.members message.now.sender && takes_number self.now message.now.ring
+            message.now.number) }
+    {
+        let part = self.part();
+        message.ring == configuration.ring
+            && configuration.members.contains(message.sender)
+            && part.window.is_new(message.number)
+    }
+
+    fn decide_token(&self, token: Token) -> Transition<A>
+        ensures { transition_of result ≡ decide_token self.now.state self.now token }
+    {
+        if self.visits(&token) {
+            Transition::Visit(token)
+        } else {
+            Transition::Ignore
+        }
+    }
+
+    /// Returns whether a token is visited: a ring runs, and the token is accepted.
+    fn visits(&self, token: &Token) -> bool
+        ensures { decide_token self.now.state self.now token.now ≡ (if result then VisitAct token.now else IgnoreAct) }
+    {
+        match self.state {
+            State::Recovery | State::Operational => self.accepts(token),
+            State::Gather | State::Commit | State::Stopped => false,
+        }
+    }
+
+    /// Returns whether the running ring accepts a token.
+    fn accepts(&self, token: &Token) -> bool
+        requires { is_running self.now.state ≡ true }
+        ensures { result ≡ accepts self.now token.now }
+    {
+        let part = self.part();
+        part.visit.accepts(token, part.window.highest())
+    }
+
+    fn decide_join(&self, join: Join) -> Transition<A>
+        ensures { transition_of result ≡ decide_join self.now.state self.now join }
+    {
+        match self.state {
+            State::Gather => transition_in_gather(self.gather.join_effect(&join), join),
+            State::Commit | State::Recovery | State::Operational => self.decide_join_elsewhere(
+                join,
+            ),
+            State::Stopped => Transition::Ignore,
+        }
+    }
+
+    /// Returns the transition for a join in Commit, Recovery or Operational.
+    fn decide_join_elsewhere(&self, join: Join) -> Transition<A>
+        ensures { transition_of result ≡ decide_join_elsewhere self.now join }
+    {
+        if !self.is_gather_trigger(&join) {
+            return Transition::Ignore;
+        }
+        transition_into_gather(self.new_gather().join_effect(&join), join)
+    }
+
+    /// Returns whether a join makes the node enter Gather: its sender is a member and its number is at least the
+    /// ring's, or its sender is no member and the state is Operational.
+    fn is_gather_trigger(&self, join: &Join) -> bool
+        ensures { result ≡ is_gather_trigger self.now join.now }
+    {
+        if self.running.members.contains(join.sender) {
+            self.running.ring.seq <= join.number
+        } else {
+            self.state == State::Operational
+        }
+    }
+
+    fn decide_commit(&self, boxed: CommitBox<A>) -> Transition<A>
+        ensures { transition_of result ≡ decide_commit self.now boxed }
+    {
+        if is_at(self.me, boxed.token()) {
+            self.decide_round(boxed)
+        } else {
+            Transition::Ignore
+        }
+    }
+
+    /// Returns the transition for a commit token at the position of its hop.
+    fn decide_round(&self, boxed: CommitBox<A>) -> Transition<A>
+        ensures { transition_of result ≡ decide_round self.now.state self.now boxed }
+    {
+        let token = boxed.token();
+        match self.state {
+            State::Gather if self.takes_first_round(token) => Transition::Fill(boxed),
+            State::Commit if self.takes_second_round(token) => Transition::Learn(boxed),
+            State::Recovery if self.takes_start(token) => Transition::Visit(first_token(
+                token.ring,
+            )),
+            _ => Transition::Ignore,
+        }
+    }
+
+    fn takes_first_round(&self, token: &CommitToken) -> bool
+        ensures { result ≡ takes_first_round self.now token.now }
+    {
+        is_first_round(self.floor(), self.gather.candidates(), token)
+    }
+
+    fn takes_second_round(&self, token: &CommitToken) -> bool
+        ensures { result ≡ takes_second_round self.now token.now }
+    {
+        let own = self.own_entry();
+        is_second_round(&self.running, &own, token)
+    }
+
+    /// Returns whether a commit token starts the token of the running ring. That happens once.
+    fn takes_start(&self, token: &CommitToken) -> bool
+        requires { is_running self.now.state ≡ true }
+        ensures { result ≡ takes_start self.now token.now }
+    {
+        is_start(&self.running, token) && self.accepts(&first_token(token.ring))
+    }
+
+    fn decide_time(&self, kind: Kind) -> Transition<A>
+        ensures { transition_of result ≡ decide_time self.now.state kind }
+    {
+        match (self.state, kind) {
+            (State::Stopped, _) => Transition::Ignore,
+            (_, Kind::Retransmit) => Transition::Repeat,
+            (_, Kind::Loss) => Transition::EnterGather,
+            (State::Gather, Kind::Join) => Transition::Announce,
+            (State::Gather, Kind::Consensus) => Transition::GiveUp,
+            (State::Operational, Kind::Join) => Transition::Invite,
+            _ => Transition::Ignore,
+        }
+    }
+
+    fn decide_payload(&self, payload: Payload<A>) -> Transition<A>
+        ensures { transition_of result ≡ decide_payload self.now.state payload }
+    {
+        match self.state {
+            State::Operational => decide_user(payload),
+            State::Gather | State::Commit | State::Recovery | State::Stopped => Transition::Ignore,
+        }
+    }
+}
+
+/// Returns the transition for a join in Gather.
+fn transition_in_gather<A: Allocator + Copy>(join_effect: JoinEffect, join: Join) -> Transition<A>
+    ensures { transition_of result ≡ transition_in_gather join_effect join }
+{
+    match join_effect {
+        JoinEffect::Ignored => Transition::Ignore,
+        JoinEffect::Agrees => Transition::Agree(join),
+        JoinEffect::Merges => Transition::MergeJoin(join),
+    }
+}
+
+/// Returns the transition for a join that makes the node enter Gather.
+fn transition_into_gather<A: Allocator + Copy>(join_effect: JoinEffect, join: Join) -> Transition<A>
+    ensures { transition_of result ≡ transition_into_gather join_effect join }
+{
+    match join_effect {
+        JoinEffect::Ignored => Transition::EnterGather,
+        JoinEffect::Agrees => Transition::EnterGatherAndAgree(join),
+        JoinEffect::Merges => Transition::EnterGatherAndMergeJoin(join),
+    }
+}
+
+/// Returns the token that starts a ring: number, `seq` and `aru` 0, no `aru_id` and no requests.
+/// It visits the representative when the commit token comes back. It is never a frame.
+/// Rules: The commit token 7
+pub fn first_token(ring: RingId) -> Token
+    ensures { result ≡ first_token ring }
+{
+    Token {
+        ring,
+        number: 0,
+        seq: 0,
+        aru: 0,
+        aru_id: None,
+        requests: Requests::new(),
+    }
+}
+
+/// Returns the transition for a payload in Operational.
+fn decide_user<A: Allocator + Copy>(payload: Payload<A>) -> Transition<A>
+    ensures { transition_of result ≡ decide_user payload }
+{
+    if is_queued(&payload) {
+        Transition::Enqueue(payload)
+    } else {
+        Transition::Ignore
+    }
+}

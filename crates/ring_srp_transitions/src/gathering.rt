@@ -1,0 +1,136 @@
+//! Gather: how a core enters it, what a join does there, and which joins are sent.
+//! Rules: Gather 1 and 4 to 8; Timeouts 3 and 4
+
+ghost use Rattle.std.specs.Prelude.{◌≡◌, true, [], ◌∷◌, ◌++◌, IfErr, OnOk, None};
+ghost use Rattle.ring_base.specs.declared.fault.Fault.TheVariants.{Memory};
+ghost use Rattle.ring_base.specs.declared.state.State.TheVariants.{Gather as InGather};
+ghost use Rattle.ring_join.specs.Gathering.{gathering_opening, agreed, join_merged, silent_given_up, has_same_sets};
+ghost use Rattle.ring_core_spec.specs.State.{floor};
+ghost use Rattle.ring_core_spec.specs.Transitions.{last_sent_repeated};
+ghost use Rattle.ring_core_spec.specs.Giving.{addressed};
+ghost use Rattle.ring_core_spec.specs.Joining.{first_procs, gather_entered, with_gathering, join_announcement, join_invitation};
+
+use crate::running_core::RunningCore;
+use ring_base::{Fault, ProcSet, State};
+use ring_core_spec::OutgoingFrame;
+use ring_join::Gather;
+use ring_srp_state::{send, send_copy};
+use ring_wire::{Frame, Join};
+use std::alloc::Allocator;
+use std::collections::VecDeque;
+
+impl<A: Allocator + Copy> RunningCore<A> {
+    /// Returns the `proc_set` with which Gather begins: the members of the last installed ring, or all processors
+    /// where none was installed.
+    fn first_procs(&self) -> ProcSet
+        ensures { result ≡ first_procs self.now }
+    {
+        if self.installed.ring.seq == 0 {
+            self.fixed.everybody()
+        } else {
+            self.installed.members
+        }
+    }
+
+    /// Returns the sets and agreement with which this core enters Gather, for its installed ring and its floor.
+    /// Rules: Gather 1
+    pub(crate) fn new_gather(&self) -> Gather
+        ensures { result ≡ record { me = self.now.me; floor = floor self.now; gathering = gathering_opening (first_procs self.now) } }
+    {
+        Gather::new(self.me, self.floor(), self.first_procs())
+    }
+
+    /// Enters Gather, from any state: sets and agreement begin anew, and the queue, the kept token and the state of
+    /// Recovery are dropped.
+    /// It sends nothing; `announce` sends the join.
+    /// Rules: Gather 1
+    pub fn enter_gather(&mut self)
+        ensures { self.new ≡ gather_entered self.old }
+    {
+        let gather = self.new_gather();
+        self.state = State::Gather;
+        self.gather = gather;
+        self.last_sent = None;
+        self.queue = VecDeque::new(self.alloc);
+        self.recovery = None;
+    }
+
+    /// Gives up each candidate that doesn't agree: it enters `fail_set`. Agreement then falls back to the node alone.
+    /// It sends nothing; `announce` sends the join.
+    /// Rules: Gather 6
+    pub fn give_up(&mut self)
+        ensures { self.new ≡ with_gathering self.old (silent_given_up self.old.me self.old.gathering) }
+    {
+        self.gather.give_up();
+    }
+
+    /// Counts the sender of a join, and the join's number, as agreeing with the node's sets.
+    /// The join's sets equal the node's own. It sends nothing.
+    /// Rules: Gather 3, 4 and 8
+    pub fn agree(&mut self, join: &Join)
+        requires { has_same_sets self.old.gathering join.now ≡ true }
+        ensures { self.new ≡ with_gathering self.old (agreed self.old.gathering join.now) }
+    {
+        self.gather.agree(join);
+    }
+
+    /// Widens the node's sets by those of a join. Agreement falls back; the sender agrees at once if its sets equal the
+    /// new ones.
+    /// It sends nothing; `announce` sends the join.
+    /// Rules: Gather 5
+    pub fn merge_join(&mut self, join: &Join)
+        ensures { self.new ≡ with_gathering self.old (join_merged self.old.me self.old.gathering join.now) }
+    {
+        self.gather.merge_join(join);
+    }
+
+    /// Sends the node's own join, with its floor and its present sets, to all other processors 1 to N. In a group of
+    /// one it sends nothing.
+    /// The state is Gather.
+    /// Errors: `Memory` where an allocation fails; the contents of `sends` are then unspecified.
+    /// Rules: Gather 2 and 7
+    pub fn announce(&self, sends: &mut Vec<OutgoingFrame<A>, A>) -> Result<(), Fault>
+        requires { self.now.state ≡ InGather }
+        ensures ok { OnOk result (sends.new.items ≡ sends.old.items ++ addressed (join_announcement self.now ∷ [])) }
+        ensures refused { IfErr result (λ fault. fault ≡ Memory) }
+    {
+        let others = self.fixed.everybody().less(ProcSet::only(self.me));
+        send(sends, others, Frame::Join(self.gather.my_join()))
+    }
+
+    /// Sends a join to the processors outside the running ring, as an Operational node does at a join timeout. Where
+    /// there is none it sends nothing.
+    /// The join has the floor, the ring's members as `proc_set`, and an empty `fail_set`.
+    /// Errors: `Memory` where an allocation fails; the contents of `sends` are then unspecified.
+    /// Rules: Timeouts 4
+    pub fn invite(&self, sends: &mut Vec<OutgoingFrame<A>, A>) -> Result<(), Fault>
+        ensures ok { OnOk result (sends.new.items ≡ sends.old.items ++ addressed (join_invitation self.now ∷ [])) }
+        ensures refused { IfErr result (λ fault. fault ≡ Memory) }
+    {
+        let members = self.running.members;
+        let join = Join {
+            sender: self.me,
+            number: self.floor(),
+            proc_set: members,
+            fail_set: ProcSet::new(),
+        };
+        send(
+            sends,
+            self.fixed.everybody().less(members),
+            Frame::Join(join),
+        )
+    }
+
+    /// Sends the kept token, unchanged, to the same receiver again. Without a kept token it sends nothing.
+    /// Errors: `Memory` where an allocation fails; the contents of `sends` are then unspecified.
+    /// Rules: Timeouts 3; Rings and states 10
+    pub fn repeat(&self, sends: &mut Vec<OutgoingFrame<A>, A>) -> Result<(), Fault>
+        ensures ok { OnOk result (sends.new.items ≡ sends.old.items ++ addressed (last_sent_repeated self.now.last_sent)) }
+        ensures refused { IfErr result (λ fault. fault ≡ Memory) }
+    {
+        match &self.last_sent {
+            None => Ok(()),
+            Some(last_sent) => send_copy(sends, last_sent.to, &last_sent.frame),
+        }
+    }
+}

@@ -1,0 +1,58 @@
+//! A core holds messages and, in Recovery, the inner messages of Wrapped.
+//! Rules: Token and window 1 and 11; Recovery 6
+
+ghost use Rattle.std.specs.Prelude.{◌≡◌, ◌∷◌, true, IfErr, OnOk};
+ghost use Rattle.ring_base.specs.declared.fault.Fault.TheVariants.{Memory};
+ghost use Rattle.ring_core_spec.specs.Transitions.{message_taken};
+ghost use Rattle.ring_core_spec.specs.Deciding.{is_taken};
+ghost use Rattle.ring_core_spec.specs.Views.{takes_number};
+ghost use Rattle.ring_srp_transitions.specs.RunningCores.{ring_in_use};
+
+use crate::running_core::RunningCore;
+use ring_base::{Fault, State, ghost_step_of_two};
+use ring_srp_state::{one_first, unwrap_into};
+use ring_wire::Message;
+use std::alloc::Allocator;
+
+impl<A: Allocator + Copy> RunningCore<A> {
+    /// Takes a message: the core holds it. In Recovery its inner message, if any, is offered to the old ring's window.
+    /// The message has passed the tests of `RunningCore::decide`, which chose `Take`.
+    /// Errors: `Memory` where an allocation fails; the core's state is then unspecified.
+    /// Rules: Token and window 11; Recovery 6
+    pub fn take(&mut self, message: Message<A>) -> Result<(), Fault>
+        requires { is_taken self.old message ≡ true }
+        ensures ok { OnOk result (self.new ≡ message_taken self.old message) }
+        ensures refused { IfErr result (λ fault. fault ≡ Memory) }
+    {
+        match &mut self.recovery {
+            Some(recovery_state) if self.state == State::Recovery => {
+                let old = (self.installed.ring, self.kept.window.mark());
+                let held = ghost_step_of_two(&self.held, &message, &old);
+                unwrap_into(&message.payload, &mut self.kept.window)?;
+                self.held = held;
+                recovery_state.take(message);
+                Ok(())
+            }
+            _ => {
+                self.hold(message);
+                Ok(())
+            }
+        }
+    }
+
+    /// Holds a message of the ring whose messages are taken. Its number is new there.
+    pub(crate) fn hold(&mut self, message: Message<A>)
+        requires ring { message.ring ≡ ring_in_use self.old.state self.old }
+        requires new { takes_number self.old message.ring message.number ≡ true }
+        ensures { self.new ≡ record self.old { held = message ∷ self.old.held } }
+    {
+        let held = one_first(&self.held, &message);
+        self.held = held;
+        match &mut self.recovery {
+            Some(recovery_state) if self.state == State::Recovery => recovery_state.take(message),
+            _ => {
+                self.kept.window.take(message);
+            }
+        }
+    }
+}

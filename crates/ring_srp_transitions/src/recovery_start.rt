@@ -1,0 +1,84 @@
+//! The second round of a commit token, by which Recovery begins.
+//! Rules: The commit token 6; Recovery 3
+
+ghost use Rattle.std.specs.Prelude.{◌≡◌, ◌++◌, IfErr, OnOk};
+ghost use Rattle.ring_base.specs.declared.fault.Fault.TheVariants.{Memory};
+ghost use Rattle.ring_window.specs.Windows.{opened};
+ghost use Rattle.ring_recover.specs.RecoveryState.{recovery_opening};
+ghost use Rattle.ring_core_spec.specs.Giving.{addressed};
+ghost use Rattle.ring_core_spec.specs.Handing.{commit_learned};
+ghost use Rattle.ring_srp_transitions.specs.Allowing.{LearnAllowed};
+ghost use Rattle.ring_srp_transitions.specs.Learns.{plan_at, core_in_recovery};
+
+use crate::running_core::RunningCore;
+use ring_base::{Fault, Ghost, ProcSet, State, ghost_now};
+use ring_commit::receiver;
+use ring_core_spec::OutgoingFrame;
+use ring_recover::{Ends, Plan};
+use ring_srp_state::{RecoveryState, RingPart, with_plan};
+use ring_token::Visit;
+use ring_window::Window;
+use ring_wire::{CommitBox, CommitToken, Frame};
+use std::alloc::Allocator;
+use std::mem;
+
+impl<A: Allocator + Copy> RunningCore<A> {
+    /// Takes a commit token in the second round. The core keeps its entries as the plan, raises the old ring's safe
+    /// mark to the greatest reported, and is in Recovery. The next hop is appended to `sends`.
+    /// The token has passed the tests of `RunningCore::decide`, which chose `Learn`.
+    /// Errors: `Memory` where an allocation fails; the core's state and the contents of `sends` are then unspecified.
+    /// Rules: The commit token 6; Recovery 3
+    pub fn learn(
+        &mut self,
+        boxed: CommitBox<A>,
+        sends: &mut Vec<OutgoingFrame<A>, A>,
+    ) -> Result<(), Fault>
+        requires { LearnAllowed self.old boxed }
+        ensures core { OnOk result (self.new ≡ (commit_learned self.old boxed).core) }
+        ensures sends { OnOk result (sends.new.items ≡ sends.old.items ++ addressed (commit_learned self.old boxed).sends) }
+        ensures refused { IfErr result (λ fault. fault ≡ Memory) }
+    {
+        let window = Window::new(self.alloc, self.running.ring)?;
+        let plan = Plan::from_commit(self.me, boxed.token()).unwrap();
+        let received = ghost_now(boxed.token());
+        let mut forwarded = boxed;
+        forwarded.advance_hop();
+        let to = ProcSet::only(receiver(forwarded.token()));
+        let frame = Frame::Commit(forwarded);
+        self.recover(&received, plan, window, OutgoingFrame { to, frame });
+        self.repeat(sends)
+    }
+
+    /// Enters Recovery with a plan and an empty window of the running ring.
+    /// What a transitional member reported safe in the old ring is safe.
+    fn recover(
+        &mut self,
+        received: &Ghost<CommitToken>,
+        plan: Plan<A>,
+        window: Window<A>,
+        last_sent: OutgoingFrame<A>,
+    )
+        requires allowed { LearnAllowed self.old received.now.value }
+        requires plan { plan ≡ recovery_opening self.old.me (plan_at self.old received.now.value) }
+        requires window { window ≡ opened self.old.running.ring }
+        ensures { self.new ≡ core_in_recovery self.old received.now.value last_sent }
+    {
+        let safe = plan.safe();
+        let history = with_plan(&self.history, received, self.installed.ring, safe);
+        let visit = Visit::new(self.me, self.running.ring);
+        self.kept.visit.raise(safe);
+        self.kept.window.forget(safe);
+        self.state = State::Recovery;
+        self.history = history;
+        let recovery_state = RecoveryState {
+            part: RingPart { window, visit },
+            plan,
+            ends: Ends::new(),
+            most: 0,
+            deferred: Vec::new(self.alloc),
+        };
+        // The generic `drop` and `replace` drop the old values.
+        drop(mem::replace(&mut self.last_sent, Some(last_sent)));
+        drop(mem::replace(&mut self.recovery, Some(recovery_state)));
+    }
+}

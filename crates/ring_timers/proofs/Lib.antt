@@ -1,0 +1,4 @@
+pub mod Durations
+pub mod Beginnings
+pub mod TakenOnce
+pub mod NextTimes

@@ -1,0 +1,4 @@
+pub mod Periods
+pub mod Timers
+pub mod TimerEvents
+pub mod TimerExamples

@@ -1,0 +1,181 @@
+//! The views that a trace has of nodes, and the changes between them.
+//! Formats: The command line
+
+ghost use Rattle.std.specs.Prelude.{◌≡◌, ◌↔◌, IsTrue};
+ghost use Rattle.std.specs.Prelude.{◌++◌, OnOk, OnErr, IfErr};
+ghost use Rattle.ring_base.specs.declared.fault.Fault.TheVariants.{Memory};
+ghost use Rattle.ring_base.specs.Prefixes.{IsListPrefix};
+ghost use Rattle.ring_base.specs.Processors.{size};
+ghost use Rattle.ring_trace.specs.NodeReasons.{IsOpening, changes_since_opening, IsReason};
+ghost use Rattle.ring_trace.specs.NodeViews.{is_new_ring, is_new_state, is_restored, ring_change, trimmed_change, change_if, changes_of};
+
+use ring_base::{Fault, Fixed, Proc, ProcSet, RingId, State};
+use ring_trace_formats::{Change, VoteShare, WaitReason};
+use std::alloc::Allocator;
+
+/// A view of a node at one moment: the facts that a trace shows. Two views of a node give the node's changes between them.
+#[derive(Clone, Copy)]
+pub(crate) struct NodeView {
+    /// The state of the node.
+    pub state: State,
+    /// The last ring that the node installed. Before any, it is the ring of number 0 of the node itself.
+    pub ring: RingId,
+    /// The members of that ring. Before any ring, it is the node alone.
+    pub members: ProcSet,
+    /// The committed length of the node, dropped places included.
+    pub committed: u64,
+    /// The number of first places of the log that the node keeps as a snapshot.
+    pub trimmed: u64,
+    /// The length of the log, dropped places included.
+    pub log: u64,
+    /// The number of places of the snapshot of which the node was given a piece in that ring, if it was given one.
+    pub snapshot: Option<u64>,
+}
+
+impl NodeView {
+    /// Returns the view of a node at its opening.
+    /// Formats: The command line
+    pub fn opening(node: Proc) -> NodeView
+        ensures { IsOpening node result }
+    {
+        NodeView {
+            state: State::Gather,
+            ring: RingId { seq: 0, rep: node },
+            members: ProcSet::only(node),
+            committed: 0,
+            trimmed: 0,
+            log: 0,
+            snapshot: None,
+        }
+    }
+
+    /// Returns whether the node is alone in its ring, so that no frame carries its messages.
+    pub fn is_alone(&self) -> bool
+        ensures { IsTrue result ↔ (size self.now.members ≡ 1) }
+    {
+        self.members.len() == 1
+    }
+
+    /// Returns the changes of the node since its opening: its state or its ring, its committed length, and its trimmed
+    /// length. The lengths are listed also where they are 0.
+    pub fn changes(&self, nodes: Fixed) -> [Change; 3]
+        ensures { result ≡ changes_since_opening nodes self.now }
+    {
+        let first = match self.state {
+            State::Operational => self.ring_change(nodes),
+            state => Change::State(state),
+        };
+        [
+            first,
+            Change::Committed(self.committed),
+            Change::Trimmed(self.trimmed),
+        ]
+    }
+
+    /// Adds the changes of the node since the view `before` to the list: its ring, its state, its committed length, its
+    /// trimmed length or the snapshot that it restored, each only if it changed. A new ring implies the state operational, which is then not a change of its
+    /// own.
+    /// Errors: `Memory`; a prefix of the changes may be added.
+    /// Formats: The command line
+    pub fn add_changes<A: Allocator>(
+        &self,
+        before: &NodeView,
+        nodes: Fixed,
+        changes: &mut Vec<Change, A>,
+    ) -> Result<(), Fault>
+        ensures ok { OnOk result (changes.new.items ≡ changes.old.items ++ changes_of nodes before.now self.now) }
+        ensures err { OnErr result (IsListPrefix changes.old.items changes.new.items
+            × IsListPrefix changes.new.items (changes.old.items ++ changes_of nodes before.now self.now)) }
+        ensures refused { IfErr result (λ fault. fault ≡ Memory) }
+    {
+        let is_ring = self.is_new_ring(before);
+        let is_state = self.is_new_state(before);
+        let is_committed = self.committed != before.committed;
+        let is_trimmed = self.trimmed != before.trimmed;
+        add_if(changes, is_ring, self.ring_change(nodes))?;
+        add_if(changes, is_state, Change::State(self.state))?;
+        add_if(changes, is_committed, Change::Committed(self.committed))?;
+        add_if(changes, is_trimmed, self.trimmed_change(before))
+    }
+
+    /// Whether the node installed another ring.
+    fn is_new_ring(&self, before: &NodeView) -> bool
+        ensures { result ≡ is_new_ring before.now self.now }
+    {
+        self.ring != before.ring
+    }
+
+    /// Whether the node's state changed, and no new ring implies it.
+    fn is_new_state(&self, before: &NodeView) -> bool
+        ensures { result ≡ is_new_state before.now self.now }
+    {
+        let is_told = self.is_new_ring(before) && self.state == State::Operational;
+        self.state != before.state && !is_told
+    }
+
+    /// Returns the change that the node installed its ring.
+    fn ring_change(&self, nodes: Fixed) -> Change
+        ensures { result ≡ ring_change nodes self.now }
+    {
+        Change::Ring {
+            ring: self.ring,
+            members: self.members,
+            share: VoteShare::of(nodes, self.members),
+        }
+    }
+
+    /// Returns the change that the node dropped first places, or restored a snapshot of them.
+    fn trimmed_change(&self, before: &NodeView) -> Change
+        ensures { result ≡ trimmed_change before.now self.now }
+    {
+        if self.is_restored(before) {
+            Change::Restored(self.trimmed)
+        } else {
+            Change::Trimmed(self.trimmed)
+        }
+    }
+
+    /// Whether the node restored a snapshot: it was given one of places that it had not committed, and keeps these now as a
+    /// snapshot.
+    fn is_restored(&self, before: &NodeView) -> bool
+        ensures { result ≡ is_restored before.now self.now }
+    {
+        match before.snapshot {
+            Some(places) => before.committed < places && places <= self.trimmed,
+            None => false,
+        }
+    }
+
+    /// Returns the first reason that holds why a call waits at the node. `is_sent` says whether the node has sent it, or
+    /// has it in its log where the node is alone in its ring.
+    /// Formats: The command line
+    pub fn reason(&self, nodes: Fixed, is_sent: bool) -> WaitReason
+        ensures { IsReason nodes self.now is_sent result }
+    {
+        let members = self.members;
+        let share = VoteShare::of(nodes, members);
+        match self.state {
+            State::Stopped => WaitReason::Stopped,
+            State::Operational if !share.is_primary => WaitReason::Minority { members, share },
+            State::Operational if is_sent => WaitReason::NotSafe,
+            State::Operational => WaitReason::NotSent,
+            state => WaitReason::State(state),
+        }
+    }
+}
+
+/// Adds a change if it is to be reported. `Memory`: it isn't added.
+fn add_if<A: Allocator>(
+    changes: &mut Vec<Change, A>,
+    is_told: bool,
+    change: Change,
+) -> Result<(), Fault>
+    ensures ok { OnOk result (changes.new.items ≡ changes.old.items ++ change_if is_told change) }
+    ensures err { OnErr result (changes.new.items ≡ changes.old.items) }
+    ensures refused { IfErr result (λ fault. fault ≡ Memory) }
+{
+    if is_told {
+        changes.push(change)?;
+    }
+    Ok(())
+}

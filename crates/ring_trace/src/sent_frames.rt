@@ -1,0 +1,207 @@
+//! The frames sent so far, and the nodes that were given each.
+//! Formats: The command line
+
+use ring_base::{Fault, Proc, ProcSet, RingId};
+use ring_console::World;
+use ring_object::Object;
+use ring_payload::{Content, Payload};
+use ring_trace_formats::DeliveryKind;
+use ring_wire::{Frame, Message};
+use std::alloc::Allocator;
+
+/// A message, by its ring and its number there.
+#[derive(Clone, Copy, PartialEq, Eq)]
+struct MessageName {
+    ring: RingId,
+    number: u64,
+}
+
+/// A piece of a snapshot: the ring in which it was sent first, and how many places the snapshot replaces.
+#[derive(Clone, Copy)]
+pub(crate) struct SnapshotPiece {
+    pub ring: RingId,
+    pub places: u64,
+}
+
+/// A frame that was sent.
+#[derive(Clone, Copy)]
+pub(crate) struct SentFrame {
+    /// The sender.
+    pub from: Proc,
+    /// The receivers.
+    pub to: ProcSet,
+    /// The number of bytes that the encodings of the frames before it take.
+    pub begin: usize,
+    /// The same with its own encoding.
+    pub end: usize,
+    /// The message that it has, if it has one.
+    message: Option<MessageName>,
+    /// The piece of a snapshot that its message carries, if it carries one.
+    pub snapshot_piece: Option<SnapshotPiece>,
+    /// The nodes that were given it.
+    given: ProcSet,
+}
+
+/// The frames sent so far, in the order of sending. They are numbered from 1.
+#[derive(Drop)]
+pub(crate) struct SentFrames<A: Allocator> {
+    frames: Vec<SentFrame, A>,
+}
+
+impl<A: Allocator + Copy> SentFrames<A> {
+    /// Returns the list without frames, which takes no memory yet.
+    pub fn new(alloc: A) -> SentFrames<A> {
+        SentFrames {
+            frames: Vec::new(alloc),
+        }
+    }
+
+    /// Returns the number of frames.
+    pub fn count(&self) -> u64 {
+        self.frames.len() as u64
+    }
+
+    /// Returns the frame of this number, if there is one.
+    pub fn frame(&self, number: u64) -> Option<SentFrame> {
+        let before = number.checked_sub(1)?;
+        self.frames.get(before as usize).copied()
+    }
+
+    /// Returns how a frame comes to a node where a line gives it.
+    /// Formats: The command line
+    pub fn kind_of(&self, number: Option<u64>, node: Proc) -> DeliveryKind {
+        let Some(frame) = number.and_then(|number| self.frame(number)) else {
+            return DeliveryKind::NotSent;
+        };
+        if !frame.to.contains(node) {
+            DeliveryKind::NotForNode
+        } else if frame.given.contains(node) {
+            DeliveryKind::Again
+        } else if self.has_message_of(&frame, node) {
+            DeliveryKind::KnownMessage
+        } else {
+            DeliveryKind::First
+        }
+    }
+
+    /// Whether the node sent the message of this frame, or was given it.
+    fn has_message_of(&self, frame: &SentFrame, node: Proc) -> bool {
+        let mut has_message = false;
+        for other in &self.frames {
+            let has_other = other.from == node || other.given.contains(node);
+            has_message = has_message
+                || (frame.message.is_some() && other.message == frame.message && has_other);
+        }
+        has_message
+    }
+
+    /// Records that the node is given the frame of this number.
+    pub fn give(&mut self, number: u64, node: Proc) {
+        let before = number.saturating_sub(1);
+        if let Some(frame) = self.frames.get_mut(before as usize) {
+            let _ = frame.given.insert(node);
+        }
+    }
+
+    /// Adds a frame, which follows all others and whose encoding is at the front of these bytes. It is decoded into `place`.
+    /// Errors: `Memory`; it isn't added.
+    fn add(
+        &mut self,
+        alloc: A,
+        bytes: &[u8],
+        (from, to): (Proc, ProcSet),
+        place: &mut Option<Frame<A>>,
+    ) -> Result<(), Fault> {
+        let begin = self.end();
+        let rest = bytes.get(begin..).unwrap_or(&[]);
+        let Ok(length) = Frame::<A>::get_into(alloc, rest, place) else {
+            return Err(Fault::Memory);
+        };
+        self.frames.push(SentFrame {
+            from,
+            to,
+            begin,
+            end: begin.saturating_add(length),
+            message: message_in(place),
+            snapshot_piece: snapshot_piece_in(place),
+            given: ProcSet::new(),
+        })?;
+        Ok(())
+    }
+
+    /// Returns the number of bytes of all encodings.
+    fn end(&self) -> usize {
+        match self.frames.last() {
+            Some(frame) => frame.end,
+            None => 0,
+        }
+    }
+}
+
+/// Adds the frames that were sent since the last call.
+/// Errors: `Memory`; a part may be added.
+/// Formats: The command line
+pub(crate) fn add_sent_frames<O: Object>(
+    alloc: O::Alloc,
+    world: &World<O>,
+    sent: &mut SentFrames<O::Alloc>,
+) -> Result<(), Fault> {
+    let mut place = None;
+    let added = add_each_frame(alloc, world, sent, &mut place);
+    // Dropped explicitly, so it is dropped in a function generic over its type, and doesn't live until the exits.
+    drop(place);
+    added
+}
+
+/// Adds the frames that were sent since the last call, each decoded in place of the one before it.
+fn add_each_frame<O: Object>(
+    alloc: O::Alloc,
+    world: &World<O>,
+    sent: &mut SentFrames<O::Alloc>,
+    place: &mut Option<Frame<O::Alloc>>,
+) -> Result<(), Fault> {
+    for _ in 0..u64::MAX {
+        let Some(ends) = world.frame(sent.count().saturating_add(1)) else {
+            return Ok(());
+        };
+        sent.add(alloc, world.sent_text(), ends, place)?;
+    }
+    Ok(())
+}
+
+/// Returns the message of a frame, if it has one.
+fn message_in<A: Allocator + Copy>(frame: &Option<Frame<A>>) -> Option<MessageName> {
+    match frame {
+        Some(Frame::Message(message)) => Some(MessageName {
+            ring: message.ring,
+            number: message.number,
+        }),
+        _ => None,
+    }
+}
+
+/// Returns the piece of a snapshot that a frame carries, if it carries one.
+fn snapshot_piece_in<A: Allocator + Copy>(frame: &Option<Frame<A>>) -> Option<SnapshotPiece> {
+    match frame {
+        Some(Frame::Message(message)) => snapshot_piece_of(message),
+        _ => None,
+    }
+}
+
+/// Returns the piece of a snapshot that a message carries, as it was sent or wrapped.
+fn snapshot_piece_of<A: Allocator + Copy>(message: &Message<A>) -> Option<SnapshotPiece> {
+    match &message.payload {
+        Payload::Snap(snap) => Some(SnapshotPiece {
+            ring: message.ring,
+            places: snap.at,
+        }),
+        Payload::Wrapped(wrapped) => match &wrapped.payload {
+            Content::Snap(snap) => Some(SnapshotPiece {
+                ring: wrapped.ring,
+                places: snap.at,
+            }),
+            _ => None,
+        },
+        _ => None,
+    }
+}

@@ -1,0 +1,242 @@
+//! Printing a trace in the requested format. A picture has no lines: it is printed on its own, in a page between two parts of the
+//! page.
+//! Formats: The command line
+
+ghost use Rattle.std.specs.Prelude.{◌≡◌, IfErr};
+ghost use Rattle.ring_failure.specs.Failures.{IsOutputOrMemory};
+
+use crate::text;
+use ring_base::{Fixed, ProcSet};
+use ring_failure::{Failure, output_result};
+use ring_payload::Call;
+use ring_session::Answer;
+use ring_trace_json::{EventDetails, JsonPrinter, TurnValue};
+use ring_trace_page::{write_page_head, write_page_middle, write_page_tail};
+use ring_trace_words::{
+    Change, Counts, Fold, Told, TraceVocabulary, TracedEvent, WaitReason, WaitingCall,
+};
+use std::alloc::{Allocator, Global};
+use std::io::Write;
+
+/// The format in which a trace is printed.
+/// Formats: The command line
+#[derive(Clone, Copy, Debug, PartialEq, Eq)]
+pub enum Format {
+    /// Lines for people to read.
+    Text,
+    /// JSON, with one object on each line.
+    Json,
+    /// One picture in SVG, which has no lines.
+    Svg,
+    /// One page in HTML, with the lines of JSON and the picture.
+    Html,
+}
+
+impl Format {
+    /// Returns whether lines for programs are printed, which have the details of events.
+    pub fn has_details(self) -> bool {
+        self == Format::Json || self == Format::Html
+    }
+
+    /// Returns whether a picture is printed.
+    pub fn has_picture(self) -> bool {
+        self == Format::Svg || self == Format::Html
+    }
+}
+
+/// A printer of a trace in one format. In the format `Svg` it prints nothing: the picture itself is printed apart.
+/// Formats: The command line
+#[derive(Clone, Copy)]
+pub struct TracePrinter {
+    /// The allocator for the JSON text of a line.
+    pub alloc: Global,
+    /// The format.
+    pub format: Format,
+}
+
+impl TracePrinter {
+    /// Returns the printer of lines in JSON.
+    fn json(self) -> JsonPrinter {
+        JsonPrinter {
+            alloc: self.alloc,
+            is_embedded: self.format == Format::Html,
+        }
+    }
+
+    /// Prints what comes before all lines: for JSON the line of the nodes, and for a page its first part before that.
+    /// Errors: as for [`print_event`](TracePrinter::print_event).
+    /// Formats: The command line
+    pub fn print_opening<W: Write>(self, out: &mut W, nodes: Fixed) -> Result<(), Failure>
+        ensures picture { self.format ≡ Format.Svg → out.new ≡ out.old }
+        ensures failed { IfErr result IsOutputOrMemory }
+    {
+        match self.format {
+            Format::Text | Format::Svg => Ok(()),
+            Format::Json => self.json().print_nodes(out, nodes),
+            Format::Html => {
+                output_result(write_page_head(out))?;
+                self.json().print_nodes(out, nodes)
+            }
+        }
+    }
+
+    /// Prints the line of an event: its description, its changes to the node, and the node's reports, in the words of the
+    /// object. Formats for programs have its details too.
+    /// Errors: `Output` where the writer fails; for JSON also `Refused` with `Memory`. A part of the line may be written.
+    /// Formats: The command line
+    pub fn print_event<A: Allocator + Copy, W: Write>(
+        self,
+        out: &mut W,
+        trace_vocabulary: &TraceVocabulary,
+        traced_event: &TracedEvent<'_>,
+        changes: &[Change],
+        told: &[Told<A>],
+        details: EventDetails,
+    ) -> Result<(), Failure>
+        ensures picture { self.format ≡ Format.Svg → out.new ≡ out.old }
+        ensures failed { IfErr result IsOutputOrMemory }
+    {
+        match self.format {
+            Format::Text => text::print_event(out, trace_vocabulary, traced_event, changes, told),
+            Format::Svg => Ok(()),
+            Format::Json | Format::Html => self.json().print_event(
+                out,
+                trace_vocabulary,
+                traced_event,
+                changes,
+                told,
+                details,
+            ),
+        }
+    }
+
+    /// Prints the line of a fold: events in which frames were delivered and nothing changed. Formats for programs have its turns
+    /// too.
+    /// Errors: as for [`print_event`](TracePrinter::print_event).
+    /// Formats: The command line
+    pub fn print_fold<W: Write>(
+        self,
+        out: &mut W,
+        fold: &Fold,
+        turns: Vec<TurnValue>,
+    ) -> Result<(), Failure>
+        ensures picture { self.format ≡ Format.Svg → out.new ≡ out.old }
+        ensures failed { IfErr result IsOutputOrMemory }
+    {
+        match self.format {
+            Format::Text => text::print_fold(out, fold),
+            Format::Svg => Ok(()),
+            Format::Json | Format::Html => self.json().print_fold(out, fold, turns),
+        }
+    }
+
+    /// Prints the line of a cut of the nodes into these groups.
+    /// Errors: as for [`print_event`](TracePrinter::print_event).
+    /// Formats: The command line
+    pub fn print_cut<W: Write>(self, out: &mut W, groups: &[ProcSet]) -> Result<(), Failure>
+        ensures picture { self.format ≡ Format.Svg → out.new ≡ out.old }
+        ensures failed { IfErr result IsOutputOrMemory }
+    {
+        match self.format {
+            Format::Text => text::print_cut(out, groups),
+            Format::Svg => Ok(()),
+            Format::Json | Format::Html => self.json().print_cut(out, "cut", groups),
+        }
+    }
+
+    /// Prints the line that says that a cut has healed.
+    /// Errors: as for [`print_event`](TracePrinter::print_event).
+    /// Formats: The command line
+    pub fn print_heal<W: Write>(self, out: &mut W) -> Result<(), Failure>
+        ensures picture { self.format ≡ Format.Svg → out.new ≡ out.old }
+        ensures failed { IfErr result IsOutputOrMemory }
+    {
+        match self.format {
+            Format::Text => text::print_heal(out),
+            Format::Svg => Ok(()),
+            Format::Json | Format::Html => self.json().print_cut(out, "heal", &[]),
+        }
+    }
+
+    /// Prints the counts of the events and frames of the whole run: two lines as text, one in JSON.
+    /// Errors: as for [`print_event`](TracePrinter::print_event).
+    /// Formats: The command line
+    pub fn print_counts<W: Write>(self, out: &mut W, counts: Counts) -> Result<(), Failure>
+        ensures picture { self.format ≡ Format.Svg → out.new ≡ out.old }
+        ensures failed { IfErr result IsOutputOrMemory }
+    {
+        match self.format {
+            Format::Text => text::print_counts(out, counts),
+            Format::Svg => Ok(()),
+            Format::Json | Format::Html => self.json().print_counts(out, counts),
+        }
+    }
+
+    /// Prints the line of a call that has no answer at the end of the run, with the reason.
+    /// Errors: as for [`print_event`](TracePrinter::print_event).
+    /// Formats: The command line
+    pub fn print_waiting<W: Write>(
+        self,
+        out: &mut W,
+        waiting: &WaitingCall,
+        why: &WaitReason,
+    ) -> Result<(), Failure>
+        ensures picture { self.format ≡ Format.Svg → out.new ≡ out.old }
+        ensures failed { IfErr result IsOutputOrMemory }
+    {
+        match self.format {
+            Format::Text => text::print_waiting(out, waiting, why),
+            Format::Svg => Ok(()),
+            Format::Json | Format::Html => self.json().print_waiting(out, waiting, why),
+        }
+    }
+
+    /// Prints the line of a committed place of the log, counted from 0, with its call and the answer to it. Only formats for
+    /// programs have such lines.
+    /// Errors: as for [`print_event`](TracePrinter::print_event).
+    /// Formats: The command line
+    pub fn print_place<A: Allocator + Copy, W: Write>(
+        self,
+        out: &mut W,
+        trace_vocabulary: &TraceVocabulary,
+        place: u64,
+        call: &Call<A>,
+        answer: &Answer,
+    ) -> Result<(), Failure>
+        ensures picture { self.format ≡ Format.Svg → out.new ≡ out.old }
+        ensures failed { IfErr result IsOutputOrMemory }
+    {
+        match self.format {
+            Format::Text | Format::Svg => Ok(()),
+            Format::Json | Format::Html => self
+                .json()
+                .print_place(out, trace_vocabulary, place, call, answer),
+        }
+    }
+
+    /// Prints the part of a page between its lines and its picture. Only a page has it.
+    /// Errors: `Output` where the writer fails. A part may be written.
+    /// Formats: The command line
+    pub fn print_page_middle<W: Write>(self, out: &mut W) -> Result<(), Failure>
+        ensures picture { self.format ≡ Format.Svg → out.new ≡ out.old }
+        ensures failed { IfErr result IsOutputOrMemory }
+    {
+        match self.format {
+            Format::Text | Format::Json | Format::Svg => Ok(()),
+            Format::Html => output_result(write_page_middle(out)),
+        }
+    }
+
+    /// Prints the part of a page behind its picture. Only a page has it.
+    /// Errors: `Output` where the writer fails. A part may be written.
+    /// Formats: The command line
+    pub fn print_page_tail<W: Write>(self, out: &mut W) -> Result<(), Failure>
+        ensures picture { self.format ≡ Format.Svg → out.new ≡ out.old }
+        ensures failed { IfErr result IsOutputOrMemory }
+    {
+        match self.format {
+            Format::Text | Format::Json | Format::Svg => Ok(()),
+            Format::Html => output_result(write_page_tail(out)),
+        }
+    }
+}

@@ -1,0 +1,244 @@
+//! Printing the lines of a trace as JSON.
+//! Formats: The command line
+
+ghost use Rattle.std.specs.Prelude.{◌≡◌, IfErr};
+ghost use Rattle.ring_base.specs.declared.fault.Fault.TheVariants.{Memory};
+ghost use Rattle.ring_failure.specs.Failures.{IsOutputOrMemory};
+ghost use Rattle.ring_failure.specs.declared.failure.Failure.TheVariants.{Output};
+
+use crate::details::{EventDetails, TurnValue};
+use crate::lines::{
+    CountsLine, CutLine, EventLine, FoldLine, NodesLine, PlaceLine, VERSION, WaitingLine,
+};
+use crate::values::{answer_value, change_values, numbers_of, told_values};
+use ring_base::{Fault, Fixed, ProcSet};
+use ring_failure::Failure;
+use ring_payload::Call;
+use ring_session::Answer;
+use ring_trace_words::{
+    Change, Counts, Fold, Told, TraceVocabulary, TracedEvent, WaitReason, WaitingCall,
+};
+use serde::Serialize;
+use serde_json::to_string;
+use std::alloc::{Allocator, Global};
+use std::io::Write;
+
+/// A printer of the lines of a trace as JSON.
+/// Formats: The command line
+#[derive(Clone, Copy)]
+pub struct JsonPrinter {
+    /// The allocator for the text of a line.
+    pub alloc: Global,
+    /// Whether the lines are embedded in a page. Then `<` is written as `\u003c`, so that no string in them ends the page's
+    /// element that has them.
+    pub is_embedded: bool,
+}
+
+impl JsonPrinter {
+    /// Prints a value as a line.
+    fn print_line<T: Serialize, W: Write>(self, out: &mut W, line: &T) -> Result<(), Failure>
+        ensures { IfErr result IsOutputOrMemory }
+    {
+        match to_string(self.alloc, line) {
+            Ok(text) if self.is_embedded => print_embedded(out, text.as_str()),
+            Ok(text) => writeln!(out, "{text}").map_err(|_| Failure::Output),
+            Err(_) => Err(Failure::Refused(Fault::Memory)),
+        }
+    }
+
+    /// Prints the object of the nodes: the votes of each.
+    /// Errors: `Output` where the writer fails; `Refused` with `Memory`. A part of the line may be written.
+    /// Formats: The command line
+    pub fn print_nodes<W: Write>(self, out: &mut W, nodes: Fixed) -> Result<(), Failure>
+        ensures { IfErr result IsOutputOrMemory }
+    {
+        let votes = votes_of(self.alloc, nodes)?;
+        let line = NodesLine {
+            version: VERSION,
+            kind: "nodes",
+            votes,
+        };
+        self.print_line(out, &line)
+    }
+
+    /// Prints the object of an event: its description and its input, its changes to the node, the node's reports, and the frames
+    /// that it sent.
+    /// Errors: `Output` where the writer fails; `Refused` with `Memory`. A part of the line may be written.
+    /// Formats: The command line
+    pub fn print_event<A: Allocator + Copy, W: Write>(
+        self,
+        out: &mut W,
+        trace_vocabulary: &TraceVocabulary,
+        traced_event: &TracedEvent<'_>,
+        changes: &[Change],
+        told: &[Told<A>],
+        details: EventDetails,
+    ) -> Result<(), Failure>
+        ensures { IfErr result IsOutputOrMemory }
+    {
+        let told = told_values(self.alloc, trace_vocabulary, told)?;
+        let changes = change_values(self.alloc, changes, details.log)?;
+        let line = EventLine {
+            version: VERSION,
+            kind: "event",
+            event: traced_event.event,
+            node: traced_event.node.number(),
+            what: traced_event.what,
+            input: details.input,
+            changes,
+            told,
+            sends: details.sends,
+        };
+        self.print_line(out, &line)
+    }
+
+    /// Prints the object of a fold, events in which frames were delivered and nothing changed, with its turns.
+    /// Errors: as for [`print_event`](JsonPrinter::print_event).
+    /// Formats: The command line
+    pub fn print_fold<W: Write>(
+        self,
+        out: &mut W,
+        fold: &Fold,
+        turns: Vec<TurnValue>,
+    ) -> Result<(), Failure>
+        ensures { IfErr result IsOutputOrMemory }
+    {
+        let line = FoldLine {
+            version: VERSION,
+            kind: "fold",
+            first: fold.first,
+            last: fold.last,
+            frames: fold.frames,
+            rounds: fold.rounds,
+            lost: fold.lost,
+            turns,
+        };
+        self.print_line(out, &line)
+    }
+
+    /// Prints the object of a cut into these groups, for which `kind` is `cut`. After a cut has healed, `kind` is `heal` and
+    /// there are no groups.
+    /// Errors: as for [`print_event`](JsonPrinter::print_event).
+    /// Formats: The command line
+    pub fn print_cut<W: Write>(
+        self,
+        out: &mut W,
+        kind: &'static str,
+        groups: &[ProcSet],
+    ) -> Result<(), Failure>
+        ensures { IfErr result IsOutputOrMemory }
+    {
+        let groups = groups_of(self.alloc, groups)?;
+        let line = CutLine {
+            version: VERSION,
+            kind,
+            groups,
+        };
+        self.print_line(out, &line)
+    }
+
+    /// Prints the object with the counts of the events and frames of the whole run.
+    /// Errors: as for [`print_event`](JsonPrinter::print_event).
+    /// Formats: The command line
+    pub fn print_counts<W: Write>(self, out: &mut W, counts: Counts) -> Result<(), Failure>
+        ensures { IfErr result IsOutputOrMemory }
+    {
+        let line = CountsLine {
+            version: VERSION,
+            kind: "counts",
+            events: counts.events,
+            frames: counts.frames,
+        };
+        self.print_line(out, &line)
+    }
+
+    /// Prints the object of a call that has no answer at the end of the run, with the reason by its name and in words.
+    /// Errors: as for [`print_event`](JsonPrinter::print_event).
+    /// Formats: The command line
+    pub fn print_waiting<W: Write>(
+        self,
+        out: &mut W,
+        waiting: &WaitingCall,
+        why: &WaitReason,
+    ) -> Result<(), Failure>
+        ensures { IfErr result IsOutputOrMemory }
+    {
+        let reason = why.code();
+        let why = match format!(in self.alloc; "{why}") {
+            Ok(text) => text,
+            Err(_) => return Err(Failure::Refused(Fault::Memory)),
+        };
+        let line = WaitingLine {
+            version: VERSION,
+            kind: "no answer",
+            node: waiting.node.number(),
+            client: waiting.client,
+            number: waiting.number,
+            reason,
+            why,
+        };
+        self.print_line(out, &line)
+    }
+
+    /// Prints the object of a committed place of the log, counted from 0: its call, and the answer of the sessions to it.
+    /// Errors: as for [`print_event`](JsonPrinter::print_event).
+    /// Formats: The command line
+    pub fn print_place<A: Allocator + Copy, W: Write>(
+        self,
+        out: &mut W,
+        trace_vocabulary: &TraceVocabulary,
+        place: u64,
+        call: &Call<A>,
+        answer: &Answer,
+    ) -> Result<(), Failure>
+        ensures { IfErr result IsOutputOrMemory }
+    {
+        let value = answer_value(self.alloc, trace_vocabulary, call, answer)?;
+        let line = PlaceLine {
+            version: VERSION,
+            kind: "place",
+            place,
+            client: value.client,
+            number: value.number,
+            operation: value.operation,
+            outcome: value.outcome,
+            reply: value.reply,
+        };
+        self.print_line(out, &line)
+    }
+}
+
+/// Prints a line of JSON that has no `<`: it is only in strings, where `\u003c` stands for it.
+fn print_embedded<W: Write>(out: &mut W, text: &str) -> Result<(), Failure>
+    ensures { IfErr result (λ failure. failure ≡ Output) }
+{
+    let mut is_first = true;
+    for part in text.split('<') {
+        let before = if is_first { "" } else { "\\u003c" };
+        write!(out, "{before}{part}").map_err(|_| Failure::Output)?;
+        is_first = false;
+    }
+    writeln!(out).map_err(|_| Failure::Output)
+}
+
+/// Returns the votes of the nodes, in order.
+fn votes_of(alloc: Global, nodes: Fixed) -> Result<Vec<u32>, Fault>
+    ensures { IfErr result (λ fault. fault ≡ Memory) }
+{
+    let mut votes = Vec::new(alloc);
+    for node in nodes.everybody().iter() {
+        votes.push(nodes.votes_in(ProcSet::only(node)))?;
+    }
+    Ok(votes)
+}
+
+/// Returns the numbers of the nodes of each group.
+fn groups_of(alloc: Global, groups: &[ProcSet]) -> Result<Vec<Vec<u8>>, Fault>
+    ensures { IfErr result (λ fault. fault ≡ Memory) }
+{
+    let mut numbers = Vec::new(alloc);
+    for group in groups {
+        numbers.push(numbers_of(alloc, *group)?)?;
+    }
+    Ok(numbers)
+}

@@ -1,0 +1,2 @@
+pub mod TracePictures
+pub mod PictureModels

@@ -1,0 +1,94 @@
+//! The arcs of a picture: calls, from their submission to their answers.
+//! Formats: The command line
+
+ghost use Rattle.std.specs.Prelude.{◌≡◌, IfErr};
+ghost use Rattle.ring_base.specs.declared.fault.Fault.TheVariants.{Memory};
+
+use ring_base::{Fault, Proc};
+use std::alloc::Allocator;
+
+/// How a call of an arc ended.
+/// Formats: The command line
+#[derive(Clone, Copy, Debug, PartialEq, Eq)]
+pub(crate) enum ArcEnd {
+    /// It has no answer.
+    Waiting,
+    /// It took effect with its answer.
+    Done,
+    /// It was answered from before.
+    Kept,
+    /// The sessions refused it, or the node did not take it.
+    Refused,
+}
+
+/// A call, with its first and last column.
+/// Formats: The command line
+#[derive(Drop)]
+pub(crate) struct CallArc<A: Allocator> {
+    /// The node at which it was submitted.
+    pub node: Proc,
+    /// The client that made it.
+    pub client: u32,
+    /// The number that the client gave it.
+    pub number: u64,
+    /// The column in which it was submitted, or in which a picture begins while it waits.
+    pub from: u64,
+    /// The column in which it ended, if it ended.
+    pub to: Option<u64>,
+    /// How it ended.
+    pub end: ArcEnd,
+    /// What is said of it: the event that submitted it, or its answer.
+    pub title: String<A>,
+}
+
+/// The arcs of a picture, in the order of their first columns.
+/// Formats: The command line
+#[derive(Drop)]
+pub(crate) struct CallArcs<A: Allocator> {
+    arcs: Vec<CallArc<A>, A>,
+}
+
+impl<A: Allocator + Copy> CallArcs<A> {
+    /// Returns a list without arcs, which takes no memory yet.
+    pub fn new(alloc: A) -> CallArcs<A> {
+        CallArcs {
+            arcs: Vec::new(alloc),
+        }
+    }
+
+    /// Returns all arcs.
+    pub fn arcs(&self) -> &[CallArc<A>] {
+        self.arcs.as_slice()
+    }
+
+    /// Adds the arc of a call at the end.
+    /// Errors: `Memory`; it isn't added.
+    pub fn add(&mut self, arc: CallArc<A>) -> Result<(), Fault>
+        ensures { IfErr result (λ fault. fault ≡ Memory) }
+    {
+        self.arcs.push(arc)?;
+        Ok(())
+    }
+
+    /// Ends the first arc of this call that has no end, in this column. Nothing changes where there is none.
+    pub fn end(
+        &mut self,
+        (node, client, number): (Proc, u32, u64),
+        column: u64,
+        end: ArcEnd,
+        title: String<A>,
+    ) {
+        let mut title = Some(title);
+        for arc in self.arcs.iter_mut() {
+            let is_of = arc.node == node && arc.client == client && arc.number == number;
+            if is_of
+                && arc.end == ArcEnd::Waiting
+                && let Some(words) = title.take()
+            {
+                arc.to = Some(column);
+                arc.end = end;
+                arc.title = words;
+            }
+        }
+    }
+}

@@ -1,0 +1,163 @@
+//! The layout of a picture. A run is one long strip of columns, which is cut into bands of equal width, one below the other.
+//! Formats: The command line
+
+use ring_base::{MAX_PROCESSORS, Proc};
+
+/// The width of a column, in points, as all lengths of a picture.
+const COLUMN: u64 = 16;
+
+/// The height of the space above all lanes, for the sides of cuts.
+const HEAD: u64 = 24;
+
+/// The height of a lane: calls, a bar, and the committed length.
+const LANE: u64 = 56;
+
+/// The part of a lane above its bar.
+const ABOVE: u64 = 26;
+
+/// The height of the space below all lanes: rounds, lost copies, and the events' numbers.
+const FOOT: u64 = 50;
+
+/// The width of the space left of a band.
+const MARGIN: u64 = 64;
+
+/// The width of the space right of a band's columns, for texts that begin in its last columns.
+const BEHIND: u64 = 80;
+
+/// The width of a picture.
+const WIDTH: u64 = 1_200;
+
+/// The most columns of a band.
+const MOST: u64 = 66;
+
+/// The height of the legend.
+const LEGEND: u64 = 92;
+
+/// The size of a picture. A strip shows the whole run in one row, and each band of the picture shows some columns of the strip.
+/// All lengths and positions are in points, from the left and from the top.
+/// Formats: The command line
+#[derive(Clone, Copy)]
+pub(crate) struct Canvas {
+    /// The number of columns, one of them for the opening.
+    pub columns: u64,
+    /// The number of lanes, one for each node shown.
+    pub lanes: u8,
+    /// The number of the node with the first lane.
+    pub first: u8,
+}
+
+/// A band of a picture: the columns from `begin` to below `end`, counted from 0.
+/// Formats: The command line
+#[derive(Clone, Copy)]
+pub(crate) struct Band {
+    /// The index of the band, counted from 0.
+    pub index: u64,
+    /// The first column.
+    pub begin: u64,
+    /// The first column behind it.
+    pub end: u64,
+}
+
+impl Band {
+    /// Returns whether the band has this column.
+    pub fn has(self, column: u64) -> bool {
+        self.begin <= column && column < self.end
+    }
+}
+
+impl Canvas {
+    /// Returns the node with the lane of this index, counted from 0.
+    pub fn node(self, before: u8) -> Proc {
+        let number = self.first.saturating_add(before);
+        if 1 <= number && number <= MAX_PROCESSORS {
+            Proc::new(number)
+        } else {
+            Proc::new(1)
+        }
+    }
+
+    /// Returns the left edge of the column with this index, counted from 0, in the strip.
+    pub fn x(self, column: u64) -> u64 {
+        column.saturating_mul(COLUMN)
+    }
+
+    /// Returns the upper edge of a node's bar, in the strip and in a band. The node has a lane.
+    pub fn y(self, node: Proc) -> u64 {
+        let before = node.number().saturating_sub(self.first);
+        u64::from(before)
+            .saturating_mul(LANE)
+            .saturating_add(HEAD + ABOVE)
+    }
+
+    /// Returns the lower edge of the last lane, in the strip and in a band.
+    pub fn foot(self) -> u64 {
+        u64::from(self.lanes)
+            .saturating_mul(LANE)
+            .saturating_add(HEAD)
+    }
+
+    /// Returns the height of the strip, which is also that of a band.
+    pub fn bottom(self) -> u64 {
+        self.foot().saturating_add(FOOT)
+    }
+
+    /// Returns the number of bands, at least 1.
+    pub fn bands(self) -> u64 {
+        (self.columns.saturating_sub(1) / MOST).saturating_add(1)
+    }
+
+    /// Returns the number of columns of a band, at most 66. The last band may have fewer.
+    fn columns_of_band(self) -> u64 {
+        let bands = self.bands();
+        let rounded = self.columns.saturating_add(bands).saturating_sub(1);
+        if bands == 0 { MOST } else { rounded / bands }
+    }
+
+    /// Returns the band of this index, counted from 0.
+    pub fn band(self, index: u64) -> Band {
+        let columns = self.columns_of_band();
+        let begin = index.saturating_mul(columns);
+        Band {
+            index,
+            begin,
+            end: begin.saturating_add(columns).min(self.columns),
+        }
+    }
+
+    /// Returns the upper edge of a band in the picture.
+    pub fn top(self, band: Band) -> u64 {
+        self.bottom().saturating_mul(band.index)
+    }
+
+    /// Returns the left edge of the bands in the picture.
+    pub fn left(self) -> u64 {
+        MARGIN
+    }
+
+    /// Returns the width of what a band shows of the strip: its columns, and the space behind them.
+    pub fn shown(self) -> u64 {
+        self.x(self.columns_of_band()).saturating_add(BEHIND)
+    }
+
+    /// Returns the left edge in the strip of a text of this width, which begins at `x` in a band: further left where the band
+    /// ends before the text.
+    pub fn fitted(self, band: Band, x: u64, width: u64) -> u64 {
+        let end = self.x(band.begin).saturating_add(self.shown());
+        x.min(end.saturating_sub(width)).max(self.x(band.begin))
+    }
+
+    /// Returns the upper edge of the legend, which is below all bands.
+    pub fn legend(self) -> u64 {
+        self.bottom().saturating_mul(self.bands())
+    }
+
+    /// Returns the width of the picture, 1,200 points.
+    pub fn width(self) -> u64 {
+        WIDTH
+    }
+
+    /// Returns the height of the picture.
+    pub fn height(self) -> u64 {
+        self.legend().saturating_add(LEGEND)
+    }
+}

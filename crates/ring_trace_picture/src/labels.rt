@@ -1,0 +1,49 @@
+//! Rows of labels that don't cover one another.
+//! Formats: The command line
+
+/// Two rows of labels, one above the other. Labels are placed from left to right.
+#[derive(Clone, Copy)]
+pub(crate) struct LabelRows {
+    /// The right edge of the last label in the lower row.
+    lower: u64,
+    /// The right edge of the last label in the upper row.
+    upper: u64,
+}
+
+/// A row for a label.
+#[derive(Clone, Copy, PartialEq, Eq)]
+pub(crate) enum LabelRow {
+    Lower,
+    Upper,
+}
+
+impl LabelRows {
+    /// Returns two rows without labels.
+    pub fn new() -> LabelRows {
+        LabelRows { lower: 0, upper: 0 }
+    }
+
+    /// Places a label with this left edge and width, and returns its row: the lower one where it is free there. Returns `None`
+    /// where neither is free.
+    pub fn place(&mut self, x: u64, width: u64) -> Option<LabelRow> {
+        let end = x.saturating_add(width);
+        if self.lower <= x {
+            self.lower = end;
+            return Some(LabelRow::Lower);
+        }
+        if self.upper <= x {
+            self.upper = end;
+            return Some(LabelRow::Upper);
+        }
+        None
+    }
+
+    /// Places a label as `place` does, in the lower row or nowhere. Returns whether it is placed.
+    pub fn place_below(&mut self, x: u64, width: u64) -> bool {
+        let is_free = self.lower <= x;
+        if is_free {
+            self.lower = x.saturating_add(width);
+        }
+        is_free
+    }
+}

@@ -1,0 +1,129 @@
+//! The lane of a node in a band: the boxes of its states and rings.
+//! Formats: The command line
+
+use crate::bands::letters_of;
+use crate::canvas::{Band, Canvas};
+use crate::mark::{LaneColour, PictureMark, PlacedMark};
+use crate::shapes::{LETTER, write_bar, write_ring, write_stop};
+use ring_base::{Proc, ProcSet, RingId, State};
+use std::io::{self, Write};
+
+/// A part of a lane in one colour.
+#[derive(Clone, Copy)]
+struct LaneBox {
+    colour: LaneColour,
+    /// The ring that the node installed where the box begins, if it installed one.
+    ring: Option<(RingId, ProcSet)>,
+    /// The first column.
+    from: u64,
+}
+
+/// The name of a ring that isn't written yet, since the next name of the lane decides how long it may be.
+#[derive(Clone, Copy)]
+struct RingLabel {
+    ring: (RingId, ProcSet),
+    column: u64,
+}
+
+/// Writes a node's lane in a band. The marks are those of the whole picture.
+/// Errors: those of `out`. A part may then be written.
+/// Formats: The command line
+pub(crate) fn write_lane<W: Write>(
+    out: &mut W,
+    canvas: Canvas,
+    band: Band,
+    lane: Proc,
+    placed: &[PlacedMark],
+) -> io::Result<()> {
+    let mut last = LaneBox {
+        colour: LaneColour::State(State::Gather),
+        ring: None,
+        from: 0,
+    };
+    let mut label = None;
+    for placed in placed {
+        match &placed.mark {
+            PictureMark::LaneColour { node, colour } if *node == lane => {
+                write_lane_box(out, canvas, band, lane, last, placed.column, &mut label)?;
+                last = LaneBox {
+                    colour: *colour,
+                    ring: None,
+                    from: placed.column,
+                };
+            }
+            PictureMark::Ring {
+                node,
+                ring,
+                members,
+            } if *node == lane => last.ring = Some((*ring, *members)),
+            _ => {}
+        }
+    }
+    write_last_box(out, canvas, band, lane, last, &mut label)
+}
+
+/// Writes the last box of a lane, to the end or with the mark that the node stopped, and the name that isn't written yet.
+fn write_last_box<W: Write>(
+    out: &mut W,
+    canvas: Canvas,
+    band: Band,
+    lane: Proc,
+    last: LaneBox,
+    label: &mut Option<RingLabel>,
+) -> io::Result<()> {
+    if last.colour == LaneColour::State(State::Stopped) {
+        if band.has(last.from) {
+            write_stop(out, canvas, lane, last.from)?;
+        }
+        return write_label(out, canvas, lane, label, canvas.x(last.from));
+    }
+    write_lane_box(out, canvas, band, lane, last, canvas.columns, label)?;
+    let end = canvas.x(band.begin).saturating_add(canvas.shown());
+    write_label(out, canvas, lane, label, end)
+}
+
+/// Writes the part of a box that a band has, up to this column. The name of its ring is kept for later, where it has one, and
+/// the name kept before it is written.
+fn write_lane_box<W: Write>(
+    out: &mut W,
+    canvas: Canvas,
+    band: Band,
+    lane: Proc,
+    lane_box: LaneBox,
+    to: u64,
+    label: &mut Option<RingLabel>,
+) -> io::Result<()> {
+    let from = lane_box.from.max(band.begin);
+    let to = to.min(band.end);
+    if from >= to {
+        return Ok(());
+    }
+    if let Some(ring) = &lane_box.ring {
+        write_label(out, canvas, lane, label, canvas.x(from))?;
+        *label = Some(RingLabel {
+            ring: *ring,
+            column: from,
+        });
+    }
+    write_bar(out, canvas, lane, lane_box.colour, from, to)
+}
+
+/// Writes the name that is kept, if there is one, so that it ends before `end`: with the ring's members, without them, or not at
+/// all.
+fn write_label<W: Write>(
+    out: &mut W,
+    canvas: Canvas,
+    lane: Proc,
+    label: &Option<RingLabel>,
+    end: u64,
+) -> io::Result<()> {
+    let Some(RingLabel { ring, column }) = *label else {
+        return Ok(());
+    };
+    let room = end.saturating_sub(canvas.x(column)) / LETTER;
+    let has_members = letters_of(ring.1).saturating_add(5) <= room;
+    if has_members || room >= 4 {
+        write_ring(out, canvas, lane, ring, column, has_members)?;
+    }
+    Ok(())
+}

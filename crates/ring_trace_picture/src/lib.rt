@@ -1,0 +1,17 @@
+//! A trace as a picture in SVG.
+//! Formats: The command line
+#![tactic(auto)]
+
+mod arcs;
+mod bands;
+mod canvas;
+mod labels;
+mod lane;
+mod mark;
+mod picture;
+mod shapes;
+mod trace_picture;
+
+pub use mark::{LaneColour, PictureMark};
+pub use picture::Picture;
+pub use trace_picture::TracePicture;

@@ -1,0 +1,164 @@
+//! A picture under construction.
+//! Formats: The command line
+
+ghost use Rattle.std.specs.Prelude.{◌≡◌, OnOk, OnErr, IfErr};
+ghost use Rattle.ring_base.specs.declared.fault.Fault.TheVariants.{Memory};
+ghost use Rattle.ring_trace_picture.specs.PictureModels.{opening_picture, column_begun, mark_added};
+
+use crate::arcs::{ArcEnd, CallArc, CallArcs};
+use crate::bands::write_band;
+use crate::canvas::Canvas;
+use crate::mark::{PictureMark, PlacedMark};
+use crate::shapes::{write_end, write_head, write_legend, write_rest};
+use ring_base::{Fault, Fixed, Proc};
+use ring_trace_words::WaitingCall;
+use std::alloc::Allocator;
+use std::io::{self, Write};
+use std::marker::Model;
+
+/// The most columns of a picture.
+const MAX_COLUMNS: u64 = 2_000;
+
+/// The picture of a run under construction, with a column for each event shown. Contracts see it as a `PictureModel`.
+/// Formats: The command line
+#[derive(Drop)]
+pub struct Picture<A: Allocator> {
+    alloc: A,
+    nodes: Fixed,
+    /// The node with the only lane, or `None` for a lane each.
+    only: Option<Proc>,
+    columns: u64,
+    placed: Vec<PlacedMark, A>,
+    /// The first event without a column, if there is one.
+    rest: Option<u64>,
+    /// The calls, as far as they have columns.
+    arcs: CallArcs<A>,
+}
+
+impl<A: Allocator> Model for Picture<A> {
+    ghost use Rattle.std.specs.Prelude.{◌≤◌};
+    ghost use Rattle.ring_trace_picture.specs.PictureModels.{PictureModel};
+
+    ghost Value = { PictureModel };
+
+    ghost view = { λ p. record { nodes = p.nodes; only = p.only; columns = p.columns; placed = p.placed.items; rest = p.rest } };
+
+    ghost invariant = { λ p. p.columns ≤ 2000 };
+}
+
+impl<A: Allocator + Copy> Picture<A> {
+    /// Creates the picture of these nodes at their opening. It has a lane for each node, or for `only` alone if that is
+    /// given. The last column is column 0, which comes before all events.
+    /// Formats: The command line
+    pub fn new(alloc: A, nodes: Fixed, only: Option<Proc>) -> Picture<A>
+        ensures { result ≡ opening_picture nodes only }
+    {
+        Picture {
+            alloc,
+            nodes,
+            only,
+            columns: 0,
+            placed: Vec::new(alloc),
+            rest: None,
+            arcs: CallArcs::new(alloc),
+        }
+    }
+
+    /// Begins the next column, for this event. A picture has at most 2,000 columns: once an event has no column, all later
+    /// marks are left out.
+    /// Formats: The command line
+    pub fn begin(&mut self, event: u64)
+        ensures { self.new ≡ column_begun self.old event }
+    {
+        if self.columns < MAX_COLUMNS {
+            self.columns += 1;
+        } else {
+            self.rest = Some(self.rest.unwrap_or(event));
+        }
+    }
+
+    /// Adds a mark to the last column, unless an event before has no column.
+    /// Errors: `Memory`; nothing is added.
+    pub fn add(&mut self, mark: PictureMark) -> Result<(), Fault>
+        ensures ok { OnOk result (self.new ≡ mark_added self.old mark) }
+        ensures err { OnErr result (self.new ≡ self.old) }
+        ensures refused { IfErr result (λ fault. fault ≡ Memory) }
+    {
+        if self.rest.is_none() {
+            let column = self.columns;
+            self.placed.push(PlacedMark { column, mark })?;
+        }
+        Ok(())
+    }
+
+    /// Begins the arc of a call in the last column, unless an event before has no column. `what` is what is said of the call
+    /// until it ends.
+    /// Errors: `Memory`; it isn't begun.
+    pub(crate) fn begin_arc(&mut self, call: &WaitingCall, what: &str) -> Result<(), Fault>
+        ensures same { self.new ≡ self.old }
+        ensures refused { IfErr result (λ fault. fault ≡ Memory) }
+    {
+        if self.rest.is_some() {
+            return Ok(());
+        }
+        let title = String::from_str(self.alloc, what)?;
+        self.arcs.add(CallArc {
+            node: call.node,
+            client: call.client,
+            number: call.number,
+            from: self.columns,
+            to: None,
+            end: ArcEnd::Waiting,
+            title,
+        })
+    }
+
+    /// Ends the arc of a call in the last column, unless an event before has no column. The title is what is said of the call.
+    pub(crate) fn end_arc(&mut self, call: (Proc, u32, u64), end: ArcEnd, title: String<A>)
+        ensures { self.new ≡ self.old }
+    {
+        if self.rest.is_none() {
+            self.arcs.end(call, self.columns, end, title);
+        }
+    }
+
+    /// Writes the picture as SVG. Where events are left out, it names the first of them and `last`, the last event asked
+    /// for.
+    /// Errors: those of the writer. A part of the picture may be written.
+    /// Formats: The command line
+    pub fn write<W: Write>(&self, out: &mut W, last: u64) -> io::Result<()> {
+        let canvas = self.canvas();
+        write_head(out, canvas)?;
+        for index in 0..canvas.bands() {
+            write_band(
+                out,
+                canvas,
+                canvas.band(index),
+                &self.placed,
+                self.arcs.arcs(),
+            )?;
+        }
+        write_legend(out, canvas)?;
+        if let Some(event) = self.rest {
+            write_rest(out, canvas, event, last)?;
+        }
+        write_end(out)
+    }
+
+    /// Returns the size of the picture.
+    fn canvas(&self) -> Canvas {
+        let columns = self.columns.saturating_add(1);
+        match self.only {
+            Some(only) => Canvas {
+                columns,
+                lanes: 1,
+                first: only.number(),
+            },
+            None => Canvas {
+                columns,
+                lanes: self.nodes.count(),
+                first: 1,
+            },
+        }
+    }
+}

@@ -1,4 +1,0 @@
-pub mod Keyed
-pub mod KeyedLaws
-pub mod Reads
-pub mod Typed

@@ -1,6 +1,0 @@
-use Rattle.std.proofs.Common.{◌≡◌, ◌*◌, true}
-use Rattle.ring_wire.specs.Entries.{held_test}
-use Rattle.ring_wire.proofs.entries.CommitEntry.is_held_right.Given as goal
-
-abbrev pub invariant-loop-byte : goal.invariant-loop-byte
-invariant-loop-byte l = held_test l.self.front l.self.mark l.self.held (8 * l.byte) ≡ true

@@ -1,8 +1,0 @@
--- The most of those before.
-use Rattle.std.proofs.Common.{◌≡◌, take}
-use Rattle.ring_base.specs.Numbers.{greatest}
-use Rattle.ring_world.specs.Ordering.{effects_in}
-use Rattle.ring_world.proofs.order.most_effects.Given as goal
-
-abbrev pub invariant-loop-node : goal.invariant-loop-node
-invariant-loop-node g l = l.most ≡ greatest (effects_in g.O.Object.sequential (take l.node-index l.nodes))

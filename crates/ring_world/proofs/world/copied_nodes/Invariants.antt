@@ -1,6 +1,0 @@
--- The nodes so far are copied.
-use Rattle.std.proofs.Common.{◌≡◌, take}
-use Rattle.ring_world.proofs.world.copied_nodes.Given as goal
-
-abbrev pub invariant-loop-node : goal.invariant-loop-node
-invariant-loop-node g l = l.copies.items ≡ take l.node-index l.nodes

@@ -1,0 +1,103 @@
+//! The copies that frames open: one for each receiver, ordered by the frame's number, then by receiver.
+//! Formats: Pump
+
+ghost use Rattle.std.specs.Prelude.{◌≡◌, ◌+◌, true, false, IsTrue, slice_get};
+ghost use Rattle.ring_base.specs.Processors.{nobody};
+ghost use Rattle.ring_world.specs.OpenCopies.{frames_of, open_copies_from, IsReached, IsFirstCopyTaken};
+
+use crate::World;
+use ring_base::{Proc, ProcSet};
+use ring_object::Object;
+
+/// A copy of a frame on its way from its sender to one of its receivers, which may be the sender itself.
+/// Formats: Pump
+#[derive(Clone, Copy)]
+pub struct OpenCopy {
+    /// The frame's number, counted from 1 in the order sent.
+    pub frame: u64,
+    /// The processor that sent the frame.
+    pub sender: Proc,
+    /// The processor to which this copy goes, one of the frame's receivers.
+    pub receiver: Proc,
+}
+
+/// The set of open copies: some copies of one frame, and all copies of every later frame. It takes no memory.
+/// Formats: Pump
+#[derive(Clone, Copy)]
+pub(crate) struct OpenCopies {
+    /// The number of the frame that has some copies open; 0 before the first.
+    frame: u64,
+    sender: Proc,
+    /// The receivers whose copies of it are open.
+    left: ProcSet,
+}
+
+impl OpenCopies {
+    /// Returns the set in which all copies of all frames are open.
+    pub(crate) fn new() -> OpenCopies
+        ensures { result ≡ record { frame = 0; sender = 1; left = nobody } }
+    {
+        OpenCopies {
+            frame: 0,
+            sender: Proc::new(1),
+            left: ProcSet::new(),
+        }
+    }
+
+    /// Returns the first open copy of the world's frames, or `None` if none is open. The set is unchanged.
+    /// The world has sent the frame that the set has reached.
+    /// Formats: Pump
+    pub(crate) fn first<O: Object>(&self, world: &World<O>) -> Option<OpenCopy>
+        requires { IsReached self.now (frames_of O.sequential world.now) }
+        ensures { result ≡ slice_get (open_copies_from self.now (frames_of O.sequential world.now)) 0 }
+    {
+        let mut open_copies = *self;
+        open_copies.close_first_copy(world)
+    }
+
+    /// Closes the first open copy of the world's frames and returns it, or returns `None` if none is open.
+    /// The world has sent the frame that the set has reached. Frames without receivers are passed over.
+    /// Formats: Pump
+    pub(crate) fn close_first_copy<O: Object>(&mut self, world: &World<O>) -> Option<OpenCopy>
+        requires { IsReached self.old (frames_of O.sequential world.now) }
+        ensures takes { IsFirstCopyTaken (open_copies_from self.old (frames_of O.sequential world.now)) result (open_copies_from self.new (frames_of O.sequential world.now)) }
+        ensures reached { IsReached self.new (frames_of O.sequential world.now) }
+    {
+        while self.left.is_empty() {
+            if !self.advance(world) {
+                return None;
+            }
+        }
+        let receiver = self.left.smallest()?;
+        self.left = self.left.less(ProcSet::only(receiver));
+        Some(OpenCopy {
+            frame: self.frame,
+            sender: self.sender,
+            receiver,
+        })
+    }
+
+    /// Advances to the next frame; no copy of the present one is open. Returns whether there is a next frame.
+    fn advance<O: Object>(&mut self, world: &World<O>) -> bool
+        requires none { self.old.left ≡ nobody }
+        requires reached { IsReached self.old (frames_of O.sequential world.now) }
+        ensures same { open_copies_from self.new (frames_of O.sequential world.now) ≡ open_copies_from self.old (frames_of O.sequential world.now) }
+        ensures reached { IsReached self.new (frames_of O.sequential world.now) }
+        ensures next { result ≡ true → self.new.frame ≡ self.old.frame + 1 }
+        ensures last { result ≡ false → IsFirstCopyTaken (open_copies_from self.old (frames_of O.sequential world.now)) None
+            (open_copies_from self.new (frames_of O.sequential world.now)) }
+    {
+        let Some(number) = self.frame.checked_add(1) else {
+            return false;
+        };
+        match world.frame(number) {
+            Some(sent) => {
+                self.frame = number;
+                self.sender = sent.0;
+                self.left = sent.1;
+                true
+            }
+            None => false,
+        }
+    }
+}

@@ -1,0 +1,68 @@
+//! Messages for bad command lines, with the usage of the command that the words name.
+//!
+//! Formats: The command line
+
+use crate::forms::{command_of, named_command};
+use clap::error::ErrorKind;
+use clap::{Command, Error};
+use std::alloc::{AllocError, Global};
+
+/// The beginning of each of the parser's messages.
+const BEGINNING: &str = "error: ";
+
+/// The end of each of the parser's messages that shows no usage.
+const END: &str = "\n\nFor more information, try '--help'.\n";
+
+/// Returns the parser's message for these words, with the usage of their command where the value of an option is bad. The
+/// parser itself shows none there.
+/// Formats: The command line
+pub(crate) fn with_usage(alloc: Global, words: &[String], error: Error) -> Error {
+    match error.kind() {
+        ErrorKind::InvalidValue | ErrorKind::ValueValidation => again(alloc, words, &error),
+        _ => error,
+    }
+}
+
+/// Returns the message of the error, with the usage of the command that the words name.
+fn again(alloc: Global, words: &[String], error: &Error) -> Error {
+    match format!(in alloc; "{error}") {
+        Ok(text) => usage_error(alloc, words, message_in(text.as_str())),
+        Err(refused) => Error::from(refused),
+    }
+}
+
+/// Returns the message in the parser's text, without its beginning and its end.
+fn message_in(text: &str) -> &str {
+    let text = text.strip_prefix(BEGINNING).unwrap_or(text);
+    text.strip_suffix(END).unwrap_or(text)
+}
+
+/// Returns the parser's message for words with this fault, with the usage of their command. It has the kind `OutOfMemory`
+/// where memory is refused.
+/// Formats: The command line
+pub(crate) fn usage_error(alloc: Global, words: &[String], wrong: &str) -> Error {
+    match command_among(alloc, words) {
+        Ok(mut command) => error_of(&mut command, wrong),
+        Err(refused) => Error::from(refused),
+    }
+}
+
+/// Returns the parser's message for a command line with this fault, with the usage of the command.
+fn error_of(command: &mut Command<'_>, wrong: &str) -> Error {
+    match command.error(ErrorKind::ValueValidation, wrong) {
+        Ok(error) => error,
+        Err(refused) => Error::from(refused),
+    }
+}
+
+/// Returns the command that the words name, or the whole program where they name none.
+fn command_among<'a>(alloc: Global, words: &[String]) -> Result<Command<'a>, AllocError> {
+    let named = match words.get(1) {
+        Some(name) => named_command(alloc, name.as_str())?,
+        None => None,
+    };
+    match named {
+        Some(command) => Ok(command),
+        None => command_of(alloc),
+    }
+}

@@ -1,0 +1,43 @@
+/* The Redis clients of this node, each with a TCP connection. A connection has one command under way; those that it sent behind
+ * that wait in its buffer, so its replies come in the order of its commands. */
+#ifndef SERVICE_CONNECTIONS_H
+#define SERVICE_CONNECTIONS_H
+
+#include "objects.h"
+
+#include <poll.h>
+#include <stddef.h>
+
+enum { MAX_CONNECTIONS = 512 };
+
+struct connection;
+
+extern unsigned connection_count;
+
+/* How many connections have a command under way. */
+unsigned count_waiting(void);
+
+/* Opens the socket at which clients connect. Returns it. */
+int open_connections(void);
+
+/* Writes what each connection waits for. Returns how many it wrote: MAX_CONNECTIONS at most. */
+size_t list_events(struct pollfd *waits);
+
+/* Handles what `list_events` waited for: reads commands and sends replies. */
+void handle_events(const struct pollfd *waits, size_t count);
+
+/* Accepts all clients that wait. */
+void accept_connections(int listener);
+
+/* Runs the commands that can be run, and sends replies. */
+void serve_connections(void);
+
+/* The object's answer to the connection's command, as `settle_call` has it. */
+void answer_connection(struct connection *connection, unsigned char kind, const unsigned char *reply, size_t length);
+
+/* The node refused the connection's command, which was not submitted and is to be tried again. */
+void resume_connection(struct connection *connection);
+
+/* Answers the commands under way with an error, and closes all connections. */
+void close_connections(void);
+#endif
