@@ -50,7 +50,7 @@ from histories import Try, counter_faults, register_faults, try_checkers
 from networks import HOST, Loopback, Namespaces, Relay
 
 TOP = Path(__file__).resolve().parent.parent
-FOLDER = TOP / "examples" / "service"
+FOLDER, COMMON = TOP / "examples" / "service", TOP / "examples" / "common"
 PATIENCE, FAULTS = 0.25, "kill holder stop0.5 stop2 stop5 cut_one cut_minority".split()
 LIMIT = 15.0  # seconds until a node must answer again
 GROUPS = itertools.count()
@@ -58,7 +58,7 @@ GROUPS = itertools.count()
 
 def built(folder: Path, options: argparse.Namespace) -> Path:
     """The service as a program."""
-    words = ["cc", "-O2", "-Wall", "-Wextra", "-Werror", "-o", folder / "service", *sorted(FOLDER.glob("*.c")), "-lsodium"]
+    words = ["cc", "-O2", "-Wall", "-Wextra", "-Werror", "-o", folder / "service", *sorted(FOLDER.glob("*.c")), *sorted(COMMON.glob("*.c")), "-lsodium"]
     words += ["-g", "-fsanitize=address,undefined", "-fno-sanitize-recover=all"] if options.sanitize else []
     if options.library:
         # The part of the toolchain's C library that the library for C calls: its heap.

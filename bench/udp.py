@@ -38,19 +38,20 @@ import time
 from pathlib import Path
 
 TOP = Path(__file__).resolve().parent.parent
-EXAMPLE, COUNTER = TOP / "examples" / "udp" / "udp_node.c", TOP / "examples" / "library" / "counter.c"
+EXAMPLE = [TOP / "examples" / "udp" / "udp_node.c", *sorted((TOP / "examples" / "common").glob("*.c"))]
+COUNTER = TOP / "examples" / "library" / "counter.c"
 ADD, READ = "0101" + "00", "0102" + "00"
 
 
 def built(totem, folder, options):
     """The example as a program, which runs the program `totem` beside it, or has the library within it."""
     if not options.library:
-        return compiled(folder / "udp_node", [EXAMPLE])
+        return compiled(folder / "udp_node", EXAMPLE)
     # The part of the toolchain's C library that the library for C calls: its heap.
     parts = [f"-I{TOP / 'include'}", totem, Path(options.kit) / "c" / "liblibc_c.a"]
     counter = compiled(folder / "counter", ["-fsanitize=address", COUNTER, *parts])
     print(subprocess.run([counter], check=True, stdout=subprocess.PIPE, text=True, timeout=60).stdout, end="", flush=True)
-    return compiled(folder / "udp_node", ["-DTOTEM_LIBRARY", EXAMPLE, *parts])
+    return compiled(folder / "udp_node", ["-DTOTEM_LIBRARY", *EXAMPLE, *parts])
 
 
 def compiled(program, words):

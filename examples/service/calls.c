@@ -1,9 +1,9 @@
 #include "calls.h"
 
-#include "bytes.h"
+#include "../common/bytes.h"
+#include "../common/group.h"
+#include "../common/node.h"
 #include "connections.h"
-#include "node.h"
-#include "options.h"
 
 #include <string.h>
 
@@ -15,8 +15,7 @@ struct client {
 };
 
 struct call_counts call_counts;
-static struct client clients[CLIENTS], *without_ticket[CLIENTS]; /* those whose call was submitted last, in this order */
-static unsigned without_ticket_count;
+static struct client clients[CLIENTS];
 
 static struct client *find_client(void) {
     static unsigned last;
@@ -31,19 +30,17 @@ int submit_call(struct connection *asker, const unsigned char *operation, size_t
     unsigned char bytes[12 + OPERATION_BYTES];
     struct client *client = find_client();
     if (!client) return 0;
-    put_bytes(bytes, (uint64_t)(CLIENTS * (options.me - 1) + (client - clients)), 4);
+    put_bytes(bytes, (uint64_t)(CLIENTS * (group.me - 1) + (client - clients)), 4);
     put_bytes(bytes + 4, ++client->number, 8);
     memcpy(bytes + 12, operation, length);
-    write_call(bytes, 12 + length);
+    give_call(bytes, 12 + length, client);
     client->state = OPEN;
     client->asker = asker;
-    without_ticket[without_ticket_count++] = client;
     return 1;
 }
 
-void note_ticket(const uint64_t *ticket) {
-    struct client *client = without_ticket[0];
-    memmove(without_ticket, without_ticket + 1, --without_ticket_count * sizeof *without_ticket);
+void note_ticket(void *call, const uint64_t *ticket) {
+    struct client *client = call;
     if (ticket) {
         client->ticket = *ticket;
         return;
@@ -64,7 +61,7 @@ void abandon_call(const struct connection *asker) {
 
 /* A call that the sessions refused shows that its client is known to the group by calls of another program, or is one too many:
  * it makes no other. */
-void settle_call(uint64_t ticket, unsigned char kind, const unsigned char *reply, size_t length) {
+static void settle_call(uint64_t ticket, unsigned char kind, const unsigned char *reply, size_t length) {
     for (struct client *client = clients; client < clients + CLIENTS; client++) {
         if (client->state != OPEN || client->ticket != ticket) continue;
         client->state = kind == 'R' ? RETIRED : FREE;
@@ -73,4 +70,8 @@ void settle_call(uint64_t ticket, unsigned char kind, const unsigned char *reply
         if (client->asker) answer_connection(client->asker, kind, reply, length);
         else call_counts.unsettled--;
     }
+}
+
+void handle_record(unsigned char kind, const unsigned char *bytes, size_t length) {
+    if (kind == 'D' || kind == 'K' || kind == 'R') settle_call(number_at(bytes, 8), kind, bytes + 8, length - 8);
 }

@@ -19,10 +19,4 @@ int submit_call(struct connection *asker, const unsigned char *operation, size_t
 
 /* Nobody waits for the connection's call any more. It may still take effect, and its client has no other call until it is answered. */
 void abandon_call(const struct connection *asker);
-
-/* The node gave the ticket of the first call that has none yet, or NULL where it refused the call. */
-void note_ticket(const uint64_t *ticket);
-
-/* The node answered a ticket: D or K with a reply, R with the number of a refusal. */
-void settle_call(uint64_t ticket, unsigned char kind, const unsigned char *reply, size_t length);
 #endif

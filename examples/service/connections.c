@@ -1,10 +1,11 @@
 #define _GNU_SOURCE
 #include "connections.h"
 
+#include "../common/clock.h"
+#include "../common/group.h"
+#include "../common/node.h"
 #include "calls.h"
-#include "clock.h"
 #include "info.h"
-#include "node.h"
 #include "options.h"
 
 #include <errno.h>
@@ -112,7 +113,7 @@ static void run_command(struct connection *connection, const struct words *words
         connection->is_closing = 1;
     } else if (make_operation(words, &connection->operation, error)) {
         connection->state = WAITING;
-        connection->deadline = now() + (uint64_t)options.deadline;
+        connection->deadline = now() + (uint64_t)options.deadline * MILLISECOND;
     } else put_line(output, error);
 }
 
@@ -187,7 +188,7 @@ static int is_done(const struct connection *connection) {
 }
 
 /* Each time another connection is the first, so that each gets a free client in its turn. */
-void serve_connections(void) {
+void run_commands(void) {
     static unsigned first;
     first++;
     for (unsigned i = 0; i < connection_count; i++) {
@@ -195,7 +196,9 @@ void serve_connections(void) {
         do advance_command(connection);
         while (run_next(connection));
     }
-    finish_calls();
+}
+
+void send_replies(void) {
     for (unsigned i = 0; i < connection_count; i++) send_output(connections[i]);
     for (unsigned i = connection_count; i-- > 0;)
         if (is_done(connections[i])) close_connection(i);

@@ -29,10 +29,13 @@ void handle_events(const struct pollfd *waits, size_t count);
 /* Accepts all clients that wait. */
 void accept_connections(int listener);
 
-/* Runs the commands that can be run, and sends replies. */
-void serve_connections(void);
+/* Runs the commands that can be run. */
+void run_commands(void);
 
-/* The object's answer to the connection's command, as `settle_call` has it. */
+/* Sends the replies that are there, and closes the connections that are done. */
+void send_replies(void);
+
+/* The group's answer to the connection's command: the kind of a record D, K or R, and the object's reply. */
 void answer_connection(struct connection *connection, unsigned char kind, const unsigned char *reply, size_t length);
 
 /* The node refused the connection's command, which was not submitted and is to be tried again. */

@@ -1,8 +1,9 @@
 #include "info.h"
 
+#include "../common/group.h"
+#include "../common/node.h"
 #include "calls.h"
 #include "connections.h"
-#include "node.h"
 #include "options.h"
 #include "peers.h"
 
@@ -25,7 +26,7 @@ static void add(struct text *text, const char *format, ...) {
 
 static void add_members(struct text *text) {
     const char *separator = "members:";
-    for (int i = 1; i <= options.of; i++) {
+    for (int i = 1; i <= group.of; i++) {
         if (!(node_view.members >> (i - 1) & 1)) continue;
         add(text, "%s%d", separator, i);
         separator = ",";
@@ -37,9 +38,9 @@ static void add_members(struct text *text) {
 void put_info(struct output *output) {
     struct text text = {0};
     refresh_view();
-    add(&text, "# Node\r\nprocessor:%d\r\nprocessors:%d\r\n", options.me, options.of);
+    add(&text, "# Node\r\nprocessor:%d\r\nprocessors:%d\r\n", group.me, group.of);
     add(&text, "operational:%s\r\n", node_view.is_operational ? "yes" : "no");
-    add(&text, "ring:%" PRIu64 ".%d\r\n", node_view.ring_number, node_view.representative);
+    add(&text, "ring:%" PRIu64 ".%u\r\n", node_view.ring_number, node_view.representative);
     add_members(&text);
     add(&text, "primary:%s\r\n", node_view.is_primary ? "yes" : "no");
     add(&text, "committed:%" PRIu64 "\r\ndropped:%" PRIu64 "\r\n\r\n", node_view.committed, node_view.dropped);
@@ -47,6 +48,6 @@ void put_info(struct output *output) {
     add(&text, "waiting:%u\r\nunsettled:%u\r\nconnections:%u\r\n\r\n", count_waiting(), call_counts.unsettled, connection_count);
     add(&text, "# Network\r\nframes_in:%" PRIu64 "\r\nframes_out:%" PRIu64 "\r\n", peer_counts.received, peer_counts.sent);
     add(&text, "datagrams_refused:%" PRIu64 "\r\n", peer_counts.refused);
-    add(&text, "retransmit_timeouts:%" PRIu64 "\r\nauthenticated:%s\r\n", node_view.retransmit_timeouts, options.key ? "yes" : "no");
+    add(&text, "retransmits:%" PRIu64 "\r\nauthenticated:%s\r\n", node_view.retransmits, options.key ? "yes" : "no");
     put_bulk(output, text.bytes, text.length);
 }

@@ -1,6 +1,6 @@
 #include "objects.h"
 
-#include "bytes.h"
+#include "../common/bytes.h"
 
 #include <ctype.h>
 #include <stdio.h>

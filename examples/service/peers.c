@@ -1,20 +1,19 @@
-#define _GNU_SOURCE
 #include "peers.h"
 
+#include "../common/datagrams.h"
+#include "../common/group.h"
 #include "options.h"
 
 #include <fcntl.h>
 #include <sodium.h>
 #include <stdio.h>
 #include <string.h>
-#include <sys/socket.h>
 #include <unistd.h>
 
 enum { VERSION = 1, GROUP_BYTES = 16, HEAD = 2 + GROUP_BYTES, HASH = 32, ENVELOPE = HEAD + HASH, LEAST_KEY = 32, MOST_KEY = 4096 };
 
 struct peer_counts peer_counts;
-static int peer_socket;
-static unsigned char key[HASH], group[GROUP_BYTES];
+static unsigned char key[HASH], group_hash[GROUP_BYTES];
 
 static void hash_datagram(unsigned char hash[HASH], const unsigned char *bytes, size_t length) {
     crypto_generichash(hash, HASH, bytes, length, options.key ? key : NULL, options.key ? sizeof key : 0);
@@ -33,64 +32,47 @@ static void read_key(void) {
 }
 
 int open_peers(void) {
-    int room = 4 << 20;
     char name[1024];
     if (sodium_init() < 0) end("no libsodium");
     if (options.key) read_key();
-    else fprintf(stderr, "service %d: no --key: datagrams prove no sender, so the network must be a private one\n", options.me);
-    int length = snprintf(name, sizeof name, "%d/%s", options.of, options.group);
+    else fprintf(stderr, "service %d: no --key: datagrams prove no sender, so the network must be a private one\n", group.me);
+    int length = snprintf(name, sizeof name, "%d/%s", group.of, group.name);
     if (length >= (int)sizeof name) end("its group's name is too long");
-    crypto_generichash(group, GROUP_BYTES, (const unsigned char *)name, (size_t)length, NULL, 0);
-    const struct sockaddr_in *address = &options.peer_addresses[options.me - 1];
-    peer_socket = socket(AF_INET, SOCK_DGRAM | SOCK_NONBLOCK | SOCK_CLOEXEC, 0);
-    setsockopt(peer_socket, SOL_SOCKET, SO_RCVBUF, &room, sizeof room);
-    if (bind(peer_socket, (const struct sockaddr *)address, sizeof *address)) end("its address can't be had");
-    return peer_socket;
+    crypto_generichash(group_hash, GROUP_BYTES, (const unsigned char *)name, (size_t)length, NULL, 0);
+    return open_socket();
 }
 
 void send_frame(uint64_t receivers, const unsigned char *frame, size_t length) {
-    static unsigned char bytes[FRAME_BYTES + ENVELOPE];
+    static unsigned char bytes[DATAGRAM_BYTES];
     bytes[0] = VERSION;
-    bytes[1] = (unsigned char)options.me;
-    memcpy(bytes + 2, group, GROUP_BYTES);
+    bytes[1] = (unsigned char)group.me;
+    memcpy(bytes + 2, group_hash, GROUP_BYTES);
     memcpy(bytes + HEAD, frame, length);
     hash_datagram(bytes + HEAD + length, bytes, HEAD + length);
-    for (int to = 1; to <= options.of; to++) {
-        const struct sockaddr_in *address = &options.peer_addresses[to - 1];
-        if (!(receivers >> (to - 1) & 1)) continue;
-        sendto(peer_socket, bytes, length + ENVELOPE, 0, (const struct sockaddr *)address, sizeof *address);
-        peer_counts.sent++;
-    }
+    send_datagram(receivers, bytes, length + ENVELOPE);
+    peer_counts.sent += (uint64_t)__builtin_popcountll(receivers);
 }
 
-void wake_peers(void) {
-    send_frame(((uint64_t)1 << options.of) - 1 - ((uint64_t)1 << (options.me - 1)), (const unsigned char *)"", 0);
-}
+void wake_others(void) { send_frame(all_others(), (const unsigned char *)"", 0); }
 
 static int fits(const unsigned char *bytes, size_t length) {
     unsigned char hash[HASH];
     if (length < ENVELOPE || length > FRAME_BYTES + ENVELOPE || bytes[0] != VERSION) return 0;
-    if (bytes[1] < 1 || bytes[1] > options.of || memcmp(bytes + 2, group, GROUP_BYTES) != 0) return 0;
+    if (bytes[1] < 1 || bytes[1] > group.of || memcmp(bytes + 2, group_hash, GROUP_BYTES) != 0) return 0;
     hash_datagram(hash, bytes, length - HASH);
     return sodium_memcmp(hash, bytes + length - HASH, HASH) == 0;
 }
 
-long receive_frame(unsigned char *frame) {
-    static unsigned char bytes[FRAME_BYTES + ENVELOPE + 1];
-    for (;;) {
-        ssize_t length = recv(peer_socket, bytes, sizeof bytes, 0);
-        if (length < 0) return -1;
-        if (!fits(bytes, (size_t)length)) {
-            peer_counts.refused++;
-            continue;
-        }
-        peer_counts.received++;
-        memcpy(frame, bytes + HEAD, (size_t)length - ENVELOPE);
-        return length - ENVELOPE;
+void take_frames(void) {
+    const struct datagram *datagrams;
+    size_t count = receive_datagrams(&datagrams);
+    if (end_pause()) {
+        drop_datagrams();
+        return;
     }
-}
-
-void drop_datagrams(void) {
-    unsigned char byte;
-    while (recv(peer_socket, &byte, 1, 0) >= 0) continue;
+    for (size_t i = 0; i < count; i++) {
+        int is_frame = fits(datagrams[i].bytes, datagrams[i].length);
+        if (is_frame) take_frame(datagrams[i].bytes + HEAD, datagrams[i].length - ENVELOPE);
+        *(is_frame ? &peer_counts.received : &peer_counts.refused) += 1;
+    }
 }

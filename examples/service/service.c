@@ -2,10 +2,12 @@
  * of the group have alike. README.md says how to build and run it, and what it relies on. It is an example, and no part of what
  * is proved. */
 #define _GNU_SOURCE
+#include "../common/clock.h"
+#include "../common/datagrams.h"
+#include "../common/group.h"
+#include "../common/node.h"
 #include "calls.h"
-#include "clock.h"
 #include "connections.h"
-#include "node.h"
 #include "options.h"
 #include "peers.h"
 
@@ -20,38 +22,35 @@ static void note_signal(int number) {
     has_to_end = 1;
 }
 
-/* How long a round of the loop waits at most, in milliseconds: never so long that it looks like a pause. */
-static uint64_t longest_wait(void) {
-    uint64_t part = periods[LOSS] / 8;
-    return part < 100 ? part : 100;
-}
-
-/* Takes the frames that wait, but not without end: timeouts may be due. */
-static void take_frames(void) {
-    static unsigned char frame[FRAME_BYTES];
-    for (int i = 0; i < 64; i++) {
-        if (end_pause()) drop_datagrams();
-        long length = receive_frame(frame);
-        if (length < 0) break;
-        take_frame(frame, (size_t)length);
-    }
-}
-
 /* Waits for a frame, a client, or the time at which something is due. */
 static void wait_for_events(int peer_socket, int listener) {
     static struct pollfd waits[2 + MAX_CONNECTIONS];
     uint64_t time = now(), due = next_due_time(), wait = due > time ? due - time : 0;
-    if (wait > longest_wait()) wait = longest_wait();
+    struct timespec left = {.tv_sec = (time_t)(wait / SECOND), .tv_nsec = (long)(wait % SECOND) * 1000};
     waits[0] = (struct pollfd){.fd = peer_socket, .events = POLLIN};
     waits[1] = (struct pollfd){.fd = listener, .events = POLLIN};
     size_t count = list_events(waits + 2);
-    if (poll(waits, 2 + count, (int)wait) <= 0) return;
+    if (ppoll(waits, 2 + count, &left, NULL) <= 0) return;
     handle_events(waits + 2, count);
     if (waits[1].revents) accept_connections(listener);
 }
 
+/* Does what came since the last round: commands before frames, so that they go with a token that came. Frames to the others go out
+ * before the clients have their replies. */
+static void do_round(void) {
+    run_commands();
+    take_frames();
+    bring_time();
+    finish_inputs();
+    flush_datagrams();
+    run_commands(); /* those behind commands that were answered */
+    finish_inputs();
+    send_replies();
+    flush_datagrams();
+}
+
 int main(int count, char **words) {
-    read_options(count, words);
+    read_command_line(count, words);
     setvbuf(stdout, NULL, _IOLBF, BUFSIZ);
     /* The program beside this one ignores these signals too: it ends when its input does. */
     signal(SIGPIPE, SIG_IGN);
@@ -64,12 +63,10 @@ int main(int count, char **words) {
     signal(SIGTERM, note_signal);
     while (!has_to_end) {
         wait_for_events(peer_socket, listener);
-        take_frames();
-        give_due();
-        serve_connections();
+        do_round();
     }
     close_connections();
     close_node();
-    printf("node %d ends: %llu calls answered\n", options.me, (unsigned long long)call_counts.answered);
+    printf("node %d ends: %llu calls answered\n", group.me, (unsigned long long)call_counts.answered);
     return 0;
 }

@@ -2,7 +2,7 @@
  * bench/udp.py reads. */
 
 static FILE *call_log;
-static struct frame swapped; /* a datagram that waits for the next, to be taken after it */
+static struct datagram swapped; /* it waits for the next, to be taken after it */
 
 static void open_log(void) {
     if (!options.log) return;
@@ -14,7 +14,7 @@ static void open_log(void) {
 /* The time, what it is, the client and the number of the call, of an answer its kind, and the bytes. */
 static void log_call(const char *what, uint64_t client, uint64_t number, const char *kind, const unsigned char *bytes, size_t length) {
     if (!call_log) return;
-    fprintf(call_log, "%.6f %s %llu %llu %s", now(), what, (unsigned long long)client, (unsigned long long)number, kind);
+    fprintf(call_log, "%.6f %s %llu %llu %s", (double)now() / SECOND, what, (unsigned long long)client, (unsigned long long)number, kind);
     for (size_t i = 0; i < length; i++) fprintf(call_log, "%02x", bytes[i]);
     fputc('\n', call_log);
 }
@@ -26,7 +26,8 @@ static int is_hit(int percent) { return rand() % 100 < percent; }
 static void take_from_network(const unsigned char *bytes, size_t length) {
     if (is_hit(options.lose)) return;
     if (swapped.length == 0 && is_hit(options.swap)) {
-        keep_frame(&swapped, bytes, length);
+        swapped.length = length;
+        memcpy(swapped.bytes, bytes, length);
         return;
     }
     take_datagram(bytes, length);

@@ -3,7 +3,7 @@
 
 static struct totem_node node;
 
-/* Takes a whole record; then the node's records can be read. */
+/* Takes a whole record; then its report can be read. */
 static void write_record(const unsigned char *record, size_t length) {
     if (totem_node_take(&node, record[0], record + 3, length - 3) != TOTEM_DONE) end("the node takes no records any more");
 }
@@ -19,10 +19,10 @@ static void read_bytes(unsigned char *bytes, size_t length) {
 }
 
 static void start_node(void) {
-    uint8_t votes[MAX_NODES];
-    struct totem_periods times = {periods[JOIN], periods[RETRANSMIT], periods[CONSENSUS], periods[LOSS]};
-    memset(votes, 1, sizeof votes);
-    if (totem_node_open_timed(&node, (uint32_t)options.me, votes, (size_t)options.of, times) != TOTEM_DONE) end("no node");
+    static const uint8_t ONE_EACH[MAX_NODES] = {1, 1, 1, 1, 1, 1, 1, 1, 1, 1, 1, 1, 1, 1, 1, 1};
+    const uint32_t *times = group.periods;
+    struct totem_periods periods = {times[JOIN], times[RETRANSMIT], times[CONSENSUS], times[LOSS]};
+    if (totem_node_open_timed(&node, (uint32_t)group.me, ONE_EACH, (size_t)group.of, periods) != TOTEM_DONE) end("no node");
 }
 
 static void end_node(void) { totem_node_close(&node); }

@@ -1,6 +1,6 @@
 /* Big-endian numbers of `length` bytes, as frames, records and operations have them. */
-#ifndef SERVICE_BYTES_H
-#define SERVICE_BYTES_H
+#ifndef COMMON_BYTES_H
+#define COMMON_BYTES_H
 
 #include <stddef.h>
 #include <stdint.h>
