@@ -62,6 +62,7 @@ class Namespaces(Loopback):
             self.holders[me] = subprocess.Popen(["unshare", "-n", "sleep", "3600"])
             while os.readlink(f"/proc/{self.holders[me].pid}/ns/net") == os.readlink("/proc/self/ns/net"):
                 time.sleep(0.01)
+            run(*self.words_before(me), "ip", "link", "set", "lo", "up")
             self.join(me, f"ring{me}", "ring", self.SIDES[0], f"10.9.0.{me}/24")
             self.join(me, f"client{me}", "client", self.CLIENTS, f"10.8.0.{me}/24")
 

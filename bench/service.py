@@ -5,7 +5,7 @@
     bench/service.py TOTEM --starts                     bad options, a second start, another key, a node that fails
     bench/service.py TOTEM --check [--runs 40]          outside clients on a bad network; their histories are checked
     bench/service.py TOTEM --recovery [--runs 20]       how long faults keep nodes from answering
-    bench/service.py TOTEM --load                       commands a second, by redis-benchmark
+    bench/service.py TOTEM --load                       commands a second, by redis-benchmark; with --namespaces beside corosync
     bench/service.py TOTEM --memory [--calls 1000000]   whether calls take memory that is not given back
     bench/service.py TOTEM --idle                       the processor time of a node whose group has no calls
     bench/service.py LIBRARY --library ..               the same with the library for C in the service itself
@@ -46,12 +46,14 @@ from math import inf
 from pathlib import Path
 from time import monotonic
 
+import corosync
 from histories import Try, counter_faults, register_faults, try_checkers
 from networks import HOST, Loopback, Namespaces, Relay
 
 TOP = Path(__file__).resolve().parent.parent
 FOLDER, COMMON = TOP / "examples" / "service", TOP / "examples" / "common"
 PATIENCE, FAULTS = 0.25, "kill holder stop0.5 stop2 stop5 cut_one cut_minority".split()
+COROSYNC = {"corosync, each call told by itself": 1, "corosync, calls told together": 1 << 30}  # bench/cpg_client.c: MOST
 LIMIT = 15.0  # seconds until a node must answer again
 GROUPS = itertools.count()
 
@@ -542,6 +544,8 @@ def benchmark(address: tuple[str, int], count: int, *words: str) -> float:
 
 
 def load(program: Path, options: argparse.Namespace) -> list[str]:
+    if options.namespaces:
+        return beside(program, options)
     group = Group(program, options)
     try:
         group.wait_until_ready()
@@ -554,6 +558,50 @@ def load(program: Path, options: argparse.Namespace) -> list[str]:
     finally:
         wrong = group.end()
     return wrong + ([] if got == b"$%d\r\n%d\r\n" % (len(str(wanted)), wanted) else [f"the counter is {got!r} after {wanted} commands"])
+
+
+def beside(program: Path, options: argparse.Namespace) -> list[str]:
+    """Calls a second of corosync and of ours, in turns."""
+    network, client, wrong = Namespaces(options.nodes, options.port), corosync.built(program.parent), list[str]()
+    found: dict[tuple[int, str], list[int]] = {}
+    try:
+        for _, in_flight in itertools.product(range(options.runs), (1, 64)):
+            parts = [in_flight // options.nodes + (i < in_flight % options.nodes) for i in range(options.nodes)]
+            for name, most in COROSYNC.items():
+                found.setdefault((in_flight, name), []).extend(corosync.calls(client, network, parts, most, int(options.seconds)))
+            ours, faults = calls_a_second(program, options, network, parts)
+            found.setdefault((in_flight, "ours"), []).extend(ours)
+            wrong += faults
+    finally:
+        network.end()
+    print("| Calls in flight | Of | Calls a second, median | Slowest and fastest second | Ours by it |\n|---|---|---|---|---|")
+    for (in_flight, name), calls in found.items():
+        part = statistics.median(found[in_flight, "ours"]) / statistics.median(calls)
+        print(f"| {in_flight} | {name} | {statistics.median(calls):,.0f} | {min(calls):,}, {max(calls):,} | {part:.2f} |")
+    print(f"{options.nodes} nodes, {options.runs} turns of {int(options.seconds)} s; load {os.getloadavg()[0]:.1f} on {os.cpu_count()} processors")
+    return wrong
+
+
+def calls_a_second(program: Path, options: argparse.Namespace, network: Namespaces, in_flight: list[int]) -> tuple[list[int], list[str]]:
+    """The group's answered calls in each second, with so many connections at each node, from the second second of calls on."""
+    group, benchmarks, counts = Group(program, options, network), list[subprocess.Popen](), list[int]()
+    try:
+        group.wait_until_ready()
+        for me, count in enumerate(in_flight, 1):
+            words = [*network.words_before(me), "redis-benchmark", "-h", group.address(me)[0], "-p", group.address(me)[1]]
+            words += ["-n", 10**9, "-c", count, "INCRBY", "c0", "1"]
+            if count > 0:
+                benchmarks.append(subprocess.Popen([str(word) for word in words], stdout=subprocess.DEVNULL, stderr=subprocess.DEVNULL))
+        begin = monotonic() + 1
+        for second in range(int(options.seconds) + 1):
+            time.sleep(max(0.0, begin + second - monotonic()))
+            counts.append(sum(int(re.search(rb"answered:(\d+)", ask(group.address(me), "INFO"))[1]) for me in group.processes))
+    finally:
+        for process in benchmarks:
+            process.kill()
+            process.wait()
+        wrong = group.end()
+    return [after - before for before, after in zip(counts, counts[1:])], wrong
 
 
 def members(process: subprocess.Popen) -> list[int]:
