@@ -22,11 +22,12 @@ enum { MOST_UNREAD = 64, UNREAD_BYTES = 1 << 15 };
 /* A ring is idle after so many tokens in a row that brought nothing. Its token rests for so long at most. */
 enum { IDLE_TOKENS = 8, MOST_REST = 5 * MILLISECOND };
 
-struct node_view node_view;
 struct input {
     unsigned char kind;
     void *call;
 };
+
+struct node_view node_view;
 static struct {
     unsigned count; /* of the inputs that were written, and whose reports were not read */
     size_t length;

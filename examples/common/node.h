@@ -24,9 +24,9 @@ void open_node(void);
 void close_node(void);
 
 /* Each of these gives the node an input. What comes of it is handled at the next `finish_inputs`, or before. */
-void take_frame(const unsigned char *frame, size_t length);   /* from the network, or an empty one of `wake_others` */
+void take_frame(const unsigned char *frame, size_t length);            /* from the network; an empty one is of `wake_others` */
 void give_call(const unsigned char *bytes, size_t length, void *call); /* client u32, number u64, operation */
-void bring_time(void);                                       /* where the node wants it */
+void bring_time(void);                                                 /* where the node wants it */
 void finish_inputs(void);
 
 /* The time at which `bring_time` has something to do. The program waits for frames and calls no longer. */
@@ -39,9 +39,9 @@ int end_pause(void);
 /* Asks the node for the lengths of its log. */
 void refresh_view(void);
 
-/* What the program does. These give the node no input. */
+/* What the program does, which defines these. They give the node no input. */
 void send_frame(uint64_t receivers, const unsigned char *frame, size_t length); /* bit i - 1 stands for processor i */
-void wake_others(void);                       /* sends all others an empty frame: it ends a token's rest, and nothing else */
-void note_ticket(void *call, const uint64_t *ticket); /* as `give_call` had it; NULL where the node refused the call */
+void wake_others(void); /* sends all others an empty frame, which ends a token's rest */
+void note_ticket(void *call, const uint64_t *ticket); /* the call as `give_call` had it; NULL where the node refused it */
 void handle_record(unsigned char kind, const unsigned char *bytes, size_t length); /* D, K, R, G or C */
 #endif
