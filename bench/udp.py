@@ -45,17 +45,18 @@ ADD, READ = "0101" + "00", "0102" + "00"
 
 def built(totem, folder, options):
     """The example as a program, which runs the program `totem` beside it, or has the library within it."""
+    sanitizers = ["-g", "-fsanitize=address,undefined", "-fno-sanitize-recover=all"] if options.sanitize else []
     if not options.library:
-        return compiled(folder / "udp_node", EXAMPLE)
+        return compiled(folder / "udp_node", sanitizers + EXAMPLE)
     # The part of the toolchain's C library that the library for C calls: its heap.
     parts = [f"-I{TOP / 'include'}", totem, Path(options.kit) / "c" / "liblibc_c.a"]
     counter = compiled(folder / "counter", ["-fsanitize=address", COUNTER, *parts])
     print(subprocess.run([counter], check=True, stdout=subprocess.PIPE, text=True, timeout=60).stdout, end="", flush=True)
-    return compiled(folder / "udp_node", ["-DTOTEM_LIBRARY", *EXAMPLE, *parts])
+    return compiled(folder / "udp_node", [*sanitizers, "-DTOTEM_LIBRARY", *EXAMPLE, *parts])
 
 
 def compiled(program, words):
-    subprocess.run(["cc", "-O2", "-Wall", "-Wextra", "-o", program, *words], check=True)
+    subprocess.run(["cc", "-O2", "-Wall", "-Wextra", "-Werror", "-o", program, *words], check=True)
     return program
 
 
@@ -261,6 +262,7 @@ def main():
     parser = argparse.ArgumentParser(description=__doc__, formatter_class=argparse.RawDescriptionHelpFormatter)
     parser.add_argument("totem", metavar="TOTEM")
     parser.add_argument("--library", action="store_true")
+    parser.add_argument("--sanitize", action="store_true", help="address and undefined-behaviour sanitizers")
     parser.add_argument("--kit", default="/opt/rattle", help="the toolchain's folder")
     parser.add_argument("--nodes", type=int, default=3)
     parser.add_argument("--seconds", type=int, default=60)
