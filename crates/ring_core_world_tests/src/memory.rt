@@ -3,12 +3,18 @@
 
 use crate::pump::pumped;
 use crate::steps::{Opening, ran};
-use crate::worked_runs::JOINS;
 use refusing_alloc::RefusingHeap;
 use ring_base::{Fault, Fixed};
 use std::alloc::{Allocator, Global};
 use std::process::Abort;
 use std::test::Fail;
+
+/// Join timeouts of three processors.
+const JOINS: &str = "\
+join 1
+join 2
+join 3
+";
 
 /// A call goes round a ring of two.
 const CIRCLE: &str = "\

@@ -15,28 +15,11 @@ use std::alloc::Allocator;
 /// Call 7.1 `add 0 5`.
 const CALL: &[u8] = b"\x01\0\0\0\x07\0\0\0\0\0\0\0\x01\0\x0b\x01\x01\0\0\0\0\0\0\0\0\x05";
 
-/// The Head of an empty log.
-const HEAD: &[u8] = b"\x04\0\0\0\0\0\0\0\0\0\0\0\0\0\0\0\0\0\0\0\0\0\0\0\0\0";
-
-/// The Part from place 0 with that call.
-const PART: &[u8] =
-    b"\x05\0\0\0\0\0\0\0\0\x01\0\0\0\x07\0\0\0\0\0\0\0\x01\0\x0b\x01\x01\0\0\0\0\0\0\0\0\x05";
-
-/// Call 7.1 with an operation of 1,024 bytes, without these bytes.
-const LONG_CALL: [u8; 15] = *b"\x01\0\0\0\x07\0\0\0\0\0\0\0\x01\x04\0";
-
-/// Returns call 7.1 with an operation of 1,024 zeros.
-fn long_call() -> [u8; 1039] {
-    let mut bytes = [0; 1039];
-    bytes[..15].copy_from_slice(&LONG_CALL);
-    bytes
-}
-
-/// Decodes a payload.
-fn payload_of<A: Allocator + Copy>(alloc: A, bytes: &[u8]) -> Result<Payload<A>, Fault>
+/// Decodes that call.
+fn call_payload<A: Allocator + Copy>(alloc: A) -> Result<Payload<A>, Fault>
     ensures { IfOk result (λ payload. PayloadFits payload) }
 {
-    let (payload, _) = Payload::<A>::get(alloc, bytes)?;
+    let (payload, _) = Payload::<A>::get(alloc, CALL)?;
     Ok(payload)
 }
 
@@ -49,8 +32,7 @@ fn number_of(word: Option<&str>) -> Result<u64, Fault> {
 }
 
 /// Returns the event of a line.
-/// `call 1`, `long 1`, `head 1` and `part 1` are sends of processor 1; `join 1`, `consensus 1`, `loss 1` and `retransmit 1` are its
-/// timeouts; `hand 1 2` delivers frame 2 to it.
+/// `call 1` is a send of processor 1; `join 1` is its timeout; `hand 1 2` delivers frame 2 to it.
 pub(crate) fn event_of<A: Allocator + Copy>(
     alloc: A,
     fixed: Fixed,
@@ -63,15 +45,9 @@ pub(crate) fn event_of<A: Allocator + Copy>(
     let number = number_of(words.next())?;
     let node = fixed.proc(number.min(17) as u8)?;
     match word {
-        "call" => Ok(RingEvent::Send(node, payload_of(alloc, CALL)?)),
-        "head" => Ok(RingEvent::Send(node, payload_of(alloc, HEAD)?)),
-        "part" => Ok(RingEvent::Send(node, payload_of(alloc, PART)?)),
-        "long" => Ok(RingEvent::Send(node, payload_of(alloc, &long_call())?)),
+        "call" => Ok(RingEvent::Send(node, call_payload(alloc)?)),
         "hand" => Ok(RingEvent::Deliver(node, number_of(words.next())?)),
         "join" => Ok(RingEvent::Timeout(node, Kind::Join)),
-        "consensus" => Ok(RingEvent::Timeout(node, Kind::Consensus)),
-        "loss" => Ok(RingEvent::Timeout(node, Kind::Loss)),
-        "retransmit" => Ok(RingEvent::Timeout(node, Kind::Retransmit)),
         _ => Err(Fault::BadScript),
     }
 }

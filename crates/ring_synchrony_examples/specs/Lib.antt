@@ -11,3 +11,4 @@ pub mod OfFourBroken
 pub mod OfFourFormed
 pub mod OfFive
 pub mod OfSix
+pub mod WorkedRuns
