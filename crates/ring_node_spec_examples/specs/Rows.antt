@@ -207,6 +207,11 @@ one_too_many = run counter (world_of 1) (map (λ k. Issue 1 (call_of_seven k)) (
 abbrev pub late_submit : World Global
 late_submit = run counter (world_of 1) (Stop 1 ∷ Issue 1 (call_of_seven 1) ∷ [])
 
--- the world after a delivery to an unknown node, and one of a frame that wasn't sent
+-- that world after a timeout of the node
+abbrev pub late_timeout : World Global
+late_timeout = run counter late_submit (Timeout 1 Join ∷ [])
+
+-- the world after each event at an unknown node, and a delivery of a frame that wasn't sent
 abbrev pub strange_events : World Global
-strange_events = run counter (world_of 1) (Deliver 2 1 ∷ Deliver 1 1 ∷ [])
+strange_events =
+    run counter (world_of 1) (Deliver 2 1 ∷ Timeout 2 Join ∷ Stop 2 ∷ Issue 2 (call_of_seven 1) ∷ Deliver 1 0 ∷ Deliver 1 1 ∷ [])

@@ -10,19 +10,23 @@ ghost use Rattle.ring_session.specs.declared.answered.TicketAnswer.{TicketAnswer
 ghost use Rattle.ring_node_spec.specs.Nodes.{node_committed, node_pending, node_reply, node_snapshot, node_trimmed};
 ghost use Rattle.ring_node_spec.specs.Worlds.{committed_in, order};
 ghost use Rattle.ring_node_spec_examples.specs.Rows.{world_of, call_of_seven, done_at, kept_at, nine_answers, refused_at, one_too_many};
-ghost use Rattle.ring_node_spec_examples.specs.Rows.{late_submit, strange_events, shown, sent_one, answered_one};
+ghost use Rattle.ring_node_spec_examples.specs.Rows.{late_submit, late_timeout, strange_events, shown, sent_one, answered_one};
 ghost use Rattle.ring_node_spec_examples.specs.Rows.{sent_again, answered_again, sent_nine, answered_nine, answered_three};
 ghost use Rattle.ring_node_spec_examples.specs.Rows.{counter, after_lots, snapshot_of_seven, two_after, joined_after, asked_after, known_there};
 
 /// States a worked example: one node alone. A call is appended to its log at a visit, and is committed and answered at the next
-/// one.
+/// one. The history has the submit, and then the reply.
 /// Rules: The replicated log 11, 12 and 14
 /// Formats: first reply
 pub fn ring_of_one()
     ensures sent { shown sent_one 1 ≡ (0, 1) ∷ [] }
     ensures answered { shown answered_one 1 ≡ (1, 1) ∷ [] }
     ensures told { answered_one.told ≡ done_at 1 1 ∷ [] }
+    ensures untold { sent_one.told ≡ [] }
+    ensures submitted { length sent_one.history ≡ 1 }
+    ensures replied { length answered_one.history ≡ 2 }
     ensures ordered { order answered_one ≡ call_of_seven 1 ∷ [] }
+    ensures unordered { order sent_one ≡ [] }
     ensures undone { (sent_one.nodes 1).done ≡ [] }
     ensures done { (answered_one.nodes 1).done ≡ call_of_seven 1 ∷ [] }
     ensures waiting { node_reply (sent_one.nodes 1) 0 ≡ None }
@@ -59,6 +63,8 @@ pub fn submitted_again()
     ensures pending { length (node_pending (sent_again.nodes 1)) ≡ 1 }
     ensures done { (answered_again.nodes 1).done ≡ call_of_seven 1 ∷ call_of_seven 1 ∷ [] }
     ensures told { answered_again.told ≡ done_at 1 1 ∷ kept_at 1 1 ∷ [] }
+    ensures answered { shown answered_again 1 ≡ (2, 2) ∷ [] }
+    ensures history { length answered_again.history ≡ 4 }
     ensures ordered { order answered_again ≡ call_of_seven 1 ∷ [] }
 {}
 
@@ -93,11 +99,14 @@ pub fn restored_snapshot()
     ensures reply { node_reply ((asked_after 30).world.nodes 3) 0 ≡ Some (Done (256 ∷ [])) }
 {}
 
-/// States worked examples: the 65th unanswered ticket is refused, and so is each submit at a stopped node.
-/// An unknown node, and a frame that wasn't sent, change nothing.
+/// States worked examples: the 65th unanswered ticket is refused, and so is each submit at a stopped node, which is in no
+/// history. A timeout of a stopped node sends nothing. Events of an unknown node, and a frame that wasn't sent, change nothing.
 /// Rules: The replicated log 13; The book and the threads 4
 pub fn refused_submits()
     ensures full { one_too_many.told ≡ refused_at 1 65 2 ∷ [] }
     ensures stopped { late_submit.told ≡ refused_at 1 1 8 ∷ [] }
+    ensures unsubmitted { late_submit.history ≡ [] }
+    ensures silent { late_timeout.frames ≡ [] }
+    ensures unchanged { late_timeout.told ≡ late_submit.told }
     ensures strange { strange_events ≡ world_of 1 }
 {}

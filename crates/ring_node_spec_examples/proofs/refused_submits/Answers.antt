@@ -14,3 +14,15 @@ returns-clause-stopped c = refl
 pub returns-clause-strange : goal.returns-clause-strange
 unfolding ring_step elements
 returns-clause-strange c = refl
+
+pub returns-clause-unsubmitted : goal.returns-clause-unsubmitted
+unfolding ring_step elements
+returns-clause-unsubmitted c = refl
+
+pub returns-clause-silent : goal.returns-clause-silent
+unfolding ring_step elements
+returns-clause-silent c = refl
+
+pub returns-clause-unchanged : goal.returns-clause-unchanged
+unfolding ring_step elements
+returns-clause-unchanged c = refl

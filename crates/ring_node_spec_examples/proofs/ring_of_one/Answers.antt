@@ -34,3 +34,19 @@ returns-clause-undone c = refl
 pub returns-clause-done : goal.returns-clause-done
 unfolding ring_step elements
 returns-clause-done c = refl
+
+pub returns-clause-untold : goal.returns-clause-untold
+unfolding ring_step elements
+returns-clause-untold c = refl
+
+pub returns-clause-submitted : goal.returns-clause-submitted
+unfolding ring_step elements
+returns-clause-submitted c = refl
+
+pub returns-clause-replied : goal.returns-clause-replied
+unfolding ring_step elements
+returns-clause-replied c = refl
+
+pub returns-clause-unordered : goal.returns-clause-unordered
+unfolding ring_step elements
+returns-clause-unordered c = refl

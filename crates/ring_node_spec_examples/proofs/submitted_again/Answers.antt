@@ -22,3 +22,11 @@ returns-clause-told c = refl
 pub returns-clause-ordered : goal.returns-clause-ordered
 unfolding ring_step elements
 returns-clause-ordered c = refl
+
+pub returns-clause-answered : goal.returns-clause-answered
+unfolding ring_step elements
+returns-clause-answered c = refl
+
+pub returns-clause-history : goal.returns-clause-history
+unfolding ring_step elements
+returns-clause-history c = refl
