@@ -1,7 +1,7 @@
-//! The output of a script whose input or output fails. The data of `totem_examples` shows what other scripts print.
+//! The output of a script whose input fails. The data of `totem_examples` shows what other scripts print, also where the output fails.
 //! Formats: What a script prints
 
-use crate::inputs::{BoundedWriter, FailingReader};
+use crate::inputs::FailingReader;
 use crate::printed::RunOutput;
 use refusing_alloc::RefusingHeap;
 use ring_console::{script, script_check};
@@ -12,9 +12,6 @@ use std::test::Fail;
 const FIRST_REPLY: &str =
     "nodes 1\ntimeout 1 join\ndeliver 1 1\ndeliver 1 2\ndeliver 1 3\ndeliver 1 4\n\
     call 1 7 1 add 0 5\ndeliver 1 5\ndeliver 1 6\nshow\n";
-
-const FIRST_REPLY_LINES: &str =
-    "reply 1 7.1 done 000000000000000005\nnode 1 operational 1.1 committed 1 log 1\norder 1\n";
 
 /// Runs a script, and checks it if `is_checked`. Returns the exit status. All tests use this, so that each function is compiled for
 /// a single reader and writer.
@@ -59,31 +56,6 @@ fn an_input_that_fails_prints_nothing(rt: HostRuntime) {
         assert!(rt;
             printed.is("", "totem: 13 bad script at line 0\n", 1),
             "{text}"
-        );
-    }
-}
-
-#[test]
-fn an_output_that_fails_says_nothing(rt: HostRuntime) {
-    let ample = RefusingHeap::new(rt.alloc(), u64::MAX);
-    let all = FIRST_REPLY_LINES.len();
-    for (is_checked, room) in [
-        (false, 0),
-        (false, 1),
-        (false, 40),
-        (false, all - 1),
-        (true, 0),
-        (true, 40),
-        (true, all),
-        (true, all + 9),
-    ] {
-        let mut err = Vec::new(rt.alloc());
-        let mut input = FIRST_REPLY.as_bytes();
-        let mut out = BoundedWriter(room);
-        let status = status_of(&ample, is_checked, &mut input, &mut out, &mut err);
-        assert!(rt;
-            status == 1 && err.is_empty(),
-            "{is_checked} room for {room}"
         );
     }
 }

@@ -1,8 +1,8 @@
-//! Tests of the program's output where memory is refused or an input or output fails, of the greatest length of a script, and
-//! of generated scripts.
+//! Tests of the program's output where memory is refused or an input fails, of the greatest length of a script, and of generated
+//! scripts.
 //!
 //! Contracts say which texts are scripts and what their lines request. The data of `totem_examples` shows what scripts and
-//! listings print. Expected values are those of the tables and worked examples in `docs/FORMATS.md`.
+//! listings print, also where the output fails. Expected values are those of the tables and worked examples in `docs/FORMATS.md`.
 //! Formats: The command line
 #![tactic(auto)]
 

@@ -1,8 +1,8 @@
-//! The output of a listing of a long or failing file, with a failing output, or with refused memory. The listings in
-//! `totem_examples` show the lines of frames.
+//! The output of a listing of a long or failing file, or with refused memory. The listings in `totem_examples` show the lines of
+//! frames, also where the output fails.
 //! Formats: Listing frames
 
-use crate::inputs::{BoundedWriter, FailingReader};
+use crate::inputs::FailingReader;
 use crate::printed::RunOutput;
 use refusing_alloc::{RefusingHeap, refuse_in_turn};
 use ring_console::frames;
@@ -77,18 +77,6 @@ fn a_file_that_fails_is_bad_at_byte_0_after_its_whole_frames(rt: HostRuntime) {
         let told = printed.out.iter().filter(|byte| **byte == b'\n').count();
         let is_refused = printed.is_refused("totem: 12 bad frame at byte 0\n", 1);
         assert!(rt; is_refused && told == lines, "of {length}");
-    }
-}
-
-#[test]
-fn an_output_that_fails_says_nothing(rt: HostRuntime) {
-    let ample = RefusingHeap::new(rt.alloc(), u64::MAX);
-    let all = FOUR_LINES.len();
-    for (room, wanted) in [(0, 1), (1, 1), (40, 1), (all - 1, 1), (all, 0)] {
-        let mut err = Vec::new(rt.alloc());
-        let mut input = FOUR;
-        let status = status_of(&ample, &mut input, &mut BoundedWriter(room), &mut err);
-        assert!(rt; status == wanted && err.is_empty(), "room for {room}");
     }
 }
 

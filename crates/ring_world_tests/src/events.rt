@@ -10,22 +10,18 @@ use ring_base::{Fault, Fixed, Kind, MAX_PROCESSORS, Proc};
 use ring_object::Object;
 use ring_payload::Call;
 use ring_things::Counters;
-use ring_world::{Event, Noise, World};
+use ring_world::{Event, World};
 use std::alloc::Allocator;
 
-/// An action on a world. The first number names a processor, in the group or not, unless stated otherwise.
+/// An action on a world. The first number names a processor.
 #[derive(Clone, Copy)]
 pub enum Line {
     /// Submits client 7's call of this number, `add 0 5` on an object of counters.
     Issue(u8, u16),
     /// Delivers the frame of this number.
     Hand(u8, u64),
-    /// Delivers two bytes that are no frame.
-    Noise(u8),
     /// Gives a join timeout.
     Join(u8),
-    /// Stops the processor.
-    Stop(u8),
 }
 
 /// Returns the processor of this number.
@@ -50,14 +46,6 @@ fn issue<A: Allocator + Copy>(alloc: A, node: Proc, number: u16) -> Result<Event
     Ok(Event::Issue(node, call))
 }
 
-/// Returns the event that noise arrives at the node.
-fn noise<A: Allocator + Copy>(alloc: A, node: Proc) -> Result<Event<A>, Fault>
-    ensures { IfOk result (λ event. EventFits event) }
-{
-    let bytes = vec![in alloc; 0x54, 0x52]?;
-    Ok(Event::Noise(node, Noise::from_vec(bytes)))
-}
-
 /// Returns the event of a line.
 fn event_of<A: Allocator + Copy>(alloc: A, line: Line) -> Result<Event<A>, Fault>
     ensures { IfOk result (λ event. EventFits event) }
@@ -65,9 +53,7 @@ fn event_of<A: Allocator + Copy>(alloc: A, line: Line) -> Result<Event<A>, Fault
     match line {
         Line::Issue(node, number) => issue(alloc, processor(node)?, number),
         Line::Hand(node, frame) => Ok(Event::Deliver(processor(node)?, frame)),
-        Line::Noise(node) => noise(alloc, processor(node)?),
         Line::Join(node) => Ok(Event::Timeout(processor(node)?, Kind::Join)),
-        Line::Stop(node) => Ok(Event::Stop(processor(node)?)),
     }
 }
 

@@ -5,7 +5,6 @@ use ring_base::{Fault, Fixed, Kind, Proc, ProcSet};
 use ring_driver::{Driver, ValidFrame};
 use ring_node::Node;
 use ring_object::Object;
-use ring_session::Ticket;
 use ring_things::Counters;
 use std::alloc::Allocator;
 use std::collections::VecDeque;
@@ -157,15 +156,14 @@ impl<O: Object> MemberGroup<O> {
         self.apart = apart;
     }
 
-    /// Submits client 7's call of this number, `add 0 1`, at a node. Returns its ticket, or `None` where the group has no
-    /// such node.
+    /// Submits client 7's call of this number, `add 0 1`, at a node of the group.
     /// Errors: those of `Driver::submit`.
-    pub fn submit(&mut self, number: u8, call: u64) -> Result<Option<Ticket>, Fault> {
+    pub fn submit(&mut self, number: u8, call: u64) -> Result<(), Fault> {
         let add = Counters::add(0, 1);
-        match self.members.get_mut(place_of(number)) {
-            Some(member) => Ok(Some(member.driver.submit(7, call, add.as_slice())?)),
-            None => Ok(None),
+        if let Some(member) = self.members.get_mut(place_of(number)) {
+            member.driver.submit(7, call, add.as_slice())?;
         }
+        Ok(())
     }
 
     /// Steps a node by a timeout, and puts its frames in flight.

@@ -1,7 +1,8 @@
-//! Tests of what the contracts of worlds and drivers don't state: worked runs of one node and of three, that each call
-//! succeeds while there is memory, and each request for memory of a short run refused in turn. It also states what a
-//! caller learns of a world after a run. Groups of driven nodes exchange frames, and one of them is restored after it was
-//! cut off. A driver's timeouts come by the time that is brought to it.
+//! Tests of what the contracts of worlds and drivers don't state: that each call succeeds while there is memory, and each
+//! request for memory of a short run refused in turn. It also states what a caller learns of a world after a run. Groups of
+//! driven nodes exchange frames, and one of them is restored after it was cut off. A driver's timeouts come by the time that
+//! is brought to it. Worked runs of worlds are computed from the definitions in `ring_node_spec_examples`, and are scripts in
+//! the data of `totem_examples`.
 #![tactic(auto)]
 
 #[cfg(test)]
@@ -14,7 +15,5 @@ mod knowing;
 mod memory;
 #[cfg(test)]
 mod restoring;
-#[cfg(test)]
-mod tests;
 #[cfg(test)]
 mod timed;

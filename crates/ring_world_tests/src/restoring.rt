@@ -1,12 +1,12 @@
-//! A node that was cut off is restored. The expected values are those of `docs/PROTOCOL.md`.
-//! Rules: The replicated log 6, 14, 18 and 20; Refusals 6
+//! A node that was cut off is restored, or is refused memory. The expected values are those of `docs/PROTOCOL.md`. What such a node
+//! answers is shown by `waits_at_a_restore` in the data of `totem_examples`.
+//! Rules: The replicated log 6, 18 and 20; Refusals 6
 
-use crate::grouped::{MemberGroup, Told};
+use crate::grouped::MemberGroup;
 use refusing_alloc::RefusingHeap;
 use ring_base::{Fault, Kind, Proc, ProcSet, State};
 use ring_object::Object;
-use ring_session::{Answer, Ticket};
-use ring_things::{Counters, Outcome, reply_with};
+use ring_things::Counters;
 use std::alloc::Global;
 use std::test::Fail;
 
@@ -25,17 +25,6 @@ fn shown<O: Object>(group: &MemberGroup<O>, number: u8) -> Option<Shown> {
         node.order_len(),
         node.committed().len(),
     ))
-}
-
-/// Returns the answer to an add that raises a counter to this value.
-fn done(count: u64) -> Answer {
-    Answer::Done(reply_with(Outcome::Done, count))
-}
-
-/// Returns the answers to the first two tickets of a node.
-fn replies<O: Object>(group: &MemberGroup<O>, number: u8) -> Option<[Option<Answer>; 2]> {
-    let node = group.node(number)?;
-    Some([node.reply(Ticket::new(0)), node.reply(Ticket::new(1))])
 }
 
 /// Submits `count` calls of client 7, from number `first` on, at a node, and then delivers at most `letters` frames.
@@ -88,63 +77,6 @@ fn met<O: Object>(group: &mut MemberGroup<O>) -> Result<(), Fault> {
     join(group)
 }
 
-/// Forms a ring of all three nodes again.
-fn merged<O: Object>(group: &mut MemberGroup<O>) -> Result<(), Fault> {
-    met(group)?;
-    group.pump(600)
-}
-
-/// The values of node 3 before it is cut off, and of node 1 without it; the log counts of node 1 then; the answers to the two
-/// calls that wait at node 3, while it is cut off and once it is restored; and the values of node 3 then.
-type Waited = (
-    [Option<Shown>; 2],
-    Option<Told>,
-    [Option<[Option<Answer>; 2]>; 2],
-    Option<Shown>,
-);
-
-/// Lets two calls wait at node 3 of this group.
-fn waited<O: Object>(group: &mut MemberGroup<O>) -> Result<Waited, Fault> {
-    formed(group)?;
-    let before = shown(group, 3);
-    parted(group)?;
-    let (apart, told) = (shown(group, 1), group.told(1));
-    group.submit(3, 300)?;
-    group.submit(3, 266)?;
-    let away = replies(group, 3);
-    merged(group)?;
-    let back = replies(group, 3);
-    Ok(([before, apart], told, [away, back], shown(group, 3)))
-}
-
-/// Lets two calls wait at node 3 of a new group.
-fn waited_anew<O: Object>(alloc: O::Alloc) -> Result<Waited, Fault> {
-    let mut group = MemberGroup::<O>::new(alloc, alloc, 3)?;
-    let waited = waited(&mut group);
-    drop(group);
-    waited
-}
-
-/// Of two calls that wait at a node that is restored, one is behind the places of the snapshot, and is answered there. The
-/// other is among the places that the snapshot replaces, which answer no ticket. It is sent again, and its number has
-/// taken effect before.
-#[test]
-fn tickets_that_wait_at_a_restore(rt: HostRuntime) -> Result<(), Fail> {
-    let apart = [
-        Some((State::Operational, 10, 10, 0, 10, 10)),
-        Some((State::Operational, 300, 300, 266, 300, 34)),
-    ];
-    let told = Some((300, 266, None));
-    let answers = [
-        Some([None, None]),
-        Some([Some(done(300)), Some(Answer::Refused(5))]),
-    ];
-    let back = Some((State::Operational, 301, 301, 266, 300, 35));
-    let heap = RefusingHeap::new(rt.alloc(), u64::MAX);
-    assert!(rt; waited_anew::<Counters<&RefusingHeap>>(&heap)? == (apart, told, answers, back));
-    Ok(())
-}
-
 /// The step in which node 3 is restored, or is refused memory: the number of requests for memory before it and after it,
 /// its result, and whether everything is then as it should be.
 type Restore = (u64, u64, Result<(), Fault>, bool);
@@ -173,11 +105,13 @@ fn stays_stopped<O: Object>(group: &mut MemberGroup<O>) -> Result<bool, Fault> {
     Ok(was_stopped && refuses && has_stopped(group))
 }
 
-/// Returns whether node 3 is restored, and in the ring with the others, after their frames arrived.
+/// Returns whether node 3 is restored, and in the ring with the others, after their frames arrived. Node 1 has reported all calls
+/// as committed, and those of its dropped places as dropped.
 fn is_restored<O: Object>(group: &mut MemberGroup<O>) -> Result<bool, Fault> {
     group.pump(600)?;
     let is_in_ring = shown(group, 3) == Some((State::Operational, 300, 300, 266, 300, 34));
-    Ok(is_in_ring && group.told(3) == Some((44, 0, Some(266))))
+    let is_told = group.told(3) == Some((44, 0, Some(266)));
+    Ok(is_in_ring && is_told && group.told(1) == Some((300, 266, None)))
 }
 
 /// Cuts node 3 off, whose memory is in `heap`, and delivers frames up to the one that restores it or for which it is

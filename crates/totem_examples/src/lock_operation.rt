@@ -6,7 +6,7 @@ ghost use Rattle.totem_examples.specs.Locks.{parts_of, decoding, encoding};
 use totem_ring::{KeyedOperation, Operation};
 
 /// An operation on a lock table, which has 256 locks, numbered from 0. A holder is a number; the number 0 is nobody.
-#[derive(Clone, Copy, Debug, PartialEq, Eq)]
+#[derive(Clone, Copy)]
 pub enum LockOperation {
     /// Acquires this lock for this holder.
     Acquire(u8, u64),

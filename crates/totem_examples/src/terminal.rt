@@ -2,72 +2,51 @@
 //!
 //! Formats: The command line
 
-use std::alloc::Global;
-use std::io::{self, Read};
+use crate::command::run_line;
 use std::rt::Files;
 use std::sync::Wait;
 use std::thread::Threads;
 use std::time::Clock;
-use totem_command::run;
+use std::{io, str};
 
 /// A sweep of a script.
-const SWEEP: [&str; 3] = ["totem", "sweep", "first_reply.script"];
+const SWEEP: &str = "sweep first_reply.script";
 
 /// The exploration of one seed.
-const EXPLORE: [&str; 8] = [
-    "totem", "explore", "--nodes", "3", "--seeds", "1..1", "--events", "20",
-];
+const EXPLORE: &str = "explore --nodes 3 --seeds 1..1 --events 20";
 
 /// A sweep of a file that isn't there.
-const FAULTY: [&str; 3] = ["totem", "sweep", "no_file.script"];
+const FAULTY: &str = "sweep no_file.script";
 
 /// Prints which commands say how long they took.
 pub fn print_results<R: Files + AllocGlobal + Print + Threads + Wait + Clock + Sync>(
     rt: &R,
 ) -> io::Result<()> {
-    let sweep = is_time(written(rt, &SWEEP)?.as_slice());
-    let explore = is_time(written(rt, &EXPLORE)?.as_slice());
-    let faulty = written(rt, &FAULTY)?.is_empty();
+    let sweep = is_time(written(rt, SWEEP).as_slice());
+    let explore = is_time(written(rt, EXPLORE).as_slice());
+    let faulty = written(rt, FAULTY).is_empty();
     println!(rt;
         "On a terminal sweep says how long it took: {sweep}; explore: {explore}; not after a fault: {faulty}"
     )
 }
 
-/// Returns what the command line of these words writes as the progress of its work.
-fn written<R: Files + AllocGlobal + Threads + Wait + Clock + Sync>(
-    rt: &R,
-    words: &[&str],
-) -> io::Result<Vec<u8>> {
+/// Returns what this command line writes as the progress of its work.
+fn written<R: Files + AllocGlobal + Threads + Wait + Clock + Sync>(rt: &R, line: &str) -> Vec<u8> {
     let alloc = rt.alloc();
-    let words = texts_of(alloc, words);
     let (mut out, mut err, mut progress) = (Vec::new(alloc), Vec::new(alloc), Vec::new(alloc));
-    let mut nothing = [].as_slice();
-    let mut input: &mut dyn Read = &mut nothing;
-    let _ = run(
-        rt,
-        &words,
-        &mut input,
-        &mut out,
-        &mut err,
-        Some(&mut progress),
-    );
-    Ok(progress)
+    let watched = Some(&mut progress);
+    let _ = run_line(rt, line.as_bytes(), &[], &mut out, &mut err, watched);
+    progress
 }
 
-/// Returns copies of the words.
-fn texts_of(alloc: Global, words: &[&str]) -> io::Result<Vec<String>> {
-    let mut texts = Vec::new(alloc);
-    for word in words {
-        texts.push(String::from_str(alloc, word)?)?;
-    }
-    Ok(texts)
-}
-
-/// Returns whether the text ends with a line `took S.T s`, with S a number and T a digit, behind any progress.
+/// Returns whether the text ends with a line `took S.T s`, with S a number and T a digit, behind nothing or a progress that is
+/// cleared at its end.
 fn is_time(text: &[u8]) -> bool {
     let text = str::from_utf8(text).unwrap_or("");
     match text.split_once("took ") {
-        Some((_, time)) => is_in_tenths(time),
+        Some((progress, time)) => {
+            (progress.is_empty() || progress.ends_with("\r\x1b[K")) && is_in_tenths(time)
+        }
         None => false,
     }
 }

@@ -1,0 +1,75 @@
+//! Command lines of the program `totem`, run on inputs and outputs in memory.
+//!
+//! Formats: The command line
+
+use std::alloc::Global;
+use std::io::{self, Error, ErrorKind, Read, Write};
+use std::rt::Files;
+use std::str;
+use std::sync::Wait;
+use std::thread::Threads;
+use std::time::Clock;
+use totem_command::run;
+
+/// What a command writes on standard output and standard error, and its exit status.
+#[derive(Drop)]
+pub struct CommandOutput {
+    pub out: Vec<u8>,
+    pub err: Vec<u8>,
+    pub status: u8,
+}
+
+/// Runs the command line whose words are in this text, parted by spaces or line feeds, on an input. Returns what it writes.
+pub fn output_of<R: Files + AllocGlobal + Threads + Wait + Clock + Sync>(
+    rt: &R,
+    line: &[u8],
+    input: &[u8],
+) -> CommandOutput {
+    let alloc = rt.alloc();
+    let (mut out, mut err) = (Vec::new(alloc), Vec::new(alloc));
+    let status = run_line(rt, line, input, &mut out, &mut err, None);
+    CommandOutput { out, err, status }
+}
+
+/// Runs a command line on an input, and returns the exit status. Input and outputs are `dyn`, so that each command is compiled
+/// once.
+pub fn run_line<R: Files + AllocGlobal + Threads + Wait + Clock + Sync>(
+    rt: &R,
+    line: &[u8],
+    input: &[u8],
+    mut out: &mut dyn Write,
+    mut err: &mut dyn Write,
+    progress: Option<&mut Vec<u8>>,
+) -> u8 {
+    let words = words_in(rt.alloc(), line);
+    let mut rest = input;
+    let mut reader: &mut dyn Read = &mut rest;
+    run(rt, &words, &mut reader, &mut out, &mut err, progress)
+}
+
+/// Returns the words of a command line, with the program's own name first.
+fn words_in(alloc: Global, line: &[u8]) -> io::Result<Vec<String>> {
+    let Ok(text) = str::from_utf8(line) else {
+        return Err(Error::from(ErrorKind::InvalidData));
+    };
+    let mut words = Vec::new(alloc);
+    words.push(String::from_str(alloc, "totem")?)?;
+    add_words(alloc, text, &mut words)?;
+    Ok(words)
+}
+
+/// Adds the words in the lines of a text.
+fn add_words(alloc: Global, text: &str, words: &mut Vec<String>) -> io::Result<()> {
+    for line in text.lines() {
+        add_words_of_line(alloc, line, words)?;
+    }
+    Ok(())
+}
+
+/// Adds the words of a line.
+fn add_words_of_line(alloc: Global, line: &str, words: &mut Vec<String>) -> io::Result<()> {
+    for word in line.split(' ') {
+        words.push(String::from_str(alloc, word)?)?;
+    }
+    Ok(())
+}

@@ -1,0 +1,145 @@
+//! The expected output of an example that is data.
+//!
+//! A `NAME.claims` has a claim on standard output in each line below the command line:
+//!
+//! - `begins TEXT` and `ends TEXT`: the output begins with it, and ends with it and a line feed;
+//! - `each TEXT`: each line begins with it, and there is one;
+//! - `line TEXT`: just one line is this text;
+//! - `N TEXT`: the text is there N times.
+
+use crate::command::CommandOutput;
+use crate::hex_lines::decode_hex;
+use crate::kind::Kind;
+use ring_sweep::BAD_COMMAND_LINE;
+use std::alloc::Global;
+use std::io::{ErrorKind, Write};
+use std::rt::Files;
+use std::{fs, io, str};
+
+/// The `.fault` of a bad command line whose message isn't compared.
+const ANY_MESSAGE: &[u8] = b"2 ...";
+
+/// Returns whether this is the expected standard output of an example of this kind and name whose file has these bytes.
+pub fn is_output_expected<R: Files + AllocGlobal>(
+    rt: &R,
+    kind: Kind,
+    name: &str,
+    input: &[u8],
+    out: &[u8],
+) -> io::Result<bool> {
+    match kind {
+        Kind::Trace | Kind::Picture => Ok(out == input),
+        Kind::Claims => Ok(meets_claims(input, out)),
+        _ => is_in_file(rt, kind, name, out),
+    }
+}
+
+/// Returns whether this is the standard output in the `.out` of an example of this kind and name.
+fn is_in_file<R: Files + AllocGlobal>(
+    rt: &R,
+    kind: Kind,
+    name: &str,
+    out: &[u8],
+) -> io::Result<bool> {
+    let wanted = read_any(rt, name, ".out")?;
+    match kind {
+        Kind::Legal => Ok(out.ends_with(wanted.as_slice())),
+        Kind::Records => is_hex_of(rt.alloc(), wanted.as_slice(), out),
+        _ => Ok(out == wanted.as_slice()),
+    }
+}
+
+/// Returns whether a text has these bytes in hexadecimal.
+fn is_hex_of(alloc: Global, text: &[u8], out: &[u8]) -> io::Result<bool> {
+    let wanted = decode_hex(alloc, text)?;
+    Ok(wanted.as_slice() == out)
+}
+
+/// Returns whether this is the expected standard error, and the exit status is right.
+pub fn is_error_expected<R: Files + AllocGlobal>(
+    rt: &R,
+    name: &str,
+    printed: &CommandOutput,
+) -> io::Result<bool> {
+    let wanted = read_any(rt, name, ".fault")?;
+    if wanted.as_slice() == ANY_MESSAGE {
+        return Ok(printed.status == BAD_COMMAND_LINE && !printed.err.is_empty());
+    }
+    let fault = fault_of(rt.alloc(), printed)?;
+    Ok(fault.as_slice() == wanted.as_slice())
+}
+
+/// Returns the text of a `.fault` for this output: empty where standard error is empty and the exit status is 0.
+fn fault_of(alloc: Global, printed: &CommandOutput) -> io::Result<Vec<u8>> {
+    let mut fault = Vec::new(alloc);
+    if printed.status != 0 || !printed.err.is_empty() {
+        write_fault(printed, &mut fault)?;
+    }
+    Ok(fault)
+}
+
+/// Adds the exit status, a space, and standard error.
+fn write_fault(printed: &CommandOutput, fault: &mut Vec<u8>) -> io::Result<()> {
+    write!(fault, "{} ", printed.status)?;
+    fault.write_all(printed.err.as_slice())
+}
+
+/// Returns whether each claim in the lines of a text, but for its first line, is true of an output. There is one at least.
+fn meets_claims(text: &[u8], out: &[u8]) -> bool {
+    let (Ok(text), Ok(out)) = (str::from_utf8(text), str::from_utf8(out)) else {
+        return false;
+    };
+    let Some((_, claims)) = text.split_once("\n") else {
+        return false;
+    };
+    let mut are_true = !claims.is_empty();
+    for claim in claims.lines() {
+        are_true = are_true && is_true(claim, out);
+    }
+    are_true
+}
+
+/// Returns whether a claim is true of an output.
+fn is_true(claim: &str, out: &str) -> bool {
+    let Some((word, text)) = claim.split_once(" ") else {
+        return false;
+    };
+    match word {
+        "begins" => out.starts_with(text),
+        "ends" => match out.strip_suffix("\n") {
+            Some(front) => front.ends_with(text),
+            None => false,
+        },
+        "each" => count_lines(out, text, true) == out.lines().count() && !out.is_empty(),
+        "line" => count_lines(out, text, false) == 1,
+        _ => match word.parse::<usize>() {
+            Ok(count) => out.matches(text).count() == count,
+            Err(_) => false,
+        },
+    }
+}
+
+/// Returns the number of lines that are this text, or only begin with it.
+fn count_lines(out: &str, text: &str, only_begin: bool) -> usize {
+    let mut count = 0usize;
+    for line in out.lines() {
+        if line == text || only_begin && line.starts_with(text) {
+            count = count.saturating_add(1);
+        }
+    }
+    count
+}
+
+/// Reads the file of this name and ending.
+pub fn read<R: Files + AllocGlobal>(rt: &R, name: &str, ending: &str) -> io::Result<Vec<u8>> {
+    let path = format!(in rt.alloc(); "{name}{ending}")?;
+    fs::read(rt, path.as_str())
+}
+
+/// Reads the file of this name and ending; none where there is no such file.
+fn read_any<R: Files + AllocGlobal>(rt: &R, name: &str, ending: &str) -> io::Result<Vec<u8>> {
+    match read(rt, name, ending) {
+        Err(error) if error.kind() == ErrorKind::NotFound => Ok(Vec::new(rt.alloc())),
+        read => read,
+    }
+}
