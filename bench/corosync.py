@@ -54,9 +54,13 @@ def calls(client: Path, network: Namespaces, in_flight: list[int], most: int, se
                 processes.append(subprocess.Popen([str(word) for word in words], stdout=out))
         return in_seconds(outs, seconds)
     finally:
-        for process in reversed(processes):
-            process.kill()
-            process.wait()
+        for process in reversed(processes):  # clients first; corosync removes its shared memory at its end
+            process.terminate()
+            try:
+                process.wait(10)
+            except subprocess.TimeoutExpired:
+                process.kill()
+                process.wait()
 
 
 def in_seconds(outs: list[Path], seconds: int) -> list[int]:
