@@ -9,7 +9,7 @@ nothing stands behind it, also the state, the installed ring and the committed l
 the end where, and only where, it was taken and `script` prints no reply to it. The frames that the trace writes are listed again: there
 have to be as many as it counts, the JSON has to say of each what the listing says, and the members told of each ring have to be those
 of its commit tokens. Each frame that is heard was sent before to its hearer, a fold has as many turns as it counts, and the places at
-the end are those that a node has committed. Where a file is no script, both commands have to end alike. Prints what was compared, and
+the end are those that a node has committed. The counts of each node are counted here again, from what the events say. Where a file is no script, both commands have to end alike. Prints what was compared, and
 ends with 1 where anything differs.
 """
 import collections
@@ -191,6 +191,107 @@ def wrong_details(lines, listing):
     return None
 
 
+KINDS = {"message": "messages", "token": "tokens", "join": "joins", "commit": "commits"}
+
+
+def events_in(lines):
+    """Of each event, in order: the node, its input, the frames that it sends, its changes and its reports."""
+    for line in lines:
+        if line["kind"] == "event":
+            yield line["node"], line["input"], line["sends"], line["changes"], line["told"]
+        elif line["kind"] == "fold":
+            for turn in line["turns"]:
+                if "event" in turn:
+                    yield turn["node"], {"turn": turn}, turn["sends"], [], []
+
+
+class Counts:
+    """The counts of a node."""
+
+    def __init__(self):
+        self.received, self.sent = collections.Counter(), collections.Counter()
+        self.of = collections.Counter()
+        self.is_stopped = False
+
+    def take(self, given, asked, sends, changes, told):
+        """Takes an event: `given` is what the listing says of the frame that came, if one came to the node."""
+        refusals = [one for one in told if one["outcome"] == "not taken"]
+        if "call" in asked:
+            self.of["refusals" if refusals else "submitted"] += 1
+        elif self.is_stopped:
+            self.of["refusals"] += any(name in asked for name in ("timeout", "noise", "stop")) or given is not None
+        else:
+            self.step(given, asked, [one["says"].split(" ") for one in sends])
+        self.of["answered"] += len(told) - len(refusals)
+        for change in changes:
+            self.of["rings"] += "ring" in change
+            self.of["committed"] = change.get("committed", self.of["committed"])
+            self.of["dropped"] = change.get("trimmed", change.get("restored", self.of["dropped"]))
+            self.is_stopped |= change.get("state") == "stopped"
+
+    def step(self, given, asked, sends):
+        """Takes a step that sends these frames."""
+        self.of["noise"] += "noise" in asked
+        if given is not None:
+            self.received[KINDS[given[0]]] += 1
+            if given[0] in ("token", "commit"):
+                self.of["tokens_taken" if sends else "tokens_ignored"] += 1
+        for sent in sends:
+            self.sent[KINDS[sent[0]]] += 1
+            if given is not None and given[0] == "token" and sent[0] == "message":
+                self.of["messages_again"] += int(sent[3]) <= int(given[5])
+            if asked.get("timeout") == "retransmit":
+                self.of["tokens_again"] += sent[0] in ("token", "commit")
+
+    def line(self):
+        """Returns the members of its line in JSON."""
+        names = "noise tokens_taken tokens_ignored messages_again tokens_again rings refusals submitted answered committed dropped"
+        found = {name: self.of[name] for name in names.split(" ")}
+        found["waiting"] = self.of["submitted"] - self.of["answered"]
+        for name, frames in (("received", self.received), ("sent", self.sent)):
+            found[name] = {kind: frames[kind] for kind in KINDS.values()}
+        return found
+
+    def words(self, node):
+        """Returns its line in the text."""
+        of = self.line()
+        frames = {
+            name: "messages {messages}, tokens {tokens}, joins {joins}, commit tokens {commits}".format(**of[name])
+            for name in ("received", "sent")
+        }
+        return (
+            f"node {node} in: {frames['received']}; out: {frames['sent']}; tokens taken {of['tokens_taken']}; "
+            f"again: messages {of['messages_again']}, tokens {of['tokens_again']}; rings {of['rings']}; "
+            f"calls waiting {of['waiting']}; committed {of['committed']}, dropped {of['dropped']}"
+        )
+
+
+def counts_of(lines, listing):
+    """The counts of each node, by what the events say."""
+    counts = {node: Counts() for node in range(1, len(lines[0]["votes"]) + 1)}
+    for node, asked, sends, changes, told in events_in(lines):
+        number = asked.get("turn", asked.get("delivery", {})).get("frame")
+        is_given = asked.get("delivery", {}).get("was") not in ("not sent", "not for node")
+        given = listing[number - 1].split(" ") if number is not None and is_given else None
+        counts[node].take(given, asked, sends, changes, told)
+    return counts
+
+
+def wrong_counts(lines, listing, text):
+    """What is wrong with the counts of the nodes."""
+    counts = counts_of(lines, listing)
+    told = [line for line in lines if line["kind"] == "node counts"]
+    if [line.pop("node") for line in told] != sorted(counts):
+        return "which nodes are counted"
+    for line, one in zip(told, counts.values()):
+        if {name: of for name, of in line.items() if name not in ("version", "kind")} != one.line():
+            return "the counts of a node in JSON"
+    said = [line for line in text.splitlines() if line.startswith("node ")]
+    if said != [one.words(node) for node, one in counts.items()]:
+        return "the counts of a node in the text"
+    return None
+
+
 def compare(program, path, sent):
     """What differs, and how many outcomes, nodes and waiting calls were compared."""
     status, out, err = run(program, "script", path)
@@ -218,6 +319,8 @@ def compare(program, path, sent):
     if listed != 0 or f"\nframes {len(listing.splitlines())}\n" not in text:
         return "how many frames were sent", 0, 0, 0
     if wrong := wrong_details(lines, listing.splitlines()):
+        return wrong, 0, 0, 0
+    if wrong := wrong_counts(lines, listing.splitlines(), text):
         return wrong, 0, 0, 0
     if not told_rings(lines) <= committed_rings(listing):
         return "the members of rings", 0, 0, 0

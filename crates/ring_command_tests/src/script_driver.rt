@@ -133,6 +133,14 @@ impl<O: Object> ScriptNodes<O> {
         Ok(())
     }
 
+    /// Asks each node for its counts.
+    pub(crate) fn count(&mut self) -> Result<(), Fault> {
+        for before in 0..self.nodes.len().min(16) {
+            self.hand_record(Proc::new(before as u8 + 1), b'I', &[])?;
+        }
+        Ok(())
+    }
+
     /// Hands a record to a node, and processes its output.
     fn hand_record(&mut self, node: Proc, kind: u8, bytes: &[u8]) -> Result<(), Fault> {
         let Some(recorded_node) = self
@@ -169,6 +177,7 @@ impl<O: Object> ScriptNodes<O> {
             b'K' => self.print_reply(node, "kept", told.bytes),
             b'R' => self.print_no_effect(node, told.bytes),
             b'Q' => self.print_status(node, told.bytes),
+            b'I' => self.print_counts(node, told.bytes),
             _ => Ok(()),
         }
     }
@@ -256,6 +265,32 @@ impl<O: Object> ScriptNodes<O> {
         Ok(())
     }
 
+    /// Prints the counts of a node, as the last lines of a trace have them.
+    fn print_counts(&mut self, node: Proc, bytes: &[u8]) -> Result<(), Fault> {
+        let mut numbers = [0; 20];
+        let mut rest = bytes;
+        for place in 0..20 {
+            let (number, behind) = first_number(rest, 8);
+            numbers[place] = number;
+            rest = behind;
+        }
+        write!(self.printed, "node {node} in: ")?;
+        print_frames(&mut self.printed, &numbers[..4])?;
+        write!(self.printed, "; out: ")?;
+        print_frames(&mut self.printed, &numbers[5..9])?;
+        write!(
+            self.printed,
+            "; tokens taken {}; again: messages {}, tokens {}; rings {}",
+            numbers[9], numbers[11], numbers[12], numbers[13]
+        )?;
+        writeln!(
+            self.printed,
+            "; calls waiting {}; committed {}, dropped {}",
+            numbers[17], numbers[18], numbers[19]
+        )?;
+        Ok(())
+    }
+
     /// Prints the status of a node.
     fn print_status(&mut self, node: Proc, bytes: &[u8]) -> Result<(), Fault> {
         let (state, behind) = first_number(bytes, 1);
@@ -291,4 +326,15 @@ fn number_of(kind: Kind) -> u8 {
         Kind::Consensus => 2,
         Kind::Loss => 3,
     }
+}
+
+/// The kinds of frames, each with what stands before it in a list.
+const KINDS: [&str; 4] = ["messages", ", tokens", ", joins", ", commit tokens"];
+
+/// Prints the numbers of frames of each kind.
+fn print_frames<A: Allocator + Copy>(out: &mut String<A>, numbers: &[u64]) -> Result<(), Fault> {
+    for (kind, number) in KINDS.iter().zip(numbers.iter()) {
+        write!(out, "{kind} {number}")?;
+    }
+    Ok(())
 }

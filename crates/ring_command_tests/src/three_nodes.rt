@@ -7,6 +7,7 @@ use crate::served::served_on;
 use ring_base::{Fault, Fixed};
 use ring_object::Object;
 use ring_sweep::{Script, ShelfVocabulary, StandardObjects, script_of};
+use ring_trace::{Format, Selection, TraceOptions, trace_of};
 use std::alloc::Global;
 use std::str;
 use std::test::Fail;
@@ -88,6 +89,54 @@ fn seen<O: Object>(
         driven.nodes.len(),
         tell_again(alloc, fixed, driven.nodes.as_slice()),
     ))
+}
+
+/// Returns the lines of nodes that the trace of a script ends with.
+fn traced_counts<O: Object<Alloc = Global>>(alloc: Global, text: &str) -> Result<String, Fault> {
+    let (mut out, mut frames, mut err) = (Vec::new(alloc), Vec::new(alloc), Vec::new(alloc));
+    let asked = TraceOptions {
+        format: Format::Text,
+        selection: Selection::all(),
+    };
+    let bytes = text.as_bytes();
+    let _ = trace_of::<O, ShelfVocabulary, _, _, _>(
+        alloc,
+        bytes,
+        asked,
+        &mut out,
+        &mut frames,
+        &mut err,
+    );
+    let mut counts = String::new(alloc);
+    for line in str::from_utf8(out.as_slice()).unwrap_or("").lines() {
+        if line.starts_with("node ") {
+            writeln!(counts, "{line}")?;
+        }
+    }
+    Ok(counts)
+}
+
+/// Drives nodes through the events of a script. Returns whether the counts that they tell then are those of its trace, and the
+/// number of lines of these.
+fn counts_seen<O: Object<Alloc = Global>>(
+    alloc: Global,
+    text: &str,
+) -> Result<(bool, usize), Fault> {
+    let mut driven = driven::<O>(alloc, text)?;
+    driven.printed.clear();
+    driven.count()?;
+    let wanted = traced_counts::<O>(alloc, text)?;
+    Ok((
+        wanted.as_str() == driven.printed.as_str(),
+        wanted.as_str().lines().count(),
+    ))
+}
+
+#[test]
+fn three_nodes_count_what_a_trace_counts(rt: HostRuntime) -> Result<(), Fail> {
+    let seen = counts_seen::<StandardObjects<Global>>(rt.alloc(), CUT_AND_STOPPED)?;
+    assert!(rt; seen == (true, 3));
+    Ok(())
 }
 
 #[test]

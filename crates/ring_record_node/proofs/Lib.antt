@@ -6,3 +6,4 @@ pub mod PipedSubmits
 pub mod NodeOutputs
 pub mod Writing
 pub mod TimesBrought
+pub mod Counted

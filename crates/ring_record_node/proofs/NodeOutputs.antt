@@ -21,7 +21,7 @@ use Rattle.ring_records.specs.declared.membership.Membership.{Membership}
 use Rattle.ring_records.specs.declared.token_outcome.TokenOutcome.{TokenOutcome}
 use Rattle.ring_records.specs.declared.token_outcome.TokenOutcome.TheVariants.{NoToken}
 use Rattle.ring_record_node.specs.NodeOutputs.{RecordNodeView, sends_text, token_fate, has_brought, members_text, told_membership, end_text, status_text}
-use Rattle.ring_record_node.specs.RecordNodes.{IsStepNoted, step_or_refusal_text, Steps, TimesOut, IsStoppedForMemory, IsSubmission, IsSubmitted, HasWrittenUnlessFailed}
+use Rattle.ring_record_node.specs.RecordNodes.{IsStepNoted, step_or_refusal_text, Steps, TimesOut, IsStoppedForMemory, IsSubmission, IsSubmitted, counts_after_submission, HasWrittenUnlessFailed}
 use Rattle.ring_record_node.proofs.Writing.{tells}
 
 -- a call that failed promises nothing of success
@@ -117,7 +117,7 @@ module _ {O A T E : Type 0} (object : Sequential O) (r : Result T E) (out out' :
 
   -- the ticket of a call
   pub ticket_told : (client number : ℕ) (operation : List ℕ) (ticket : ℕ) → IsSubmission object old.node client number operation (Ok ticket) new.node
-      → new ≡ record old { node = new.node }
+      → new ≡ record old { node = new.node; counts = counts_after_submission (Ok ticket) old.counts }
       → OnOk r (Appends out out' (ticket_record ticket ++ end_text new NoToken false))
       → HasWrittenUnlessFailed r out out' (λ text. IsSubmitted object old client number operation new text)
   ticket_told client number operation ticket gives kept told =
@@ -125,7 +125,7 @@ module _ {O A T E : Type 0} (object : Sequential O) (r : Result T E) (out out' :
 
   -- the refusal of a call
   pub refused_told : (client number : ℕ) (operation : List ℕ) (fault : Fault) → IsSubmission object old.node client number operation (Err fault) new.node
-      → new ≡ record old { node = new.node }
+      → new ≡ record old { node = new.node; counts = counts_after_submission (Err fault) old.counts }
       → OnOk r (Appends out out' (refusal_record fault ++ end_text new NoToken false))
       → HasWrittenUnlessFailed r out out' (λ text. IsSubmitted object old client number operation new text)
   refused_told client number operation fault gives kept told =

@@ -6,7 +6,7 @@ use Rattle.std.proofs.KnownBytes.{Appends-nil, Appends-trans, Appends-kept}
 use Rattle.ring_object.specs.Operations.{Sequential}
 use Rattle.ring_records.specs.RecordRequests.{IsRequest}
 use Rattle.ring_records.specs.declared.request.RecordRequest.{RecordRequest}
-use Rattle.ring_records.specs.declared.request.RecordRequest.TheVariants.{Frame, Timeout, Call, Stop, Status, Time}
+use Rattle.ring_records.specs.declared.request.RecordRequest.TheVariants.{Frame, Timeout, Call, Stop, Status, Counts, Time}
 use Rattle.ring_record_node.specs.NodeOutputs.{RecordNodeView}
 use Rattle.ring_record_node.specs.RecordNodes.{IsRequestDone, IsRecordTaken, HasWrittenUnlessFailed, HasWritten}
 
@@ -54,6 +54,7 @@ call_long kind bytes Frame asks client number e = absurd cc
 call_long kind bytes (Timeout t) asks client number e = absurd cc
 call_long kind bytes Stop asks client number e = absurd cc
 call_long kind bytes Status asks client number e = absurd cc
+call_long kind bytes Counts asks client number e = absurd cc
 call_long kind bytes (Time now) asks client number e = absurd cc
 
 module _ {O A : Type 0} (object : Sequential O) where

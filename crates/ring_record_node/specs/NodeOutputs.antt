@@ -1,11 +1,12 @@
--- A node that takes records, and its output for a step and for a query of its status.
--- Rules: Nodes that records drive 1, 3 and 7
+-- A node that takes records, and its output for a step, for a query of its status and for one of its counts.
+-- Rules: Nodes that records drive 1, 3, 7 and 8
 -- Formats: Records
 use Rattle.std.specs.Prelude.{ℕ, Bool, true, false, not, ◌&&◌, ◌==◌, nat_le, List, [], ◌∷◌, ◌++◌, flat_map, length, Option, Some, None, is_some}
 use Rattle.std.specs.Option.{option_map}
 use Rattle.ring_base.specs.Group.{Group, is_primary}
 use Rattle.ring_base.specs.declared.ring_id.RingId.{RingId}
 use Rattle.ring_payload.specs.declared.call.Call.{Call}
+use Rattle.ring_session.specs.Pendings.{pending_from}
 use Rattle.ring_session.specs.declared.answered.TicketAnswer.{TicketAnswer}
 use Rattle.ring_core_spec.specs.Joining.{is_operational}
 use Rattle.ring_core_spec.specs.State.{OutgoingFrame}
@@ -17,21 +18,25 @@ use Rattle.ring_timers.specs.declared.periods.Periods.{Periods}
 use Rattle.ring_timers.specs.Timers.{TimersView}
 use Rattle.ring_clock.specs.Clocks.{ClockView, clock_opening, next_time_of}
 use Rattle.ring_clock.specs.StepOutcomes.{is_token, has_sent, installs}
-use Rattle.ring_records.specs.NodeRecords.{frame_record, answers_text, restored_text, all_committed_text, status_record, members_record, end_record, token_outcome_of}
+use Rattle.ring_counts.specs.Counts.{no_counts, count_numbers}
+use Rattle.ring_counts.specs.declared.node_counts.NodeCounts.{NodeCounts}
+use Rattle.ring_counts.specs.declared.node_counts.NodeGauges.{NodeGauges}
+use Rattle.ring_records.specs.NodeRecords.{frame_record, answers_text, restored_text, all_committed_text, status_record, counts_record, members_record, end_record, token_outcome_of}
 use Rattle.ring_records.specs.declared.membership.Membership.{Membership}
 use Rattle.ring_records.specs.declared.timed_end.TimedEnd.{TimedEnd}
 use Rattle.ring_records.specs.declared.token_outcome.TokenOutcome.{TokenOutcome}
 use Rattle.ring_records.specs.declared.token_outcome.TokenOutcome.TheVariants.{NoToken, Taken, Ignored}
 
--- a node that takes records: its group, the node and its clock
+-- a node that takes records: its group, the node, its clock, and the counts of its steps
 pub record RecordNodeView (A : Type 0) : Type 0 where
   pub group : Group
   pub node : Node A
   pub clock : ClockView
+  pub counts : NodeCounts
 
--- processor `me` of the group at its opening, with a clock of these periods to which no time was brought
+-- processor `me` of the group at its opening, with a clock of these periods to which no time was brought, and nothing counted
 abbrev pub record_node_opening : {A : Type 0} → Group → ℕ → Periods → RecordNodeView A
-record_node_opening group me periods = record { group = group; node = node_opening group me; clock = clock_opening periods }
+record_node_opening group me periods = record { group = group; node = node_opening group me; clock = clock_opening periods; counts = no_counts }
 
 -- the records of frames with their receivers, in order
 abbrev pub sends_text : {A : Type 0} → List (OutgoingFrame A) → List ℕ
@@ -88,3 +93,12 @@ installed_text old new = members_text (installs old.node.core new.node.core) new
 abbrev pub status_text : {A : Type 0} → RecordNodeView A → List ℕ
 status_text r =
     status_record r.node.core.state r.node.core.installed.ring (node_known_log r.node).committed (node_length r.node) (node_trimmed r.node) (told_membership r)
+
+-- what is read of a node beside its counts: the calls that wait, the committed places and the dropped ones
+abbrev pub gauges_of : {A : Type 0} → Node A → NodeGauges
+gauges_of n =
+    record { waiting = length (pending_from n.done 0 n.tickets); committed = (node_known_log n).committed; dropped = node_trimmed n }
+
+-- the counts of a node
+abbrev pub counts_text : {A : Type 0} → RecordNodeView A → List ℕ
+counts_text r = counts_record (count_numbers r.counts (gauges_of r.node))

@@ -1,5 +1,5 @@
 -- The request of a record, the node after it, and the node's output.
--- Rules: Nodes that records drive 1 to 4 and 7; Refusals 4 and 6
+-- Rules: Nodes that records drive 1 to 4, 7 and 8; Refusals 4 and 6
 -- Formats: Records
 use Rattle.std.specs.Prelude.{◌≡◌, ℕ, ◌⊎◌, true, false, List, [], ◌∷◌, ◌++◌, length, drop, Option, Some, None, Result, Ok, Err, MatchOption, OnOk}
 use Rattle.std.specs.Io.KnownBytes.{Appends}
@@ -17,12 +17,15 @@ use Rattle.ring_node_spec.specs.declared.input.Input.TheVariants as input
 use Rattle.ring_node.specs.Restores.{node_restored}
 use Rattle.ring_clock.specs.Clocks.{first_due_at, clock_after_timeout, clock_after_step}
 use Rattle.ring_clock.specs.StepOutcomes.{outcome_of, installs}
+use Rattle.ring_counts.specs.Counted.{counted_input}
+use Rattle.ring_counts.specs.Counts.{counts_after_step, counts_after_refusal, counts_after_submit}
+use Rattle.ring_counts.specs.declared.node_counts.NodeCounts.{NodeCounts}
 use Rattle.ring_records.specs.RecordRequests.{IsRequest}
 use Rattle.ring_records.specs.NodeRecords.{ticket_record, refusal_record}
 use Rattle.ring_records.specs.declared.request.RecordRequest.{RecordRequest}
 use Rattle.ring_records.specs.declared.request.RecordRequest.TheVariants as asked
 use Rattle.ring_records.specs.declared.token_outcome.TokenOutcome.TheVariants.{NoToken}
-use Rattle.ring_record_node.specs.NodeOutputs.{RecordNodeView, outs_text, token_fate, has_brought, end_text, installed_text, status_text}
+use Rattle.ring_record_node.specs.NodeOutputs.{RecordNodeView, outs_text, token_fate, has_brought, end_text, installed_text, status_text, counts_text}
 
 -- the input that bytes are: the frame that they encode, or noise where they encode none
 abbrev pub IsDecodedInput : {A : Type 0} → List ℕ → Input A → Type 0
@@ -30,6 +33,11 @@ IsDecodedInput bytes (input.Frame frame) = IsFrameEncoding frame bytes
 IsDecodedInput {A} bytes input.Noise = (frame : Frame A) → ¬ IsFrameEncoding frame bytes
 IsDecodedInput bytes (input.Timeout kind) = ⊥
 IsDecodedInput bytes input.Stop = ⊥
+
+-- the counts after a call was submitted that got a ticket or was refused
+abbrev pub counts_after_submission : Result ℕ Fault → NodeCounts → NodeCounts
+counts_after_submission (Ok ticket) counts = counts_after_submit counts
+counts_after_submission (Err fault) counts = counts_after_refusal counts
 
 module _ {O A : Type 0} (object : Sequential O) where
   -- a node made a step, or was refused it; where memory is refused it has stopped, before the step or after it
@@ -40,12 +48,23 @@ module _ {O A : Type 0} (object : Sequential O) where
       (is_stopped old.core.state ≡ false) × ((new ≡ node_stopped old) ⊎ (new ≡ node_stopped (node_step object old i).node))
   IsStepOrRefusal old i (Some _) new = ⊥
 
-  -- a node with its clock made a step, which the clock notes, or was refused it
+  -- the counts after a step of the node between these two states
+  abbrev pub counts_after : NodeCounts → Node A → Input A → Node A → NodeCounts
+  counts_after counts old i new =
+      let s = node_step object old i in
+      counts_after_step (counted_input i) s.sends (length s.answers) (installs old.core new.core) counts
+
+  -- a node with its clock made a step, which the clock and the counts note, or was refused it, which the counts note
   abbrev pub IsStepNoted : RecordNodeView A → Input A → Option Fault → RecordNodeView A → Type 0
   IsStepNoted old i None new =
       IsStepOrRefusal old.node i None new.node
-      × (new ≡ record old { node = new.node; clock = clock_after_step old.clock (outcome_of i (node_step object old.node i).sends) })
-  IsStepNoted old i (Some fault) new = IsStepOrRefusal old.node i (Some fault) new.node × (new ≡ record old { node = new.node })
+      × (new
+      ≡ record old {
+        node = new.node;
+        clock = clock_after_step old.clock (outcome_of i (node_step object old.node i).sends);
+        counts = counts_after old.counts old.node i new.node;
+      })
+  IsStepNoted old i (Some fault) new = IsStepOrRefusal old.node i (Some fault) new.node × (new ≡ record old { node = new.node; counts = counts_after_refusal old.counts })
 
   -- the output of that, without its end: all outputs of the step and the ring that it installed, or the refusal alone
   abbrev pub step_or_refusal_text : RecordNodeView A → Input A → Option Fault → RecordNodeView A → List ℕ
@@ -120,7 +139,8 @@ module _ {O A : Type 0} (object : Sequential O) where
   -- a call was submitted, and this is the output
   abbrev pub IsSubmitted : RecordNodeView A → ℕ → ℕ → List ℕ → RecordNodeView A → List ℕ → Type 0
   IsSubmitted old client number operation new text =
-      (given : Result ℕ Fault) × IsSubmission old.node client number operation given new.node × (new ≡ record old { node = new.node })
+      (given : Result ℕ Fault) × IsSubmission old.node client number operation given new.node
+      × (new ≡ record old { node = new.node; counts = counts_after_submission given old.counts })
       × (text ≡ submission_text given new)
 
   -- the request is carried out, with this output; a frame or an operation is in the record's bytes
@@ -130,6 +150,7 @@ module _ {O A : Type 0} (object : Sequential O) where
   IsRequestDone old bytes (asked.Call client number) new text = IsSubmitted old client number (drop 12 bytes) new text
   IsRequestDone old bytes asked.Stop new text = Steps old input.Stop new text
   IsRequestDone old bytes asked.Status new text = (new ≡ old) × (text ≡ status_text old ++ end_text old NoToken false)
+  IsRequestDone old bytes asked.Counts new text = (new ≡ old) × (text ≡ counts_text old ++ end_text old NoToken false)
   IsRequestDone old bytes (asked.Time now) new text = IsTimeBrought now old new text
 
   -- a record was taken, with this output

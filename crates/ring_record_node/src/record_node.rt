@@ -1,5 +1,5 @@
 //! A node that takes records.
-//! Rules: Nodes that records drive 1 to 4 and 7; Refusals 4 and 6
+//! Rules: Nodes that records drive 1 to 4, 7 and 8; Refusals 4 and 6
 
 ghost use Rattle.std.specs.Prelude.{◌≡◌, ◌≤◌, false, None, Some, ℕ, List, length, drop, ◌++◌, IsTrue, IsOk, OnOk, OnErr, IfOk, IfErr};
 ghost use Rattle.std.specs.Io.KnownBytes.{Appends};
@@ -12,7 +12,7 @@ ghost use Rattle.ring_node.specs.Restores.{node_restored};
 ghost use Rattle.ring_clock.specs.StepOutcomes.{installs};
 ghost use Rattle.ring_records.specs.NodeRecords.{answers_text, restored_text, all_committed_text, ticket_record, refusal_record};
 ghost use Rattle.ring_records.specs.declared.token_outcome.TokenOutcome.TheVariants.{NoToken};
-ghost use Rattle.ring_record_node.specs.NodeOutputs.{record_node_opening, sends_text, is_idle, has_brought, end_text, timed_end_of, told_membership, members_text, status_text};
+ghost use Rattle.ring_record_node.specs.NodeOutputs.{record_node_opening, sends_text, is_idle, has_brought, end_text, timed_end_of, told_membership, members_text, status_text, gauges_of, counts_text};
 ghost use Rattle.ring_records.specs.declared.request.RecordRequest.{RecordRequest};
 ghost use Rattle.ring_record_node.specs.RecordNodes.{IsStepNoted, IsSubmission, Steps, IsStoppedForMemory, IsReceived, IsSubmitted, TimesOut, IsTimeBrought};
 ghost use Rattle.ring_record_node.specs.RecordNodes.{IsRequestDone, IsRecordTaken, IsNoRequest, IsOpeningRefused, HasWrittenUnlessFailed, HasWritten};
@@ -22,24 +22,27 @@ use crate::encoding_node::EncodingNode;
 use crate::frame_inputs::input_of;
 use ring_base::{Fault, Fixed, Kind, State};
 use ring_clock::{NodeClock, Periods, has_sent, is_token, step_outcome, timeout_in};
+use ring_counts::{CountedInput, NodeCounts, NodeGauges};
 use ring_failure::Failure;
 use ring_node::Input;
 use ring_object::Object;
 use ring_records::{
-    Membership, RecordRequest, TimedEnd, TokenOutcome, operation_in, record_request, write_end,
-    write_members, write_refusal, write_status_record, write_ticket,
+    Membership, RecordRequest, TimedEnd, TokenOutcome, operation_in, record_request, write_counts,
+    write_end, write_members, write_refusal, write_status_record, write_ticket,
 };
 use ring_session::Ticket;
 use std::io::{self, Write};
 use std::marker::Model;
 
-/// A node that takes records, and writes the output records of each at once. It keeps a clock from the first record of time on.
-/// Rules: Nodes that records drive 1 and 7
+/// A node that takes records, and writes the output records of each at once. It keeps a clock from the first record of time on, and
+/// counts its steps.
+/// Rules: Nodes that records drive 1, 7 and 8
 #[derive(Drop)]
 pub struct RecordNode<O: Object> {
     group: Fixed,
     node: EncodingNode<O>,
     clock: NodeClock,
+    counts: NodeCounts,
 }
 
 impl<O: Object> Model for RecordNode<O> {
@@ -47,7 +50,7 @@ impl<O: Object> Model for RecordNode<O> {
 
     ghost Value = { RecordNodeView O.Alloc };
 
-    ghost view = { λ r. record { group = r.group; node = r.node; clock = r.clock } };
+    ghost view = { λ r. record { group = r.group; node = r.node; clock = r.clock; counts = r.counts } };
 }
 
 impl<O: Object> RecordNode<O> {
@@ -80,6 +83,7 @@ impl<O: Object> RecordNode<O> {
             group: fixed,
             node,
             clock: NodeClock::new(periods),
+            counts: NodeCounts::new(),
         })
     }
 
@@ -88,7 +92,7 @@ impl<O: Object> RecordNode<O> {
     /// Returns whether the record is a request. Where it isn't, nothing is done and nothing is written.
     /// Errors: `Output` where `out` fails. The request is carried out all the same, and a part of the output may be
     /// missing.
-    /// Rules: Nodes that records drive 1 to 4 and 7
+    /// Rules: Nodes that records drive 1 to 4, 7 and 8
     pub fn take<W: Write>(&mut self, kind: u8, bytes: &[u8], out: &mut W) -> Result<bool, Failure>
         ensures taken { IfOk result (λ is_taken. IsTrue is_taken
             → HasWritten (W.contents out.old) (W.contents out.new) (IsRecordTaken O.sequential self.old kind bytes.now self.new)) }
@@ -123,6 +127,7 @@ impl<O: Object> RecordNode<O> {
             }
             RecordRequest::Stop => self.step_and_write(Input::Stop, out),
             RecordRequest::Status => self.write_status(out),
+            RecordRequest::Counts => self.write_counts(out),
             RecordRequest::Time(now) => self.bring_time(now, out),
         }
     }
@@ -156,8 +161,8 @@ impl<O: Object> RecordNode<O> {
         }
     }
 
-    /// Makes a step of the node, encodes its frames, and notes it at the clock. `Stopped` in a stopped node, else `Memory`: then
-    /// the node has stopped, and the step's outputs are lost.
+    /// Makes a step of the node, encodes its frames, and notes it at the clock and in the counts. `Stopped` in a stopped node, else
+    /// `Memory`: then the node has stopped, and the step's outputs are lost. The counts note a refusal too.
     fn step(&mut self, input: Input<O::Alloc>) -> Result<EncodedStep<O::Alloc>, Fault>
         requires { InputFits input }
         ensures acts { OnOk result (IsStepNoted O.sequential self.old input None self.new) }
@@ -171,10 +176,21 @@ impl<O: Object> RecordNode<O> {
     {
         let timeout = timeout_in(&input);
         let is_token = is_token(&input);
-        let encoded = self.node.step(input)?;
-        let outcome = step_outcome(timeout, is_token, encoded.outs.sends.as_slice());
-        self.clock.note_step(outcome);
-        Ok(encoded)
+        let counted = CountedInput::of(&input);
+        match self.node.step(input) {
+            Ok(encoded) => {
+                let sends = encoded.outs.sends.as_slice();
+                let answers = encoded.outs.answers.len() as u64;
+                self.clock.note_step(step_outcome(timeout, is_token, sends));
+                self.counts
+                    .note_step(counted, sends, answers, encoded.has_installed);
+                Ok(encoded)
+            }
+            Err(fault) => {
+                self.counts.note_refusal();
+                Err(fault)
+            }
+        }
     }
 
     /// Stops the node, since memory for a frame that arrived was refused, and writes that.
@@ -182,6 +198,7 @@ impl<O: Object> RecordNode<O> {
         ensures { HasWrittenUnlessFailed result (W.contents out.old) (W.contents out.new) (IsStoppedForMemory O.sequential self.old self.new) }
     {
         let fault = self.node.stop_node();
+        self.counts.note_refusal();
         self.write_refusal_and_end(fault, TokenOutcome::NoToken, out)
     }
 
@@ -197,8 +214,14 @@ impl<O: Object> RecordNode<O> {
             (IsSubmitted O.sequential self.old client number operation.now self.new) }
     {
         match self.node.submit(client, number, operation) {
-            Ok(ticket) => self.write_ticket_and_end(ticket, out),
-            Err(fault) => self.write_refusal_and_end(fault, TokenOutcome::NoToken, out),
+            Ok(ticket) => {
+                self.counts.note_submit();
+                self.write_ticket_and_end(ticket, out)
+            }
+            Err(fault) => {
+                self.counts.note_refusal();
+                self.write_refusal_and_end(fault, TokenOutcome::NoToken, out)
+            }
         }
     }
 
@@ -260,6 +283,26 @@ impl<O: Object> RecordNode<O> {
             out,
         )?;
         self.write_end(TokenOutcome::NoToken, false, out)
+    }
+
+    /// Writes the node's counts and the end of the outputs.
+    fn write_counts<W: Write>(&self, out: &mut W) -> io::Result<()>
+        ensures { OnOk result (Appends (W.contents out.old) (W.contents out.new) (counts_text self.now ++ end_text self.now NoToken false)) }
+    {
+        write_counts(&self.counts.numbers(self.gauges()), out)?;
+        self.write_end(TokenOutcome::NoToken, false, out)
+    }
+
+    /// Returns what is read of the node beside its counts.
+    fn gauges(&self) -> NodeGauges
+        ensures { result ≡ gauges_of self.now.node }
+    {
+        let node = self.node.node();
+        NodeGauges {
+            waiting: node.waiting() as u64,
+            committed: node.committed_len(),
+            dropped: node.trimmed(),
+        }
     }
 
     /// Writes the ticket of a call and the end of the outputs.

@@ -87,6 +87,10 @@ status_bytes state ring committed log trimmed =
 abbrev pub status_record : State → RingId → ℕ → ℕ → ℕ → Option Membership → List ℕ
 status_record state ring committed log trimmed members = record_of 81 (status_bytes state ring committed log trimmed ++ membership_text members)
 
+-- The record of a node's counts, each in eight bytes.
+abbrev pub counts_record : List ℕ → List ℕ
+counts_record numbers = record_of 73 (flat_map (big_bytes 8) numbers)
+
 -- The record of an installed ring with its members.
 abbrev pub members_record : RingId → Membership → List ℕ
 members_record ring m = record_of 77 ((big_bytes 8 ring.seq ++ ring.rep ∷ []) ++ membership_bytes m)

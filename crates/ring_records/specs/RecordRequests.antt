@@ -6,7 +6,7 @@ use Rattle.byteorder.specs.Endian.{big_number}
 use Rattle.ring_base.specs.declared.kind.Kind.{Kind}
 use Rattle.ring_base.specs.declared.kind.Kind.TheVariants.{Retransmit, Join, Consensus, Loss}
 use Rattle.ring_records.specs.declared.request.RecordRequest.{RecordRequest}
-use Rattle.ring_records.specs.declared.request.RecordRequest.TheVariants.{Frame, Timeout, Call, Stop, Status, Time}
+use Rattle.ring_records.specs.declared.request.RecordRequest.TheVariants.{Frame, Timeout, Call, Stop, Status, Counts, Time}
 
 -- The number of a timeout.
 abbrev pub kind_number : Kind → ℕ
@@ -23,4 +23,5 @@ IsRequest kind bytes (Call client number) =
     (kind ≡ 67) × (12 ≤ length bytes) × (client ≡ big_number 4 bytes) × (number ≡ big_number 8 (drop 4 bytes))
 IsRequest kind bytes Stop = (kind ≡ 83) × (bytes ≡ [])
 IsRequest kind bytes Status = (kind ≡ 81) × (bytes ≡ [])
+IsRequest kind bytes Counts = (kind ≡ 73) × (bytes ≡ [])
 IsRequest kind bytes (Time now) = (kind ≡ 78) × (length bytes ≡ 8) × (now ≡ big_number 8 bytes)

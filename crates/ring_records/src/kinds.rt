@@ -21,6 +21,10 @@ pub(crate) const STOP: u8 = b'S';
 /// Formats: Records
 pub(crate) const STATUS: u8 = b'Q';
 
+/// The kind `I`. As an input: the counts of the node are asked for. As an output: they are reported.
+/// Formats: Records
+pub(crate) const COUNTS: u8 = b'I';
+
 /// The kind `N` of an input: the time in its bytes is brought.
 /// Formats: Records
 pub(crate) const TIME: u8 = b'N';

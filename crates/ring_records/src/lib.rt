@@ -18,8 +18,8 @@ mod writing;
 pub use encoding::encode_frame_record;
 pub use membership::Membership;
 pub use node_records::{
-    write_all_committed, write_answers, write_end, write_members, write_refusal, write_restored,
-    write_status_record, write_ticket,
+    write_all_committed, write_answers, write_counts, write_end, write_members, write_refusal,
+    write_restored, write_status_record, write_ticket,
 };
 pub use reading::{MAX_RECORD_BYTES, read_record};
 pub use request::{RecordRequest, operation_in, record_request};

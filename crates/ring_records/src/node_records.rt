@@ -5,7 +5,7 @@
 ghost use Rattle.std.specs.Prelude.{◌≡◌, ◌++◌, OnOk};
 ghost use Rattle.std.specs.Io.KnownBytes.{Appends};
 ghost use Rattle.ring_records.specs.NodeRecords.{answer_record, answers_text, committed_record, all_committed_text, ticket_record, refusal_record};
-ghost use Rattle.ring_records.specs.NodeRecords.{restored_text, state_number, status_bytes, status_record, members_record, end_record};
+ghost use Rattle.ring_records.specs.NodeRecords.{restored_text, state_number, status_bytes, status_record, counts_record, members_record, end_record};
 
 use crate::kinds;
 use crate::membership::Membership;
@@ -159,6 +159,19 @@ fn bytes_of_status(state: State, ring: RingId, committed: u64, log: u64, trimmed
     BigEndian::write_u64(&mut bytes[18..26], log);
     BigEndian::write_u64(&mut bytes[26..34], trimmed);
     bytes
+}
+
+/// Writes a record `I` with the counts of a node, each in 8 bytes, in this order.
+///
+/// Errors: the writer's; its content is then unspecified.
+/// Rules: Nodes that records drive 8
+/// Formats: Records
+pub fn write_counts<W: Write>(numbers: &[u64; 20], out: &mut W) -> io::Result<()>
+    ensures { OnOk result (Appends (W.contents out.old) (W.contents out.new) (counts_record numbers.now)) }
+{
+    let mut bytes = [0; 160];
+    BigEndian::write_u64_into(numbers, &mut bytes);
+    write_record(out, kinds::COUNTS, &[], &bytes)
 }
 
 /// Writes a record `M` with an installed ring and its members.

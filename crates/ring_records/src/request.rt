@@ -28,6 +28,8 @@ pub enum RecordRequest {
     Stop,
     /// Report the status of the node. Nothing changes.
     Status,
+    /// Report the counts of the node. Nothing changes.
+    Counts,
     /// The time is now this number of milliseconds.
     Time(u64),
 }
@@ -47,6 +49,7 @@ pub fn record_request(kind: u8, bytes: &[u8]) -> Option<RecordRequest>
         kinds::CALL => call_of(bytes),
         kinds::STOP if bytes.is_empty() => Some(RecordRequest::Stop),
         kinds::STATUS if bytes.is_empty() => Some(RecordRequest::Status),
+        kinds::COUNTS if bytes.is_empty() => Some(RecordRequest::Counts),
         kinds::TIME if bytes.len() == 8 => Some(RecordRequest::Time(BigEndian::read_u64(bytes))),
         _ => None,
     }

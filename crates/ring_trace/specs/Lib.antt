@@ -2,3 +2,4 @@ pub mod Selections
 pub mod WrittenFrames
 pub mod NodeViews
 pub mod NodeReasons
+pub mod Restoring

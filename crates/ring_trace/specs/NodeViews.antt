@@ -1,6 +1,6 @@
 -- The changes of a node between two views of it.
 -- Formats: The command line
-use Rattle.std.specs.Prelude.{Bool, true, false, not, ◌==◌, ◌&&◌, if◌then◌else◌, nat_lt, List, [], ◌∷◌, ◌++◌, Some, None}
+use Rattle.std.specs.Prelude.{Bool, true, false, not, ◌==◌, ◌&&◌, if◌then◌else◌, List, [], ◌∷◌, ◌++◌, is_some, unwrap_or}
 use Rattle.ring_base.specs.declared.state.State.{State}
 use Rattle.ring_base.specs.declared.state.State.TheVariants.{Gather, Commit, Recovery, Operational, Stopped}
 use Rattle.ring_base.specs.Group.{Group}
@@ -32,27 +32,24 @@ is_new_state before now =
 abbrev pub ring_change : Group → NodeView → Change
 ring_change nodes now = change.Ring now.ring now.members (vote_share nodes now.members)
 
--- whether the node restored a snapshot: it was given a piece of one of places that it had not committed, and keeps these as a
--- snapshot now
-abbrev pub is_restored : NodeView → NodeView → Bool
-is_restored before now = elim before.snapshot [
-  | None ↦ false
-  | Some places ↦ nat_lt before.committed places && not (nat_lt now.trimmed places)
-]
+-- the change that the node's step restored a snapshot
+abbrev pub restored_change : NodeView → Change
+restored_change now = change.Restored (unwrap_or now.restored 0)
 
--- the change that the node dropped first places, or restored a snapshot of them
-abbrev pub trimmed_change : NodeView → NodeView → Change
-trimmed_change before now = if is_restored before now then change.Restored now.trimmed else change.Trimmed now.trimmed
+-- whether the node dropped first places: more than it had dropped before, or than the snapshot has that its step restored
+abbrev pub is_trimmed : NodeView → NodeView → Bool
+is_trimmed before now = not (now.trimmed == unwrap_or now.restored before.trimmed)
 
 -- the change if it is to be reported, or none
 abbrev pub change_if : Bool → Change → List Change
 change_if is_told one = if is_told then one ∷ [] else []
 
--- the changes of a node between two views, in this order: its ring, its state, its committed length, its trimmed length
--- or the snapshot that it restored
+-- the changes of a node between two views, in this order: its ring, its state, its committed length, the snapshot that it restored,
+-- its trimmed length
 abbrev pub changes_of : Group → NodeView → NodeView → List Change
 changes_of nodes before now =
     change_if (is_new_ring before now) (ring_change nodes now)
     ++ change_if (is_new_state before now) (change.State now.state)
     ++ change_if (not (now.committed == before.committed)) (change.Committed now.committed)
-    ++ change_if (not (now.trimmed == before.trimmed)) (trimmed_change before now)
+    ++ change_if (is_some now.restored) (restored_change now)
+    ++ change_if (is_trimmed before now) (change.Trimmed now.trimmed)

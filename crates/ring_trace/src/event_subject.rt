@@ -3,6 +3,7 @@
 
 use ring_base::Proc;
 use ring_console::{OpenCopy, ScriptLine};
+use ring_counts::CountedInput;
 use ring_script::timeout_name;
 use ring_trace_formats::{CallWords, DeliveryKind, TraceVocabulary, WaitingCall};
 use std::alloc::{AllocError, Allocator};
@@ -15,6 +16,8 @@ pub(crate) struct EventSubject {
     pub node: Proc,
     /// The number of the frame that a turn or a line gives to the node, if a u64 holds it.
     pub frame: Option<u64>,
+    /// What counts of the input, where it is neither a frame nor a call.
+    pub counted: Option<CountedInput>,
     /// The delivered copy, if the event is a turn of a pump.
     pub pair: Option<OpenCopy>,
     /// The submitted call, if the event is the line `call`.
@@ -27,6 +30,7 @@ pub(crate) struct EventSubject {
 pub(crate) fn event_subject_of<A: Allocator + Copy>(line: &ScriptLine<A>) -> Option<EventSubject> {
     let mut submitted = None;
     let mut given = None;
+    let mut counted = None;
     let node = match line {
         ScriptLine::Call { node, call } => {
             submitted = Some(WaitingCall::of(*node, call, 0));
@@ -36,14 +40,24 @@ pub(crate) fn event_subject_of<A: Allocator + Copy>(line: &ScriptLine<A>) -> Opt
             given = *frame;
             *node
         }
-        ScriptLine::Timeout { node, .. } => *node,
-        ScriptLine::Noise { node, .. } => *node,
-        ScriptLine::Stop { node } => *node,
+        ScriptLine::Timeout { node, kind } => {
+            counted = Some(CountedInput::Timeout(*kind));
+            *node
+        }
+        ScriptLine::Noise { node, .. } => {
+            counted = Some(CountedInput::Noise);
+            *node
+        }
+        ScriptLine::Stop { node } => {
+            counted = Some(CountedInput::Stop);
+            *node
+        }
         _ => return None,
     };
     Some(EventSubject {
         node,
         frame: given,
+        counted,
         pair: None,
         call: submitted,
     })

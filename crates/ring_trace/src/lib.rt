@@ -3,10 +3,12 @@
 //! Formats: The command line
 #![tactic(auto)]
 
+mod counting;
 mod details;
 mod event_subject;
 mod node_view;
 mod places;
+mod restoring;
 mod selection;
 mod sent;
 mod sent_frames;

@@ -2,12 +2,12 @@
 //! Formats: The command line
 
 ghost use Rattle.std.specs.Prelude.{◌≡◌, ◌↔◌, IsTrue};
-ghost use Rattle.std.specs.Prelude.{◌++◌, OnOk, OnErr, IfErr};
+ghost use Rattle.std.specs.Prelude.{◌++◌, is_some, OnOk, OnErr, IfErr};
 ghost use Rattle.ring_base.specs.declared.fault.Fault.TheVariants.{Memory};
 ghost use Rattle.ring_base.specs.Prefixes.{IsListPrefix};
 ghost use Rattle.ring_base.specs.Processors.{size};
 ghost use Rattle.ring_trace.specs.NodeReasons.{IsOpening, changes_since_opening, IsReason};
-ghost use Rattle.ring_trace.specs.NodeViews.{is_new_ring, is_new_state, is_restored, ring_change, trimmed_change, change_if, changes_of};
+ghost use Rattle.ring_trace.specs.NodeViews.{is_new_ring, is_new_state, is_trimmed, ring_change, restored_change, change_if, changes_of};
 
 use ring_base::{Fault, Fixed, Proc, ProcSet, RingId, State};
 use ring_trace_formats::{Change, VoteShare, WaitReason};
@@ -28,8 +28,10 @@ pub(crate) struct NodeView {
     pub trimmed: u64,
     /// The length of the log, dropped places included.
     pub log: u64,
-    /// The number of places of the snapshot of which the node was given a piece in that ring, if it was given one.
-    pub snapshot: Option<u64>,
+    /// The most places of a snapshot of which the node was given a piece.
+    pub offered: u64,
+    /// The number of places of the snapshot that the node's last step restored, if it restored one.
+    pub restored: Option<u64>,
 }
 
 impl NodeView {
@@ -45,7 +47,8 @@ impl NodeView {
             committed: 0,
             trimmed: 0,
             log: 0,
-            snapshot: None,
+            offered: 0,
+            restored: None,
         }
     }
 
@@ -72,9 +75,9 @@ impl NodeView {
         ]
     }
 
-    /// Adds the changes of the node since the view `before` to the list: its ring, its state, its committed length, its
-    /// trimmed length or the snapshot that it restored, each only if it changed. A new ring implies the state operational, which is then not a change of its
-    /// own.
+    /// Adds the changes of the node since the view `before`, one step earlier, to the list: its ring, its state, its committed
+    /// length, each only if it changed; the snapshot that the step restored; and its trimmed length, if it dropped more. A new ring
+    /// implies the state operational, which is then not a change of its own.
     /// Errors: `Memory`; a prefix of the changes may be added.
     /// Formats: The command line
     pub fn add_changes<A: Allocator>(
@@ -91,11 +94,13 @@ impl NodeView {
         let is_ring = self.is_new_ring(before);
         let is_state = self.is_new_state(before);
         let is_committed = self.committed != before.committed;
-        let is_trimmed = self.trimmed != before.trimmed;
+        let is_restored = self.restored.is_some();
+        let is_trimmed = self.is_trimmed(before);
         add_if(changes, is_ring, self.ring_change(nodes))?;
         add_if(changes, is_state, Change::State(self.state))?;
         add_if(changes, is_committed, Change::Committed(self.committed))?;
-        add_if(changes, is_trimmed, self.trimmed_change(before))
+        add_if(changes, is_restored, self.restored_change())?;
+        add_if(changes, is_trimmed, Change::Trimmed(self.trimmed))
     }
 
     /// Whether the node installed another ring.
@@ -124,26 +129,18 @@ impl NodeView {
         }
     }
 
-    /// Returns the change that the node dropped first places, or restored a snapshot of them.
-    fn trimmed_change(&self, before: &NodeView) -> Change
-        ensures { result ≡ trimmed_change before.now self.now }
+    /// Returns the change that the step restored a snapshot. It has no meaning where it restored none.
+    fn restored_change(&self) -> Change
+        ensures { result ≡ restored_change self.now }
     {
-        if self.is_restored(before) {
-            Change::Restored(self.trimmed)
-        } else {
-            Change::Trimmed(self.trimmed)
-        }
+        Change::Restored(self.restored.unwrap_or(0))
     }
 
-    /// Whether the node restored a snapshot: it was given one of places that it had not committed, and keeps these now as a
-    /// snapshot.
-    fn is_restored(&self, before: &NodeView) -> bool
-        ensures { result ≡ is_restored before.now self.now }
+    /// Whether the node dropped first places: more than it had dropped before, or than the snapshot has that it restored.
+    fn is_trimmed(&self, before: &NodeView) -> bool
+        ensures { result ≡ is_trimmed before.now self.now }
     {
-        match before.snapshot {
-            Some(places) => before.committed < places && places <= self.trimmed,
-            None => false,
-        }
+        self.trimmed != self.restored.unwrap_or(before.trimmed)
     }
 
     /// Returns the first reason that holds why a call waits at the node. `is_sent` says whether the node has sent it, or

@@ -3,6 +3,7 @@
 
 use ring_base::{Fault, Proc, ProcSet, RingId};
 use ring_console::World;
+use ring_counts::CountedFrame;
 use ring_object::Object;
 use ring_payload::{Content, Payload};
 use ring_trace_formats::DeliveryKind;
@@ -14,13 +15,6 @@ use std::alloc::Allocator;
 struct MessageName {
     ring: RingId,
     number: u64,
-}
-
-/// A piece of a snapshot: the ring in which it was sent first, and how many places the snapshot replaces.
-#[derive(Clone, Copy)]
-pub(crate) struct SnapshotPiece {
-    pub ring: RingId,
-    pub places: u64,
 }
 
 /// A frame that was sent.
@@ -36,8 +30,10 @@ pub(crate) struct SentFrame {
     pub end: usize,
     /// The message that it has, if it has one.
     message: Option<MessageName>,
-    /// The piece of a snapshot that its message carries, if it carries one.
-    pub snapshot_piece: Option<SnapshotPiece>,
+    /// What counts of it.
+    pub counted: Option<CountedFrame>,
+    /// The number of places of the snapshot of which its message carries a piece, if it carries one.
+    pub snapshot: Option<u64>,
     /// The nodes that were given it.
     given: ProcSet,
 }
@@ -65,6 +61,11 @@ impl<A: Allocator + Copy> SentFrames<A> {
     pub fn frame(&self, number: u64) -> Option<SentFrame> {
         let before = number.checked_sub(1)?;
         self.frames.get(before as usize).copied()
+    }
+
+    /// Returns the frames with numbers above `before`.
+    pub fn since(&self, before: u64) -> &[SentFrame] {
+        self.frames.get(before as usize..).unwrap_or(&[])
     }
 
     /// Returns how a frame comes to a node where a line gives it.
@@ -123,7 +124,8 @@ impl<A: Allocator + Copy> SentFrames<A> {
             begin,
             end: begin.saturating_add(length),
             message: message_in(place),
-            snapshot_piece: snapshot_piece_in(place),
+            counted: counted_in(place),
+            snapshot: snapshot_in(place),
             given: ProcSet::new(),
         })?;
         Ok(())
@@ -180,26 +182,26 @@ fn message_in<A: Allocator + Copy>(frame: &Option<Frame<A>>) -> Option<MessageNa
     }
 }
 
-/// Returns the piece of a snapshot that a frame carries, if it carries one.
-fn snapshot_piece_in<A: Allocator + Copy>(frame: &Option<Frame<A>>) -> Option<SnapshotPiece> {
+/// Returns what counts of a frame.
+fn counted_in<A: Allocator + Copy>(frame: &Option<Frame<A>>) -> Option<CountedFrame> {
+    let frame = frame.as_ref()?;
+    Some(CountedFrame::of(frame))
+}
+
+/// Returns the number of places of the snapshot of which a frame carries a piece, if it carries one.
+fn snapshot_in<A: Allocator + Copy>(frame: &Option<Frame<A>>) -> Option<u64> {
     match frame {
-        Some(Frame::Message(message)) => snapshot_piece_of(message),
+        Some(Frame::Message(message)) => snapshot_of(message),
         _ => None,
     }
 }
 
-/// Returns the piece of a snapshot that a message carries, as it was sent or wrapped.
-fn snapshot_piece_of<A: Allocator + Copy>(message: &Message<A>) -> Option<SnapshotPiece> {
+/// Returns the same of a message, which carries the piece as it was sent, or wrapped.
+fn snapshot_of<A: Allocator + Copy>(message: &Message<A>) -> Option<u64> {
     match &message.payload {
-        Payload::Snap(snap) => Some(SnapshotPiece {
-            ring: message.ring,
-            places: snap.at,
-        }),
+        Payload::Snap(snap) => Some(snap.at),
         Payload::Wrapped(wrapped) => match &wrapped.payload {
-            Content::Snap(snap) => Some(SnapshotPiece {
-                ring: wrapped.ring,
-                places: snap.at,
-            }),
+            Content::Snap(snap) => Some(snap.at),
             _ => None,
         },
         _ => None,

@@ -7,21 +7,24 @@ ghost use Rattle.ring_console.specs.Worlds.{text_of, world_of};
 ghost use Rattle.ring_script.specs.Fits.{IsFit, AreFit};
 ghost use Rattle.ring_console.specs.Running.{run_opening, IsLineDone, IsPumpDone, AreLinesDone};
 
+use crate::counting::{CountedEvent, count_event};
 use crate::details::{input_of_line, input_of_turn, send_values};
 use crate::event_subject::{EventSubject, event_subject_of, write_turn, write_what};
 use crate::node_view::NodeView;
 use crate::places::print_places;
+use crate::restoring::restored_by;
 use crate::selection::{Selection, SelectionFault};
 use crate::sent::{sent_of, write_frames};
 use crate::sent_frames::{SentFrames, add_sent_frames};
 use crate::sides::sides_of;
-use ring_base::{Fault, Fixed, PROCESSORS, Proc, ProcSet};
+use ring_base::{Fault, Fixed, PROCESSORS, Proc, ProcSet, State};
 use ring_console::{Failure, Groups, OpenCopy, Script, ScriptLine, ScriptRun};
+use ring_counts::{CountedInput, NodeCounts, NodeGauges};
 use ring_object::Object;
 use ring_trace_formats::{
-    Change, Counts, DeliveryKind, EventDetails, Fold, Format, InputValue, SendValue, Told,
-    TracePicture, TracePrinter, TraceVocabulary, TracedEvent, TurnValue, WaitReason, WaitingCall,
-    WaitingCalls,
+    Change, Counts, DeliveryKind, EventDetails, Fold, Format, InputValue, NodeTotals, SendValue,
+    Told, TracePicture, TracePrinter, TraceVocabulary, TracedEvent, TurnValue, WaitReason,
+    WaitingCall, WaitingCalls,
 };
 use std::alloc::Allocator;
 use std::io::Write;
@@ -41,9 +44,15 @@ pub(crate) struct Tracer<O: Object> {
     sides: Vec<ProcSet, O::Alloc>,
     selection: Selection,
     node_views: Vec<NodeView, O::Alloc>,
+    /// The counts of each node's steps.
+    counts: Vec<NodeCounts, O::Alloc>,
+    /// The number of places that the current event's step restores, if it restores a snapshot.
+    restored: Option<u64>,
     sent: SentFrames<O::Alloc>,
     queue: WaitingCalls<O::Alloc>,
     changes: Vec<Change, O::Alloc>,
+    /// Whether the current event's node installed a ring in it.
+    has_installed: bool,
     /// The number of the world's reports already handled.
     told: usize,
     /// The number of events so far.
@@ -75,9 +84,11 @@ impl<O: Object> Tracer<O> {
         ensures { IfOk result (λ tracer. tracer.run ≡ run_opening script.now.nodes) }
     {
         let mut node_views = Vec::new(alloc);
+        let mut counts = Vec::new(alloc);
         for before in 0..script.nodes.count() {
             let node = script.nodes.proc(before.saturating_add(1))?;
             node_views.push(NodeView::opening(node))?;
+            counts.push(NodeCounts::new())?;
         }
         Ok(Tracer {
             alloc,
@@ -89,9 +100,12 @@ impl<O: Object> Tracer<O> {
             sides: Vec::new(alloc),
             selection,
             node_views,
+            counts,
+            restored: None,
             sent: SentFrames::new(alloc),
             queue: WaitingCalls::new(alloc),
             changes: Vec::new(alloc),
+            has_installed: false,
             told: 0,
             events: 0,
             fold: Fold::new(),
@@ -217,6 +231,7 @@ impl<O: Object> Tracer<O> {
         let event_subject = event_subject_of(&line);
         let kind = self.kind_of(&event_subject);
         self.describe(&line, kind)?;
+        self.foresee_line(&event_subject)?;
         self.run.perform(line)?;
         match event_subject {
             Some(event_subject) => self.trace_event(&event_subject, out),
@@ -253,8 +268,60 @@ impl<O: Object> Tracer<O> {
                 return Ok(());
             };
             let is_heard = self.run.is_connected(pair.sender, pair.receiver);
+            self.foresee_turn(pair, is_heard)?;
             self.run.perform(ScriptLine::Pump { turns: 1 })?;
             self.trace_turn(pair, is_heard, out)?;
+        }
+        Ok(())
+    }
+
+    /// Finds what the step of a turn restores, before it is made. A copy that is lost makes none.
+    fn foresee_turn(&mut self, pair: OpenCopy, is_heard: bool) -> Result<(), Fault>
+        ensures { self.new.run ≡ self.old.run }
+    {
+        if is_heard {
+            self.foresee(pair.receiver, pair.frame)
+        } else {
+            Ok(())
+        }
+    }
+
+    /// Finds what the step of a line's event restores, before it is made.
+    fn foresee_line(&mut self, event_subject: &Option<EventSubject>) -> Result<(), Fault>
+        ensures { self.new.run ≡ self.old.run }
+    {
+        self.restored = None;
+        match event_subject {
+            Some(event_subject) => match event_subject.frame {
+                Some(number) => self.foresee(event_subject.node, number),
+                None => Ok(()),
+            },
+            None => Ok(()),
+        }
+    }
+
+    /// Finds what the node's step on the frame of this number restores, before it is made. A node restores a snapshot only of more
+    /// places than it has committed, and only if it was given all pieces of it. So a node that was given none isn't asked.
+    fn foresee(&mut self, node: Proc, number: u64) -> Result<(), Fault>
+        ensures { self.new.run ≡ self.old.run }
+    {
+        self.restored = None;
+        let place = usize::from(node.number()) - 1;
+        let Some(frame) = self.sent.frame(number) else {
+            return Ok(());
+        };
+        let Some(node_view) = self.node_views.get_mut(place) else {
+            return Ok(());
+        };
+        if !frame.to.contains(node) {
+            return Ok(());
+        }
+        node_view.offered = node_view.offered.max(frame.snapshot.unwrap_or(0));
+        if node_view.committed < node_view.offered {
+            let world = self.run.world();
+            let of = world.node(world.fixed().proc(node.number())?);
+            let bytes = world.sent_text().get(frame.begin..frame.end).unwrap_or(&[]);
+            self.restored = restored_by(self.alloc, of, bytes)?;
         }
         Ok(())
     }
@@ -272,6 +339,7 @@ impl<O: Object> Tracer<O> {
             let event_subject = EventSubject {
                 node: pair.receiver,
                 frame: Some(pair.frame),
+                counted: None,
                 pair: Some(pair),
                 call: None,
             };
@@ -331,10 +399,13 @@ impl<O: Object> Tracer<O> {
             self.queue.add(call.behind(self.sent.count()))?;
         }
         self.note_given(event_subject);
+        let counted_event = self.counted_event(event_subject);
+        let before = self.sent.count();
         self.note_sent()?;
         self.find_changes(event_subject)?;
         let told = self.told;
         self.remove_answered()?;
+        self.count_event(event_subject, counted_event, before, told);
         if !self.selection.has(self.events, Some(event_subject.node)) {
             return Ok(());
         }
@@ -365,23 +436,65 @@ impl<O: Object> Tracer<O> {
         self.print_event(event_subject, told, out)
     }
 
-    /// Records that the event's node was given its frame, and the snapshot of which it has a piece.
+    /// Records that the event's node was given its frame.
     fn note_given(&mut self, event_subject: &EventSubject)
         ensures { self.new.run ≡ self.old.run }
     {
-        let Some(number) = event_subject.frame else {
-            return;
-        };
-        self.sent.give(number, event_subject.node);
-        let Some(frame) = self.sent.frame(number) else {
-            return;
+        if let Some(number) = event_subject.frame {
+            self.sent.give(number, event_subject.node);
+        }
+    }
+
+    /// Returns what came to the event's node, before the view of the node is renewed.
+    fn counted_event(&self, event_subject: &EventSubject) -> CountedEvent {
+        if event_subject.call.is_some() {
+            return CountedEvent::Call;
+        }
+        let Some(input) = self.counted_input(event_subject) else {
+            return CountedEvent::Nothing;
         };
         let place = usize::from(event_subject.node.number()) - 1;
-        if let Some(node_view) = self.node_views.get_mut(place)
-            && let Some(piece) = frame.snapshot_piece
-            && piece.ring == node_view.ring
-        {
-            node_view.snapshot = Some(piece.places);
+        match self.node_views.get(place) {
+            Some(node_view) if node_view.state != State::Stopped => CountedEvent::Input(input),
+            _ => CountedEvent::Refused,
+        }
+    }
+
+    /// Returns the input of the event's node, or `None` where a line gives a frame that was not sent, or not to the node.
+    fn counted_input(&self, event_subject: &EventSubject) -> Option<CountedInput> {
+        if event_subject.counted.is_some() {
+            return event_subject.counted;
+        }
+        let number = event_subject.frame?;
+        let frame = self.sent.frame(number)?;
+        let counted = frame.counted?;
+        if frame.to.contains(event_subject.node) {
+            Some(CountedInput::Frame(counted))
+        } else {
+            None
+        }
+    }
+
+    /// Counts the event, which sent the frames with numbers above `before`, with the reports from the index `told` on.
+    fn count_event(
+        &mut self,
+        event_subject: &EventSubject,
+        event: CountedEvent,
+        before: u64,
+        told: usize,
+    )
+        ensures { self.new.run ≡ self.old.run }
+    {
+        let place = usize::from(event_subject.node.number()) - 1;
+        let told = told_since(self.run.world().told(), told);
+        if let Some(counts) = self.counts.get_mut(place) {
+            count_event(
+                counts,
+                event,
+                self.sent.since(before),
+                told,
+                self.has_installed,
+            );
         }
     }
 
@@ -478,13 +591,11 @@ impl<O: Object> Tracer<O> {
             committed: node.committed_len(),
             trimmed: node.trimmed(),
             log: node.log_len(),
-            snapshot: if node.ring() == node_view.ring {
-                node_view.snapshot
-            } else {
-                None
-            },
+            offered: node_view.offered,
+            restored: self.restored,
         };
         let before = mem::replace(node_view, now);
+        self.has_installed = now.ring != before.ring;
         self.log = if now.log == before.log {
             None
         } else {
@@ -570,7 +681,7 @@ impl<O: Object> Tracer<O> {
         self.form.print_page_tail(out)
     }
 
-    /// Prints the lines of the whole run: the counts, the waiting calls, and for programs the committed places.
+    /// Prints the lines of the whole run: the counts, those of each node, the waiting calls, and for programs the committed places.
     fn print_last_lines<W: Write>(&self, out: &mut W) -> Result<(), Failure> {
         if self.form.format == Format::Svg {
             return Ok(());
@@ -580,6 +691,7 @@ impl<O: Object> Tracer<O> {
             frames: self.sent.count(),
         };
         self.form.print_counts(out, counts)?;
+        self.print_totals(out)?;
         self.print_waiting(out)?;
         if self.form.format.has_details() {
             print_places(
@@ -589,6 +701,31 @@ impl<O: Object> Tracer<O> {
                 self.run.world(),
                 out,
             )?;
+        }
+        Ok(())
+    }
+
+    /// Prints the counts of each node.
+    fn print_totals<W: Write>(&self, out: &mut W) -> Result<(), Failure> {
+        let world = self.run.world();
+        for (before, counts) in self.counts.iter().enumerate() {
+            if before < PROCESSORS {
+                let node = world.fixed().proc(before as u8 + 1)?;
+                let of = world.node(node);
+                let gauges = NodeGauges {
+                    waiting: of.waiting() as u64,
+                    committed: of.committed_len(),
+                    dropped: of.trimmed(),
+                };
+                self.form.print_totals(
+                    out,
+                    &NodeTotals {
+                        node,
+                        counts: *counts,
+                        gauges,
+                    },
+                )?;
+            }
         }
         Ok(())
     }

@@ -13,7 +13,7 @@ use ring_session::Answer;
 use ring_trace_json::{EventDetails, JsonPrinter, TurnValue};
 use ring_trace_page::{write_page_head, write_page_middle, write_page_tail};
 use ring_trace_words::{
-    Change, Counts, Fold, Told, TraceVocabulary, TracedEvent, WaitReason, WaitingCall,
+    Change, Counts, Fold, NodeTotals, Told, TraceVocabulary, TracedEvent, WaitReason, WaitingCall,
 };
 use std::alloc::{Allocator, Global};
 use std::io::Write;
@@ -169,6 +169,20 @@ impl TracePrinter {
             Format::Text => text::print_counts(out, counts),
             Format::Svg => Ok(()),
             Format::Json | Format::Html => self.json().print_counts(out, counts),
+        }
+    }
+
+    /// Prints the line of a node's counts over the whole run.
+    /// Errors: as for [`print_event`](TracePrinter::print_event).
+    /// Formats: The command line
+    pub fn print_totals<W: Write>(self, out: &mut W, totals: &NodeTotals) -> Result<(), Failure>
+        ensures picture { self.format ≡ Format.Svg → out.new ≡ out.old }
+        ensures failed { IfErr result IsOutputOrMemory }
+    {
+        match self.format {
+            Format::Text => text::print_totals(out, totals),
+            Format::Svg => Ok(()),
+            Format::Json | Format::Html => self.json().print_totals(out, totals),
         }
     }
 

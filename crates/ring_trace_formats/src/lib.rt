@@ -9,6 +9,6 @@ pub use form::{Format, TracePrinter};
 pub use ring_trace_json::{EventDetails, InputValue, SendValue, TurnValue};
 pub use ring_trace_picture::TracePicture;
 pub use ring_trace_words::{
-    CallWords, Change, Counts, DeliveryKind, Fold, ReplyForm, ReplyVocabulary, Told,
+    CallWords, Change, Counts, DeliveryKind, Fold, NodeTotals, ReplyForm, ReplyVocabulary, Told,
     TraceVocabulary, TracedEvent, VoteShare, WaitReason, WaitingCall, WaitingCalls,
 };

@@ -7,7 +7,8 @@ ghost use Rattle.ring_failure.specs.declared.failure.Failure.TheVariants.{Output
 use ring_base::ProcSet;
 use ring_failure::Failure;
 use ring_trace_words::{
-    Change, Counts, Fold, Told, ToldWords, TraceVocabulary, TracedEvent, WaitReason, WaitingCall,
+    Change, Counts, Fold, NodeTotals, Told, ToldWords, TraceVocabulary, TracedEvent, WaitReason,
+    WaitingCall,
 };
 use std::alloc::Allocator;
 use std::io::Write;
@@ -79,6 +80,15 @@ pub(crate) fn print_counts<W: Write>(out: &mut W, counts: Counts) -> Result<(), 
 {
     let Counts { events, frames } = counts;
     writeln!(out, "events {events}\nframes {frames}").map_err(|_| Failure::Output)
+}
+
+/// Prints the line of a node's counts over the whole run.
+/// Errors: `Output` where the writer fails. A part of the line may be written.
+/// Formats: The command line
+pub(crate) fn print_totals<W: Write>(out: &mut W, totals: &NodeTotals) -> Result<(), Failure>
+    ensures { IfErr result (λ failure. failure ≡ Output) }
+{
+    writeln!(out, "{totals}").map_err(|_| Failure::Output)
 }
 
 /// Prints the line of a call that has no answer at the end of the run, with the reason.

@@ -2,7 +2,7 @@
 //! Formats: The command line
 
 use crate::details::{InputValue, SendValue, TurnValue};
-use crate::values::{ChangeValue, ToldValue};
+use crate::values::{ChangeValue, FrameCountsValue, ToldValue};
 use serde::Serialize;
 
 /// The version of the format.
@@ -56,6 +56,28 @@ pub(crate) struct CountsLine {
     pub kind: &'static str,
     pub events: u64,
     pub frames: u64,
+}
+
+/// The counts of a node over the whole run.
+#[derive(Drop, Serialize)]
+pub(crate) struct TotalsLine {
+    pub version: u8,
+    pub kind: &'static str,
+    pub node: u8,
+    pub received: FrameCountsValue,
+    pub noise: u64,
+    pub sent: FrameCountsValue,
+    pub tokens_taken: u64,
+    pub tokens_ignored: u64,
+    pub messages_again: u64,
+    pub tokens_again: u64,
+    pub rings: u64,
+    pub refusals: u64,
+    pub submitted: u64,
+    pub answered: u64,
+    pub waiting: u64,
+    pub committed: u64,
+    pub dropped: u64,
 }
 
 /// A call without an answer at the end of the run.

@@ -8,15 +8,16 @@ ghost use Rattle.ring_failure.specs.declared.failure.Failure.TheVariants.{Output
 
 use crate::details::{EventDetails, TurnValue};
 use crate::lines::{
-    CountsLine, CutLine, EventLine, FoldLine, NodesLine, PlaceLine, VERSION, WaitingLine,
+    CountsLine, CutLine, EventLine, FoldLine, NodesLine, PlaceLine, TotalsLine, VERSION,
+    WaitingLine,
 };
-use crate::values::{answer_value, change_values, numbers_of, told_values};
+use crate::values::{answer_value, change_values, frame_counts_value, numbers_of, told_values};
 use ring_base::{Fault, Fixed, ProcSet};
 use ring_failure::Failure;
 use ring_payload::Call;
 use ring_session::Answer;
 use ring_trace_words::{
-    Change, Counts, Fold, Told, TraceVocabulary, TracedEvent, WaitReason, WaitingCall,
+    Change, Counts, Fold, NodeTotals, Told, TraceVocabulary, TracedEvent, WaitReason, WaitingCall,
 };
 use serde::Serialize;
 use serde_json::to_string;
@@ -148,6 +149,35 @@ impl JsonPrinter {
             kind: "counts",
             events: counts.events,
             frames: counts.frames,
+        };
+        self.print_line(out, &line)
+    }
+
+    /// Prints the object with a node's counts over the whole run.
+    /// Errors: as for [`print_event`](JsonPrinter::print_event).
+    /// Formats: The command line
+    pub fn print_totals<W: Write>(self, out: &mut W, totals: &NodeTotals) -> Result<(), Failure>
+        ensures { IfErr result IsOutputOrMemory }
+    {
+        let (counts, gauges) = (totals.counts, totals.gauges);
+        let line = TotalsLine {
+            version: VERSION,
+            kind: "node counts",
+            node: totals.node.number(),
+            received: frame_counts_value(counts.received),
+            noise: counts.noise,
+            sent: frame_counts_value(counts.sent),
+            tokens_taken: counts.tokens_taken,
+            tokens_ignored: counts.tokens_ignored,
+            messages_again: counts.messages_again,
+            tokens_again: counts.tokens_again,
+            rings: counts.rings,
+            refusals: counts.refusals,
+            submitted: counts.submitted,
+            answered: counts.answered,
+            waiting: gauges.waiting,
+            committed: gauges.committed,
+            dropped: gauges.dropped,
         };
         self.print_line(out, &line)
     }

@@ -5,6 +5,7 @@ ghost use Rattle.std.specs.Prelude.{◌≡◌, IfErr};
 ghost use Rattle.ring_base.specs.declared.fault.Fault.TheVariants.{Memory};
 
 use ring_base::{Fault, ProcSet};
+use ring_counts::FrameCounts;
 use ring_failure::state_name;
 use ring_object::Reply;
 use ring_payload::Call;
@@ -35,6 +36,27 @@ pub(crate) struct RingValue {
     votes: u32,
     all_votes: u32,
     is_primary: bool,
+}
+
+/// Frames by kind.
+/// Formats: The command line
+#[derive(Drop, Serialize)]
+pub(crate) struct FrameCountsValue {
+    messages: u64,
+    tokens: u64,
+    joins: u64,
+    commits: u64,
+}
+
+/// Converts the counts of frames to a value.
+/// Formats: The command line
+pub(crate) fn frame_counts_value(counts: FrameCounts) -> FrameCountsValue {
+    FrameCountsValue {
+        messages: counts.messages,
+        tokens: counts.tokens,
+        joins: counts.joins,
+        commits: counts.commits,
+    }
 }
 
 /// A node's report on a call: the call, the outcome, and the reply or the refusal in words.

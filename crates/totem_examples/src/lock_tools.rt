@@ -36,8 +36,8 @@ pub fn run<R: Files + AllocGlobal + Threads + Wait + Clock + Sync>(
     )
 }
 
-/// Prints four outputs of the program: of the script; of a sweep of it, with a stop or a cut of each node before any event; of
-/// made scripts; and the replies in a trace.
+/// Prints five outputs of the program: of the script; of a sweep of it, with a stop or a cut of each node before any event; of
+/// made scripts; the replies in a trace; and those in its page.
 pub fn print_results<R: Files + AllocGlobal + Print + Threads + Wait + Clock + Sync>(
     rt: &R,
 ) -> io::Result<()> {
@@ -52,7 +52,8 @@ pub fn print_results<R: Files + AllocGlobal + Print + Threads + Wait + Clock + S
     print_generated(rt)?;
     let seeds = "locks explore --nodes 3 --seeds 1..9 --events 100";
     print_last_line(rt, "The scripts of nine seeds", seeds, &[])?;
-    print_trace(rt, script)
+    print_trace(rt, script)?;
+    print_page(rt, script)
 }
 
 /// Prints the program's output for the script.
@@ -85,6 +86,39 @@ fn print_trace<R: Files + AllocGlobal + Print + Threads + Wait + Clock + Sync>(
 ) -> io::Result<()> {
     let traced = printed(rt, "locks trace -", script);
     print_replies(rt, text_of(&traced))
+}
+
+/// Prints the calls and replies that the page of the script shows, by the lines of JSON in it.
+fn print_page<R: Files + AllocGlobal + Print + Threads + Wait + Clock + Sync>(
+    rt: &R,
+    script: &[u8],
+) -> io::Result<()> {
+    let page = printed(rt, "locks trace --format html -", script);
+    for line in text_of(&page).lines() {
+        if let Some(told) = between(line, "\"told\":[{", "}]") {
+            print_told(rt, told)?;
+        }
+    }
+    Ok(())
+}
+
+/// Prints the operation and the reply of each of an event's reports.
+fn print_told<R: Print>(rt: &R, told: &str) -> io::Result<()> {
+    for one in told.split("},{") {
+        if let Some(operation) = between(one, "\"operation\":\"", "\"")
+            && let Some(reply) = between(one, "\"reply\":\"", "\"")
+        {
+            println!(rt; "The page shows {operation}: {reply}")?;
+        }
+    }
+    Ok(())
+}
+
+/// Returns the text between these two, the first of each.
+fn between<'a>(text: &'a str, before: &str, behind: &str) -> Option<&'a str> {
+    let (_, rest) = text.split_once(before)?;
+    let (found, _) = rest.split_once(behind)?;
+    Some(found)
 }
 
 /// Prints the last line of the program's output, with a title.

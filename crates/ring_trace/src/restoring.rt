@@ -1,0 +1,60 @@
+//! What a node's step restores, which a world doesn't keep.
+//! Formats: The command line
+
+ghost use Rattle.std.specs.Prelude.{◌≡◌, IfOk, IfErr};
+ghost use Rattle.ring_base.specs.declared.fault.Fault.TheVariants.{Memory};
+ghost use Rattle.ring_wire.specs.IsFrameEncoding.{IsFrameEncoding};
+ghost use Rattle.ring_trace.specs.Restoring.{IsRestoredBy};
+
+use ring_base::Fault;
+use ring_node::{Input, Node};
+use ring_object::Object;
+use ring_wire::{Frame, decode_frame};
+use std::alloc::Allocator;
+
+/// Returns the number of places of the snapshot that the node's step on the frame of these bytes restores, or `None` if it restores
+/// none. A copy of the node makes the step; the node itself stays as it is. A stopped node restores nothing.
+/// Errors: only `Memory`, also where the bytes are no frame.
+/// Formats: The command line
+pub(crate) fn restored_by<O: Object>(
+    alloc: O::Alloc,
+    node: &Node<O>,
+    bytes: &[u8],
+) -> Result<Option<u64>, Fault>
+    ensures told { IfOk result (λ restored. IsRestoredBy O.sequential node.now bytes.now restored) }
+    ensures refused { IfErr result (λ fault. fault ≡ Memory) }
+{
+    let mut copy = node.copy()?;
+    let restored = step_copy(alloc, &mut copy, bytes);
+    // Dropped explicitly, so it is dropped in a function generic over its type, and doesn't live until the exits.
+    drop(copy);
+    restored
+}
+
+/// Makes the copy's step on the frame of these bytes, and returns what it restores. `Memory` also where the bytes are no frame.
+fn step_copy<O: Object>(
+    alloc: O::Alloc,
+    copy: &mut Node<O>,
+    bytes: &[u8],
+) -> Result<Option<u64>, Fault>
+    ensures told { IfOk result (λ restored. IsRestoredBy O.sequential copy.old bytes.now restored) }
+    ensures refused { IfErr result (λ fault. fault ≡ Memory) }
+{
+    let frame = frame_of(alloc, bytes)?;
+    match copy.step(Input::Frame(frame)) {
+        Ok(outs) => Ok(outs.restored),
+        Err(Fault::Stopped) => Ok(None),
+        Err(_) => Err(Fault::Memory),
+    }
+}
+
+/// Decodes the frame of these bytes. `Memory` also where they are no frame.
+fn frame_of<A: Allocator + Copy>(alloc: A, bytes: &[u8]) -> Result<Frame<A>, Fault>
+    ensures found { IfOk result (λ frame. IsFrameEncoding frame bytes.now) }
+    ensures refused { IfErr result (λ fault. fault ≡ Memory) }
+{
+    match decode_frame(alloc, bytes) {
+        Ok(frame) => Ok(frame),
+        Err(_) => Err(Fault::Memory),
+    }
+}
