@@ -1,5 +1,5 @@
 -- The frames of an outbox, once the bytes of one more were put.
-use Rattle.std.proofs.Common.{◌≡◌, ℕ, ◌≤◌, List, [], ◌++◌, drop, length, ap, sym, ◌∙◌, arith, length-append, ◌∷◌, Bool, true≢false, Option, Some, None, Result, Ok, Err, All, subst, slice_get, option_map, inl, inr}
+use Rattle.std.proofs.Common.{◌≡◌, ℕ, ◌≤◌, List, [], ◌++◌, drop, length, ap, sym, ◌∙◌, arith, length-append, ◌∷◌, Bool, true≢false, Option, Some, None, Result, Ok, Err, subst, slice_get, option_map, inl, inr}
 use Rattle.std.specs.Result.{is_ok}
 use Rattle.std.proofs.lemmas.Option.{none-some, same_Some}
 use Rattle.std.proofs.lemmas.List.{drop-append-le}

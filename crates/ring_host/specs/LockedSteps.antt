@@ -54,16 +54,16 @@ module _ {S A : Type 0} where
       ((fault ≡ Memory) × (stepped ≡ Err Memory) × HasEntered old new cell cell')
       ⊎ ((((stepped ≡ Err fault) × (fault ≡ Memory → ⊥)) ⊎ ((fault ≡ Stranger) × IsStrange old cell)) × IsReleased old new × (cell' ≡ cell))
 
-  -- A step with this result is finished: its line is entered, so the cell is not ahead. Or the cell stays as the step left it, since
-  -- the step was refused, other than for memory, or since a book refuses the line.
-  abbrev pub IsFinished : Result (Unit {0}) Fault → CellView S A → CellView S A → Type 0
-  IsFinished stepped cell cell' =
+  -- A step with this result is finished: its line is entered, so the cell is not ahead. Or the cell stays as the step left it,
+  -- since the step was refused, other than for memory, or since the call reports that the line can't be entered.
+  abbrev pub IsFinished : {T : Type 0} → Result (Unit {0}) Fault → Result T Fault → CellView S A → CellView S A → Type 0
+  IsFinished stepped result cell cell' =
       (cell'.ahead ≡ false)
-      ⊎ ((cell' ≡ cell) × (((fault : Fault) × (stepped ≡ Err fault) × (fault ≡ Memory → ⊥)) ⊎ ((book : BookView A) × IsStrange book cell)))
+      ⊎ ((cell' ≡ cell) × (((fault : Fault) × (stepped ≡ Err fault) × (fault ≡ Memory → ⊥)) ⊎ (result ≡ Err Stranger)))
 
-  -- The cell is left a line ahead only where it was so before, or where a book refuses its line.
-  abbrev pub IsSettled : CellView S A → CellView S A → Type 0
-  IsSettled cell cell' = cell'.ahead ≡ true → (cell.ahead ≡ true) ⊎ ((book : BookView A) × IsStrange book cell')
+  -- The cell is left a line ahead only where it was so before, or where the call reports that the line can't be entered.
+  abbrev pub IsSettled : {T : Type 0} → Result T Fault → CellView S A → CellView S A → Type 0
+  IsSettled result cell cell' = cell'.ahead ≡ true → (cell.ahead ≡ true) ⊎ (result ≡ Err Stranger)
 
 module _ {S A : Type 0} (m : Machine S A) where
   -- The cell's node did one step on this input, and it is the new last line. The journal is again the lines of that node, and the

@@ -342,7 +342,7 @@ impl<O: Object, K: BookName<O::Alloc>> HostOf<Cell<O, K>, Book<O, K>, O::Alloc> 
     ) -> Result<StepReport, Fault>
         requires fits { TaskFits received.now task }
         ensures done { IfOk result (IsStepReport O.sequential K.name.group received.now task) }
-        ensures settled { IsSettled cell.old cell.new }
+        ensures settled { IsSettled result cell.old cell.new }
         ensures refused { IfErr result IsTurnFault }
     {
         let task_kind = task.task_kind(received);
@@ -380,7 +380,7 @@ impl<O: Object, K: BookName<O::Alloc>> HostOf<Cell<O, K>, Book<O, K>, O::Alloc> 
         requires refused { IfErr stepped IsTurnFault }
         ensures done { OnOk result (IsOk stepped) }
         ensures ends { IfOk result (IsEndOfRun O.sequential K.name.group cell.old cell.new) }
-        ensures finished { IsFinished stepped cell.old cell.new }
+        ensures finished { IsFinished stepped result cell.old cell.new }
         ensures refused { IfErr result IsTurnFault }
     {
         let mut book = take(rt, &self.book);

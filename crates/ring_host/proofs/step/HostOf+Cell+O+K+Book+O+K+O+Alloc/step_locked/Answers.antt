@@ -1,7 +1,6 @@
 -- The step that the cell journaled of the task is the one that was entered, and so the last of a run.
 use Rattle.ring_book.specs.Cells.{HasJournaled, StepRefused}
 use Rattle.ring_book.specs.Lines.{Received, node_machine}
-use Rattle.ring_host.proofs.Settling.{settled_so}
 use Rattle.ring_host.proofs.TasksDone.{if_value, done_of_task}
 use Rattle.ring_host.specs.Tasks.{input_of, ref_of}
 use Rattle.ring_host.proofs.step.HostOf+Cell+O+K+Book+O+K+O+Alloc.step_locked.Goals as goal
@@ -21,11 +20,3 @@ returns-clause-done g c =
     done_of_task object group place task old mid c.lock_and_finish_step.new.cell c.task_kind-task_kind.result c.in_ok-sent.sent c.node.result.now c.step_report.result
     journaled c.in_ok-sent.ensures.ends c.node.ensures c.task_kind-task_kind.ensures c.step_report.ensures.task_kind c.step_report.ensures.sent c.step_report.ensures.length
     c.step_report.ensures.activity
-
-pub returns-clause-settled : goal.returns-clause-settled
-returns-clause-settled g c =
-    let place = c.args.received.now in
-    let task = c.args.task in
-    settled_so (node_machine g.O.Object.sequential g.K.BookName.name.group) c.args.cell.now c.step_cell-stepped.new.cell
-    c.lock_and_finish_step.new.cell (input_of place task) (ref_of task) c.step_cell-stepped.result c.step_cell-stepped.ensures.steps
-    c.lock_and_finish_step.ensures.finished
