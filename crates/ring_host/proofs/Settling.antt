@@ -1,4 +1,4 @@
--- A cell is left a line ahead only where it was so before, or where a book refuses its line.
+-- A cell is left a line ahead only if it was so before, or if a book refuses its line.
 use Rattle.std.proofs.Common.{◌≡◌, ℕ, true, false, true≢false, Result, Ok, Err, OnOk, IfErr, MatchResult, inl, inr, refl, sym, ap, subst, ◌∙◌}
 use Rattle.ring_base.specs.declared.fault.Fault.{Fault}
 use Rattle.ring_base.specs.declared.fault.Fault.TheVariants as fault

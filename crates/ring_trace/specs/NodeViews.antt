@@ -10,7 +10,7 @@ use Rattle.ring_trace_words.specs.declared.change.Change.TheVariants as change
 use Rattle.ring_trace_words.specs.Shares.{vote_share}
 use Rattle.ring_trace.specs.declared.node_view.NodeView.{NodeView}
 
--- whether the two states are the same
+-- Whether the two states are the same.
 abbrev pub same_state : State → State → Bool
 same_state Gather Gather = true
 same_state Commit Commit = true
@@ -19,37 +19,37 @@ same_state Operational Operational = true
 same_state Stopped Stopped = true
 same_state _ _ = false
 
--- whether the node installed another ring
+-- Whether the node installed another ring.
 abbrev pub is_new_ring : NodeView → NodeView → Bool
 is_new_ring before now = not (same_ring now.ring before.ring)
 
--- whether the node's state changed, and no new ring implies it: a node that installs one is operational
+-- Whether the node's state changed, other than by a new ring: a node that installs one is operational.
 abbrev pub is_new_state : NodeView → NodeView → Bool
 is_new_state before now =
     not (same_state now.state before.state) && not (is_new_ring before now && same_state now.state Operational)
 
--- the change that the node installed its ring, with its members and their votes
+-- The change that the node installed its ring, with its members and their votes.
 abbrev pub ring_change : Group → NodeView → Change
 ring_change nodes now = change.Ring now.ring now.members (vote_share nodes now.members)
 
--- whether the node restored a snapshot: it was given a piece of one of places that it had not committed, and keeps these as a
--- snapshot now
+-- Whether the node restored a snapshot: it received a piece of a snapshot of places that it had not committed, and a
+-- snapshot now replaces these.
 abbrev pub is_restored : NodeView → NodeView → Bool
 is_restored before now = elim before.snapshot [
   | None ↦ false
   | Some places ↦ nat_lt before.committed places && not (nat_lt now.trimmed places)
 ]
 
--- the change that the node dropped first places, or restored a snapshot of them
+-- The change that the node dropped the first places of its log, or restored a snapshot of them.
 abbrev pub trimmed_change : NodeView → NodeView → Change
 trimmed_change before now = if is_restored before now then change.Restored now.trimmed else change.Trimmed now.trimmed
 
--- the change if it is to be reported, or none
+-- The change if it is to be reported, or none.
 abbrev pub change_if : Bool → Change → List Change
 change_if is_told one = if is_told then one ∷ [] else []
 
--- the changes of a node between two views, in this order: its ring, its state, its committed length, its trimmed length
--- or the snapshot that it restored
+-- The changes of a node between two views, in this order: its ring, its state, its committed length, its trimmed length
+-- or the snapshot that it restored.
 abbrev pub changes_of : Group → NodeView → NodeView → List Change
 changes_of nodes before now =
     change_if (is_new_ring before now) (ring_change nodes now)
