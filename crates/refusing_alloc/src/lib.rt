@@ -1,4 +1,5 @@
-//! An allocator that refuses one request for memory, so that a test sees how a function behaves when memory runs out.
+//! An allocator that refuses one request for memory, to test how a function behaves when an allocation fails.
+//!
 //! A test passes it as `&heap` wherever an allocator is wanted: a `&` to an allocator is one too, and is `Copy`.
 #![tactic(auto)]
 
@@ -10,7 +11,7 @@ mod requests;
 use requests::Requests;
 use std::alloc::{AllocError, Allocator, Global};
 
-/// An allocator that refuses one request, and passes every other on to `inner`.
+/// An allocator that refuses one request, and passes every other request on to `inner`.
 ///
 /// A request is a call of `allocate`. Growing or shrinking a block is a request too, since the block moves to a new
 /// one. Freeing a block isn't a request. Threads may share a `&` to the allocator: each request has its own number, so
@@ -23,7 +24,8 @@ pub struct RefusingHeap<B: Allocator = Global> {
 
 impl<B: Allocator> RefusingHeap<B> {
     /// Returns an allocator that refuses the request after the first `passed` requests, and no other.
-    /// With `passed` 0 it refuses the first. It passes all other requests on to `inner`.
+    ///
+    /// With `passed` 0 it refuses the first request. It passes all other requests on to `inner`.
     pub fn new(inner: B, passed: u64) -> RefusingHeap<B>
         ensures { refused_index result ≡ passed }
     {
@@ -33,20 +35,21 @@ impl<B: Allocator> RefusingHeap<B> {
         }
     }
 
-    /// Returns the number of requests that all threads have made so far, the refused one included.
+    /// Returns the number of requests that all threads have made so far, including the refused one.
     pub fn requests(&self) -> u64 {
         self.requests.made()
     }
 
-    /// Returns whether this allocator has refused a request yet: whether more requests have been made than `new` was told
-    /// to let pass.
+    /// Returns whether this allocator has refused a request yet: whether it has had more requests than `new` lets pass.
     pub fn has_refused(&self) -> bool {
         self.requests.has_reached_refused()
     }
 
-    /// Returns the result that [`refuse_in_turn`] expects of its work: `Err` if a request has been refused, else `Ok`.
-    /// If `is_right` is false, returns the other of the two, so that `refuse_in_turn` ends with `None`. Work calls it
-    /// last, with the outcome of its own checks.
+    /// Returns the result that [`refuse_in_turn`] expects of its `work`: `Err` if a request has been refused, otherwise
+    /// `Ok`.
+    ///
+    /// If `is_right` is false, it returns the other of the two, so that `refuse_in_turn` returns `None`. `work` calls
+    /// it last, with the outcome of its own checks.
     pub fn answer(&self, is_right: bool) -> Result<(), AllocError> {
         if is_right == self.has_refused() {
             Err(AllocError)
@@ -56,7 +59,7 @@ impl<B: Allocator> RefusingHeap<B> {
     }
 }
 
-// Sound if `inner` is: each block comes from `inner`, and goes back to it unchanged. A refused request gives no
+// Sound if `inner` is: each block comes from `inner`, and goes back to it unchanged. A refused request returns no
 // block.
 unsafe impl<B: Allocator> Allocator for RefusingHeap<B> {
     // A block is freed by the allocator that gave it.
@@ -75,11 +78,12 @@ unsafe impl<B: Allocator> Allocator for RefusingHeap<B> {
 }
 
 /// Calls `work` with an allocator that refuses the first request, then with one that refuses the second, and so on.
-/// The last call is the first that makes too few requests to meet the refused one.
 ///
-/// Returns the number of calls in which a request was refused: the number of requests that `work` makes while memory
-/// lasts. Returns `None` if a call returned the wrong result, or if `alloc` itself ran out of memory. The right result
-/// is `Err` if the call was refused a request, and `Ok` if not.
+/// The last call is the first one that makes too few requests to be refused any.
+///
+/// Returns the number of calls in which a request was refused, which is the number of requests that `work` makes if
+/// none is refused. Returns `None` if a call returned the wrong result, or if `alloc` itself ran out of memory. The
+/// right result is `Err` if a request of the call was refused, otherwise `Ok`.
 pub fn refuse_in_turn<F: Fn(&RefusingHeap) -> Result<(), AllocError>>(
     alloc: Global,
     work: &F,

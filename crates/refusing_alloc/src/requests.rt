@@ -1,9 +1,12 @@
-//! Requests for memory, numbered from 0 in the order in which they come. One of them is refused.
+//! Requests for memory, numbered from 0 in the order in which they come.
+//!
+//! One of them is refused.
 ghost use Rattle.std.specs.Prelude.{◌≡◌, ◌<◌, ◌↔◌, IsTrue};
 
 use std::sync::atomic::{AtomicU64, Ordering};
 
-/// A counter of requests that threads may share: the number of requests so far, and the number of the one to refuse.
+/// A counter of requests that threads may share, which also has the number of the request to refuse.
+///
 /// Requests are numbered from 0.
 #[derive(Drop)]
 pub struct Requests {
@@ -12,7 +15,7 @@ pub struct Requests {
 }
 
 impl Requests {
-    /// Returns a counter that has seen no request, and refuses the one numbered `refused`, counted from 0.
+    /// Returns a counter that has counted no request yet, and refuses request `refused`, counted from 0.
     pub fn refusing(refused: u64) -> Requests
         ensures { result.refused ≡ refused }
     {
@@ -22,14 +25,15 @@ impl Requests {
         }
     }
 
-    /// Counts a request. Returns whether it is the one to refuse. Exactly one call returns true, whichever thread makes
-    /// it.
+    /// Counts a request, and returns whether it is the one to refuse.
+    ///
+    /// Exactly one call returns true, whichever thread makes it.
     pub fn refuses_next(&self) -> bool {
         let number = self.made.fetch_add(1, Ordering::SeqCst);
         is_refused(number, self.refused)
     }
 
-    /// Returns the number of requests that have been counted so far, the refused one included.
+    /// Returns the number of requests counted so far, including the refused one.
     pub fn made(&self) -> u64 {
         self.made.load(Ordering::SeqCst)
     }
@@ -40,13 +44,14 @@ impl Requests {
     }
 }
 
+/// Returns whether request `number` is the one to refuse.
 fn is_refused(number: u64, refused: u64) -> bool
     ensures { IsTrue result ↔ (number ≡ refused) }
 {
     number == refused
 }
 
-/// Returns whether the request of this number is among the first `made`.
+/// Returns whether request `number`, counted from 0, is among the first `made` requests.
 fn is_counted(number: u64, made: u64) -> bool
     ensures { IsTrue result ↔ (number < made) }
 {

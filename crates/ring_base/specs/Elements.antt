@@ -23,7 +23,7 @@ pub IsStrictlyIncreasing-elements : (set : ℕ) → IsStrictlyIncreasing (elemen
 unfolding elements
 IsStrictlyIncreasing-elements set = IsStrictlyIncreasing-filter (has set) (numbers_from 1 max_processors) (IsStrictlyIncreasing-numbers_from 1 max_processors)
 
--- the processor at a position is a member
+-- the element at a position below the size is a member
 pub at_member : (set k : ℕ) → k < size set → IsProc (at set k) × IsMember set (at set k)
 unfolding elements
 at_member set k lt =
@@ -73,7 +73,7 @@ smallest-least set i proc m least =
     let first = at_member set 0 (omega (arith, position_of-inside set i proc m)) in
     omega (arith, smallest_le set i proc m, least (smallest set) first.1)
 
--- the elements are just the processors that are members
+-- the elements are exactly the processors that are members
 pub elements_members : (set i : ℕ) → Contains (elements set) i ↔ (IsProc i × IsMember set i)
 elements_members set i = (
   λ found.

@@ -14,7 +14,7 @@ pub record AreVotes (votes : List ℕ) : Type 0 where
   pub processors : IsProc (length votes)
   pub each : All (λ vote. 1 ≤ vote) votes
 
--- the number is that of a processor of the group
+-- the number is a processor of the group: 1 to `count`
 abbrev pub IsInGroup : Group → ℕ → Type 0
 IsInGroup group number = (1 ≤ number) × (number ≤ group.count)
 
@@ -26,7 +26,7 @@ votes_of group i = slice_index group.votes (i - 1)
 abbrev pub votes_in : Group → ℕ → ℕ
 votes_in group set = sum_by (votes_of group) (elements set)
 
--- the set is primary: its members are processors of the group, and their votes, doubled, are more than all votes
+-- the set is primary: its members belong to the group, and twice their votes is more than all votes
 pub record IsPrimary (group : Group) (set : ℕ) : Type 0 where
   pub within : (i : ℕ) → IsMember set i → i ≤ group.count
   pub majority : sum group.votes < 2 * votes_in group set
@@ -39,11 +39,11 @@ is_primary group set = within set (everybody group.count) && nat_lt (sum group.v
 abbrev pub PrimariesMeet : Type 0
 PrimariesMeet = (group : Group) (a b : ℕ) → IsPrimary group a → IsPrimary group b → (i : ℕ) × (i ≤ group.count) × IsMember a i × IsMember b i
 
--- the votes, followed by zeros up to 16 places
+-- the votes, followed by zeros up to a length of 16
 abbrev pub filled : List ℕ → List ℕ
 filled votes = votes ++ replicate (max_processors - length votes) 0
 
--- the 16 places hold the votes of `count` processors, followed by zeros
+-- the list of 16 has the votes of `count` processors, followed by zeros
 pub record IsFilled (count : ℕ) (places : List ℕ) : Type 0 where
   pub processors : IsProc count
   pub whole : length (take count places) ≡ count

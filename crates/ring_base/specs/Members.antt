@@ -9,7 +9,7 @@ use Rattle.std.proofs.lemmas.Nat.Bits.{bit_at_ones, bit_at_ones_above, bit_at_ab
 use lib.Bits.{xor_add_and, and_le_l}
 use Rattle.ring_base.specs.Processors.{IsProc, IsMember, IsSubset, has, within, nobody, only, everybody, union, intersection, less}
 
--- a bit that is 1 is the member of the next number
+-- if bit k is 1, processor k + 1 is a member
 pub member_at : (set k : ℕ) → bit_at set k ≡ 1 → IsMember set (k + 1)
 member_at set k h =
     let e : k + 1 - 1 ≡ k = omega arith in
@@ -19,11 +19,11 @@ member_at set k h =
 pub has_member : (set i : ℕ) → IsMember set i → has set i ≡ true
 has_member set i m = eq-eqb _ _ m.1
 
--- a number from 1 on that passes the test is a member
+-- a number of at least 1 that passes the test is a member
 pub member_had : (set i : ℕ) → 1 ≤ i → has set i ≡ true → IsMember set i
 member_had set i low h = (low, eqb-true _ _ h)
 
--- the members of a word of 16 bits are processors
+-- the members of a word of 16 bits are processors: 1 to 16
 pub member_proc : (set i : ℕ) → set < 2 ^ 16 → IsMember set i → IsProc i
 member_proc set i lt m =
     elim (cases_lt 16 i) [
@@ -37,7 +37,7 @@ member_proc set i lt m =
 pub nobody_member : (i : ℕ) → IsMember nobody i → ⊥
 nobody_member i m = let none = bit_at_above 0 0 (i - 1) (omega arith) (omega arith) in omega (arith, m.1)
 
--- the set of one processor has just that member
+-- the set of one processor has only that member
 pub only_members : (j i : ℕ) → 1 ≤ j → IsMember (only j) i ↔ (i ≡ j)
 only_members j i low = (
   λ m. elim (cases_lt i j) [
@@ -56,7 +56,7 @@ only_members j i low = (
   λ e. rw e (low, bit_at-pow_same (j - 1)),
 )
 
--- the set of processors 1 to n has just these members
+-- the members of the set of processors 1 to n are exactly 1 to n
 pub everybody_members : (n i : ℕ) → IsMember (everybody n) i ↔ ((1 ≤ i) × (i ≤ n))
 everybody_members n i = (
   λ m. elim (cases_lt n i) [
@@ -94,7 +94,7 @@ intersection_members a b i =
       λ p. (p.0.0, omega (arith, p.0.1, p.1.1)),
     )
 
--- the difference of two words by bit operations
+-- the difference of two words, by exclusive or
 pub less-xor : (a b : ℕ) → less a b ≡ bit_xor a (bit_and a b)
 less-xor a b =
     let inner : bit_and a (bit_and a b) ≡ bit_and a b = same_from_bits _ _ (λ k.
@@ -105,7 +105,7 @@ less-xor a b =
     let le = and_le_l a b in
     omega arith
 
--- the difference has a bit where the first word has it and the second does not
+-- a bit of the difference is 1 if it is 1 in the first word and 0 in the second
 pub bit_at_less : (a b k : ℕ) → bit_at (less a b) k ≡ bit_at a k - bit_at b k
 bit_at_less a b k =
     let e : bit_at (less a b) k ≡ bit_at (bit_xor a (bit_and a b)) k = ap (λ (x : ℕ). bit_at x k) (less-xor a b) in
@@ -128,7 +128,7 @@ less_members a b i =
       ],
     )
 
--- the test of a subset holds of just the subsets
+-- the subset test is true exactly for subsets
 pub within_members : (a b : ℕ) → (within a b ≡ true) ↔ IsSubset a b
 within_members a b = (
   λ h i m.

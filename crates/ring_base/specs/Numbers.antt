@@ -11,43 +11,43 @@ max_number = 4611686018427387904
 abbrev pub window_size : ℕ
 window_size = 256
 
--- the most bytes of a frame
+-- the maximum length of an encoded frame, in bytes
 abbrev pub max_frame_bytes : ℕ
 max_frame_bytes = 8192
 
--- the most new messages of one visit
+-- the maximum number of new messages of one visit
 abbrev pub visit_limit : ℕ
 visit_limit = 8
 
--- the successor of a u64, where 2 ^ 64 - 1 stays as it is
+-- the successor of a u64, which saturates at 2 ^ 64 - 1
 abbrev pub following : ℕ → ℕ
 following n = min (n + 1) (2 ^ 64 - 1)
 
--- the range of `count` numbers from `first` on
+-- the `count` numbers from `first` on, ascending
 abbrev pub numbers_from : ℕ → ℕ → List ℕ
 numbers_from first zero = []
 numbers_from first (suc count) = first ∷ numbers_from (suc first) count
 
--- an ascending list with a number inserted; a number that it has already is not repeated
+-- an ascending list with a number inserted, unless the list has it already
 abbrev pub insert_ascending : ℕ → List ℕ → List ℕ
 insert_ascending n [] = n ∷ []
 insert_ascending n (x ∷ xs) = if nat_lt n x then n ∷ x ∷ xs else if n == x then x ∷ xs else x ∷ insert_ascending n xs
 
--- the union of two lists, of which the second ascends, as an ascending list
+-- the union of two lists as an ascending list without repeats; the second list must ascend
 abbrev pub merged : List ℕ → List ℕ → List ℕ
 merged [] ys = ys
 merged (x ∷ xs) ys = insert_ascending x (merged xs ys)
 
--- the greatest of the numbers, 0 if there is none
+-- the greatest of the numbers, 0 for the empty list
 abbrev pub greatest : List ℕ → ℕ
 greatest [] = 0
 greatest (x ∷ xs) = max x (greatest xs)
 
--- whether bit j of a word is 1, counted from the bit of value 1
+-- whether bit j of a word is 1; bit 0 is the bit of value 1
 abbrev pub has_bit : ℕ → ℕ → Bool
 has_bit word j = bit_at word j == 1
 
--- the word of `count` bits whose bit j is the test at first + j
+-- the word of `count` bits whose bit j is the result of the test at first + j
 abbrev pub word_of : (ℕ → Bool) → ℕ → ℕ → ℕ
 word_of test first zero = 0
 word_of test first (suc count) = (if test first then 1 else 0) + 2 * word_of test (suc first) count

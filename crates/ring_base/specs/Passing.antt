@@ -1,4 +1,4 @@
--- Laws of the numbers of a range that pass a test: which they are, the place of each, and how many there are.
+-- Laws of the numbers of a range that pass a test: which they are, the index of each, and how many there are.
 use Rattle.std.proofs.Common.{◌≡◌, ◌≢◌, ℕ, zero, suc, ◌+◌, ◌<◌, ◌≤◌, Bool, true, false, List, ◌∷◌, length, arith, inl, inr, refl, ap, sym, ◌∙◌}
 use Rattle.std.specs.Prelude.{◌&&◌, nat_lt, filter, slice_index}
 use Rattle.std.specs.List.Sorted.{IsStrictlyIncreasing}
@@ -25,7 +25,7 @@ IsStrictlyIncreasing-numbers_from first n k lt =
 abbrev pub passing : (ℕ → Bool) → ℕ → ℕ → List ℕ
 passing p first n = filter p (numbers_from first n)
 
--- the number of elements below i
+-- the number of elements of the list that are below i
 abbrev pub before : List ℕ → ℕ → ℕ
 before xs i = length (filter (λ j. nat_lt j i) xs)
 
@@ -72,12 +72,12 @@ none_before p first (suc n) i le =
       | inr fail ↦ rw fail (none_before p (suc first) n i (omega arith))
     ]
 
--- the number is in the list, at the place given by the number of elements below it
+-- the number is in the list, at the index that equals the number of elements below it
 pub record IsPlace (xs : List ℕ) (i : ℕ) : Type 0 where
   pub inside : before xs i < length xs
   pub there : slice_index xs (before xs i) ≡ i
 
--- each number of the range that passes has its place in the list
+-- each number of the range that passes is in the list, at its index
 pub place : (p : ℕ → Bool) (first n i : ℕ) → first ≤ i → i < first + n → p i ≡ true → IsPlace (passing p first n) i
 place p first zero i low high pass = absurd (omega arith)
 place p first (suc n) i low high passes =
@@ -97,7 +97,7 @@ place p first (suc n) i low high passes =
           rw pass (record { inside = rw (not_below, none) (omega arith); there = rw (not_below, none) same })
     ]
 
--- the number of elements below the element at place k is k
+-- the number of elements below the element at index k is k
 pub before-at : (p : ℕ → Bool) (first n k : ℕ) → k < length (passing p first n) → before (passing p first n) (slice_index (passing p first n) k) ≡ k
 before-at p first zero k lt = absurd (omega arith)
 before-at p first (suc n) zero lt =
@@ -118,7 +118,7 @@ before-at p first (suc n) (suc k) lt =
       | inr fail ↦ rw fail (before-at p (suc first) n (suc k) (rw fail at lt))
     ]
 
--- tests that agree pass the same numbers
+-- tests that agree from `first` on let the same numbers pass
 pub passing_same : (p q : ℕ → Bool) (first n : ℕ) → ((j : ℕ) → first ≤ j → p j ≡ q j) → passing p first n ≡ passing q first n
 passing_same p q first zero same = refl
 passing_same p q first (suc n) same =
@@ -139,7 +139,7 @@ passing_before p first (suc n) i =
       | inr fail ↦ rw fail rest
     ]
 
--- the numbers that pass are the least of them, then those that also differ from it
+-- the numbers that pass are the least of them, followed by the others
 pub passing_first : (p q : ℕ → Bool) (first n i : ℕ) → Stands p first n i → ((j : ℕ) → first ≤ j → p j ≡ true → i ≤ j)
     → q i ≡ false → ((j : ℕ) → first ≤ j → j ≢ i → p j ≡ q j) → passing p first n ≡ i ∷ passing q first n
 passing_first p q first zero i s least not_i others = absurd (omega (arith, s.low, s.high))

@@ -1,4 +1,4 @@
--- Prefixes of lists, the empty and the whole one included.
+-- Prefixes of lists, including the empty list and the whole list.
 use Rattle.std.proofs.Common.{◌≡◌, ℕ, zero, suc, ◌≤◌, List, [], ◌∷◌, ◌++◌, length, Some, slice_get, refl, ap, sym, ◌∙◌, arith, append_assoc, length-append}
 
 -- the first list is a prefix of the second: there is a rest that completes it
@@ -35,13 +35,13 @@ prefix_whole [] (y ∷ ys) p le = absurd (omega arith)
 prefix_whole (x ∷ xs) [] p le = absurd (cc (p.1))
 prefix_whole (x ∷ xs) (y ∷ ys) p le = let rest = prefix_whole xs ys (p.0, cc (p.1)) (omega arith) in cc (p.1, rest)
 
--- an element of a prefix is in the list, at the same place
+-- an element of a prefix is in the list, at the same index
 pub prefix_get : {A : Type 0} (xs ys : List A) (k : ℕ) (x : A) → IsListPrefix xs ys → slice_get xs k ≡ Some x → slice_get ys k ≡ Some x
 prefix_get [] ys k x p h = absurd cc
 prefix_get (y ∷ xs) [] k x p h = absurd (cc (p.1))
 prefix_get (y ∷ xs) (z ∷ ys) zero x p h = cc (p.1, h)
 prefix_get (y ∷ xs) (z ∷ ys) (suc k) x p h = prefix_get xs ys k x (p.0, cc (p.1)) h
 
--- each list is a prefix of itself with another appended
+-- each list is a prefix of itself with another list appended
 pub prefix_append : {A : Type 0} (xs ys : List A) → IsListPrefix xs (xs ++ ys)
 prefix_append xs ys = (ys, refl)

@@ -1,4 +1,4 @@
--- Two primary sets share a processor; the test of a primary set is exact.
+-- Any two primary sets share a processor, and the test of a primary set is exact.
 -- Rules: Processors and sets 4
 use Rattle.std.proofs.Common.{◌≡◌, ℕ, zero, suc, ◌+◌, ◌-◌, ◌<◌, ◌≤◌, Bool, true, false, List, [], ◌∷◌, take, arith, inl, inr, refl}
 use Rattle.std.specs.Prelude.{◌↔◌, IsTrue, slice_index}
@@ -29,7 +29,7 @@ record Shared (p q : ℕ → Bool) (first : ℕ) : Type 0 where
 later : (p q : ℕ → Bool) (first : ℕ) → Shared p q (suc first) → Shared p q first
 later p q first s = record { number = s.number; low = omega (arith, s.low); passes_first = s.passes_first; passes_second = s.passes_second }
 
--- If the numbers of a range that pass two tests weigh more in sum than the whole range, one number passes both.
+-- if the numbers of a range that pass two tests together weigh more than the whole range, one number passes both
 shared : (w : ℕ → ℕ) (p q : ℕ → Bool) (first n : ℕ) → sum_by w (numbers_from first n) < sum_by w (passing p first n)
     + sum_by w (passing q first n) → Shared p q first
 shared w p q first zero more = absurd (omega arith)
@@ -50,7 +50,7 @@ none_in_front : (n : ℕ) → sum (take n []) ≡ 0
 none_in_front zero = refl
 none_in_front (suc n) = refl
 
--- a range whose weights are the elements of a list weighs as much as the sum of the list's prefix
+-- a range whose weights are the elements of a list weighs as much as the list's prefix of that length
 weight_front : (w : ℕ → ℕ) (first n : ℕ) (votes : List ℕ) → ((k : ℕ) → w (first + k) ≡ slice_index votes k)
     → sum_by w (numbers_from first n) ≡ sum (take n votes)
 weight_front w first zero votes weighs = refl
@@ -63,7 +63,7 @@ weight_front w first (suc n) (v ∷ votes) weighs =
     let rest = weight_front w (suc first) n votes (λ k. let e : suc first + k ≡ first + suc k = omega arith in rw e (weighs (suc k))) in
     omega (arith, sum_by-cons w first (numbers_from (suc first) n), sum_by-cons (λ (x : ℕ). x) v (take n votes), here, rest)
 
--- the votes of the first n processors
+-- the sum of the votes of processors 1 to n is that of the first n elements of the list
 pub votes_front : (group : Group) (n : ℕ) → sum_by (votes_of group) (numbers_from 1 n) ≡ sum (take n group.votes)
 votes_front group n = weight_front (votes_of group) 1 n group.votes (λ k. let e : 1 + k - 1 ≡ k = omega arith in rw e refl)
 
@@ -77,7 +77,7 @@ primaries_share group a b p q =
     let member = member_had a s.number s.low s.passes_first in
     (s.number, p.within s.number member, member, member_had b s.number s.low s.passes_second)
 
--- the test holds of just the primary sets
+-- the test is true exactly for primary sets
 pub primary_tested : (group : Group) (set : ℕ) → IsTrue (is_primary group set) ↔ IsPrimary group set
 primary_tested group set = (
   λ h.

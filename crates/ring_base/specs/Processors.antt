@@ -4,11 +4,11 @@ use Rattle.std.specs.Prelude.{◌≡◌, ℕ, ◌+◌, ◌-◌, ◌%◌, ◌^◌
 use Rattle.std.specs.Int.{bit_at}
 use Rattle.ring_base.specs.Numbers.{numbers_from, has_bit}
 
--- the most processors of a run
+-- the maximum number of processors of a group
 abbrev pub max_processors : ℕ
 max_processors = 16
 
--- the number is a processor's: 1 to 16
+-- the number is a processor: 1 to 16
 abbrev pub IsProc : ℕ → Type 0
 IsProc i = (1 ≤ i) × (i ≤ max_processors)
 
@@ -32,7 +32,7 @@ within a b = bit_and a b == a
 abbrev pub nobody : ℕ
 nobody = 0
 
--- the set of processor i alone
+-- the set that contains only processor i
 abbrev pub only : ℕ → ℕ
 only i = 2 ^ (i - 1)
 
@@ -60,11 +60,11 @@ elements set = filter (has set) (numbers_from 1 max_processors)
 abbrev pub size : ℕ → ℕ
 size set = length (elements set)
 
--- the member at a position, counted from 0; 0 past the last
+-- the member at a position in ascending order, counted from 0; 0 past the last member
 abbrev pub at : ℕ → ℕ → ℕ
 at set position = slice_index (elements set) position
 
--- the number of members below processor i: its position, if it is a member
+-- the number of members below processor i, which is its position if it is a member
 abbrev pub position_of : ℕ → ℕ → ℕ
 position_of set i = length (filter (λ j. nat_lt j i) (elements set))
 

@@ -1,4 +1,5 @@
--- Laws of the order of rings and of last primaries: irreflexive, transitive, total, and none below every ring.
+-- Laws of the order of rings and of last primaries: it is irreflexive, transitive and total, and none is below every
+-- ring.
 -- Rules: Rings and states 1
 use Rattle.std.proofs.Common.{◌≡◌, ℕ, ◌⊎◌, ◌<◌, Option, Some, None, refl, inl, inr, arith, ap, sym}
 use Rattle.std.specs.Prelude.{◌↔◌}
@@ -50,7 +51,7 @@ then_Less Greater s h = absurd cc
 one_name : (a b : RingId) → a.seq ≡ b.seq → a.rep ≡ b.rep → a ≡ b
 one_name a b seqs reps = λ i. record { seq = seqs i; rep = reps i }
 
--- a ring is below another exactly by number, then by representative
+-- a ring is below another exactly if its number is smaller, or the numbers are equal and its representative is smaller
 pub below_numbers : (a b : RingId) → IsBelow a b ↔ ((a.seq < b.seq) ⊎ ((a.seq ≡ b.seq) × (a.rep < b.rep)))
 below_numbers a b = (
   λ h. elim (then_Less (nat_cmp a.seq b.seq) (nat_cmp a.rep b.rep) h) [

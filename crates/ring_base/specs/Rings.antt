@@ -9,7 +9,7 @@ use Rattle.std.specs.Option.{option_cmp}
 use Rattle.std.specs.Ordering.{nat_cmp, ordering_then}
 use Rattle.ring_base.specs.declared.ring_id.RingId.{RingId}
 
--- whether the two names are of the same ring
+-- whether the two names are equal
 abbrev pub same_ring : RingId → RingId → Bool
 same_ring a b = (a.seq == b.seq) && (a.rep == b.rep)
 
@@ -29,6 +29,6 @@ IsBelow a b = ring_cmp a b ≡ Less
 abbrev pub IsPrimaryBelow : Option RingId → Option RingId → Type 0
 IsPrimaryBelow a b = primary_cmp a b ≡ Less
 
--- the printed form of a ring: its number, a full stop, its representative
+-- the printed form of a ring: its number, a dot, its representative
 abbrev pub ring_text : RingId → List ℕ
 ring_text r = (decimal r.seq ++ codes ".") ++ decimal r.rep

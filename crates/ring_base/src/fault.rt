@@ -1,4 +1,5 @@
 //! The one type of refusals: why a call is refused.
+//!
 //! Rules: Refusals 1
 
 ghost use Rattle.std.specs.Prelude.{◌≡◌};
@@ -9,8 +10,10 @@ use std::alloc::{AllocError, AllocFailed};
 use std::fmt::{self, Display};
 use thiserror::Error;
 
-/// `Fault`: the error type of all calls: the fifteen reasons for a refusal.
-/// It displays as its text. Files and exit lines hold its [`number`](Fault::number).
+/// `Fault`: the error type of all calls, with a variant for each of the fifteen reasons for a refusal.
+///
+/// `Display` prints the text. Files and exit lines hold the [`number`](Fault::number).
+///
 /// Rules: Refusals 1
 #[derive(Clone, Copy, Debug, PartialEq, Eq, Error)]
 pub enum Fault {
@@ -28,13 +31,14 @@ pub enum Fault {
     NumberGap = 6,
     /// The call is of an unknown client, and 1,024 clients are known already.
     SessionsFull = 7,
-    /// The node has stopped or is gone, or a run of callers names a node to stop twice.
+    /// The node has stopped or is gone, or a run of callers is to stop one node twice.
     Stopped = 8,
     /// All 262,144 places of the book are used or reserved.
     BookFull = 9,
-    /// Unknown frame: the book has no such frame for this node, or the call has nothing to enter.
+    /// The book has no such frame for this node, there is no line or no reserved place to enter, a cell is a line ahead
+    /// of the book, or an inbox item isn't a frame.
     Stranger = 10,
-    /// A request for memory was refused, or a thread could not be started.
+    /// An allocation failed, or a thread could not be started.
     Memory = 11,
     /// The bytes aren't a frame or a record, or their file can't be read.
     BadFrame = 12,
@@ -47,7 +51,10 @@ pub enum Fault {
 }
 
 impl Fault {
-    /// Returns the refusal's number, 1 to 15, as files and exit lines hold it. It is the enum's discriminant.
+    /// Returns the refusal's number, 1 to 15, which files and exit lines hold.
+    ///
+    /// It is the enum's discriminant.
+    ///
     /// Rules: Refusals 1
     pub fn number(&self) -> u8
         ensures { result ≡ fault_number self.now }
@@ -78,7 +85,8 @@ impl Fault {
     }
 }
 
-/// Prints the refusal's text, as in `not a member`, without its number.
+/// Prints the refusal's text without its number, as in `not a member`.
+///
 /// Rules: Refusals 1
 impl Display for Fault {
     ghost use Rattle.std.specs.Prelude.{Some};

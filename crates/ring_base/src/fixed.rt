@@ -1,4 +1,5 @@
 //! The group's configuration, fixed for a run: the processors and their votes.
+//!
 //! Rules: Processors and sets 1, 2 and 4
 
 ghost use Rattle.std.specs.Prelude.{◌≡◌, ℕ, ◌+◌, ◌*◌, ◌≤◌, ◌↔◌, IsTrue, IfErr, OkIff, nat_lt, length, replicate};
@@ -12,8 +13,11 @@ use crate::proc_set::ProcSet;
 use crate::processor::Proc;
 use std::marker::Model;
 
-/// `Fixed`: the group's configuration, which never changes in a run: how many processors there are, numbered from 1,
-/// and the votes of each. Contracts see the number of processors and the list of votes.
+/// `Fixed`: the group's configuration in a run: the number of processors and the votes of each.
+///
+/// It never changes in a run. Processors are numbered from 1. Contracts see the number of processors and the list of
+/// votes.
+///
 /// Rules: Processors and sets 1
 #[derive(Clone, Copy, Debug, PartialEq, Eq)]
 pub struct Fixed {
@@ -38,8 +42,10 @@ impl Model for Fixed {
 }
 
 impl Fixed {
-    /// Returns the configuration of the processors 1 to `count` with one vote each. `count` is 1 to [`MAX_PROCESSORS`].
-    /// Errors: `NotMember` if `count` is 0 or above [`MAX_PROCESSORS`].
+    /// Returns the configuration of the processors 1 to `count`, each with one vote.
+    ///
+    /// Errors: `NotMember` unless `count` is 1 to [`MAX_PROCESSORS`].
+    ///
     /// Rules: Processors and sets 1
     pub fn new(count: u8) -> Result<Fixed, Fault>
         ensures ok { OkIff result (IsProc count) (record { count = count; votes = replicate count 1 }) }
@@ -52,8 +58,9 @@ impl Fixed {
     }
 
     /// Returns the configuration that has a processor for each vote: processor 1 has the first of `votes`, and so on.
-    /// There are 1 to [`MAX_PROCESSORS`] votes, each 1 to 255.
-    /// Errors: `NotMember` if `votes` is empty or too long, or a vote is 0.
+    ///
+    /// Errors: `NotMember` unless there are 1 to [`MAX_PROCESSORS`] votes, each at least 1.
+    ///
     /// Rules: Processors and sets 1
     pub fn with_votes(votes: &[u8]) -> Result<Fixed, Fault>
         ensures ok { OkIff result (AreVotes votes.now) (record { count = length votes.now; votes = votes.now }) }
@@ -71,7 +78,10 @@ impl Fixed {
         })
     }
 
-    /// Returns the number of processors of the group, 1 to 16. It is also the greatest processor's number.
+    /// Returns the number of processors of the group, 1 to 16.
+    ///
+    /// It is also the greatest processor number.
+    ///
     /// Rules: Processors and sets 1
     pub fn count(self) -> u8
         ensures value { result ≡ self.count }
@@ -80,8 +90,10 @@ impl Fixed {
         self.count
     }
 
-    /// Returns the group's processor of this number.
-    /// Errors: `NotMember` unless `number` is 1 to the number of processors.
+    /// Returns processor `number` of the group.
+    ///
+    /// Errors: `NotMember` unless `number` is 1 to [`count`](Fixed::count).
+    ///
     /// Rules: Processors and sets 2
     pub fn proc(self, number: u8) -> Result<Proc, Fault>
         ensures ok { OkIff result ((1 ≤ number) × (number ≤ self.count)) number }
@@ -93,7 +105,10 @@ impl Fixed {
         Ok(Proc::new(number))
     }
 
-    /// Returns the set of all processors of the group, 1 to [`count`](Fixed::count). It is never empty.
+    /// Returns the set of all processors of the group, 1 to [`count`](Fixed::count).
+    ///
+    /// It is never empty.
+    ///
     /// Rules: Processors and sets 1 to 3
     pub fn everybody(self) -> ProcSet
         ensures members { (i : ℕ) → IsMember result i ↔ ((1 ≤ i) × (i ≤ self.count)) }
@@ -102,8 +117,11 @@ impl Fixed {
         ProcSet::from_bits(u16::MAX >> (16 - self.count))
     }
 
-    /// Returns whether the set is primary: its members are processors of this group, and together they have more than
-    /// half of all votes. Half of the votes isn't enough.
+    /// Returns whether `set` is primary: its members all belong to this group, and together they have more than half of
+    /// all votes.
+    ///
+    /// Exactly half of the votes isn't enough.
+    ///
     /// Rules: Processors and sets 4
     pub fn is_primary(self, set: ProcSet) -> bool
         ensures primary { IsTrue result ↔ IsPrimary self set }
@@ -113,6 +131,7 @@ impl Fixed {
     }
 
     /// Returns the sum of the votes of all processors of the group, 1 to 4,080.
+    ///
     /// Rules: Processors and sets 1 and 4
     pub fn all_votes(self) -> u32
         ensures value { result ≡ sum self.votes }
@@ -121,7 +140,10 @@ impl Fixed {
         inside + outside
     }
 
-    /// Returns the sum of the votes of the set's members, 0 to 4,080. A member outside the group has no votes.
+    /// Returns the sum of the votes of the members of `set`, 0 to 4,080.
+    ///
+    /// A member outside the group has no votes.
+    ///
     /// Rules: Processors and sets 4
     pub fn votes_in(self, set: ProcSet) -> u32
         ensures value { result ≡ votes_in self set }
@@ -130,7 +152,7 @@ impl Fixed {
         inside
     }
 
-    /// Returns whether the members of the set have more votes than all others.
+    /// Returns whether the members of `set` have more votes than all other processors together.
     fn has_majority(self, set: ProcSet) -> bool
         ensures { result ≡ nat_lt (sum self.votes) (2 * votes_in self set) }
     {
@@ -138,7 +160,7 @@ impl Fixed {
         inside > outside
     }
 
-    /// Returns the sum of the votes of the set's members, and that of all others.
+    /// Returns the sum of the votes of the members of `set`, then the sum of all other votes.
     fn split_votes(self, set: ProcSet) -> (u32, u32)
         ensures members { result.0 ≡ votes_in self set }
         ensures all { result.0 + result.1 ≡ sum self.votes }

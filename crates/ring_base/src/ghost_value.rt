@@ -1,13 +1,13 @@
 //! Ghost values: values that only contracts read.
 //!
 //! The code of a ring forgets: it keeps a window, two numbers and some bits. Its contracts speak of all that ever
-//! happened. A [`Ghost`] holds such a history for contracts, and takes no room in the program.
+//! happened. A [`Ghost`] holds such a history for contracts, and occupies no memory at run time.
 //!
 //! A ghost value alone promises nothing: [`ghost_of`] sets it to any value that its caller names. The struct that has
 //! it as a field ties it to the code. The struct's `Model` shows the value to contracts, and the `Model`'s invariant
-//! says how the other fields, which the code reads, follow from it. A method that changes the value and not the
-//! fields, or the fields and not the value, is refused: the invariant must hold again. The value has no limits of
-//! `T`: of a `u64` in it contracts know only that it is a number. So each bound that is needed belongs in the
+//! says how the other fields, which the code reads, follow from it. A method that changes the value and not the fields,
+//! or the fields and not the value, is refused: the invariant must hold again. The limits of `T` aren't known of the
+//! value: of a `u64` in it contracts know only that it is a number. So each bound that is needed belongs in the
 //! invariant too.
 //!
 //! No proof says that a method keeps the history: a method with a weak clause may set it to any value that the
@@ -20,11 +20,15 @@ ghost use base.Fml.{ftrue};
 use std::alloc::AllocError;
 use std::marker::{Model, PhantomData, Send, Sync};
 
-/// A `T` that only contracts see. It has no bytes and owns nothing, and no `T` is ever made for it. The head of this
-/// file says how a struct ties such a field to its code.
+/// A `T` that only contracts see.
+///
+/// It has no bytes and owns nothing, and no `T` is ever made for it. The module's documentation says how a struct ties
+/// such a field to its code.
 pub struct Ghost<T> {
     marker: PhantomData<T>,
-    /// The value that contracts read. Code can't read it.
+    /// The value that contracts read.
+    ///
+    /// Code can't read it.
     pub ghost value: { T },
 }
 
@@ -33,8 +37,9 @@ impl<T> Model for Ghost<T> {
 }
 
 /// Returns the ghost value that the caller's proof names by `ghost-ghost_of`, a term over the values of `from`.
+///
 /// The caller borrows in `from` all values that the term uses, as in `ghost_of(&(&self.ghost_value, x))`. At run time
-/// it does nothing.
+/// the call does nothing.
 pub fn ghost_of<T, A>(from: &A) -> Ghost<T>
     ghost ghost_step: { T }
     ensures { result.value ≡ ghost_step }
@@ -46,7 +51,9 @@ pub fn ghost_of<T, A>(from: &A) -> Ghost<T>
     }
 }
 
-/// Returns a ghost value that equals `value` at this moment. Later changes of `value` don't change it.
+/// Returns a ghost value that equals `value` at this moment.
+///
+/// Later changes of `value` don't change it.
 pub fn ghost_now<T>(value: &T) -> Ghost<T>
     ensures { result.value ≡ value.now }
 {
@@ -54,7 +61,8 @@ pub fn ghost_now<T>(value: &T) -> Ghost<T>
 }
 
 /// Returns a new ghost value, computed from `ghost_value` and from the value that `from` borrows.
-/// The caller's proof names the function that computes it by `ghost-ghost_step`. `ghost_value` stays as it is.
+///
+/// The caller's proof names the function that computes it by `ghost-ghost_step`. `ghost_value` is unchanged.
 pub fn ghost_step<T, F>(ghost_value: &Ghost<T>, from: &F) -> Ghost<T>
     ghost step: { T → F → T }
     ensures { result.value ≡ step ghost_value.now.value from.now }
@@ -63,7 +71,8 @@ pub fn ghost_step<T, F>(ghost_value: &Ghost<T>, from: &F) -> Ghost<T>
 }
 
 /// Returns a new ghost value, computed from `ghost_value` and from the values that `first` and `second` borrow.
-/// The caller's proof names the function that computes it by `ghost-ghost_step_of_two`. `ghost_value` stays as it is.
+///
+/// The caller's proof names the function that computes it by `ghost-ghost_step_of_two`. `ghost_value` is unchanged.
 pub fn ghost_step_of_two<T, F, G>(ghost_value: &Ghost<T>, first: &F, second: &G) -> Ghost<T>
     ghost step: { T → F → G → T }
     ensures { result.value ≡ step ghost_value.now.value first.now second.now }
@@ -71,7 +80,9 @@ pub fn ghost_step_of_two<T, F, G>(ghost_value: &Ghost<T>, first: &F, second: &G)
     ghost_of(&(ghost_value, first, second))
 }
 
-/// A copy has the same value. Copying never fails.
+/// A copy has the same value.
+///
+/// Copying never fails.
 impl<T> Clone for Ghost<T> {
     ghost is_clone = { λ ghost_value copy. copy.value ≡ ghost_value.value };
 
@@ -80,8 +91,8 @@ impl<T> Clone for Ghost<T> {
     }
 }
 
-// Sound, as is the next: it has no bytes and no `T` is ever made for it, so no part of a `T` moves to another thread
-// or is shared.
+// Sound, like the next impl: a ghost value has no bytes and no `T` is ever made for it, so no part of a `T` moves to
+// another thread or is shared.
 unsafe impl<T> Send for Ghost<T> {}
 
 unsafe impl<T> Sync for Ghost<T> {}

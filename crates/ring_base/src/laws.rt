@@ -1,4 +1,5 @@
 //! Laws of the definitions: each clause holds for all values that it names.
+//!
 //! Rules: Processors and sets 3 and 4; Rings and states 1; Limits 1
 
 ghost use Rattle.std.specs.Prelude.{◌≡◌, ℕ, ◌^◌, ◌<◌, ◌≤◌, ◌↔◌, ◌⊎◌, Option, List, length, Contains, IsTrue, Some, None, slice_get};
@@ -10,7 +11,8 @@ ghost use Rattle.ring_base.specs.Group.{Group, IsPrimary, is_primary, PrimariesM
 ghost use Rattle.ring_base.specs.Processors.{IsProc, IsMember, elements, size, at, position_of};
 ghost use Rattle.ring_base.specs.Rings.{IsBelow, IsPrimaryBelow};
 
-/// States that the limits that all of Totem keeps have these values, one clause for each constant.
+/// States the value of each constant in this crate's limits, one clause per constant.
+///
 /// Rules: Limits 1
 pub fn limits_law()
     ensures processors { MAX_PROCESSORS ≡ 16 }
@@ -21,9 +23,11 @@ pub fn limits_law()
     ensures frame { MAX_FRAME_BYTES ≡ 8192 }
 {}
 
-/// States that, for every group, any two primary sets share a processor of the group.
-/// A set is primary if its members are of the group and have more than half of all votes. The test `is_primary` holds
-/// of exactly the primary sets.
+/// States that, in every group, any two primary sets share a processor of the group.
+///
+/// A set is primary if its members belong to the group and have more than half of all votes. The test `is_primary` is
+/// true exactly for primary sets.
+///
 /// Rules: Processors and sets 4
 pub fn primary_law()
     ensures meet { PrimariesMeet }
@@ -31,8 +35,10 @@ pub fn primary_law()
 {}
 
 /// States that, for every set of processors, the list of its elements has each member exactly once, in ascending order.
+///
 /// Each member is found at its position, counted from 0, and each position below the number of members belongs to one
 /// member. A set that is a word of 16 bits has only members from 1 to 16.
+///
 /// Rules: Processors and sets 3
 pub fn members_law()
     ensures ascending { (set : ℕ) → IsStrictlyIncreasing (elements set) }
@@ -42,8 +48,10 @@ pub fn members_law()
     ensures processors { (set i : ℕ) → set < 2 ^ 16 → IsMember set i → IsProc i }
 {}
 
-/// States that all rings are totally ordered: of two different rings exactly one is below the other.
+/// States that rings are totally ordered: of two different rings exactly one is below the other.
+///
 /// The number decides; between equal numbers the representative does.
+///
 /// Rules: Rings and states 1
 pub fn ring_order_law()
     ensures irreflexive { (a : RingId) → ¬ IsBelow a a }
@@ -52,8 +60,10 @@ pub fn ring_order_law()
     ensures numbers { (a b : RingId) → IsBelow a b ↔ ((a.seq < b.seq) ⊎ ((a.seq ≡ b.seq) × (a.rep < b.rep))) }
 {}
 
-/// States that all last primaries, each a ring or none, are totally ordered.
-/// Two rings are ordered as [`ring_order_law`] says, and none is below every ring.
+/// States that last primaries, each a ring or none, are totally ordered.
+///
+/// Two rings are ordered as in [`ring_order_law`], and none is below every ring.
+///
 /// Rules: Rings and states 1
 pub fn primary_order_law()
     ensures irreflexive { (a : Option RingId) → ¬ IsPrimaryBelow a a }
@@ -63,9 +73,9 @@ pub fn primary_order_law()
     ensures none { (a : RingId) → IsPrimaryBelow None (Some a) }
 {}
 
-/// States that, for every list, the prefixes of it are ordered by their lengths: the shorter of two is a prefix of the
-/// longer. A prefix has the elements of the list at the same places, counted from 0. A prefix that is as long as the
-/// list is the list itself.
+/// States that the prefixes of a list are ordered by length: the shorter of two is a prefix of the longer.
+///
+/// A prefix has the elements of the list at the same indices. A prefix that is as long as the list is the list itself.
 pub fn prefix_law<T>()
     ensures reflexive { (xs : List T) → IsListPrefix xs xs }
     ensures transitive { (xs ys zs : List T) → IsListPrefix xs ys → IsListPrefix ys zs → IsListPrefix xs zs }

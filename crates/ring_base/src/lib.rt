@@ -1,5 +1,7 @@
-//! The names that all of Totem uses: processors and sets of them, rings, the group's configuration, and the one type
-//! of refusals. Also ghost values, which only contracts read, and the laws of prefixes of lists.
+//! The types that all of Totem uses: processors and sets of them, rings, the group's configuration, limits, and the one
+//! type of refusals.
+//!
+//! Also ghost values, which only contracts read, and the laws of prefixes of lists.
 #![tactic(auto)]
 
 mod fault;

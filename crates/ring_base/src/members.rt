@@ -1,4 +1,5 @@
 //! Iteration over the members of a set.
+//!
 //! Rules: Processors and sets 3
 
 ghost use Rattle.std.specs.Prelude.{◌≡◌, ℕ};
@@ -10,7 +11,10 @@ use crate::processor::Proc;
 use std::marker::Model;
 
 /// An iterator over the members of a set, in ascending order.
-/// [`ProcSet::iter`] makes it. Contracts see the set of the members not yet visited.
+///
+/// [`ProcSet::iter`] makes it. Contracts see the set of the members that are not yet visited.
+///
+/// Rules: Processors and sets 3
 #[derive(Clone, Copy, Debug)]
 pub struct Members {
     unvisited: ProcSet,
@@ -42,7 +46,9 @@ impl Iterator for Members {
 
 impl ProcSet {
     /// Returns an iterator over the members of the set, in ascending order, each once.
+    ///
     /// It yields nothing for the empty set.
+    ///
     /// Rules: Processors and sets 3
     pub fn iter(self) -> Members
         ensures { result ≡ self }

@@ -1,8 +1,9 @@
-//! A pair of a value and the value of a result.
+//! Pairing a value with the value of a result.
 
 ghost use Rattle.std.specs.Prelude.{◌≡◌, Ok, Err, IfOk, IfErr};
 
-/// Returns the pair of `first` and the value of `second`, if `second` has a value.
+/// Returns the pair of `first` and the value of `second`.
+///
 /// Errors: the error of `second`; `first` is then dropped.
 pub fn pair_result<T: Drop, U, E>(first: T, second: Result<U, E>) -> Result<(T, U), E>
     ensures first { IfOk result (λ pair. pair.0 ≡ first) }

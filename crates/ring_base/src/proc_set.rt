@@ -1,4 +1,5 @@
 //! Sets of processors, as words of 16 bits.
+//!
 //! Rules: Processors and sets 3
 
 ghost use Rattle.std.specs.Prelude.{◌≡◌, ◌≢◌, ℕ, ◌^◌, ◌<◌, ◌≤◌, ◌↔◌, ◌⊎◌, IsTrue, IsSome, IsNone, IfSome};
@@ -11,7 +12,9 @@ use std::fmt::{self, Display};
 use std::marker::Model;
 
 /// `ProcSet`: a set of processors, as a word of 16 bits: processor i is the bit of value 2^(i - 1).
+///
 /// Contracts see the word.
+///
 /// Rules: Processors and sets 3
 #[derive(Clone, Copy, Debug, Default, PartialEq, Eq)]
 pub struct ProcSet {
@@ -28,13 +31,17 @@ impl Model for ProcSet {
 
 impl ProcSet {
     /// Returns the empty set, whose word is 0.
+    ///
+    /// Rules: Processors and sets 3
     pub fn new() -> ProcSet
         ensures { result ≡ nobody }
     {
         ProcSet { bits: 0 }
     }
 
-    /// Returns the set that has `proc` as its one member.
+    /// Returns the set that contains only `proc`.
+    ///
+    /// Rules: Processors and sets 3
     pub fn only(proc: Proc) -> ProcSet
         ensures members { (i : ℕ) → IsMember result i ↔ (i ≡ proc) }
         ensures value { result ≡ only proc }
@@ -44,8 +51,10 @@ impl ProcSet {
         }
     }
 
-    /// Returns the set that this word encodes: processor i is a member if the bit of value 2^(i - 1) is set.
+    /// Returns the set that the word `bits` encodes: processor i is a member if the bit of value 2^(i - 1) is set.
+    ///
     /// Every word of 16 bits is a set.
+    ///
     /// Rules: Processors and sets 3
     pub fn from_bits(bits: u16) -> ProcSet
         ensures { result ≡ bits }
@@ -53,7 +62,8 @@ impl ProcSet {
         ProcSet { bits }
     }
 
-    /// Returns the set as a word: the bit of value 2^(i - 1) is set if processor i is a member.
+    /// Returns the set as a word of 16 bits: the bit of value 2^(i - 1) is set if processor i is a member.
+    ///
     /// Rules: Processors and sets 3
     pub fn bits(self) -> u16
         ensures value { result ≡ self }
@@ -63,6 +73,8 @@ impl ProcSet {
     }
 
     /// Returns whether the set has no members.
+    ///
+    /// Rules: Processors and sets 3
     pub fn is_empty(self) -> bool
         ensures { IsTrue result ↔ (self ≡ nobody) }
     {
@@ -70,6 +82,7 @@ impl ProcSet {
     }
 
     /// Returns the number of members, 0 to 16.
+    ///
     /// Rules: Processors and sets 3
     pub fn len(self) -> u32
         ensures value { result ≡ size self }
@@ -79,6 +92,8 @@ impl ProcSet {
     }
 
     /// Returns the member with the smallest number, or `None` if the set is empty.
+    ///
+    /// Rules: Processors and sets 3; Rings and states 2
     pub fn smallest(self) -> Option<Proc>
         ensures found { IfSome result (λ proc. proc ≡ smallest self) }
         ensures member { IfSome result (λ proc. IsProc proc × IsMember self proc) }
@@ -91,7 +106,9 @@ impl ProcSet {
     }
 
     /// Returns the number of members below `proc`, 0 to 15.
-    /// If `proc` is a member, it is the position of `proc` among the members in ascending order, counted from 0.
+    ///
+    /// If `proc` is a member, this is its position among the members in ascending order, counted from 0.
+    ///
     /// Rules: Processors and sets 3
     pub fn position_of(self, proc: Proc) -> u32
         ensures value { result ≡ position_of self proc }
@@ -101,8 +118,10 @@ impl ProcSet {
         (self.bits & below).count_ones()
     }
 
-    /// Returns the member at a position in ascending order, counted from 0.
-    /// Returns `None` for a position that isn't below the number of members.
+    /// Returns the member at `position` in ascending order, counted from 0, or `None` past the last member.
+    ///
+    /// A position is past the last if it is at least the number of members.
+    ///
     /// Rules: Processors and sets 3
     pub fn at(self, position: u32) -> Option<Proc>
         ensures found { IfSome result (λ proc. proc ≡ at self position) }
@@ -111,8 +130,10 @@ impl ProcSet {
         self.iter().nth(position as usize)
     }
 
-    /// Returns the member that follows `proc` in ascending order; after the greatest member the smallest follows.
-    /// In a set of one it is `proc` itself. That `proc` is a member is the caller's condition.
+    /// Returns the member after `proc` in ascending order, and the smallest member after the greatest.
+    ///
+    /// In a set of one it is `proc` itself. `proc` must be a member.
+    ///
     /// Rules: Rings and states 2
     pub fn next(self, proc: Proc) -> Proc
         requires { IsMember self proc }
@@ -125,6 +146,8 @@ impl ProcSet {
     }
 
     /// Returns whether `proc` is a member of the set.
+    ///
+    /// Rules: Processors and sets 3
     pub fn contains(self, proc: Proc) -> bool
         ensures member { IsTrue result ↔ IsMember self proc }
         ensures value { result ≡ has self proc }
@@ -132,8 +155,11 @@ impl ProcSet {
         (self.bits >> (proc.number() - 1)) & 1 == 1
     }
 
-    /// Returns whether each member of this set is a member of `other` too.
-    /// The empty set and `other` itself are subsets.
+    /// Returns whether every member of this set is also a member of `other`.
+    ///
+    /// The empty set is a subset of every set, and every set of itself.
+    ///
+    /// Rules: Processors and sets 3
     pub fn is_subset(self, other: ProcSet) -> bool
         ensures members { IsTrue result ↔ IsSubset self other }
         ensures value { result ≡ within self other }
@@ -141,7 +167,11 @@ impl ProcSet {
         self.bits & other.bits == self.bits
     }
 
-    /// Adds the processor to the set. Returns whether it was not a member before; else the set is unchanged.
+    /// Adds `proc` to the set, and returns whether it was missing before.
+    ///
+    /// If it was already a member, nothing changes.
+    ///
+    /// Rules: Processors and sets 3
     pub fn insert(&mut self, proc: Proc) -> bool
         ensures members { (i : ℕ) → IsMember self.new i ↔ (IsMember self.old i ⊎ (i ≡ proc)) }
         ensures value { self.new ≡ union self.old (only proc) }
@@ -152,7 +182,9 @@ impl ProcSet {
         is_new
     }
 
-    /// Returns the union: the set of the members of either set.
+    /// Returns the union: the members of either set.
+    ///
+    /// Rules: Processors and sets 3
     pub fn union(self, other: ProcSet) -> ProcSet
         ensures members { (i : ℕ) → IsMember result i ↔ (IsMember self i ⊎ IsMember other i) }
         ensures value { result ≡ union self other }
@@ -162,7 +194,9 @@ impl ProcSet {
         }
     }
 
-    /// Returns the intersection: the set of the members of both sets.
+    /// Returns the intersection: the members of both sets.
+    ///
+    /// Rules: Processors and sets 3
     pub fn intersection(self, other: ProcSet) -> ProcSet
         ensures members { (i : ℕ) → IsMember result i ↔ (IsMember self i × IsMember other i) }
         ensures value { result ≡ intersection self other }
@@ -172,7 +206,9 @@ impl ProcSet {
         }
     }
 
-    /// Returns the difference: the set of the members of this set that aren't members of `other`.
+    /// Returns the difference: the members of this set that aren't members of `other`.
+    ///
+    /// Rules: Processors and sets 3
     pub fn less(self, other: ProcSet) -> ProcSet
         ensures members { (i : ℕ) → IsMember result i ↔ (IsMember self i × ¬ IsMember other i) }
         ensures value { result ≡ less self other }
@@ -184,7 +220,8 @@ impl ProcSet {
 }
 
 /// Prints the numbers of the members in ascending order, separated by commas, as in `1,2,3`.
-/// Prints nothing for the empty set.
+///
+/// The empty set prints as nothing.
 impl Display for ProcSet {
     fn fmt<W: fmt::Write>(&self, f: &mut fmt::Formatter<W>) -> fmt::Result {
         let mut separator = "";

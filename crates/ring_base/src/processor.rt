@@ -1,4 +1,5 @@
 //! Processors, as their numbers.
+//!
 //! Rules: Processors and sets 2
 
 ghost use Rattle.std.specs.Fmt.{decimal};
@@ -8,7 +9,10 @@ ghost use Rattle.ring_base.specs.Processors.{IsProc};
 use std::fmt::{self, Display};
 use std::marker::Model;
 
-/// `Proc`: a processor of the group, as its number, 1 to 16. Contracts see the number.
+/// `Proc`: a processor of the group, identified by its number, 1 to 16.
+///
+/// Contracts see the number.
+///
 /// Rules: Processors and sets 2
 #[derive(Clone, Copy, Debug, PartialEq, Eq, PartialOrd, Ord)]
 pub struct Proc {
@@ -26,8 +30,11 @@ impl Model for Proc {
 }
 
 impl Proc {
-    /// Returns the processor of this number. That `number` is 1 to 16 is the caller's condition.
+    /// Returns processor `number`, which must be 1 to 16.
+    ///
     /// [`Fixed::proc`](crate::Fixed::proc) checks a number against the group.
+    ///
+    /// Rules: Processors and sets 2
     pub fn new(number: u8) -> Proc
         requires { IsProc number }
         ensures { result ≡ number }
@@ -36,6 +43,7 @@ impl Proc {
     }
 
     /// Returns the processor's number, 1 to 16.
+    ///
     /// Rules: Processors and sets 2
     pub fn number(self) -> u8
         ensures value { result ≡ self }

@@ -1,4 +1,5 @@
 //! The names of rings, and their order.
+//!
 //! Rules: Rings and states 1
 
 ghost use Rattle.std.specs.Prelude.{◌≡◌, ◌↔◌, IsTrue};
@@ -7,11 +8,15 @@ use crate::processor::Proc;
 use std::fmt::{self, Display};
 
 /// `RingId`: the name of a ring: its number and its representative.
+///
 /// Rings are ordered by number, then by representative.
+///
 /// Rules: Rings and states 1
 #[derive(Clone, Copy, Debug, PartialEq, Eq, PartialOrd, Ord)]
 pub struct RingId {
-    /// The ring's number, 0 to `MAX`. Only the ring of a node's opening has number 0.
+    /// The ring's number, 0 to `MAX`.
+    ///
+    /// Only the ring of a node's opening has the number 0.
     pub seq: u64,
     /// The representative: the smallest member of the ring.
     pub rep: Proc,
@@ -22,6 +27,7 @@ impl RingId {
 
     /// Returns whether this ring is below `other`: it has a smaller number, or the same number and a smaller
     /// representative.
+    ///
     /// Rules: Rings and states 1
     pub fn is_below(&self, other: &RingId) -> bool
         ensures { IsTrue result ↔ IsBelow self.now other.now }

@@ -1,11 +1,13 @@
 //! The states of a node.
+//!
 //! Rules: Rings and states 6
 
-/// The state of a node. It decides what the node does with an input.
+/// The state of a node, which decides what the node does with an input.
+///
 /// Rules: Rings and states 6 and 8
 #[derive(Clone, Copy, Debug, PartialEq, Eq)]
 pub enum State {
-    /// The node looks for the members of a next ring.
+    /// The node looks for the members of its next ring.
     Gather,
     /// The node has proposed a ring, or added its entry to a commit token, and waits for the other members.
     Commit,

@@ -23,7 +23,7 @@ abbrev pub AllOf : {A : Type 0} → ℕ → List (StepView A) → Type 0
 AllOf node [] = Unit {0}
 AllOf node (l ∷ ls) = (l.node ≡ node) × AllOf node ls
 
--- the first that applies: the cell is a step ahead, the node refuses, memory is refused
+-- the first that applies: the cell is a step ahead, the node refuses, an allocation fails
 abbrev pub IsRefusal : Bool → Option Fault → Fault → Type 0
 IsRefusal true refusal fault = fault ≡ Stranger
 IsRefusal false refusal fault = MatchOption refusal (fault ≡ Memory) (λ first. fault ≡ first)

@@ -1,4 +1,5 @@
 //! The answers of a node's tickets, as the book stores them.
+//!
 //! Rules: The book and the threads 15
 
 ghost use Rattle.std.specs.Prelude.{◌≡◌, ◌+◌, ◌<◌, ◌≤◌, [], length, OnOk, IfErr};
@@ -11,8 +12,10 @@ use ring_session::{Answer, Ticket};
 use std::alloc::{Allocator, Global};
 use std::marker::Model;
 
-/// The answers of one node's tickets, in the order of tickets, from ticket 0 on. Contracts see them and the number of
-/// tickets that there is room for.
+/// The answers of one node's tickets, in the order of tickets, from ticket 0 on.
+///
+/// Contracts see them, and how many tickets there is room for.
+///
 /// Rules: The book and the threads 15
 #[derive(Drop)]
 pub(crate) struct AnswerIndex<A: Allocator + Copy + Drop = Global> {
@@ -29,7 +32,9 @@ impl<A: Allocator + Copy + Drop> Model for AnswerIndex<A> {
 }
 
 impl<A: Allocator + Copy + Drop> AnswerIndex<A> {
-    /// Returns the index of a node that has given no ticket. It takes no memory.
+    /// Returns the index of a node that has given no ticket.
+    ///
+    /// Does not allocate.
     pub(crate) fn new(alloc: A) -> AnswerIndex<A>
         ensures { result.answers ≡ [] }
     {
@@ -39,7 +44,8 @@ impl<A: Allocator + Copy + Drop> AnswerIndex<A> {
     }
 
     /// Makes room for `more` tickets beyond those in the index.
-    /// Errors: `Memory` where an allocation fails; the answers are unchanged.
+    ///
+    /// Errors: `Memory` if an allocation fails; the answers are unchanged.
     pub(crate) fn reserve(&mut self, more: u32) -> Result<(), Fault>
         ensures answers { self.new.answers ≡ self.old.answers }
         ensures stays { self.old.room ≤ self.new.room }
@@ -50,8 +56,11 @@ impl<A: Allocator + Copy + Drop> AnswerIndex<A> {
         Ok(())
     }
 
-    /// Adds a step of the index's node: the new ticket of a submit, without an answer, or else the step's answers under
-    /// their tickets. The caller has made room for one more ticket.
+    /// Adds a step of the index's node: the new ticket of a submit, without an answer, or a step's answers under their
+    /// tickets.
+    ///
+    /// There must be room for one more ticket. Does not allocate.
+    ///
     /// Rules: The replicated log 13 and 14
     pub(crate) fn add_answers(&mut self, step: &Step<A>)
         requires { length self.old.answers < self.old.room }
@@ -61,14 +70,16 @@ impl<A: Allocator + Copy + Drop> AnswerIndex<A> {
         add_answers(&mut self.answers, step);
     }
 
-    /// Returns the answers, in the order of tickets, from ticket 0 on; `None` for a ticket without an answer.
+    /// Returns the answers, in the order of tickets, from ticket 0 on.
+    ///
+    /// An unanswered ticket has `None`.
     pub(crate) fn answers(&self) -> &[Option<Answer>]
         ensures { result.now ≡ self.now.answers }
     {
         self.answers.as_slice()
     }
 
-    /// Returns the answer of the ticket, or `None` if the ticket has no answer or isn't in the index.
+    /// Returns the ticket's answer, or `None` if the ticket has none or isn't in the index.
     pub(crate) fn answer(&self, ticket: Ticket) -> Option<Answer>
         ensures { result ≡ answer_of_ticket self.now.answers ticket }
     {

@@ -1,4 +1,5 @@
-//! The book: the list of all lines, which is the content of the book's lock.
+//! The book, which is the list of all lines: what the book's lock holds.
+//!
 //! Rules: The book and the threads 11, 15 to 18 and 36; Refusals 2, 4 and 5
 
 ghost use Rattle.std.specs.Prelude.{⊤, ℕ, Some, slice_get, ◌-◌, ◌≡◌, ◌+◌, ◌<◌, ◌≤◌, ◌⊎◌, MatchOption, MatchResult, OnOk};
@@ -29,8 +30,10 @@ use rtrb::Consumer;
 use std::alloc::Allocator;
 use std::marker::{Model, PhantomData};
 
-/// A reserved place of the book, which `enter` uses up or `release` gives back. It is a count, not a position: any
-/// reserved place serves.
+/// A reserved place of the book, which `enter` uses up and `release` gives back.
+///
+/// It is one unit of a count, not a position: any reserved place will do.
+///
 /// Rules: The book and the threads 16 and 17
 #[derive(Clone, Copy, Debug, PartialEq, Eq)]
 pub struct Place {
@@ -38,7 +41,9 @@ pub struct Place {
 }
 
 /// The book: the list of all lines, and the receiving ends of the journals.
-/// Its list is always a run of the group, which `run_law` states. A book can't be copied.
+///
+/// Its list is always a run of the group, as `run_law` states. A book can't be copied.
+///
 /// Rules: The book and the threads 11, 12 and 15 to 17
 #[derive(Drop)]
 pub struct Book<O: Object, K: BookName<O::Alloc>> {
@@ -47,10 +52,10 @@ pub struct Book<O: Object, K: BookName<O::Alloc>> {
     ends: Vec<Consumer<Step<O::Alloc>, O::Alloc>, O::Alloc>,
     /// The answers of each node's tickets.
     answer_indexes: Vec<AnswerIndex<O::Alloc>, O::Alloc>,
-    /// The length of the longest committed log, and the segments of lines that make it up.
+    /// The length of the longest committed log, in places, and the segments of lines that make it up.
     total: usize,
     segments: Vec<LogSegment, O::Alloc>,
-    /// A buffer to encode a frame in.
+    /// A scratch buffer for encoding a frame.
     text: BytesMut<O::Alloc>,
     of: PhantomData<(O, K)>,
 }
@@ -90,9 +95,12 @@ impl<O: Object, K: BookName<O::Alloc>> Book<O, K> {
     ghost use Rattle.ring_book.specs.Openings.{empty_book};
     ghost use Rattle.ring_node_spec.specs.Worlds.{run, world_opening, order as order_in};
 
-    /// Returns a book without lines and without reserved places. It takes no memory.
-    /// `ends` are the receiving ends of the journals and `answer_indexes` the empty indexes, both of processor 1 first.
-    /// `text` has room for every frame.
+    /// Returns a book without lines and without reserved places.
+    ///
+    /// Does not allocate.
+    ///
+    /// `ends` must be the receiving ends of the journals and `answer_indexes` the empty indexes, both from processor 1
+    /// on. `text` must have a capacity of at least 8,192 bytes.
     pub(crate) fn new(
         alloc: O::Alloc,
         ends: Vec<Consumer<Step<O::Alloc>, O::Alloc>, O::Alloc>,
@@ -115,11 +123,13 @@ impl<O: Object, K: BookName<O::Alloc>> Book<O, K> {
         }
     }
 
-    /// States that this book's list is a run of the group. The inputs of its lines are the events of a run of `World`,
-    /// with exactly these frames, answers and committed calls; `linear_law` of ring_order_proof covers that run.
-    /// `order` and `history` are those of the run. `answer` is the answer of the sessions to the ticket's call along
-    /// the node's committed log. Each line has the number of its place, counted from 0, and the group has at most 16
-    /// processors.
+    /// States that this book's list is a run of the group.
+    ///
+    /// The inputs of its lines are the events of a run of `World`, with exactly these frames, answers and committed
+    /// calls; `linear_law` of ring_order_proof covers that run. `order` and `history` are those of the run. `answer` is
+    /// the sessions' answer to the ticket's call along the node's committed log. Each line has the number of its place,
+    /// counted from 0, and the group has at most 16 processors.
+    ///
     /// Rules: The book and the threads 10 and 11
     pub fn run_law(&self)
         ensures run { IsRun O.sequential K.name.group self.now.lines }
@@ -132,11 +142,13 @@ impl<O: Object, K: BookName<O::Alloc>> Book<O, K> {
         let _lines = &self.lines;
     }
 
-    /// States of this book and each of its cells that the cell's processor is in the group, and that its committed log by
-    /// the book, duplicates removed, is a prefix of the book's order.
-    /// Where all steps of the cell are entered, its node is the node of that processor in the run of the book's list. The
-    /// node's snapshot is then the object's state after a prefix of the book's order, and the committed calls that it
-    /// keeps, duplicates removed, come next in that order.
+    /// States that a cell's committed log according to this book, with repeats removed, is a prefix of the book's
+    /// order.
+    ///
+    /// The cell's processor is one of the group. If all steps of the cell have been entered, its node is that
+    /// processor's node in the run of the book's list. The node's snapshot is then the object's state after a prefix of
+    /// the book's order, and the committed calls that it keeps, with repeats removed, come next in that order.
+    ///
     /// Rules: Sessions 11; The book and the threads 18
     pub fn node_law(&self, cell: &Cell<O, K>)
         ensures member { (1 ≤ cell.now.me) × (cell.now.me ≤ K.name.group.count) }
@@ -149,8 +161,8 @@ impl<O: Object, K: BookName<O::Alloc>> Book<O, K> {
             × FollowsOrder O.sequential cell.now.node (committed_calls_of cell.now.me self.now.lines)
             (order_in (run O.sequential (world_opening K.name.group) (events_of self.now.lines))) }
     {
-        // Laws: no effect at run time. The proof takes from them that such lines are a run of the group, and how a node's
-        // committed log and its snapshot relate to the run's order.
+        // Laws: no effect at run time. The proof takes from them that such lines are a run of the group, and how a
+        // node's committed log and its snapshot relate to the run's order.
         lines_law::<O>();
         linear_law::<O>();
         // No effect at run time. The proof sees the invariants of the book and of the cell only where the body reads
@@ -159,7 +171,10 @@ impl<O: Object, K: BookName<O::Alloc>> Book<O, K> {
         let _me = cell.me;
     }
 
-    /// Returns the number of places used and reserved, 0 to 262,144. Each line uses one.
+    /// Returns the number of places used and reserved, 0 to 262,144.
+    ///
+    /// Each line uses one.
+    ///
     /// Rules: The book and the threads 15
     pub fn places(&self) -> u32
         ensures { result ≡ length self.now.lines + self.now.reserved }
@@ -167,8 +182,11 @@ impl<O: Object, K: BookName<O::Alloc>> Book<O, K> {
         self.lines.len() as u32 + self.reserved
     }
 
-    /// Reserves a place for a line, so that `enter` takes no memory. Returns the place, for `enter` or `release`.
-    /// Errors: `BookFull` exactly where 262,144 places are used or reserved, then `Memory`; nothing has changed.
+    /// Reserves a place for a line, so that `enter` doesn't allocate, and returns it for `enter` or `release`.
+    ///
+    /// Errors: `BookFull` exactly if 262,144 places are used or reserved. Otherwise `Memory` if an allocation fails.
+    /// Nothing has then changed.
+    ///
     /// Rules: The book and the threads 15 and 17; Refusals 3 and 4
     pub fn reserve(&mut self) -> Result<Place, Fault>
         ensures lines { self.new.lines ≡ self.old.lines }
@@ -189,8 +207,10 @@ impl<O: Object, K: BookName<O::Alloc>> Book<O, K> {
         Ok(Place { _private: () })
     }
 
-    /// Gives one reserved place back: the number of reserved places falls by one. It changes nothing where none is
-    /// reserved.
+    /// Gives one reserved place back, so that the number of reserved places falls by one.
+    ///
+    /// Does nothing if none is reserved.
+    ///
     /// Rules: The book and the threads 15 and 17
     pub fn release(&mut self, _place: Place)
         ensures lines { self.new.lines ≡ self.old.lines }
@@ -202,9 +222,12 @@ impl<O: Object, K: BookName<O::Alloc>> Book<O, K> {
         }
     }
 
-    /// Checks that the frame at this place has these bytes and that the node is one of its receivers. The book is
-    /// unchanged.
-    /// Errors: `Stranger` exactly where that is false, also where the book has no frame at this place.
+    /// Checks that the frame at `at` was sent to `node` and that its encoding is `bytes`.
+    ///
+    /// The book is unchanged.
+    ///
+    /// Errors: `Stranger` exactly if that is false, including when the book has no frame at `at`.
+    ///
     /// Rules: The book and the threads 15; Refusals 2
     pub fn check(&mut self, node: Proc, at: FrameRef, bytes: &[u8]) -> Result<(), Fault>
         ensures same { self.new ≡ self.old }
@@ -218,8 +241,10 @@ impl<O: Object, K: BookName<O::Alloc>> Book<O, K> {
         }
     }
 
-    /// Returns the answer to this ticket of the node in the book's list. Returns `None` while the ticket has no answer
-    /// there, also for a ticket that the node didn't give and a processor outside the group.
+    /// Returns the answer to a node's ticket in the book's list, or `None` while the list doesn't answer it.
+    ///
+    /// Also returns `None` for a ticket that the node didn't give, and for a processor outside the group.
+    ///
     /// Rules: The book and the threads 15
     pub fn answer(&self, node: Proc, ticket: Ticket) -> Option<Answer>
         ensures { result ≡ answer_in self.now.lines node ticket }
@@ -230,8 +255,10 @@ impl<O: Object, K: BookName<O::Alloc>> Book<O, K> {
         }
     }
 
-    /// Returns the answers of the node's tickets, in the order of tickets, from ticket 0 on; `None` for a ticket that
-    /// the list doesn't answer. The result is empty for a processor outside the group.
+    /// Returns the answers of a node's tickets in the book's list, in the order of tickets, from ticket 0 on.
+    ///
+    /// A ticket that the list doesn't answer has `None`. The result is empty for a processor outside the group.
+    ///
     /// Rules: The book and the threads 15
     pub fn answers(&self, node: Proc) -> &[Option<Answer>]
         ensures { result.now ≡ answers_of_node node self.now.lines }
@@ -243,7 +270,9 @@ impl<O: Object, K: BookName<O::Alloc>> Book<O, K> {
     }
 
     /// Returns the history of the list's run: copies of the issued calls and the replies, in order.
-    /// Errors: `Memory` where an allocation fails.
+    ///
+    /// Errors: `Memory` if an allocation fails.
+    ///
     /// Rules: The book and the threads 15; Sessions 9
     pub fn history(&self) -> Result<Vec<Item<O::Alloc>, O::Alloc>, Fault>
         ensures ok { IfOk result (λ items. items.items ≡ history_of self.now.lines) }
@@ -254,7 +283,11 @@ impl<O: Object, K: BookName<O::Alloc>> Book<O, K> {
 
     /// Returns the order of the list's run: copies of the calls that take effect in the longest committed log of all
     /// nodes.
-    /// Errors: `Memory` where an allocation fails.
+    ///
+    /// Repeats are removed.
+    ///
+    /// Errors: `Memory` if an allocation fails.
+    ///
     /// Rules: The book and the threads 15; Sessions 10
     pub fn order(&self) -> Result<Vec<Call<O::Alloc>, O::Alloc>, Fault>
         ensures ok { IfOk result (λ calls. calls.items ≡ order_in (run O.sequential (world_opening K.name.group) (events_of self.now.lines))) }
@@ -269,7 +302,8 @@ impl<O: Object, K: BookName<O::Alloc>> Book<O, K> {
         )
     }
 
-    /// Returns the line of this number, counted from 0, or `None` if the list has fewer lines.
+    /// Returns line `number`, counted from 0, or `None` if the list has fewer lines.
+    ///
     /// Rules: The book and the threads 10
     pub fn line(&self, number: u32) -> Option<&Line<O::Alloc>>
         ensures { option_copied result ≡ slice_get self.now.lines number }
@@ -277,9 +311,13 @@ impl<O: Object, K: BookName<O::Alloc>> Book<O, K> {
         self.lines.get(number as usize)
     }
 
-    /// Appends the encoding of the frame at this place, at most 8,192 bytes, whatever its receivers.
-    /// Errors: `Stranger` if there is no frame, then `Memory`; nothing is appended.
+    /// Appends the encoding of the frame at `at` to `out`, whatever its receivers: at most 8,192 bytes.
+    ///
+    /// Errors: `Stranger` if there is no such frame. Otherwise `Memory` if an allocation fails. Nothing is then
+    /// appended.
+    ///
     /// Rules: The book and the threads 15; Refusals 2 and 4
+    /// Formats: Frames
     pub fn encode(&self, at: FrameRef, out: &mut BytesMut<O::Alloc>) -> Result<(), Fault>
         ensures { IsPut (sent_at self.now.lines at) out.old.items out.new.items result }
     {
@@ -289,7 +327,7 @@ impl<O: Object, K: BookName<O::Alloc>> Book<O, K> {
         }
     }
 
-    /// Enters the cell's step.
+    /// Enters the cell's step, as `enter` does.
     fn enter_step(&mut self, cell: &mut Cell<O, K>) -> Result<(), Fault>
         ensures { MatchResult result
             (λ _. HasEntered self.old self.new cell.old cell.new)
@@ -318,6 +356,8 @@ impl<O: Object, K: BookName<O::Alloc>> Book<O, K> {
     }
 
     /// Returns the last line.
+    ///
+    /// There must be one.
     fn last(&self) -> &Line<O::Alloc>
         requires { 0 < length self.now.lines }
         ensures { slice_get self.now.lines (length self.now.lines - 1) ≡ Some result.now }
@@ -325,11 +365,14 @@ impl<O: Object, K: BookName<O::Alloc>> Book<O, K> {
         &self.lines[self.lines.len() - 1]
     }
 
-    /// Puts the cell's one step at the end of the list, in a reserved place, and returns its line. The place is used
-    /// up, and the cell may step again. It takes no memory.
-    /// Errors: `Stranger` where all of the cell's steps are entered or no place is reserved; also where the step
-    /// delivers a frame that the list doesn't have at its `FrameRef` for this node. Then book and cell are unchanged,
-    /// and the reserved places stay reserved.
+    /// Appends the cell's step to the list, in a reserved place, and returns its line.
+    ///
+    /// The place is used up, and the cell may step again. Does not allocate.
+    ///
+    /// Errors: `Stranger` if all of the cell's steps have been entered, if no place is reserved, or if the step
+    /// delivers a frame that the list doesn't have at its `FrameRef` for this node. Book and cell are then unchanged,
+    /// and reserved places stay reserved.
+    ///
     /// Rules: The book and the threads 15 to 18; Refusals 2
     pub fn enter(&mut self, _place: Place, cell: &mut Cell<O, K>) -> Result<&Line<O::Alloc>, Fault>
         ensures* after { sem 𝓛 (follows_so (the_row O.row K.row O.Alloc.row O.Object O.Alloc.Allocator K.BookName)
@@ -341,7 +384,7 @@ impl<O: Object, K: BookName<O::Alloc>> Book<O, K> {
     }
 }
 
-/// Returns the answers of a node's tickets, if the node is in the group.
+/// Returns the answers of the node's tickets, or `None` if the node isn't in the group.
 fn answer_index_of<A: Allocator + Copy + Drop>(
     answer_indexes: &[AnswerIndex<A>],
     node: Proc,
@@ -352,8 +395,9 @@ fn answer_index_of<A: Allocator + Copy + Drop>(
     answer_indexes.get(node.number() as usize - 1)
 }
 
-/// Makes room for `more` further lines, as many segments of the longest log, and as many tickets of each node.
-/// Errors: `Memory`; the contents are unchanged.
+/// Makes room for `more` more lines, as many segments of the longest log, and as many tickets of each node.
+///
+/// Errors: `Memory` if an allocation fails; the contents are unchanged.
 fn make_room<A: Allocator + Copy + Drop>(
     lines: &mut Vec<Line<A>, A>,
     segments: &mut Vec<LogSegment, A>,
@@ -376,8 +420,9 @@ fn make_room<A: Allocator + Copy + Drop>(
     Ok(())
 }
 
-/// Makes room for `more` further tickets of each node.
-/// Errors: `Memory`; the answers are unchanged.
+/// Makes room for `more` more tickets of each node.
+///
+/// Errors: `Memory` if an allocation fails; the answers are unchanged.
 fn reserve_answers<A: Allocator + Copy + Drop>(
     answer_indexes: &mut Vec<AnswerIndex<A>, A>,
     more: u32,

@@ -1,4 +1,5 @@
-//! The cell of a node: the content of that node's lock.
+//! The cell of a node: what that node's lock holds.
+//!
 //! Rules: The book and the threads 13, 14, 18 and 36; Refusals 4 to 6
 
 ghost use Rattle.std.specs.Prelude.{◌≡◌, ◌+◌, ◌≤◌, length, OnErr, MatchResult};
@@ -28,14 +29,16 @@ use rtrb::Producer;
 use std::alloc::Allocator;
 use std::marker::{Model, PhantomData};
 
-/// A node, and the sending end of its journal, which has room for one step: the content of the node's lock. A cell
-/// can't be copied.
+/// What a node's lock holds: the node, and the sending end of its journal, which has room for one step.
+///
+/// A cell can't be copied.
+///
 /// Rules: The book and the threads 12, 13 and 18
 #[derive(Drop)]
 pub struct Cell<O: Object, K: BookName<O::Alloc>> {
     /// The processor of the node.
     pub(crate) me: Proc,
-    /// Whether the journal's last step is not entered in the book yet.
+    /// Whether the journal's last step hasn't been entered in the book yet.
     pub(crate) ahead: bool,
     /// The node, as its last step or submit left it.
     pub(crate) node: Node<O>,
@@ -43,7 +46,7 @@ pub struct Cell<O: Object, K: BookName<O::Alloc>> {
     pub(crate) journal: Producer<Step<O::Alloc>, O::Alloc>,
     /// The allocator of the steps.
     pub(crate) alloc: O::Alloc,
-    /// A buffer to encode a frame in.
+    /// A scratch buffer for encoding a frame.
     pub(crate) text: BytesMut<O::Alloc>,
     pub(crate) of: PhantomData<K>,
 }
@@ -71,6 +74,7 @@ impl<O: Object, K: BookName<O::Alloc>> Cell<O, K> {
     ghost use Rattle.ring_book_lines.specs.Machines.{node_machine};
 
     /// Returns the processor of the cell's node.
+    ///
     /// Rules: The book and the threads 13
     pub fn processor(&self) -> Proc
         ensures { result ≡ self.now.me }
@@ -78,8 +82,8 @@ impl<O: Object, K: BookName<O::Alloc>> Cell<O, K> {
         self.me
     }
 
-    /// Returns the cell's node. It is as its last step or submit left it, also where that isn't entered in the book
-    /// yet.
+    /// Returns the cell's node, after its last step or submit, even if that hasn't been entered in the book yet.
+    ///
     /// Rules: The book and the threads 18
     pub fn node(&self) -> &Node<O>
         ensures { result.now ≡ self.now.node }
@@ -87,11 +91,15 @@ impl<O: Object, K: BookName<O::Alloc>> Cell<O, K> {
         &self.node
     }
 
-    /// Steps the node by an input and adds the step to the journal.
+    /// Runs one step of the node on an input, and adds the step to the journal.
+    ///
     /// `at` is the frame's place in the book; for any other input it has no meaning. A frame must be within the limits
-    /// of frames, as every decoded frame is.
-    /// Errors: `Stranger` while the last step isn't entered, then `Stopped`; both change nothing. Then `Memory`, which
-    /// leaves the node stopped and adds its stop to the journal. A stop takes no memory.
+    /// of its format, as every decoded frame is. A stop does not allocate.
+    ///
+    /// Errors, in this order: `Stranger` if the last step hasn't been entered yet, and `Stopped` if the node has
+    /// stopped; nothing has then changed. `Memory` if an allocation fails; the node has then stopped, and its stop is
+    /// added to the journal.
+    ///
     /// Rules: The book and the threads 13 and 14; Refusals 4 to 6
     pub fn step(&mut self, input: Input<O::Alloc>, at: FrameRef) -> Result<(), Fault>
         requires { InputFits input }
@@ -139,10 +147,14 @@ impl<O: Object, K: BookName<O::Alloc>> Cell<O, K> {
         }
     }
 
-    /// Steps the node by a frame that arrived as these bytes, and adds the step to the journal, which keeps only the
+    /// Runs one step of the node on a received frame, and adds the step to the journal, which keeps only the frame's
     /// bytes.
-    /// The bytes are the encoding of `frame`, which is within the limits of frames. `at` is its place in the book.
-    /// Errors: `Stranger`, `Stopped` and `Memory` as [`step`](Cell::step), in this order.
+    ///
+    /// `bytes` must be the encoding of `frame`, which must be within the limits of its format. `at` is its place in the
+    /// book.
+    ///
+    /// Errors: `Stranger`, `Stopped` and `Memory` as for [`step`](Cell::step), in this order.
+    ///
     /// Rules: The book and the threads 13 and 14; Refusals 4 to 6
     pub fn receive(
         &mut self,
@@ -191,9 +203,13 @@ impl<O: Object, K: BookName<O::Alloc>> Cell<O, K> {
     }
 
     /// Submits a call at the node, adds the submit to the journal, and returns the ticket.
-    /// The call must be within the limits of frames, as every call made by `Call::new` is.
-    /// Errors: `Stranger` while the last step isn't entered, then the node's own `Stopped`, `PendingFull` or `Memory`;
-    /// nothing has changed.
+    ///
+    /// The call must be within the limits of a call, as every one from `Call::new` is.
+    ///
+    /// Errors, in this order: `Stranger` if the last step hasn't been entered yet. `Stopped` if the node has stopped.
+    /// `PendingFull` if 64 of its tickets are unanswered or 2^62 have been given. `Memory` if an allocation fails.
+    /// Nothing has then changed.
+    ///
     /// Rules: The book and the threads 13 and 14; The replicated log 13; Refusals 4
     pub fn submit(&mut self, call: Call<O::Alloc>) -> Result<Ticket, Fault>
         requires { CallFits call }
@@ -206,8 +222,8 @@ impl<O: Object, K: BookName<O::Alloc>> Cell<O, K> {
         if self.ahead {
             return Err(Fault::Stranger);
         }
-        // Laws: no effect at run time. The proof takes from them that the node is within the limits, and the call within
-        // those of snapshots.
+        // Laws: no effect at run time. The proof takes from them that the node is within the limits, and the call
+        // within those of snapshots.
         node_fits_law::<O>();
         call_keeps_law(&call);
         let ticket = self.node.submit_on(&call)?;
@@ -219,8 +235,9 @@ impl<O: Object, K: BookName<O::Alloc>> Cell<O, K> {
     }
 }
 
-/// Returns the step of a node by this input, with these outputs and this committed length. `text` is a scratch buffer with
-/// room for every frame.
+/// Returns the step of a node on this input, with these outputs and this committed length.
+///
+/// `text` is a scratch buffer that must have a capacity of at least 8,192 bytes.
 fn step_of<A: Allocator + Copy + Drop>(
     alloc: A,
     me: Proc,

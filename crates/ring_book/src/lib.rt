@@ -1,5 +1,8 @@
-//! The book and its cells; each is the content of a lock. A cell is a node with its journal. The book is the list of all
-//! steps of the nodes, and that list is always a run.
+//! The book and its cells, each of which is what a lock holds.
+//!
+//! A cell is a node with its journal. The book is the list of all steps of the nodes, and that list is always a run.
+//!
+//! Rules: The book and the threads 9 to 18
 #![tactic(auto)]
 
 mod answer_indexes;
@@ -16,6 +19,9 @@ pub use ring_book_lines::{Cause, FrameRef, Frames, Line, linear_law};
 pub use ring_node::Node;
 pub use ring_node_spec::Input;
 
-/// The greatest number of places in a book, used and reserved together. A line uses one place, for good.
+/// The maximum number of places in a book, used and reserved together.
+///
+/// A line uses one place for good.
+///
 /// Rules: The book and the threads 15; Limits 1 and 2
 pub const PLACES: u32 = 262144;

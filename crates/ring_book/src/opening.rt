@@ -1,4 +1,5 @@
 //! Construction of a book and its cells.
+//!
 //! Rules: The book and the threads 12
 
 ghost use Rattle.std.specs.Prelude.{◌≡◌, ◌+◌, ◌-◌, ◌<◌, ◌≤◌, [], length, drop, IfOk, IfErr, OnOk};
@@ -21,8 +22,10 @@ use std::alloc::Allocator;
 use std::collections::VecDeque;
 use std::marker::{Model, PhantomData};
 
-/// The nodes of a group and their journals, before their book has a name. It can't be copied, and it gives its book and
-/// cells once.
+/// The nodes of a group and their journals, before their book has a name.
+///
+/// It can't be copied, and it gives its book and cells only once.
+///
 /// Rules: The book and the threads 12
 #[derive(Drop)]
 pub struct Opening<O: Object> {
@@ -50,7 +53,9 @@ impl<O: Object> Model for Opening<O> {
 
 impl<O: Object> Opening<O> {
     /// Returns the opening of a group: each node at its opening, with an empty journal that has room for one step.
-    /// Errors: `Memory` where an allocation fails.
+    ///
+    /// Errors: `Memory` if an allocation fails.
+    ///
     /// Rules: The book and the threads 12 and 13
     pub fn new(alloc: O::Alloc, group: Fixed) -> Result<Opening<O>, Fault>
         ensures ok { IfOk result (λ o. o.group ≡ group) }
@@ -69,9 +74,12 @@ impl<O: Object> Opening<O> {
         })
     }
 
-    /// Returns the book, without lines, and the cells of the processors in ascending order, 1 to 16 of them. `K` names
-    /// this opening, which is used up.
-    /// Errors: `Memory` where an allocation fails, which drops the opening.
+    /// Returns the book, without lines, and the cells of the processors in ascending order, 1 to 16 of them.
+    ///
+    /// `K` must be the name of this opening, which is used up.
+    ///
+    /// Errors: `Memory` if an allocation fails; the opening is dropped.
+    ///
     /// Rules: The book and the threads 12; Refusals 5
     pub fn parts<K: BookName<O::Alloc>>(
         self,
@@ -95,8 +103,11 @@ impl<O: Object> Opening<O> {
     }
 }
 
-/// Opens the nodes of the group and their journals, in lists that are empty.
-/// Errors: `Memory`.
+/// Opens the nodes of the group and their journals.
+///
+/// The lists must be empty.
+///
+/// Errors: `Memory` if an allocation fails.
 fn open_all<O: Object>(
     alloc: O::Alloc,
     group: Fixed,
@@ -120,7 +131,8 @@ fn open_all<O: Object>(
 }
 
 /// Opens the next node and its journal.
-/// Errors: `Memory`.
+///
+/// Errors: `Memory` if an allocation fails.
 fn open<O: Object>(
     alloc: O::Alloc,
     group: Fixed,
@@ -147,7 +159,8 @@ fn open<O: Object>(
 }
 
 /// Returns an empty answer index for each of `count` nodes.
-/// Errors: `Memory`.
+///
+/// Errors: `Memory` if an allocation fails.
 fn empty_answers<A: Allocator + Copy + Drop>(
     alloc: A,
     count: usize,
@@ -164,7 +177,8 @@ fn empty_answers<A: Allocator + Copy + Drop>(
 }
 
 /// Returns the cells of the group's nodes, with their journals.
-/// Errors: `Memory`.
+///
+/// Errors: `Memory` if an allocation fails.
 fn cells_of<O: Object, K: BookName<O::Alloc>>(
     alloc: O::Alloc,
     mut nodes: VecDeque<Node<O>, O::Alloc>,
@@ -182,8 +196,9 @@ fn cells_of<O: Object, K: BookName<O::Alloc>>(
     Ok(cells)
 }
 
-/// Adds the cells of the group's nodes, with their journals, to a list that is empty.
-/// Errors: `Memory`.
+/// Appends the cells of the group's nodes, with their journals, to `cells`, which must be empty.
+///
+/// Errors: `Memory` if an allocation fails.
 fn add_cells<O: Object, K: BookName<O::Alloc>>(
     alloc: O::Alloc,
     nodes: &mut VecDeque<Node<O>, O::Alloc>,
@@ -204,8 +219,9 @@ fn add_cells<O: Object, K: BookName<O::Alloc>>(
     Ok(())
 }
 
-/// Returns the cell of the first node in the list, which is processor `me`, with the first journal.
-/// Errors: `Memory`.
+/// Returns the cell of the first node in the list, which must be processor `me`, with the first journal.
+///
+/// Errors: `Memory` if an allocation fails.
 fn next_cell<O: Object, K: BookName<O::Alloc>>(
     alloc: O::Alloc,
     me: Proc,

@@ -6,7 +6,7 @@ use Rattle.ring_base.specs.declared.fault.Fault.TheVariants.{Memory, Stranger}
 pub use Rattle.ring_core_spec.specs.State.{OutgoingFrame}
 use Rattle.ring_wire.specs.Frames.{encoding_of}
 
--- the frame's bytes are appended; Stranger where there is no frame, else only Memory, and a refusal changes nothing
+-- the frame's bytes are appended; Stranger if there is no frame, otherwise only Memory; a refusal changes nothing
 abbrev pub IsPut : {A : Type 0} → Option (OutgoingFrame A) → List ℕ → List ℕ → Result (Unit {0}) Fault → Type 0
 IsPut (Some s) old new (Ok done) = new ≡ old ++ encoding_of s.frame
 IsPut (Some s) old new (Err fault) = (fault ≡ Memory) × (new ≡ old)

@@ -1,4 +1,5 @@
 //! The answers of a node's tickets, collected step by step.
+//!
 //! Rules: The replicated log 13 and 14; The book and the threads 15
 
 ghost use Rattle.std.specs.Prelude.{◌≡◌, ◌<◌, Some, slice_set, vec_len, vec_capacity};
@@ -9,10 +10,12 @@ use crate::step::Step;
 use ring_session::{Answer, TicketAnswer};
 use std::alloc::Allocator;
 
-/// Adds a step to the answers of its node's tickets. The list has an entry for each ticket, from ticket 0 on: `None`
-/// until the ticket is answered.
-/// A submit adds the entry of its new ticket. Any other step stores its answers under their tickets; an answer to a
-/// ticket that isn't in the list is ignored. The caller has made room for one more ticket.
+/// Adds a step to the answers of its node's tickets.
+///
+/// `told` has an entry for each ticket, from ticket 0 on, which is `None` until the ticket is answered. A submit
+/// appends the entry of its new ticket. Any other step stores its answers under their tickets; an answer to a ticket
+/// without an entry is ignored. There must be room for one more entry. Does not allocate.
+///
 /// Rules: The replicated log 13 and 14; The book and the threads 15
 pub fn add_answers<A: Allocator + Copy + Drop>(told: &mut Vec<Option<Answer>, A>, step: &Step<A>)
     requires { vec_len told.old < vec_capacity told.old }
@@ -27,7 +30,7 @@ pub fn add_answers<A: Allocator + Copy + Drop>(told: &mut Vec<Option<Answer>, A>
     }
 }
 
-/// Stores these answers, each under its ticket.
+/// Stores each answer under its ticket.
 fn set_answers<A: Allocator + Copy + Drop>(
     told: &mut Vec<Option<Answer>, A>,
     answers: &[TicketAnswer<A>],
@@ -40,7 +43,7 @@ fn set_answers<A: Allocator + Copy + Drop>(
     }
 }
 
-/// Stores the answer under its ticket.
+/// Stores the answer under its ticket, if the ticket has an entry.
 #[tactic(auto, using(crate::proofs::AnswersByTicket::set_past))]
 fn set_answer<A: Allocator + Copy + Drop>(
     told: &mut Vec<Option<Answer>, A>,

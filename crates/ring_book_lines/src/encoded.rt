@@ -1,4 +1,5 @@
-//! Frames that are sent, stored as bytes with their receivers.
+//! Sent frames, stored as bytes with their receivers.
+//!
 //! Formats: Frames
 
 ghost use Rattle.std.specs.Prelude.{◌≡◌, ◌+◌, ◌≤◌, ◌↔◌, IsTrue, IsSomeAnd, Some, length, OnOk, IfOk, IfErr};
@@ -16,7 +17,11 @@ use ring_wire::Frame;
 use std::alloc::{Allocator, Global};
 use std::marker::Model;
 
-/// A sent frame, stored as its encoding of at most 8,192 bytes, with its receivers. Contracts see the frame.
+/// A sent frame, stored as its encoding of at most 8,192 bytes, with its receivers.
+///
+/// Contracts see the frame.
+///
+/// Rules: The book and the threads 9
 /// Formats: Frames
 #[derive(Drop)]
 pub struct EncodedFrame<A: Allocator + Copy + Drop = Global> {
@@ -38,7 +43,8 @@ impl<A: Allocator + Copy + Drop> Model for EncodedFrame<A> {
 }
 
 /// Returns a copy of the bytes.
-/// Errors: `Memory`.
+///
+/// Errors: `Memory` if an allocation fails.
 fn copied<A: Allocator + Copy + Drop>(alloc: A, text: &[u8]) -> Result<Vec<u8, A>, Fault>
     ensures ok { IfOk result (λ bytes. bytes.items ≡ text.now) }
     ensures refused { IfErr result (λ fault. fault ≡ Memory) }
@@ -48,8 +54,11 @@ fn copied<A: Allocator + Copy + Drop>(alloc: A, text: &[u8]) -> Result<Vec<u8, A
     Ok(bytes)
 }
 
-/// Replaces the contents of `text` with the frame's encoding. The frame is within the limits of frames, and `text` has
-/// room for every frame. So it takes no memory.
+/// Replaces the contents of `text` with the frame's encoding.
+///
+/// The frame must be within the limits of its format, and `text` must have a capacity of at least 8,192 bytes. Does not
+/// allocate.
+///
 /// Formats: Frames
 pub(crate) fn write_in<A: Allocator + Copy + Drop>(frame: &Frame<A>, text: &mut BytesMut<A>)
     requires fits { FrameFits frame.now }
@@ -61,7 +70,7 @@ pub(crate) fn write_in<A: Allocator + Copy + Drop>(frame: &Frame<A>, text: &mut 
     frame.write(text);
 }
 
-/// Returns whether the two are the same bytes: equally many, in the same order.
+/// Returns whether the two are equal, byte by byte.
 pub(crate) fn is_same_text(text: &[u8], bytes: &[u8]) -> bool
     ensures { IsTrue result ↔ (text.now ≡ bytes.now) }
 {
@@ -69,9 +78,14 @@ pub(crate) fn is_same_text(text: &[u8], bytes: &[u8]) -> bool
 }
 
 impl<A: Allocator + Copy + Drop> EncodedFrame<A> {
-    /// Encodes a frame that was sent to these receivers. The frame is within the limits of frames. `text` is a scratch
-    /// buffer with room for every frame.
-    /// Errors: `Memory` where room for the bytes is refused.
+    /// Encodes a frame that was sent to `receivers`.
+    ///
+    /// The frame must be within the limits of its format. `text` is a scratch buffer that must have a capacity of at
+    /// least 8,192 bytes; its contents are unspecified afterwards.
+    ///
+    /// Errors: `Memory` if an allocation fails.
+    ///
+    /// Rules: The book and the threads 9
     /// Formats: Frames
     pub fn encode(
         alloc: A,
@@ -93,14 +107,19 @@ impl<A: Allocator + Copy + Drop> EncodedFrame<A> {
         })
     }
 
-    /// Returns the processors to which the frame was sent. The sender may be one of them.
+    /// Returns the processors to which the frame was sent.
+    ///
+    /// The sender may be one of them.
+    ///
+    /// Rules: The book and the threads 9
     pub fn receivers(&self) -> ProcSet
         ensures { result ≡ self.now.to }
     {
         self.receivers
     }
 
-    /// Returns the frame's encoding, at most 8,192 bytes.
+    /// Returns the frame's encoding, which has at most 8,192 bytes.
+    ///
     /// Formats: Frames
     pub fn bytes(&self) -> &[u8]
         ensures { result.now ≡ encoding_of self.now.frame }
@@ -108,14 +127,17 @@ impl<A: Allocator + Copy + Drop> EncodedFrame<A> {
         self.bytes.as_slice()
     }
 
-    /// Returns whether the frame was sent to this node: whether the node is one of its receivers.
+    /// Returns whether `node` is one of the frame's receivers.
+    ///
+    /// Rules: The book and the threads 9
     pub fn goes_to(&self, node: Proc) -> bool
         ensures { result ≡ has self.now.to node }
     {
         self.receivers.contains(node)
     }
 
-    /// Returns whether the frame's encoding is exactly these bytes.
+    /// Returns whether the frame's encoding is exactly `bytes`.
+    ///
     /// Formats: Frames
     pub fn has_bytes(&self, bytes: &[u8]) -> bool
         ensures { IsTrue result ↔ (encoding_of self.now.frame ≡ bytes.now) }
@@ -123,8 +145,14 @@ impl<A: Allocator + Copy + Drop> EncodedFrame<A> {
         is_same_text(self.bytes.as_slice(), bytes)
     }
 
-    /// Returns whether the stored frame equals this one, which is within the limits of frames. It compares their
-    /// encodings, since no two frames have the same encoding. `text` is a scratch buffer with room for every frame.
+    /// Returns whether the stored frame equals `frame`.
+    ///
+    /// It compares their encodings, which no two frames share.
+    ///
+    /// `frame` must be within the limits of its format. `text` is a scratch buffer that must have a capacity of at
+    /// least 8,192 bytes; its contents are unspecified afterwards. Does not allocate.
+    ///
+    /// Formats: Frames
     pub fn is_frame(&self, frame: &Frame<A>, text: &mut BytesMut<A>) -> bool
         requires fits { FrameFits frame.now }
         requires room { max_frame_bytes ≤ length text.old.items + text.old.spare }
@@ -135,8 +163,13 @@ impl<A: Allocator + Copy + Drop> EncodedFrame<A> {
         is_same_text(self.bytes.as_slice(), text.as_slice())
     }
 
-    /// Returns whether the stored frame equals this one and the node is one of its receivers. `frame` is within the
-    /// limits of frames. `text` is a scratch buffer with room for every frame.
+    /// Returns whether the stored frame equals `frame` and was sent to `node`.
+    ///
+    /// `frame` must be within the limits of its format. `text` is a scratch buffer that must have a capacity of at
+    /// least 8,192 bytes; its contents are unspecified afterwards. Does not allocate.
+    ///
+    /// Rules: The book and the threads 11 and 16
+    /// Formats: Frames
     pub fn is_for(&self, node: Proc, frame: &Frame<A>, text: &mut BytesMut<A>) -> bool
         requires fits { FrameFits frame.now }
         requires room { max_frame_bytes ≤ length text.old.items + text.old.spare }
@@ -146,7 +179,10 @@ impl<A: Allocator + Copy + Drop> EncodedFrame<A> {
         self.goes_to(node) && self.is_frame(frame, text)
     }
 
-    /// Returns whether the frame's encoding is exactly these bytes and the node is one of its receivers.
+    /// Returns whether the frame was sent to `node` and its encoding is exactly `bytes`.
+    ///
+    /// Rules: The book and the threads 15
+    /// Formats: Frames
     pub fn holds(&self, node: Proc, bytes: &[u8]) -> bool
         ensures { IsTrue result ↔ IsSomeAnd (frame_for node self.now) (λ f. encoding_of f ≡ bytes.now) }
     {

@@ -1,7 +1,9 @@
-//! The place of a frame in the book.
+//! References to frames in the book.
+//!
 //! Rules: The book and the threads 10
 
-/// The place of a sent frame in the book: the number of its line, and its index among the frames of that line.
+/// A reference to a sent frame in the book: the number of its line, and its index among the frames of that line.
+///
 /// Rules: The book and the threads 10
 #[derive(Clone, Copy, Debug, PartialEq, Eq)]
 pub struct FrameRef {

@@ -1,4 +1,5 @@
-//! The frames of a line: stored, compared and encoded.
+//! The frames of a line: storing, comparing and encoding them.
+//!
 //! Rules: The book and the threads 9, 11 and 15
 //! Formats: Frames
 
@@ -22,7 +23,9 @@ use ring_wire::{Frame, Wire};
 use std::alloc::{Allocator, Global};
 use std::marker::Model;
 
-/// The frames of a line in the order sent: as bytes, or as values where memory for the bytes was refused.
+/// The frames of a line in the order of sending: as bytes, or as values if there was no memory for the bytes.
+///
+/// Rules: The book and the threads 9
 #[derive(Drop)]
 pub enum StoredFrames<A: Allocator + Copy + Drop = Global> {
     /// Each frame is stored as its encoding, with its receivers.
@@ -31,8 +34,10 @@ pub enum StoredFrames<A: Allocator + Copy + Drop = Global> {
     Unencoded(Vec<OutgoingFrame<A>, A>),
 }
 
-/// The frames that a line's step sent, in the order sent, with their receivers. Each is within the limits of frames.
-/// Contracts see the frames sent.
+/// The frames that a line's step sent, in the order of sending, with their receivers.
+///
+/// Each is within the limits of its format. Contracts see the frames.
+///
 /// Rules: The book and the threads 9 and 10
 #[derive(Drop)]
 pub struct Frames<A: Allocator + Copy + Drop = Global> {
@@ -53,8 +58,11 @@ impl<A: Allocator + Copy + Drop> Model for Frames<A> {
     ghost invariant = { λ f. AllByRecursion SentFits (sends_of f.stored) };
 }
 
-/// Encodes the frames. `text` is a scratch buffer with room for every frame.
-/// Errors: `Memory`.
+/// Encodes the frames.
+///
+/// `text` is a scratch buffer that must have a capacity of at least 8,192 bytes.
+///
+/// Errors: `Memory` if an allocation fails.
 fn encode_all<A: Allocator + Copy + Drop>(
     alloc: A,
     sends: &[OutgoingFrame<A>],
@@ -73,7 +81,7 @@ fn encode_all<A: Allocator + Copy + Drop>(
     Ok(encoded)
 }
 
-/// Returns whether this is that frame and the node a receiver.
+/// Returns whether `sent` is `frame` and was sent to `node`.
 fn is_sent_frame<A: Allocator + Copy + Drop>(
     sent: &OutgoingFrame<A>,
     node: Proc,
@@ -84,8 +92,9 @@ fn is_sent_frame<A: Allocator + Copy + Drop>(
     sent.to.contains(node) && sent.frame.is_same(frame)
 }
 
-/// Returns whether the frame has these bytes and the node is a receiver. `text` is a scratch buffer with room for every
-/// frame.
+/// Returns whether `sent` was sent to `node` and its encoding is `bytes`.
+///
+/// `text` is a scratch buffer that must have a capacity of at least 8,192 bytes.
 fn sent_has_bytes<A: Allocator + Copy + Drop>(
     sent: &OutgoingFrame<A>,
     node: Proc,
@@ -104,7 +113,7 @@ fn sent_has_bytes<A: Allocator + Copy + Drop>(
     is_same_text(text.as_slice(), bytes)
 }
 
-/// Returns the item at the place, counted from 0, if there is one.
+/// Returns the item at index `place`, counted from 0, if there is one.
 #[tactic(auto, using(ring_base::proofs::ListPlaces::item_copied))]
 fn item_at<T>(items: &[T], place: u16) -> Option<&T>
     ensures { option_copied result ≡ slice_get items.now place }
@@ -112,7 +121,7 @@ fn item_at<T>(items: &[T], place: u16) -> Option<&T>
     items.get(place as usize)
 }
 
-/// Returns whether the frame at the place is this one and the node a receiver.
+/// Returns whether the frame at index `place` is `frame` and was sent to `node`.
 fn encoded_has_frame<A: Allocator + Copy + Drop>(
     encoded: &[EncodedFrame<A>],
     place: u16,
@@ -131,7 +140,7 @@ fn encoded_has_frame<A: Allocator + Copy + Drop>(
     }
 }
 
-/// Returns whether the frame at the place is this one and the node a receiver.
+/// Returns whether the frame at index `place` is `frame` and was sent to `node`.
 fn unencoded_has_frame<A: Allocator + Copy + Drop>(
     unencoded: &[OutgoingFrame<A>],
     place: u16,
@@ -146,7 +155,7 @@ fn unencoded_has_frame<A: Allocator + Copy + Drop>(
     }
 }
 
-/// Returns whether the frame at the place has these bytes and the node is a receiver.
+/// Returns whether the frame at index `place` was sent to `node` and its encoding is `bytes`.
 fn encoded_has_bytes<A: Allocator + Copy + Drop>(
     encoded: &[EncodedFrame<A>],
     place: u16,
@@ -161,8 +170,9 @@ fn encoded_has_bytes<A: Allocator + Copy + Drop>(
     }
 }
 
-/// Returns whether the frame at the place has these bytes and the node is a receiver. `text` is a scratch buffer with room
-/// for every frame.
+/// Returns whether the frame at index `place` was sent to `node` and its encoding is `bytes`.
+///
+/// `text` is a scratch buffer that must have a capacity of at least 8,192 bytes.
 fn unencoded_has_bytes<A: Allocator + Copy + Drop>(
     unencoded: &[OutgoingFrame<A>],
     place: u16,
@@ -181,7 +191,7 @@ fn unencoded_has_bytes<A: Allocator + Copy + Drop>(
     }
 }
 
-/// Returns the receivers of the frame at the place, if there is one.
+/// Returns the receivers of the frame at index `place`, if there is one.
 fn encoded_receivers<A: Allocator + Copy + Drop>(
     encoded: &[EncodedFrame<A>],
     place: u16,
@@ -194,7 +204,7 @@ fn encoded_receivers<A: Allocator + Copy + Drop>(
     }
 }
 
-/// Returns the receivers of the frame at the place, if there is one.
+/// Returns the receivers of the frame at index `place`, if there is one.
 fn unencoded_receivers<A: Allocator + Copy + Drop>(
     unencoded: &[OutgoingFrame<A>],
     place: u16,
@@ -207,8 +217,9 @@ fn unencoded_receivers<A: Allocator + Copy + Drop>(
     }
 }
 
-/// Appends the bytes of the frame at the place.
-/// Errors: `Stranger` where there is none, then `Memory`; nothing is appended.
+/// Appends the encoding of the frame at index `place`.
+///
+/// Errors: `Stranger` if there is no such frame. Otherwise `Memory` if an allocation fails. Nothing is then appended.
 fn put_encoded<A: Allocator + Copy + Drop>(
     encoded: &[EncodedFrame<A>],
     place: u16,
@@ -225,8 +236,9 @@ fn put_encoded<A: Allocator + Copy + Drop>(
     }
 }
 
-/// Appends the bytes of the frame at the place.
-/// Errors: `Stranger` where there is none, then `Memory`; nothing is appended.
+/// Appends the encoding of the frame at index `place`.
+///
+/// Errors: `Stranger` if there is no such frame. Otherwise `Memory` if an allocation fails. Nothing is then appended.
 fn put_unencoded<A: Allocator + Copy + Drop>(
     unencoded: &[OutgoingFrame<A>],
     place: u16,
@@ -242,7 +254,11 @@ fn put_unencoded<A: Allocator + Copy + Drop>(
 }
 
 impl<A: Allocator + Copy + Drop> Frames<A> {
-    /// Returns an empty list of frames, as a submit and a stop have it. It takes no memory.
+    /// Returns an empty list of frames, as a submit and a stop have it.
+    ///
+    /// Does not allocate.
+    ///
+    /// Rules: The book and the threads 9
     pub fn none(alloc: A) -> Frames<A>
         ensures { result ≡ [] }
     {
@@ -251,8 +267,12 @@ impl<A: Allocator + Copy + Drop> Frames<A> {
         }
     }
 
-    /// Stores these frames in their order: as bytes if there is memory for them, else as the values that they are. Each
-    /// is within the limits of frames. `text` is a scratch buffer with room for every frame.
+    /// Stores the frames in order: as bytes, or as the values that they are if there is no memory for the bytes.
+    ///
+    /// Each must be within the limits of its format. `text` is a scratch buffer that must have a capacity of at least
+    /// 8,192 bytes; its contents are unspecified afterwards.
+    ///
+    /// Rules: The book and the threads 9
     /// Formats: Frames
     pub fn new(alloc: A, sends: Vec<OutgoingFrame<A>, A>, text: &mut BytesMut<A>) -> Frames<A>
         requires fit { AllByRecursion SentFits sends.items }
@@ -270,9 +290,11 @@ impl<A: Allocator + Copy + Drop> Frames<A> {
         }
     }
 
-    /// Returns whether the frame at this index, counted from 0, equals `frame` and the node is one of its receivers. An
-    /// index without a frame gives false.
-    /// `frame` is within the limits of frames. `text` is a scratch buffer with room for every frame.
+    /// Returns whether the frame at index `place`, counted from 0, equals `frame` and was sent to `node`.
+    ///
+    /// Returns false if there is no such frame. `frame` must be within the limits of its format. `text` is a scratch
+    /// buffer that must have a capacity of at least 8,192 bytes; its contents are unspecified afterwards.
+    ///
     /// Rules: The book and the threads 11
     pub fn has_frame(
         &self,
@@ -303,8 +325,11 @@ impl<A: Allocator + Copy + Drop> Frames<A> {
         }
     }
 
-    /// Returns whether the frame at this index, counted from 0, equals the received one and the node is one of its
-    /// receivers. An index without a frame gives false. `text` is a scratch buffer with room for every frame.
+    /// Returns whether the frame at index `place`, counted from 0, equals the received `frame` and was sent to `node`.
+    ///
+    /// Returns false if there is no such frame. `text` is a scratch buffer that must have a capacity of at least 8,192
+    /// bytes; its contents are unspecified afterwards.
+    ///
     /// Rules: The book and the threads 11
     pub fn has_received_frame(
         &self,
@@ -322,8 +347,12 @@ impl<A: Allocator + Copy + Drop> Frames<A> {
         self.has_bytes(place, node, frame.bytes(), text)
     }
 
-    /// Returns whether the frame at this index, counted from 0, has exactly these bytes and the node is one of its
-    /// receivers. An index without a frame gives false. `text` is a scratch buffer with room for every frame.
+    /// Returns whether the frame at index `place`, counted from 0, was sent to `node` and its encoding is exactly
+    /// `bytes`.
+    ///
+    /// Returns false if there is no such frame. `text` is a scratch buffer that must have a capacity of at least 8,192
+    /// bytes; its contents are unspecified afterwards.
+    ///
     /// Rules: The book and the threads 15
     pub fn has_bytes(&self, place: u16, node: Proc, bytes: &[u8], text: &mut BytesMut<A>) -> bool
         requires room { max_frame_bytes ≤ length text.old.items + text.old.spare }
@@ -347,7 +376,8 @@ impl<A: Allocator + Copy + Drop> Frames<A> {
         }
     }
 
-    /// Returns the receivers of the frame at this index, counted from 0, or `None` if there is no such frame.
+    /// Returns the receivers of the frame at index `place`, counted from 0, or `None` if there is no such frame.
+    ///
     /// Rules: The book and the threads 9
     pub fn receivers(&self, place: u16) -> Option<ProcSet>
         ensures { result ≡ option_map (λ (s : SentFrame A). s.to) (slice_get self.now place) }
@@ -358,8 +388,11 @@ impl<A: Allocator + Copy + Drop> Frames<A> {
         }
     }
 
-    /// Appends the encoding of the frame at this index, counted from 0, to `out`: at most 8,192 bytes.
-    /// Errors: `Stranger` if there is no such frame, then `Memory`; nothing is appended.
+    /// Appends the encoding of the frame at index `place`, counted from 0, to `out`: at most 8,192 bytes.
+    ///
+    /// Errors: `Stranger` if there is no such frame. Otherwise `Memory` if an allocation fails. Nothing is then
+    /// appended.
+    ///
     /// Rules: The book and the threads 15; Refusals 2
     /// Formats: Frames
     pub fn put(&self, place: u16, out: &mut BytesMut<A>) -> Result<(), Fault>
@@ -372,6 +405,7 @@ impl<A: Allocator + Copy + Drop> Frames<A> {
     }
 
     /// Returns the number of frames that the line's step sent.
+    ///
     /// Rules: The book and the threads 9
     pub fn len(&self) -> usize
         ensures { result ≡ length self.now }

@@ -1,4 +1,5 @@
 //! The history of a list of lines.
+//!
 //! Rules: Sessions 9
 
 ghost use Rattle.std.specs.Prelude.{◌≡◌, ◌++◌, OnOk, IfOk, IfErr};
@@ -14,9 +15,12 @@ use ring_node_spec::Item;
 use ring_session::{Answer, TicketAnswer};
 use std::alloc::Allocator;
 
-/// Returns the history of the lines: copies of their issued calls and their replies, in order. A refused answer adds
-/// nothing.
-/// Errors: `Memory` where an allocation fails.
+/// Returns the history of the lines: copies of their issued calls and their replies, in order.
+///
+/// An answer without a reply adds nothing.
+///
+/// Errors: `Memory` if an allocation fails.
+///
 /// Rules: Sessions 9
 pub fn history<A: Allocator + Copy + Drop>(
     alloc: A,

@@ -1,4 +1,5 @@
-//! Laws of lists of lines that are runs.
+//! The law of lists of lines that are runs.
+//!
 //! Rules: The book and the threads 11
 
 ghost use Rattle.std.specs.Prelude.{◌≡◌, ℕ, ◌≤◌, List};
@@ -13,11 +14,13 @@ ghost use Rattle.ring_book_lines.specs.Steps.{LineView};
 
 use ring_object::Object;
 
-/// States, for every object, every group of at most 16 processors and every list of lines, that a book run is a run of
-/// `World`. A list is a book run if the steps of each node are a run of that node, and each delivered frame is one of
-/// an earlier line.
-/// The inputs of a book run are the events of a run that `linear_law` of ring_order_proof covers. A node's state after
-/// its steps is the node's state in that run.
+/// States that a book run is a run of `World`, for every object, every group of at most 16 processors and every list of
+/// lines.
+///
+/// A list of lines is a book run if the steps of each node are a run of that node, and each delivered frame is one of
+/// an earlier line. The inputs of a book run are the events of a run that `linear_law` of ring_order_proof covers. A
+/// node's state after its steps is the node's state in that run.
+///
 /// Rules: The book and the threads 11 and 18
 pub fn lines_law<O: Object>()
     ensures runs { (group : Group) (lines : List (LineView O.Alloc)) → group.count ≤ 16 →

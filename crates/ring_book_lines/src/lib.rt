@@ -1,5 +1,9 @@
-//! The lines of the book: the steps of a group's nodes, one after another. The crate defines which lists of lines are
-//! runs, finds the frames in them, and derives from them the answers, the history and the one order.
+//! The lines of the book: the steps of a group's nodes, one after another.
+//!
+//! The crate defines which lists of lines are runs, finds the frames in them, and derives from them the answers, the
+//! history and the one order.
+//!
+//! Rules: The book and the threads 9 to 11 and 15
 #![tactic(auto)]
 
 mod answers;

@@ -1,4 +1,5 @@
-//! The lines of the book, and look-ups of frames in them.
+//! The lines of the book, and lookups of frames in them.
+//!
 //! Rules: The book and the threads 9 to 11 and 16
 
 ghost use Rattle.std.specs.Prelude.{◌≡◌, ◌+◌, ◌≤◌, ◌↔◌, Some, IsTrue, length};
@@ -26,8 +27,10 @@ use std::alloc::{Allocator, Global};
 use std::marker::Model;
 use std::mem::size_of;
 
-/// A line of the book: its number in the list, counted from 0, and one step or submit of a node. Of a delivered frame
-/// it keeps only the `FrameRef`.
+/// A line of the book: its number in the list, counted from 0, and one step or submit of a node.
+///
+/// Of a delivered frame it keeps only the `FrameRef`.
+///
 /// Rules: The book and the threads 9 and 10
 #[derive(Drop)]
 pub struct Line<A: Allocator + Copy + Drop = Global> {
@@ -52,10 +55,10 @@ impl<A: Allocator + Copy + Drop> Model for Line<A> {
     ghost invariant = { λ l. IsStepKept l.step.value l.node l.cause l.frames l.answers.items l.calls.items };
 }
 
-/// A line is small, so that the full book of an idle ring is small too.
+/// A line is small, so that a full book of an idle ring is small too.
 const _: () = prove!(size_of::<Line>() <= 136);
 
-/// Returns the line's record of the input.
+/// Returns what the line records of the input.
 fn cause<A: Allocator + Copy + Drop>(input: StepInput<A>) -> Cause<A>
     ensures { result ≡ cause_of (line_input input) }
 {
@@ -65,7 +68,7 @@ fn cause<A: Allocator + Copy + Drop>(input: StepInput<A>) -> Cause<A>
     }
 }
 
-/// Returns the line's record of the input.
+/// Returns what the line records of the input.
 fn line_cause<A: Allocator + Copy + Drop>(input: LineInput<A>) -> Cause<A>
     ensures { result ≡ cause_of input }
 {
@@ -81,7 +84,9 @@ fn line_cause<A: Allocator + Copy + Drop>(input: LineInput<A>) -> Cause<A>
     }
 }
 
-/// Returns the line's record of a node's input. `at` is the place of its frame, if it is one.
+/// Returns what the line records of a node's input.
+///
+/// If it is a frame, it is at `at` in the book.
 fn input_cause<A: Allocator + Copy + Drop>(input: &Input<A>, at: FrameRef) -> Cause<A>
     ensures { result ≡ cause_of (Received input.now at) }
 {
@@ -94,8 +99,12 @@ fn input_cause<A: Allocator + Copy + Drop>(input: &Input<A>, at: FrameRef) -> Ca
 }
 
 impl<A: Allocator + Copy + Drop> Line<A> {
-    /// Returns the line of this number, counted from 0, for a step. A frame that the step delivers is dropped, but for
-    /// its `FrameRef`. It takes no memory.
+    /// Returns line `number`, counted from 0, for a step.
+    ///
+    /// Does not allocate.
+    ///
+    /// A frame that the step delivers is dropped, except for its `FrameRef`.
+    ///
     /// Rules: The book and the threads 9 and 10
     pub fn new(number: u32, step: Step<A>) -> Line<A>
         ensures { result ≡ record { number = number; step = step } }
@@ -121,6 +130,7 @@ impl<A: Allocator + Copy + Drop> Line<A> {
     }
 
     /// Returns the line's number in the book's list, counted from 0.
+    ///
     /// Rules: The book and the threads 10
     pub fn number(&self) -> u32
         ensures { result ≡ self.now.number }
@@ -128,7 +138,8 @@ impl<A: Allocator + Copy + Drop> Line<A> {
         self.number
     }
 
-    /// Returns the processor whose node did the line's step, or took the submitted call.
+    /// Returns the processor whose node ran the line's step or took the submitted call.
+    ///
     /// Rules: The book and the threads 9
     pub fn node(&self) -> Proc
         ensures { result ≡ self.now.step.node }
@@ -136,8 +147,8 @@ impl<A: Allocator + Copy + Drop> Line<A> {
         self.node
     }
 
-    /// Returns the line's record of its input: the call, the place of the frame, noise, the kind of the timeout, or the
-    /// stop.
+    /// Returns the line's event: the call, a reference to the frame, noise, the kind of the timeout, or the stop.
+    ///
     /// Rules: The book and the threads 9
     pub fn cause(&self) -> &Cause<A>
         ensures { result.now ≡ cause_of self.now.step.input }
@@ -145,8 +156,12 @@ impl<A: Allocator + Copy + Drop> Line<A> {
         &self.cause
     }
 
-    /// Returns the frames that the line's step sent, each with its receivers, in the order sent. A submit has none. The
-    /// index of a frame in this list, counted from 0, is the `place` in its `FrameRef`.
+    /// Returns the frames that the line's step sent, each with its receivers, in the order of sending.
+    ///
+    /// A submit has none.
+    ///
+    /// The index of a frame in this list, counted from 0, is the `place` in its `FrameRef`.
+    ///
     /// Rules: The book and the threads 9 and 10
     pub fn frames(&self) -> &Frames<A>
         ensures { result.now ≡ self.now.step.frames }
@@ -154,8 +169,10 @@ impl<A: Allocator + Copy + Drop> Line<A> {
         &self.frames
     }
 
-    /// Returns the answers that the node gave in the line's step, each with its ticket, in the order given. A submit
-    /// has none.
+    /// Returns the answers that the node gave in the line's step, each with its ticket, in the order given.
+    ///
+    /// A submit has none.
+    ///
     /// Rules: The book and the threads 9; The replicated log 14
     pub fn answers(&self) -> &[TicketAnswer<A>]
         ensures { result.now ≡ self.now.step.answers }
@@ -163,8 +180,10 @@ impl<A: Allocator + Copy + Drop> Line<A> {
         self.answers.as_slice()
     }
 
-    /// Returns the calls at the places that the node newly committed in the line's step, in order, repeats included. A
-    /// submit has none. Places that a restored snapshot brought are not among them.
+    /// Returns the calls at the places that the node newly committed in the line's step, in order, including repeats.
+    ///
+    /// A submit has none. Places that a restored snapshot replaces aren't among them.
+    ///
     /// Rules: The book and the threads 9; The replicated log 12
     pub fn committed(&self) -> &[Call<A>]
         ensures { result.now ≡ self.now.step.calls }
@@ -173,9 +192,11 @@ impl<A: Allocator + Copy + Drop> Line<A> {
     }
 }
 
-/// Returns whether the lines have a frame at this place, it has exactly these bytes, and the node is one of its
-/// receivers. A place without a frame gives false. `text` is a scratch buffer with room for every frame; its contents
-/// may be replaced.
+/// Returns whether the lines have a frame at `at` that was sent to `node` and whose encoding is exactly `bytes`.
+///
+/// Returns false if there is no frame at `at`. `text` is a scratch buffer that must have a capacity of at least 8,192
+/// bytes; its contents are unspecified afterwards.
+///
 /// Rules: The book and the threads 15
 pub fn has_bytes_at<A: Allocator + Copy + Drop>(
     lines: &[Line<A>],
@@ -194,9 +215,11 @@ pub fn has_bytes_at<A: Allocator + Copy + Drop>(
     }
 }
 
-/// Returns whether the step may be entered behind these lines. It may if it delivers no frame, or if the lines have its
-/// frame at its `FrameRef` with the step's node as a receiver. `text` is a scratch buffer with room for every frame;
-/// its contents may be replaced.
+/// Returns whether the step may be entered after these lines.
+///
+/// It may if it delivers no frame, or if the lines have that frame at its `FrameRef`, sent to the step's node. `text`
+/// is a scratch buffer that must have a capacity of at least 8,192 bytes; its contents are unspecified afterwards.
+///
 /// Rules: The book and the threads 11 and 16
 pub fn is_deliverable<A: Allocator + Copy + Drop>(
     lines: &[Line<A>],
@@ -218,7 +241,7 @@ pub fn is_deliverable<A: Allocator + Copy + Drop>(
     }
 }
 
-/// Returns whether the input isn't a frame, or is the frame at this place with the node as a receiver.
+/// Returns whether the input isn't a frame, or is the frame at `at`, sent to `node`.
 fn has_input_frame_at<A: Allocator + Copy + Drop>(
     lines: &[Line<A>],
     at: FrameRef,
@@ -237,7 +260,7 @@ fn has_input_frame_at<A: Allocator + Copy + Drop>(
     }
 }
 
-/// Returns whether the frame at this place is this one and the node a receiver.
+/// Returns whether the frame at `at` is `frame` and was sent to `node`.
 fn has_frame_at<A: Allocator + Copy + Drop>(
     lines: &[Line<A>],
     at: FrameRef,
@@ -256,8 +279,9 @@ fn has_frame_at<A: Allocator + Copy + Drop>(
     }
 }
 
-/// Returns whether the frame at this place is this received one and the node a receiver. `text` is a scratch buffer with
-/// room for every frame.
+/// Returns whether the frame at `at` is the received `frame` and was sent to `node`.
+///
+/// `text` is a scratch buffer that must have a capacity of at least 8,192 bytes.
 fn has_received_frame_at<A: Allocator + Copy + Drop>(
     lines: &[Line<A>],
     at: FrameRef,

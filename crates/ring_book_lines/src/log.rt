@@ -1,4 +1,5 @@
 //! The longest committed log of all nodes, as segments of lines.
+//!
 //! Rules: Sessions 10
 
 ghost use Rattle.std.specs.Prelude.{◌≡◌, ◌<◌, vec_len, vec_capacity};
@@ -8,6 +9,7 @@ use crate::step::Step;
 use std::alloc::Allocator;
 
 /// A segment of the longest committed log: the calls that a line newly committed, from index `from` on.
+///
 /// Rules: Sessions 10
 #[derive(Clone, Copy, Debug, PartialEq, Eq)]
 pub struct LogSegment {
@@ -17,11 +19,12 @@ pub struct LogSegment {
     pub from: usize,
 }
 
-/// Extends the longest committed log by the line of this number, which records this step. `total` is the log's number
-/// of places, and `segments` are its segments.
-/// If the step's node has now committed more than `total` places, the calls beyond them become a segment at the end,
-/// and `total` becomes the node's committed length. Otherwise nothing changes. The caller has made room for one more
-/// segment.
+/// Extends the longest committed log by line `number`, which records `step`.
+///
+/// `total` is the log's number of places, and `segments` are its segments. If the step's node has now committed more
+/// than `total` places, the calls after them become a new last segment, and `total` becomes the node's committed
+/// length. Otherwise nothing changes. There must be room for one more segment. Does not allocate.
+///
 /// Rules: Sessions 10
 pub fn extend_log<A: Allocator + Copy + Drop>(
     total: &mut usize,

@@ -9,7 +9,9 @@ use ring_wire::Frame;
 use std::alloc::{Allocator, Global};
 use std::marker::{Model, PhantomData};
 
-/// A frame as contracts see it, beside its bytes. No value of this type is made: it exists in ghost values alone.
+/// A frame as contracts see it, beside its bytes.
+///
+/// No value of this type exists at run time.
 pub struct FrameModel<A: Allocator + Copy = Global> {
     allocator: PhantomData<A>,
 }
@@ -23,7 +25,9 @@ impl<A: Allocator + Copy> Model for FrameModel<A> {
     ghost view = { λ _. placeholder_frame };
 }
 
-/// A step as contracts see it, with its whole input. No value of this type is made: it exists in ghost values alone.
+/// A step as contracts see it, with its whole input.
+///
+/// No value of this type exists at run time.
 pub struct StepModel<A: Allocator + Copy = Global> {
     allocator: PhantomData<A>,
 }
@@ -37,14 +41,14 @@ impl<A: Allocator + Copy> Model for StepModel<A> {
     ghost view = { λ _. placeholder_step };
 }
 
-/// Returns a ghost frame of no meaning.
+/// Returns a placeholder for a ghost frame.
 fn any_frame_model<A: Allocator + Copy>() -> Ghost<FrameModel<A>>
     ensures { result.value ≡ placeholder_frame }
 {
     ghost_of(&())
 }
 
-/// Returns a ghost step of no meaning.
+/// Returns a placeholder for a ghost step.
 fn any_step_model<A: Allocator + Copy>() -> Ghost<StepModel<A>>
     ensures { result.value ≡ placeholder_step }
 {

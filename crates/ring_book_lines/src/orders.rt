@@ -1,4 +1,5 @@
 //! The order of the calls that take effect.
+//!
 //! Rules: Sessions 6 and 10
 
 ghost use Rattle.std.specs.Prelude.{◌≡◌, [], ◌++◌, List, OnOk, IfOk, IfErr, drop, slice_get};
@@ -15,10 +16,13 @@ use ring_payload::Call;
 use ring_session::Effects;
 use std::alloc::Allocator;
 
-/// Returns copies of the calls of these segments that take effect, in order, repeats removed. With the segments of the
-/// longest committed log of the lines this is the order of their run. A segment of a line that isn't there adds
-/// nothing.
-/// Errors: `Memory` where an allocation fails.
+/// Returns copies of the calls of these segments that take effect, in order, with repeats removed.
+///
+/// For the segments of the lines' longest committed log this is the order of their run. A segment of a line that
+/// doesn't exist adds nothing.
+///
+/// Errors: `Memory` if an allocation fails.
+///
 /// Rules: Sessions 6 and 10
 pub fn order<A: Allocator + Copy + Drop>(
     alloc: A,

@@ -1,4 +1,5 @@
-//! Frames that arrived, stored as bytes.
+//! Received frames, stored as bytes.
+//!
 //! Formats: Frames
 
 ghost use Rattle.std.specs.Prelude.{◌≡◌};
@@ -10,7 +11,11 @@ use ring_wire::Frame;
 use std::alloc::{Allocator, Global};
 use std::marker::Model;
 
-/// A frame that arrived at a node, stored as its encoding of at most 8,192 bytes. Contracts see the frame.
+/// A frame that a node received, stored as its encoding of at most 8,192 bytes.
+///
+/// Contracts see the frame.
+///
+/// Rules: The book and the threads 13
 /// Formats: Frames
 #[derive(Drop)]
 pub struct ReceivedFrame<A: Allocator + Copy + Drop = Global> {
@@ -31,8 +36,12 @@ impl<A: Allocator + Copy + Drop> Model for ReceivedFrame<A> {
 }
 
 impl<A: Allocator + Copy + Drop> ReceivedFrame<A> {
-    /// Stores a frame as these bytes, which are its encoding. The frame is within the limits of frames. It takes no
-    /// memory: the bytes are moved.
+    /// Stores `frame` as `bytes`, which must be its encoding.
+    ///
+    /// Does not allocate: the bytes are moved.
+    ///
+    /// The frame must be within the limits of its format.
+    ///
     /// Formats: Frames
     pub fn new(frame: &Frame<A>, bytes: Vec<u8, A>) -> ReceivedFrame<A>
         requires fits { FrameFits frame.now }
@@ -45,7 +54,8 @@ impl<A: Allocator + Copy + Drop> ReceivedFrame<A> {
         }
     }
 
-    /// Returns the frame's encoding, at most 8,192 bytes.
+    /// Returns the frame's encoding, which has at most 8,192 bytes.
+    ///
     /// Formats: Frames
     pub fn bytes(&self) -> &[u8]
         ensures bytes { result.now ≡ encoding_of self.now }

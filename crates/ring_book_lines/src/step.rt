@@ -1,4 +1,5 @@
 //! A step of a node, as the journal carries it from the cell to the book.
+//!
 //! Rules: The book and the threads 9 and 13
 
 ghost use Rattle.std.specs.Prelude.{◌≡◌, []};
@@ -18,9 +19,10 @@ use ring_session::TicketAnswer;
 use std::alloc::{Allocator, Global};
 use std::marker::Model;
 
-/// One step of a node, or one submit: the input, the frames sent, the answers given, the calls newly committed, and the
-/// node's committed length afterwards, counted from the log's beginning. A cell makes it, and the book makes a line of
-/// it.
+/// One step of a node, or one submit, with its outputs.
+///
+/// A cell makes it, and the book makes a line of it.
+///
 /// Rules: The book and the threads 9 and 13
 #[derive(Drop)]
 pub struct Step<A: Allocator + Copy + Drop = Global> {
@@ -28,13 +30,13 @@ pub struct Step<A: Allocator + Copy + Drop = Global> {
     pub(crate) node: Proc,
     /// The input of the step, or the submitted call.
     pub(crate) input: StepInput<A>,
-    /// The frames sent, in the order sent.
+    /// The frames sent, in the order of sending.
     pub(crate) frames: Frames<A>,
     /// The answers given, each with its ticket, in the order given.
     pub(crate) answers: Vec<TicketAnswer<A>, A>,
-    /// The calls newly committed, in order, repeats included.
+    /// The newly committed calls, in order, including repeats.
     pub(crate) calls: Vec<Call<A>, A>,
-    /// The node's committed length after the step, dropped places included.
+    /// The node's committed length after the step, including dropped places.
     pub(crate) committed: usize,
 }
 
@@ -62,10 +64,11 @@ impl<A: Allocator + Copy + Drop> Step<A> {
     ghost use Rattle.ring_book_lines.specs.declared.input.LineInput.{LineInput};
     ghost use Rattle.ring_book_lines.specs.declared.input.StepInput.TheVariants.{Full};
 
-    /// Returns the step that a node did on this input, with the frames sent, the answers given and the calls newly
-    /// committed.
-    /// `committed` is the node's committed length after the step, dropped places included. A frame in the input is
-    /// within the limits of frames, and a call within those of snapshots.
+    /// Returns a node's step on an input, with the frames sent, the answers given and the newly committed calls.
+    ///
+    /// `committed` is the node's committed length after the step, including dropped places. A frame in the input must
+    /// be within the limits of its format, and a call within those of a call.
+    ///
     /// Rules: The book and the threads 9
     pub fn new(
         node: Proc,
@@ -99,16 +102,18 @@ impl<A: Allocator + Copy + Drop> Step<A> {
         }
     }
 
-    /// Returns the submit of a call that a node took. It has no frames, answers or committed calls, and it takes no
-    /// memory.
-    /// `committed` is the node's committed length, dropped places included. The call is within the limits of frames.
+    /// Returns the submit of a call that a node took, which has no frames, answers or committed calls.
+    ///
+    /// `committed` is the node's committed length, including dropped places. The call must be within the limits of a
+    /// call. Does not allocate.
+    ///
     /// Rules: The book and the threads 9
     pub fn called(alloc: A, node: Proc, call: Call<A>, committed: usize) -> Step<A>
         requires { CallFits call }
         ensures { result ≡ record { node = node; input = Submitted call; frames = []; answers = []; calls = []; committed = committed } }
     {
-        // A law: no effect at run time. The proof takes from it that a call within the limits of frames is within those of
-        // snapshots.
+        // A law: no effect at run time. The proof takes from it that a call within the limits of frames is within those
+        // of snapshots.
         call_keeps_law(&call);
         Step::new(
             node,
@@ -120,8 +125,11 @@ impl<A: Allocator + Copy + Drop> Step<A> {
         )
     }
 
-    /// Returns the stop of a node. It has no frames, answers or committed calls, and it takes no memory.
-    /// `committed` is the node's committed length, dropped places included. `at` is recorded without a meaning.
+    /// Returns the stop of a node, which has no frames, answers or committed calls.
+    ///
+    /// `committed` is the node's committed length, including dropped places. `at` is recorded, but has no meaning. Does
+    /// not allocate.
+    ///
     /// Rules: The book and the threads 9 and 14
     pub fn stop(alloc: A, node: Proc, at: FrameRef, committed: usize) -> Step<A>
         ensures { result ≡ record { node = node; input = Received Stop at; frames = []; answers = []; calls = []; committed = committed } }

@@ -20,16 +20,16 @@ use Rattle.ring_chain_proof.specs.ChainWords.{Chains, visits_taken_by, IsRingOf,
 
 -- Rings
 
--- processor q takes part in a ring as one of its members, and the representative is the smallest of them
+-- Processor q takes part in a ring as one of its members, and the representative is the smallest of them.
 pub record TakesPart (q : ℕ) (p : Configuration) : Type 0 where
   pub member : IsMember p.members q
   pub first : at p.members 0 ≡ p.ring.rep
 
--- each processor does so in each of the rings that it took part in
+-- Each processor is a member of each ring that it took part in, and the representative is the smallest member.
 abbrev pub AllTakePart : {A : Type 0} → (ℕ → Core A) → Type 0
 AllTakePart cores = (q : ℕ) → IsProc q → AllByRecursion (TakesPart q) (cores q).rings
 
--- all processors that take part in a ring name the same members
+-- All processors that take part in a ring name the same members.
 abbrev pub NameSameMembers : {A : Type 0} → (ℕ → Core A) → Type 0
 NameSameMembers cores =
     (p q : ℕ) (ring : RingId) (a b : ℕ) → IsIn (record { ring = ring; members = a }) (cores p).rings →
@@ -37,38 +37,38 @@ NameSameMembers cores =
 
 -- Visits
 
--- the visits of each ring are one list, and each core's visits are those of the list that it took
+-- The visits of each ring are one list, and each core's visits are those of the list that it took.
 pub record AreChains {A : Type 0} (visits : Chains A) (cores : ℕ → Core A) : Type 0 where
-  -- a ring has no visits, or its visits follow each other round its members
+  -- A ring has no visits, or its visits follow each other round its members.
   pub rounds : (r : RingId) → (visits r ≡ []) ⊎ IsRound cores r (visits r)
   pub turns : (q : ℕ) (r : RingId) → turns_of r (cores q).turns ≡ visits_taken_by q (visits r)
 
--- such lists exist
+-- There are lists of visits that the cores' visits are taken from.
 abbrev pub HasChains : {A : Type 0} → (ℕ → Core A) → Type 0
 HasChains {A} cores = (visits : Chains A) × AreChains visits cores
 
--- each message held anywhere was numbered by its sender in one of these visits, and so was each message that a
--- visit's new payloads wrap
+-- Each message held anywhere was numbered by its sender in one of these visits, and so was each message that a visit's
+-- new payloads wrap.
 pub record AreNumbered {A : Type 0} (visits : Chains A) (cores : ℕ → Core A) : Type 0 where
   pub held : (q : ℕ) → AllByRecursion (IsGenuine visits) (cores q).held
   pub wraps : (r : RingId) → AllByRecursion (λ (v : VisitBy A). AllByRecursion (WrapsGenuine visits) v.turn.fresh) (visits r)
 
--- such lists exist, with all that is held and all that is wrapped numbered in them
+-- Such lists exist, with all that is held and all that is wrapped numbered in them.
 abbrev pub HasNumbered : {A : Type 0} → (ℕ → Core A) → Type 0
 HasNumbered {A} cores = (visits : Chains A) × AreChains visits cores × AreNumbered visits cores
 
--- the number of the token that a member visits next: m above that of its newest visit in a ring of m members, and
--- `first` where it has none
+-- The number of the token that a member visits next: m above that of its newest visit in a ring of m members, and
+-- `first` if it has none.
 abbrev pub due_number : {A : Type 0} → ℕ → ℕ → List (TokenVisit A) → ℕ
 due_number m first [] = first
 due_number m first (v ∷ older) = v.received.number + m
 
--- each of a member's visits, newest first, has the number that was due
+-- Each of a member's visits, newest first, has the number that was due.
 abbrev pub AreSpaced : {A : Type 0} → ℕ → ℕ → List (TokenVisit A) → Type 0
 AreSpaced m first [] = Unit {0}
 AreSpaced m first (v ∷ older) = (v.received.number ≡ due_number m first older) × AreSpaced m first older
 
--- each member of each ring visits its token in turn, first the token of the number that is its position
+-- Each member of each ring visits its token in turn, first the token of the number that is its position.
 abbrev pub VisitInTurn : {A : Type 0} → (ℕ → Core A) → Type 0
 VisitInTurn cores =
     (q : ℕ) (ring : RingId) (members : ℕ) → IsProc q → IsMember members q → IsRingOf cores ring members →
@@ -76,32 +76,32 @@ VisitInTurn cores =
 
 -- Safety
 
--- each safe mark of each core is safe
+-- Each safe mark of each core is safe.
 abbrev pub MarksAreSafe : {A : Type 0} → (ℕ → Core A) → Type 0
 MarksAreSafe cores = (q : ℕ) (ring : RingId) → IsSafe cores ring (mark (cores q) ring)
 
--- each safe mark that a core reported of its last installed ring is safe
+-- Each safe mark that a core reported of its last installed ring is safe.
 abbrev pub ReportsAreSafe : {A : Type 0} → (ℕ → Core A) → Type 0
 ReportsAreSafe cores = (q : ℕ) → AllByRecursion (λ (x : Report). IsSafe cores x.entry.old x.entry.mark) (cores q).reports
 
 -- Plans
 
--- a commit token has the reports of all members of its ring
+-- A commit token has the reports of all members of its ring.
 pub record IsPlan {A : Type 0} (cores : ℕ → Core A) (k : CommitToken) : Type 0 where
   pub ring_of : IsRingOf cores k.ring k.members
   pub count : length k.entries ≡ size k.members
   pub reports : AreReports cores k
 
--- each commit token with which a core ever entered Recovery is so
+-- Each commit token with which a core ever entered Recovery has the reports of all members.
 abbrev pub ArePlans : {A : Type 0} → (ℕ → Core A) → Type 0
 ArePlans cores = (q : ℕ) → AllByRecursion (IsPlan cores) (cores q).plans
 
--- all processors that recover in a ring have one plan: the members and their reports
+-- All processors that recover in a ring have one plan: the members and their reports.
 abbrev pub HaveOnePlan : {A : Type 0} → (ℕ → Core A) → Type 0
 HaveOnePlan cores =
     (p q : ℕ) (k l : CommitToken) → IsIn k (cores p).plans → IsIn l (cores q).plans → k.ring ≡ l.ring → (k.members ≡ l.members) × (k.entries ≡ l.entries)
 
--- each member of its ring holds what an output reports as safe
+-- Each member of its ring holds what an output reports as safe.
 abbrev pub IsSafeOutput : {A : Type 0} → (ℕ → Core A) → Out A → Type 0
 IsSafeOutput cores (Safe ring upto) = IsSafe cores ring upto
 IsSafeOutput cores (SendOut to frame) = Unit {0}
@@ -110,13 +110,13 @@ IsSafeOutput cores (Trans old new set) = Unit {0}
 IsSafeOutput cores (Rest ring n x) = Unit {0}
 IsSafeOutput cores (Regular ring set) = Unit {0}
 
--- all outputs in a world are so, at any processor
+-- All outputs of all processors in a world meet this.
 abbrev pub SafeOutputsAreSafe : {A : Type 0} → World A → Type 0
 SafeOutputsAreSafe {A} w = AllByRecursion (λ (o : ℕ × Out A). IsSafeOutput w.cores o.1) w.outs
 
 -- Agreed messages
 
--- the number of an `Agreed` output
+-- The number of an `Agreed` output.
 abbrev pub agreed_of : {A : Type 0} → Out A → Option ℕ
 agreed_of (Agreed ring n x) = Some n
 agreed_of (SendOut to frame) = None
@@ -125,20 +125,20 @@ agreed_of (Trans old new set) = None
 agreed_of (Rest ring n x) = None
 agreed_of (Regular ring set) = None
 
--- the same, if this processor gave the output
+-- The same, if this processor gave the output.
 abbrev pub agreed_number : {A : Type 0} → ℕ → ℕ × Out A → Option ℕ
 agreed_number i o = if o.0 == i then agreed_of o.1 else None
 
--- the numbers of a processor's `Agreed` outputs, in order
+-- The numbers of a processor's `Agreed` outputs, in order.
 abbrev pub agreed_numbers : {A : Type 0} → World A → ℕ → List ℕ
 agreed_numbers w i = filter_map (agreed_number i) w.outs
 
--- the message is held under this number, and is a user's
+-- The message is held under this number, and is a user message.
 pub record IsHeldUser {A : Type 0} (held : List (Message A)) (ring : RingId) (n : ℕ) (x : Message A) : Type 0 where
   pub held_there : found held ring n ≡ Some x
   pub user : is_user x.payload ≡ true
 
--- the message of an `Agreed` or a `Rest` is the one that the core holds under its number
+-- The message of an `Agreed` or a `Rest` is the one that the core holds under its number.
 abbrev pub IsOutputHeld : {A : Type 0} → Core A → Out A → Type 0
 IsOutputHeld c (Agreed ring n x) = IsHeldUser c.held ring n x
 IsOutputHeld c (Rest ring n x) = IsHeldUser c.held ring n x
@@ -147,21 +147,21 @@ IsOutputHeld c (Safe ring upto) = Unit {0}
 IsOutputHeld c (Trans old new set) = Unit {0}
 IsOutputHeld c (Regular ring set) = Unit {0}
 
--- all outputs in a world are so, each for the core of the processor that gave it
+-- Each message given in a world is the one that the core of its processor holds under its number.
 abbrev pub OutputsAreHeld : {A : Type 0} → World A → Type 0
 OutputsAreHeld {A} w = AllByRecursion (λ (o : ℕ × Out A). IsOutputHeld (w.cores o.0) o.1) w.outs
 
 -- The formed ring of n processors, at most 16
 
--- each of the processors 1 to n holds all of a ring up to s
+-- Each of the processors 1 to n holds all of a ring up to s.
 abbrev pub AllHold : {A : Type 0} → ℕ → (ℕ → Core A) → RingId → ℕ → Type 0
 AllHold n cores ring s = (q : ℕ) → IsProc q → q ≤ n → s ≤ front (cores q) ring
 
--- each safe mark of each core is so
+-- All processors hold all numbers up to each safe mark of each core.
 abbrev pub AllHoldMarks : {A : Type 0} → ℕ → (ℕ → Core A) → Type 0
 AllHoldMarks n cores = (q : ℕ) (ring : RingId) → AllHold n cores ring (mark (cores q) ring)
 
--- the output is of the formed ring, and what it reports as safe all processors hold
+-- The output is of the formed ring, and what it reports as safe all processors hold.
 abbrev pub IsOfFormed : {A : Type 0} → ℕ → (ℕ → Core A) → Out A → Type 0
 IsOfFormed n cores (Agreed ring k x) = ring ≡ (all_of n).ring
 IsOfFormed n cores (Safe ring upto) = (ring ≡ (all_of n).ring) × AllHold n cores ring upto
@@ -170,6 +170,6 @@ IsOfFormed n cores (Trans old new set) = ⊥
 IsOfFormed n cores (Rest ring k x) = ⊥
 IsOfFormed n cores (Regular ring set) = ⊥
 
--- all outputs in a world are so, at any processor
+-- All outputs of all processors in a world meet this.
 abbrev pub AllIsOfFormed : {A : Type 0} → ℕ → World A → Type 0
 AllIsOfFormed {A} n w = AllByRecursion (λ (o : ℕ × Out A). IsOfFormed n w.cores o.1) w.outs

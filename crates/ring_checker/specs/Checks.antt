@@ -75,20 +75,20 @@ module _ {O : Type 0} (object : Sequential O) where
     pub each : (q : ℕ) (c : Call A) → q < n → StandsAt order q c → slice_get places q ≡ Some
         (record { issued = first_issue history c; reply = call_reply object order q })
 
--- `at` is one of these first places, and the object replies r there
+-- `at` is one of these places, and the object's reply there is r
 abbrev pub IsRightAt : List OrderPlace → ℕ → List ℕ → Type 0
 IsRightAt issued at r = (place : OrderPlace) × (slice_get issued at ≡ Some place) × (place.reply ≡ r)
 
--- the reply is right: its call is at one of these first places, and it is the object's reply there
+-- the reply is right: its call is at one of these places, and it is the object's reply there
 abbrev pub IsRightReply : {A : Type 0} → List (Call A) → List OrderPlace → Call A → List ℕ → Type 0
 IsRightReply order issued c r = MatchOption (place_in order c) ⊥ (λ at. IsRightAt issued at r)
 
--- the item is right if the calls of these first places were issued before it; an issue is always right
+-- the item is right if the calls of exactly these places were issued before it; an issue is always right
 abbrev pub IsRightItem : {A : Type 0} → List (Call A) → List OrderPlace → Item A → Type 0
 IsRightItem order issued (Issue c) = Unit {0}
 IsRightItem order issued (Reply c r) = IsRightReply order issued c r
 
--- the item at place k of the history is right by first places whose calls were all issued before it
+-- the item at place k of the history is right by a prefix of the places whose calls were all issued before it
 abbrev pub IsRightIn : {A : Type 0} → List (Call A) → List OrderPlace → ℕ → Item A → Type 0
 IsRightIn order places k item = (m : ℕ) × AreIssuedBefore (take m places) k × IsRightItem order (take m places) item
 

@@ -1,4 +1,5 @@
-//! The checker: it decides whether an order explains a history, wherever the two come from.
+//! The check of an order against a history, wherever the two come from.
+//!
 //! Rules: Sessions 10
 
 ghost use Rattle.std.specs.Prelude.{◌≡◌, ℕ, ◌+◌, ◌≤◌, ◌↔◌, IsTrue, IfOk, IfErr, OnOk, List, [], ◌∷◌, ◌++◌, length, take};
@@ -17,22 +18,28 @@ use ring_object::{Object, Reply};
 use ring_payload::Call;
 use std::alloc::Allocator;
 
-/// The data of a place of the order that the checks use.
+/// What the checks need to know of a place of the order.
 #[derive(Clone, Copy)]
 struct OrderPlace {
-    /// The place in the history of the call's first issue, if it was issued.
+    /// The index in the history of the call's first issue, or `None` if it wasn't issued.
     issued: Option<usize>,
-    /// The object's reply there.
+    /// The object's reply to the call at this place.
     reply: Reply,
 }
 
-/// Returns whether the order explains the history: whether the history is linearizable with this order.
-/// Four things are needed. Each client's calls are numbered 1, 2, .. in the order. Each call of the order was issued. Each reply
-/// is the object's at its call's place. A call that was replied before another was issued comes earlier in the order. So the
-/// empty order explains every history without replies.
-/// Apart from the object's own time, it takes one look-up among the order's clients for each call of the order and each item of
-/// the history: O(n log n) in their number.
-/// Errors: `Memory` where an allocation fails.
+/// Returns whether `order` is a linearization of `history` for the object `O`.
+///
+/// It is if all of these hold:
+/// - Each client's calls are numbered 1, 2, .. in the order.
+/// - Each call of the order was issued, with the same operation.
+/// - Each reply in the history is the object's reply at its call's place in the order.
+/// - A call that was replied before another was issued comes earlier in the order.
+///
+/// So the empty order is a linearization of every history without replies. Apart from the object's own calls, the time
+/// is O(n log n) in the number of calls and items together: one lookup among the clients for each.
+///
+/// Errors: `Memory` if an allocation fails.
+///
 /// Rules: Sessions 7 and 10
 pub fn is_linearization<O: Object>(
     alloc: O::Alloc,
@@ -49,8 +56,9 @@ pub fn is_linearization<O: Object>(
     }
 }
 
-/// Returns whether the order, whose calls are numbered, explains the history.
-/// Errors: `Memory` where an allocation fails.
+/// Returns whether the order, whose calls are numbered, is a linearization of the history.
+///
+/// Errors: `Memory` if an allocation fails.
 fn explains<O: Object>(
     alloc: O::Alloc,
     order: &[Call<O::Alloc>],
@@ -68,7 +76,7 @@ fn explains<O: Object>(
     }
 }
 
-/// Returns whether the order explains the history, given its places, in which no call is issued yet.
+/// Returns whether the order is a linearization of the history, given its places, in which no call is issued yet.
 fn explains_at<O: Object>(
     order: &[Call<O::Alloc>],
     index: &Index<O::Alloc>,
@@ -89,8 +97,9 @@ fn explains_at<O: Object>(
 
 // ---- places
 
-/// Applies the order's calls to a new object. Returns their places, with no call issued yet.
-/// Errors: `Memory` where an allocation fails.
+/// Applies the order's calls to a new object, and returns the places, with no call issued yet.
+///
+/// Errors: `Memory` if an allocation fails.
 fn unissued_places<O: Object>(
     alloc: O::Alloc,
     order: &[Call<O::Alloc>],
@@ -104,8 +113,9 @@ fn unissued_places<O: Object>(
     }
 }
 
-/// Applies the order's calls to an object at its start. Returns their places, with no call issued yet.
-/// Errors: `Memory` where an allocation fails.
+/// Applies the order's calls to an object in its start state, and returns the places, with no call issued yet.
+///
+/// Errors: `Memory` if an allocation fails.
 fn places_from<O: Object>(
     alloc: O::Alloc,
     object: &mut O,
@@ -122,7 +132,9 @@ fn places_from<O: Object>(
     }
 }
 
-/// Applies the calls to an object at its start, and adds the place of each.
+/// Applies the calls to an object in its start state, and appends the place of each.
+///
+/// Errors: `Memory` if an allocation fails.
 fn add_places<O: Object>(
     object: &mut O,
     order: &[Call<O::Alloc>],
@@ -143,7 +155,7 @@ fn add_places<O: Object>(
     Ok(())
 }
 
-/// Records at the places where in the history their calls were first issued.
+/// Records for each place the index in the history of its call's first issue.
 fn note_issues<O: Object>(
     order: &[Call<O::Alloc>],
     index: &Index<O::Alloc>,
@@ -160,7 +172,7 @@ fn note_issues<O: Object>(
     }
 }
 
-/// Records the item at place `k` of a history, if it is the first issue of a call.
+/// Records the item at index `k` of the history, if it is the first issue of a call.
 fn note_issue<O: Object>(
     order: &[Call<O::Alloc>],
     index: &Index<O::Alloc>,
@@ -181,7 +193,7 @@ fn note_issue<O: Object>(
     }
 }
 
-/// Records at the call's place that it was issued at place `k` of a history, unless it was issued before.
+/// Records at the call's place that it was issued at index `k` of the history, unless it was issued before.
 fn note_call<O: Object>(
     order: &[Call<O::Alloc>],
     index: &Index<O::Alloc>,
@@ -232,8 +244,9 @@ fn are_right<A: Allocator + Copy>(
     true
 }
 
-/// Returns the number of first places whose calls were issued before place `k` of the history.
-/// The calls of the first `from` places were issued before.
+/// Returns the length of the longest prefix of the places whose calls were all issued before index `k` of the history.
+///
+/// The calls of the first `from` places must have been issued before it.
 fn issued_prefix_len(places: &[OrderPlace], from: usize, k: usize) -> usize
     requires within { from ≤ length places.now }
     requires issued { AreIssuedBefore (take from places.now) k }
@@ -246,7 +259,7 @@ fn issued_prefix_len(places: &[OrderPlace], from: usize, k: usize) -> usize
     front
 }
 
-/// Returns whether the item is right, if the calls of these first places, and no others, were issued before it.
+/// Returns whether the item is right, if exactly the calls of the places `issued` were issued before it.
 fn is_right<A: Allocator + Copy>(
     order: &[Call<A>],
     index: &Index<A>,
@@ -263,7 +276,7 @@ fn is_right<A: Allocator + Copy>(
     }
 }
 
-/// Returns whether the reply is the object's at its call's place, and that is one of these first places.
+/// Returns whether the call's place is one of `issued`, and `reply` is the object's reply there.
 fn is_right_reply<A: Allocator + Copy>(
     order: &[Call<A>],
     index: &Index<A>,
@@ -281,7 +294,7 @@ fn is_right_reply<A: Allocator + Copy>(
     }
 }
 
-/// Returns whether `at` is one of the first places, and the object replies this there.
+/// Returns whether place `at` is one of `issued`, and `reply` is the object's reply there.
 fn is_right_at(issued: &[OrderPlace], at: usize, reply: &Reply) -> bool
     ensures { IsTrue result ↔ IsRightAt issued.now at reply.now }
 {
@@ -291,14 +304,14 @@ fn is_right_at(issued: &[OrderPlace], at: usize, reply: &Reply) -> bool
     }
 }
 
-/// Returns whether the calls of all these places were issued before place `k` of the history.
+/// Returns whether the calls of all these places were issued before index `k` of the history.
 fn are_issued_before(places: &[OrderPlace], k: usize) -> bool
     ensures { IsTrue result ↔ AreIssuedBefore places.now k }
 {
     places.iter().all(|place| is_issued_before(place, k))
 }
 
-/// Returns whether the call of this place was issued before place `k` of the history.
+/// Returns whether the call of this place was issued before index `k` of the history.
 fn is_issued_before(place: &OrderPlace, k: usize) -> bool
     ensures { IsTrue result ↔ IsIssuedBefore place.now k }
 {

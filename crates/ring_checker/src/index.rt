@@ -1,4 +1,5 @@
 //! The index of an order: the places of its calls, by client and number.
+//!
 //! Rules: Sessions 10
 
 ghost use Rattle.std.specs.Prelude.{◌≡◌, ℕ, ◌+◌, ◌∷◌, [], ◌++◌, ◌↔◌, IsTrue, IsSome, IfSome, IfOk, IfErr, None, length};
@@ -15,11 +16,14 @@ use std::alloc::Allocator;
 use std::collections::BTreeMap;
 
 /// The index of an order: for each client, the places of its calls 1, 2, .. in the order, counted from 0.
+///
 /// Rules: Sessions 10
 pub type Index<A: Allocator> = BTreeMap<u32, Vec<usize, A>, A>;
 
 /// Returns the index of an order, or `None` if some client's calls aren't numbered 1, 2, .. in it.
-/// Errors: `Memory` where an allocation fails.
+///
+/// Errors: `Memory` if an allocation fails.
+///
 /// Rules: Sessions 10
 pub fn index_of<A: Allocator + Copy + Drop>(
     alloc: A,
@@ -37,8 +41,11 @@ pub fn index_of<A: Allocator + Copy + Drop>(
     }
 }
 
-/// Adds the places of an order's calls to an empty index. Returns whether each client's calls are numbered 1, 2, .. in it.
-/// Errors: `Memory` where an allocation fails.
+/// Adds the places of an order's calls to an empty index.
+///
+/// Returns false if some client's calls aren't numbered 1, 2 and so on.
+///
+/// Errors: `Memory` if an allocation fails.
 fn add_places<A: Allocator + Copy + Drop>(
     alloc: A,
     index: &mut Index<A>,
@@ -58,8 +65,11 @@ fn add_places<A: Allocator + Copy + Drop>(
     Ok(true)
 }
 
-/// Adds the place of a client's call of this number, if that is the client's next number. Returns whether it is.
-/// Errors: `Memory` where an allocation fails.
+/// Adds the place of the client's call `number`, if that is its next number.
+///
+/// Returns whether it is.
+///
+/// Errors: `Memory` if an allocation fails.
 fn add_place<A: Allocator + Copy + Drop>(
     alloc: A,
     index: &mut Index<A>,
@@ -77,8 +87,11 @@ fn add_place<A: Allocator + Copy + Drop>(
     }
 }
 
-/// Adds the place of a client's first call, if its number is 1. Returns whether it is.
-/// Errors: `Memory` where an allocation fails.
+/// Adds the place of a client's first call, if `number` is 1.
+///
+/// Returns whether it is.
+///
+/// Errors: `Memory` if an allocation fails.
 fn add_row<A: Allocator + Copy + Drop>(
     alloc: A,
     index: &mut Index<A>,
@@ -100,8 +113,11 @@ fn add_row<A: Allocator + Copy + Drop>(
     Ok(true)
 }
 
-/// Adds the place after those of a client's calls, if its number is the next one. Returns whether it is.
-/// Errors: `Memory` where an allocation fails.
+/// Appends the place to those of a client's calls, if `number` is the next one.
+///
+/// Returns whether it is.
+///
+/// Errors: `Memory` if an allocation fails.
 fn add_to<A: Allocator + Copy>(
     row: &mut Vec<usize, A>,
     number: u64,
@@ -125,9 +141,11 @@ fn is_next(last: u64, number: u64) -> bool
     number > 0 && number - 1 == last
 }
 
-/// Returns the first place of the call in the order, counted from 0, and sets `next` to the place after it. Returns `None`, and
-/// leaves `next`, if the call isn't in the order.
-/// The place `next` is tried before the index, since calls mostly come in the order's own sequence. `index` is that of the order.
+/// Returns the first place of the call in the order, counted from 0, and sets `next` to the place after it.
+///
+/// Returns `None`, and leaves `next` unchanged, if the call isn't in the order. The place `next` is tried before the
+/// index, since calls mostly come in the order's own sequence. `index` must be the index of `order`.
+///
 /// Rules: Sessions 10
 pub fn place_near<A: Allocator + Copy>(
     order: &[Call<A>],
@@ -143,7 +161,9 @@ pub fn place_near<A: Allocator + Copy>(
     Some(place)
 }
 
-/// Returns the first place of the call in the order, if it has one. The place `next` is tried before the index.
+/// Returns the first place of the call in the order, if there is one.
+///
+/// The place `next` is tried before the index.
 fn place_by<A: Allocator + Copy>(
     order: &[Call<A>],
     index: &Index<A>,
@@ -170,7 +190,7 @@ fn is_at<A: Allocator + Copy>(order: &[Call<A>], place: usize, call: &Call<A>) -
     }
 }
 
-/// Returns the first place of the call in the order, if it has one.
+/// Returns the first place of the call in the order, if there is one.
 fn place_in<A: Allocator + Copy>(
     order: &[Call<A>],
     index: &Index<A>,
@@ -189,7 +209,7 @@ fn place_in<A: Allocator + Copy>(
     }
 }
 
-/// Returns the place that the index has for this client and number, if any.
+/// Returns the place that the index has for the client's call `number`, if any.
 fn place_at<A: Allocator + Copy>(index: &Index<A>, client: u32, number: u64) -> Option<usize>
     ensures { result ≡ place_at index.now (client, number) }
 {
@@ -199,7 +219,7 @@ fn place_at<A: Allocator + Copy>(index: &Index<A>, client: u32, number: u64) -> 
     }
 }
 
-/// Returns the place of the call of this number, given the places of a client's calls.
+/// Returns the place of call `number`, given the places of a client's calls 1, 2 and so on.
 fn place_by_number<A: Allocator + Copy>(row: &Vec<usize, A>, number: u64) -> Option<usize>
     ensures { result ≡ by_number row.now.items number }
 {

@@ -1,4 +1,5 @@
-//! The linearizability checker: it decides whether one order of calls explains a history of calls and replies.
+//! The linearizability checker, which decides whether one order of calls is a linearization of a history.
+//!
 //! Rules: Sessions 10
 #![tactic(auto)]
 

@@ -81,7 +81,7 @@ abbrev pub IsRepliedWithin : {P : Type 0} → (P → Asked) → ℕ → ClientOf
 IsRepliedWithin {P = P} asked limit old new op reply = (tries : ℕ) × (before : ClientOf P) × (tries ≤ limit)
     × AreUnansweredTries asked op tries old before × IsReplied asked before new op reply
 
--- why the ports gave no reply after at most `limit` tries without an answer; after exactly `limit` where no port answered
+-- why the ports gave no reply after at most `limit` tries without an answer; after exactly `limit` if no port answered
 abbrev pub AskingRefusedWithin : {P : Type 0} → (P → Asked) → ℕ → ClientOf P → ClientOf P → List ℕ → Fault → Type 0
 AskingRefusedWithin {P = P} asked limit old new op fault = (tries : ℕ) × (before : ClientOf P) × (tries ≤ limit) × (fault ≡ NoAnswer → tries ≡ limit)
     × AreUnansweredTries asked op tries old before × AskingRefused asked before new op fault

@@ -1,4 +1,5 @@
-//! The last request at a port, and its outcome.
+//! The record of the last request at a port and its outcome.
+//!
 //! Rules: Clients 2
 
 ghost use Rattle.std.specs.Prelude.{◌≡◌};
@@ -10,32 +11,38 @@ use ring_payload::{Call, MAX_OPERATION};
 use ring_session::Answer;
 use std::alloc::Allocator;
 
-/// An operation of 0 to 1,024 bytes, stored inline, so copying it takes no memory.
+/// An operation of 0 to 1,024 bytes, stored inline, so that copying it doesn't allocate.
+///
 /// Rules: Sessions 1
 pub type Op = ShortBytes<MAX_OPERATION>;
 
-/// The last request at a port, and its outcome. It is stored inline, so copying it takes no memory.
+/// The record of the last submit at a port, its refusal, and the polls since.
 ///
-/// A port records here each submit before it passes the call on, then the refusal of a refused submit, and each poll.
+/// A port records each submit before it passes the call on, then a refusal if there is one, and each poll. The record
+/// is stored inline, so copying it doesn't allocate.
+///
 /// Rules: Clients 2
 #[derive(Clone, Copy, Debug, PartialEq, Eq)]
 pub struct Asked {
-    /// The client of the last submitted call; 0 before any submit.
+    /// The client of the last submitted call, or 0 before any submit.
     pub client: u32,
-    /// The call's number; 0 before any submit.
+    /// The number of that call, or 0 before any submit.
     pub number: u64,
-    /// The call's operation; of an operation over 1,024 bytes, the first 1,024.
+    /// The operation of that call, or its first 1,024 bytes if it is longer.
     pub op: Op,
-    /// The number of that submit's refusal, 1 to 15; `None` where the submit was taken, and before any submit.
+    /// The fault number of that submit's refusal, 1 to 15, or `None` if it was taken, or before any submit.
     pub refused: Option<u8>,
-    /// The number of polls since that submit; it stays at 2^64 - 1.
+    /// The number of polls since that submit.
+    ///
+    /// It saturates at `u64::MAX`.
     pub polls: u64,
-    /// The answer that the last of these polls returned; `None` where it returned none, and before any poll.
+    /// The answer that the last of these polls returned, or `None` if it returned none, or before any poll.
     pub answer: Option<Answer>,
 }
 
 impl Asked {
     /// Returns the record of a port before any submit: number 0, an empty operation, no refusal and no poll.
+    ///
     /// Rules: Clients 2
     pub fn new() -> Asked
         ensures { result ≡ new_asked }
@@ -50,8 +57,11 @@ impl Asked {
         }
     }
 
-    /// Records that a call is submitted, before the port passes it on. The call replaces that of the submit before,
-    /// whose refusal, polls and answer are forgotten. Of an operation over 1,024 bytes it keeps the first 1,024.
+    /// Records that a call is submitted, before the port passes it on.
+    ///
+    /// The record of the submit before, with its refusal, polls and answer, is forgotten. Of an operation over 1,024
+    /// bytes the first 1,024 are kept.
+    ///
     /// Rules: Clients 2
     pub fn note_submit<A: Allocator + Copy>(&mut self, call: &Call<A>)
         ensures { self.new ≡ asked_after_submit call.now }
@@ -65,7 +75,10 @@ impl Asked {
         self.answer = None;
     }
 
-    /// Records that the last submit was refused, by the number of this fault. The rest of the record stays.
+    /// Records that the last submit was refused with `fault`.
+    ///
+    /// The rest of the record is unchanged.
+    ///
     /// Rules: Clients 2; Refusals 1
     pub fn note_refusal(&mut self, fault: Fault)
         ensures { self.new ≡ asked_after_refusal fault self.old }
@@ -73,8 +86,10 @@ impl Asked {
         self.refused = Some(fault.number());
     }
 
-    /// Records the result of a poll: the answer that it returned, or `None`. It counts the poll; the count stays at
-    /// 2^64 - 1.
+    /// Records the result of a poll, which is the answer that it returned, or `None`.
+    ///
+    /// Adds 1 to `polls`, which saturates at `u64::MAX`.
+    ///
     /// Rules: Clients 2
     pub fn note_poll(&mut self, answer: Option<Answer>)
         ensures { self.new ≡ asked_after_poll answer self.old }

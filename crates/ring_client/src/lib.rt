@@ -1,7 +1,10 @@
-//! A client that retries: it numbers its calls and submits each to one port after another, under one number, until a port
-//! has the answer. So a call survives nodes that refuse it, stop, or never answer, and it takes effect once.
+//! A client that numbers its calls and submits each to one port after another, under one number, until a port answers
+//! it.
 //!
-//! A [`Port`] is a way to a node. The contracts of [`Client`] hold over every port.
+//! So a call survives nodes that refuse it, stop, or never answer, and it takes effect at most once. A [`Port`] is a
+//! way to a node. The contracts of [`Client`] hold for every port.
+//!
+//! Rules: Clients 1 to 7
 #![tactic(auto)]
 
 mod asked;

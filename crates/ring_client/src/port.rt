@@ -1,4 +1,5 @@
 //! The trait of ports.
+//!
 //! Rules: Clients 2
 
 ghost use Rattle.std.specs.Prelude.{◌≡◌, IfSome, IfErr, OnOk};
@@ -12,8 +13,9 @@ use std::alloc::Allocator;
 
 /// A way to a node: a client submits calls there and polls their tickets for the answers.
 ///
-/// A port reports its last request. [`Asked`] records it as the contracts require: a port keeps one and passes each
-/// submit, refusal and poll to it.
+/// A port reports its last request. It keeps an [`Asked`] and passes each submit, refusal and poll to it, which records
+/// them as the contracts require.
+///
 /// Rules: Clients 2
 pub trait Port: Drop {
     ghost use Rattle.ring_client.specs.declared.asked.Asked.{Asked};
@@ -27,30 +29,41 @@ pub trait Port: Drop {
     /// The last request at the port.
     ghost asked_of: { Self → Asked };
 
-    /// Submits a call, which the port copies if it takes it, and returns the ticket to poll. `asked` then has the call,
-    /// and the refusal where there is one.
-    /// Errors: any refusal, as the port has it. A client then passes on to its next port.
+    /// Submits a call and returns the ticket to poll.
+    ///
+    /// The port copies the call if it takes it.
+    ///
+    /// `asked` then has the call, and the refusal if there is one.
+    ///
+    /// Errors: any fault with which the port refuses the call. A client then tries its next port.
+    ///
     /// Rules: Clients 2 and 4
     fn submit(&mut self, call: &Call<Self::Alloc>) -> Result<Self::Ticket, Fault>
         ensures ok { OnOk result (asked_of self.new ≡ asked_after_submit call.now) }
         ensures refused { IfErr result (λ fault. asked_of self.new ≡ asked_after_refusal fault (asked_after_submit call.now)) };
 
-    /// Returns the answer to the ticket's call, or `None` if it hasn't arrived. An `Answer::Refused` has a number from
-    /// 4 to 7. `asked` counts the poll and has its result.
+    /// Returns the answer to the ticket's call, or `None` if it hasn't arrived.
+    ///
+    /// An `Answer::Refused` has a number from 4 to 7. `asked` counts the poll and has its result.
+    ///
     /// Rules: Clients 2
     fn poll(&mut self, ticket: &Self::Ticket) -> Option<Answer>
         ensures asked { asked_of self.new ≡ asked_after_poll result (asked_of self.old) }
         ensures told { IfSome result IsClientVisible };
 
-    /// Returns the last request: the call of the last submit, that submit's refusal, the number of polls since, and the
-    /// last poll's answer.
+    /// Returns the last request: the last submit's call, its refusal, the number of polls since, and the last poll's
+    /// answer.
+    ///
     /// Rules: Clients 2
     fn asked(&self) -> &Asked
         ensures { result.now ≡ asked_of self.now };
 }
 
-/// Returns the answer if a call can have it, else `None`: a call can have `Done`, `Kept`, or `Refused` with a number
-/// from 4 to 7. A node gives no other answer; a port that polls a node uses this to prove it.
+/// Returns the answer if a client may see it, otherwise `None`.
+///
+/// A client may see `Done`, `Kept`, and `Refused` with a number from 4 to 7. A node gives no other answer; a port that
+/// polls a node uses this function to prove it.
+///
 /// Rules: Clients 2; Sessions 3
 pub fn client_visible(answer: Answer) -> Option<Answer>
     ensures value { result ≡ client_visible answer }

@@ -1,4 +1,5 @@
-//! A call tried at one port, and at one port after another.
+//! The trial of a call at one port, and at one port after another.
+//!
 //! Rules: Clients 4 and 5
 
 ghost use Rattle.std.specs.Prelude.{◌≡◌, ◌≤◌, Some, IfOk, IfErr, IfSome, IfNone};
@@ -17,20 +18,22 @@ use ring_session::Answer;
 use std::alloc::Allocator;
 
 /// A call as a client tries it at its ports, one after another.
+///
 /// Rules: Clients 4
 #[derive(Clone, Copy)]
 pub struct PortRequest {
-    /// The number of the client.
+    /// The client's number.
     pub client: u32,
-    /// The number of the call, from 1.
+    /// The call's number, at least 1.
     pub number: u64,
     /// The operation, 0 to 1,024 bytes.
     pub op: Op,
 }
 
 impl PortRequest {
-    /// Returns the call for one port.
-    /// Errors: `Memory`.
+    /// Returns a copy of the call for one port.
+    ///
+    /// Errors: `Memory` if an allocation fails.
     fn call<A: Allocator + Copy>(&self, alloc: A) -> Result<Call<A>, Fault>
         ensures ok { IfOk result (λ call. asked_after_submit call ≡ just_submitted self.now.client self.now.number self.now.op) }
         ensures refused { IfErr result (λ fault. fault ≡ Memory) }
@@ -43,23 +46,32 @@ impl PortRequest {
     }
 }
 
-/// The outcome of a call that was tried at the ports in order.
+/// The outcome of trying a call at the ports in order.
+///
 /// Rules: Clients 5
 #[derive(Clone, Copy)]
 pub enum CallOutcome {
-    /// A port returned this answer, and the ports after it weren't tried.
+    /// A port returned this answer.
+    ///
+    /// The ports after it weren't tried.
     TicketAnswer(Answer),
-    /// Each port refused the call, or was polled in vain; also where there is no port.
+    /// Each port refused the call or was polled without success.
+    ///
+    /// This includes the case of no ports.
     Unanswered,
-    /// There was no memory for the first port's copy of the call, so it was submitted nowhere.
+    /// The allocation for the first port's copy of the call failed, so the call was submitted nowhere.
     NotSubmitted,
-    /// There was no memory for a later port's copy of the call; it was submitted at the ports before, or refused there.
+    /// The allocation for a later port's copy of the call failed.
+    ///
+    /// The ports before it had taken or refused the call.
     NoMemoryAfterSubmit,
 }
 
-/// Submits the call at the ports in order, until a poll returns an answer. Returns the outcome.
-/// It submits once at each port and then polls at most `turns` times, 0 included. A port that refuses the submit is
-/// passed over. The copy of the call for each port takes memory of `alloc`.
+/// Submits the call at the ports in order until a poll returns an answer, and returns the outcome.
+///
+/// At each port it submits once and then polls at most `turns` times, which may be 0. A port that refuses the submit is
+/// skipped. The copy of the call for each port is allocated with `alloc`.
+///
 /// Rules: Clients 4
 pub fn submit_in_order<P: Port>(
     ports: &mut [P],
@@ -102,8 +114,13 @@ fn submit_and_poll<P: Port>(port: &mut P, call: &Call<P::Alloc>, turns: u64) -> 
     None
 }
 
-/// Returns the reply in an answer that a client can get: that of `Done` or `Kept`.
-/// Errors: the refusal whose number a `Refused` has, 4 to 7: `Conflict`, `Stale`, `NumberGap` or `SessionsFull`.
+/// Returns the reply in an answer `Done` or `Kept`.
+///
+/// A client must be able to get the answer: see `client_visible`.
+///
+/// Errors: the fault whose number is in a `Refused`: `Conflict` (4), `Stale` (5), `NumberGap` (6) or `SessionsFull`
+/// (7).
+///
 /// Rules: Clients 5; Sessions 3 and 4
 pub fn reply_of(answer: Answer) -> Result<Reply, Fault>
     requires { IsClientVisible answer }
@@ -117,7 +134,7 @@ pub fn reply_of(answer: Answer) -> Result<Reply, Fault>
     }
 }
 
-/// Returns the refusal of this number, 4 to 7.
+/// Returns the fault with this number, which must be 4 to 7.
 fn refusal_of(number: u8) -> Fault
     requires { (4 ≤ number) × (number ≤ 7) }
     ensures { fault_number result ≡ number }

@@ -12,35 +12,41 @@ use ring_host_port::{BookName, Host, Seat, client_of};
 use ring_object::Object;
 use std::sync::Wait;
 
-/// The work of a client on its own thread. The thread only borrows the caller, so what it keeps for later readers is in an atomic
-/// or behind a lock.
+/// The work of a client on its own thread.
+///
+/// The thread only borrows the caller. So what the caller keeps for later readers must be in an atomic or behind a
+/// lock.
 ///
 /// Rules: The book and the threads 28
 pub trait Caller {
     /// The number of the node that the client tries first.
     ghost first: { Self → ℕ };
 
-    /// Returns the number of the node that the client tries first, 1 to the number of nodes. The client passes on to the next
-    /// node where this one refuses a call or doesn't answer it within 1,000,000 polls. It tries the nodes in the order of their
-    /// numbers, with node 1 after the last, and makes the same call under the same number.
+    /// Returns the number of the node that the client tries first, 1 to the number of nodes.
+    ///
+    /// The client tries the next node if this one refuses a call or doesn't answer it within 1,000,000 polls. The order
+    /// is that of the nodes' numbers, with node 1 after the last. It makes the same call, under the same number.
     ///
     /// Rules: Clients 4; The book and the threads 28
     fn first_node(&self) -> u8
         ensures { result ≡ first self.now };
 
-    /// Makes the client's calls; the run calls this once. It may wait for their answers.
+    /// Makes the client's calls, and may wait for their answers.
     ///
-    /// A call returns `NoAnswer` where each node was tried in vain, as happens while the nodes form a ring; so use
-    /// `until_answered`. A caller that makes calls for ever never ends, and neither does the run.
+    /// The run calls this once.
+    ///
+    /// A call returns `NoAnswer` if each node was tried without success, as happens while the nodes form a ring; so use
+    /// `until_answered`. If it never returns, the run doesn't end either.
     ///
     /// Rules: Clients 3 to 6
     fn make_calls<P: Port>(&self, client: &mut Client<P>);
 }
 
-/// Makes the calls of the client of this number, with ports that take these seats of the host, one for each node. Returns once
-/// the caller has made all its calls.
+/// Makes the calls of client `number`, with a port to each node of the host, and returns once the caller has made them.
 ///
-/// Errors: `Memory` where the ports can't be made; no call was made then.
+/// Each port uses one of `seats`, of which there must be one for each node.
+///
+/// Errors: `Memory` if an allocation for the ports fails; no call has then been made.
 ///
 /// Rules: The book and the threads 28
 pub(crate) fn call_from<O: Object, K: BookName<O::Alloc>, C: Caller, W: Wait>(

@@ -1,4 +1,4 @@
-//! Checks the arguments of a run of callers.
+//! Checks of the arguments of a run of callers.
 //!
 //! Rules: The book and the threads 28; Refusals 1 and 4
 
@@ -9,16 +9,19 @@ ghost use Rattle.ring_client_threads.specs.Arguments.{IsNode, AreDistinct, MayRu
 use crate::caller::Caller;
 use ring_base::{Fault, Fixed};
 
-/// The most ports of all callers of a run together; each caller has one to each node. `run_callers` refuses more with
-/// `NotMember`.
+/// The maximum number of ports of all callers of a run together.
+///
+/// Each caller has one to each node.
+///
+/// `run_callers` refuses more with `NotMember`.
 ///
 /// Rules: Limits 1 and 2
 pub const MAX_PORTS: usize = 256;
 
 /// Checks the arguments of a run before anything is made.
 ///
-/// Errors: `NotMember` unless all numbers in `stopped` and all first nodes are nodes of the group, and the callers have at most
-/// 256 ports; else `Stopped` where a number is in `stopped` twice.
+/// Errors: `NotMember` unless all numbers in `stopped` and all first nodes are nodes of the group, and the callers have
+/// at most 256 ports. Otherwise `Stopped` if a number is in `stopped` twice.
 ///
 /// Rules: The book and the threads 28; Refusals 1 and 4
 pub(crate) fn check_arguments<C: Caller>(
@@ -36,7 +39,9 @@ pub(crate) fn check_arguments<C: Caller>(
     check_distinct(stopped)
 }
 
-/// Refuses with `NotMember` where this number of callers would have more than 256 ports.
+/// Checks how many ports this number of callers has.
+///
+/// Errors: `NotMember` if they are more than 256.
 fn check_ports(group: Fixed, callers: usize) -> Result<(), Fault>
     ensures ok { OnOk result (callers * group.count ≤ 256) }
     ensures err { OnErr result (¬ (callers * group.count ≤ 256)) }
@@ -48,7 +53,9 @@ fn check_ports(group: Fixed, callers: usize) -> Result<(), Fault>
     Ok(())
 }
 
-/// Refuses with `NotMember` unless these are numbers of the group's nodes.
+/// Checks that these are numbers of the group's nodes.
+///
+/// Errors: `NotMember` if one isn't.
 fn check_numbers(group: Fixed, numbers: &[u8]) -> Result<(), Fault>
     ensures ok { OnOk result (All (IsNode group.count) numbers.now) }
     ensures err { OnErr result (¬ All (IsNode group.count) numbers.now) }
@@ -60,7 +67,9 @@ fn check_numbers(group: Fixed, numbers: &[u8]) -> Result<(), Fault>
     Ok(())
 }
 
-/// Refuses with `NotMember` unless each caller's first node is one of the group's.
+/// Checks that each caller's first node is one of the group's.
+///
+/// Errors: `NotMember` if one isn't.
 fn check_first_nodes<C: Caller>(group: Fixed, callers: &[C]) -> Result<(), Fault>
     ensures ok { OnOk result (All (λ caller. IsNode group.count (C.first caller)) callers.now) }
     ensures err { OnErr result (¬ All (λ caller. IsNode group.count (C.first caller)) callers.now) }
@@ -72,7 +81,9 @@ fn check_first_nodes<C: Caller>(group: Fixed, callers: &[C]) -> Result<(), Fault
     Ok(())
 }
 
-/// Refuses with `Stopped` where a number is in the list twice.
+/// Checks that no number is in the list twice.
+///
+/// Errors: `Stopped` if one is.
 fn check_distinct(numbers: &[u8]) -> Result<(), Fault>
     ensures ok { OnOk result (AreDistinct numbers.now) }
     ensures err { OnErr result (¬ AreDistinct numbers.now) }

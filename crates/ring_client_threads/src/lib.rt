@@ -1,7 +1,7 @@
-//! Runs the nodes of a group on threads, and clients on threads that call them.
+//! The nodes of a group on threads, with clients on threads that call them.
 //!
-//! [`run_callers`] runs each node and each client on a thread of its own. A [`Caller`] says what a client does. The result is
-//! [`ClientCalls`]: the one order of the clients' calls, and its history.
+//! [`run_callers`] runs each node and each client on a thread of its own. A [`Caller`] defines what a client does. The
+//! result is [`ClientCalls`]: the one order of the clients' calls, and its history.
 //!
 //! Rules: The book and the threads 28
 #![tactic(auto)]

@@ -1,4 +1,4 @@
-//! Runs a group's nodes on threads, and the clients that call them.
+//! Running a group's nodes on threads, with the clients that call them.
 //!
 //! Rules: The book and the threads 28
 
@@ -19,17 +19,20 @@ use std::sync::Wait;
 use std::thread;
 use std::thread::Threads;
 
-/// Runs the nodes of a group and these callers, each on a thread of its own, until the last caller has ended. Returns the calls
-/// of all clients. What each caller has kept can be read then; the nodes have ended, and no thread is left.
+/// Runs the nodes of a group and the callers, each on a thread of its own, and returns the calls of all clients.
 ///
-/// Client 1 is the first caller, client 2 the second, and so on. The nodes numbered in `stopped` are stopped before the first
-/// turn. Nodes that have nothing to do rest. Once the book's 262,144 places are used up, no call is answered any more: later
-/// calls return `NoAnswer`.
+/// It returns once the last caller has ended. The nodes have then ended, no thread is left, and what each caller has
+/// kept can be read. Client 1 is the first caller, client 2 the second, and so on. The nodes numbered in `stopped` are
+/// stopped before the first turn. Nodes that have nothing to do rest. Once the book's 262,144 places are used up, no
+/// call is answered any more: later calls return `NoAnswer`.
 ///
-/// Errors: `NotMember` where a number in `stopped` or a caller's first node isn't a node of the group, or the callers would have
-/// more than 256 ports; else `Stopped` where a number is in `stopped` twice; else `Memory`. After a refusal no caller has made a
-/// call, except after `Memory` for a thread, a client's ports or the result. `Memory` for a thread or a client's ports first
-/// stops all nodes for whose stops there is memory, and the callers that were started run to their end.
+/// Errors, in this order:
+/// - `NotMember` if a number in `stopped` or a caller's first node isn't a node of the group, or the callers would have
+///   more than 256 ports. No caller has then made a call.
+/// - `Stopped` if a number is in `stopped` twice. No caller has then made a call.
+/// - `Memory` if an allocation fails or a thread can't be started. No caller has then made a call, except if this
+///   concerns a thread, a client's ports or the result. For a thread or a client's ports, all nodes are first stopped
+///   as far as memory allows, and the callers that were started run to their end.
 ///
 /// Rules: The book and the threads 28; Refusals 4 and 5
 pub fn run_callers<O: Object + Send, C: Caller + Sync, W: Threads + Wait + Sync>(
@@ -50,7 +53,11 @@ where
     run_named::<O, Brand, C, W>(rt, alloc, opening, group.count(), stopped, callers)
 }
 
-/// Runs the nodes and callers at the opening that `K` names, with checked arguments. Only `Memory` refuses it.
+/// Runs the nodes and callers at the opening that `K` names.
+///
+/// The arguments must have been checked.
+///
+/// Errors: only `Memory`, if an allocation fails or a thread can't be started.
 fn run_named<
     O: Object + Send,
     K: BookName<O::Alloc> + Send + Sync,
@@ -80,8 +87,9 @@ where
     calls_of(rt, &host)
 }
 
-/// Stops the nodes of these numbers of a new host. None of them has stopped, and no place of the book is used, so a stop refuses
-/// only with `Memory`.
+/// Stops the nodes with these numbers, of a new host.
+///
+/// None of them has stopped, and no place of the book is used. So a stop can be refused only with `Memory`.
 fn stop_all<O: Object, K: BookName<O::Alloc>, W: Wait>(
     rt: &W,
     host: &Host<O, K>,
@@ -99,10 +107,12 @@ fn stop_all<O: Object, K: BookName<O::Alloc>, W: Wait>(
     Ok(())
 }
 
-/// Runs the nodes and the clients, each on a thread of its own, with the nodes under the gate. No thread is left when it returns.
+/// Runs the nodes and the clients, each on a thread of its own, with the nodes under the gate.
 ///
-/// Errors: `Memory` where a thread or a client can't be started. Nodes are then stopped as far as memory allows, and started
-/// threads end.
+/// No thread is left when it returns.
+///
+/// Errors: `Memory` if a thread or a client can't be started. Nodes are then stopped as far as memory allows, and
+/// started threads end.
 fn run_all<
     O: Object + Send,
     K: BookName<O::Alloc> + Send + Sync,
@@ -156,7 +166,7 @@ where
     Ok(())
 }
 
-/// Makes the calls of the client of this number, if it has seats, and counts it as ended.
+/// Makes the calls of client `number` if it has seats, and counts it as ended.
 fn call<O: Object, K: BookName<O::Alloc>, C: Caller, W: Wait>(
     rt: &W,
     alloc: O::Alloc,

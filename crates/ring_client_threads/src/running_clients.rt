@@ -6,7 +6,7 @@ use ring_object::Object;
 use std::sync::Wait;
 use std::sync::atomic::{AtomicBool, AtomicU64, Ordering};
 
-/// The number of clients that have not ended, with one more for the thread that starts them, and whether anything was refused.
+/// How many clients have not ended, plus one for the thread that starts them, and whether starting one failed.
 ///
 /// Rules: The book and the threads 28
 #[derive(Drop)]
@@ -16,7 +16,9 @@ pub(crate) struct RunningClients {
 }
 
 impl RunningClients {
-    /// Counts `clients` clients as running, and one more for the thread that starts them. Nothing was refused yet.
+    /// Counts `clients` clients as running, plus one for the thread that starts them.
+    ///
+    /// Nothing has failed yet.
     pub(crate) fn new(clients: usize) -> RunningClients {
         RunningClients {
             remaining: AtomicU64::new((clients as u64).saturating_add(1)),
@@ -24,16 +26,18 @@ impl RunningClients {
         }
     }
 
-    /// Counts a client, or the thread that starts them, as ended. The last to end closes the host, so that the nodes' threads
-    /// end.
+    /// Counts a client, or the thread that starts them, as ended.
+    ///
+    /// The last to end closes the host, so that the nodes' threads end.
     pub(crate) fn finish_client<O: Object, K: BookName<O::Alloc>>(&self, host: &Host<O, K>) {
         if self.remaining.fetch_sub(1, Ordering::SeqCst) == 1 {
             host.close();
         }
     }
 
-    /// Records a refusal. Stops all nodes for whose stops there is memory, so that clients don't try their calls for long, and
-    /// closes the host.
+    /// Records that a thread or a client couldn't be started, and closes the host.
+    ///
+    /// First stops all nodes, as far as memory allows, so that clients don't try their calls for long.
     pub(crate) fn fail<O: Object, K: BookName<O::Alloc>, W: Wait>(
         &self,
         rt: &W,
@@ -49,7 +53,7 @@ impl RunningClients {
         host.close();
     }
 
-    /// Returns whether `fail` was called: a thread or a client couldn't be started.
+    /// Returns whether `fail` was called, because a thread or a client couldn't be started.
     pub(crate) fn has_failed(&self) -> bool {
         self.has_failed.load(Ordering::SeqCst)
     }

@@ -1,4 +1,4 @@
--- The clock of a node: its timers, from the first time that is brought.
+-- The clock of a node: its timers, from the first time that is passed.
 -- Rules: A node with a clock 9
 use Rattle.std.specs.Prelude.{ℕ, Option, Some, None}
 use Rattle.std.specs.Option.{option_map}
@@ -13,7 +13,7 @@ pub record ClockView : Type 0 where
   pub periods : Periods
   pub timers : Option TimersView
 
--- a clock to which no time was brought
+-- a clock to which no time has been passed
 abbrev pub clock_opening : Periods → ClockView
 clock_opening periods = record { periods = periods; timers = None }
 
@@ -22,7 +22,7 @@ abbrev pub timers_or_opened : Option TimersView → Periods → ℕ → TimersVi
 timers_or_opened None periods now = timers_opened periods now
 timers_or_opened (Some timers) periods now = timers
 
--- the timers of a clock to which this time is brought
+-- the timers of a clock to which this time is passed
 abbrev pub timers_at : ClockView → ℕ → TimersView
 timers_at clock now = timers_or_opened clock.timers clock.periods now
 
@@ -30,11 +30,11 @@ timers_at clock now = timers_or_opened clock.timers clock.periods now
 abbrev pub first_due_at : ClockView → ℕ → Option Kind
 first_due_at clock now = first_due (timers_at clock now) now
 
--- the clock after this time was brought and this timeout taken, if there is one
+-- the clock after this time was passed and this timeout taken, if there is one
 abbrev pub clock_after_timeout : ClockView → ℕ → Option Kind → ClockView
 clock_after_timeout clock now taken = record clock { timers = Some (timers_after (timers_at clock now) (timeout_at now taken)) }
 
--- the timers after a step, which brings no time later than the latest one brought
+-- the timers after a step, which passes no later time than the latest one
 abbrev pub timers_after_step : StepOutcome → TimersView → TimersView
 timers_after_step outcome timers = timers_after timers (step_at 0 outcome)
 

@@ -1,7 +1,8 @@
-//! The clock of a node that a program drives: its timers, from the first time that the program brings, and the outcome of a step,
-//! as far as they depend on it.
+//! The clock of a node that a program drives.
 //!
-//! Nothing here waits, takes memory or refuses.
+//! It has the node's timers, from the first time that the program passes, and derives from each step what restarts
+//! them. Nothing here waits, allocates or fails.
+//!
 //! Rules: A node with a clock 5 and 9; Nodes that records drive 3
 #![tactic(auto)]
 

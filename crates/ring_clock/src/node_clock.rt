@@ -1,4 +1,5 @@
 //! The clock of a node.
+//!
 //! Rules: A node with a clock 9
 
 ghost use Rattle.std.specs.Prelude.{◌≡◌};
@@ -7,8 +8,10 @@ use ring_base::Kind;
 use ring_timers::{Periods, StepOutcome, Timers};
 use std::marker::Model;
 
-/// The clock of a node: the periods of its timeouts and, from the first time that is brought, its timers. A step brings no time:
-/// the latest one brought counts.
+/// The clock of a node: the periods of its timeouts and, once a time has been passed, its timers.
+///
+/// A step passes no time: it is noted at the latest one.
+///
 /// Rules: A node with a clock 9
 #[derive(Debug, Drop)]
 pub struct NodeClock {
@@ -27,7 +30,8 @@ impl Model for NodeClock {
 impl NodeClock {
     ghost use Rattle.ring_clock.specs.Clocks.{clock_opening, first_due_at, clock_after_timeout, clock_after_step, next_time_of};
 
-    /// Returns a clock with these periods to which no time was brought.
+    /// Creates a clock with these periods, before any time has been passed.
+    ///
     /// Rules: A node with a clock 9
     pub fn new(periods: Periods) -> NodeClock
         ensures { result ≡ clock_opening periods }
@@ -38,8 +42,11 @@ impl NodeClock {
         }
     }
 
-    /// Takes the first timeout that is due at this time, in milliseconds, or returns `None` if none is due. The first time that is
-    /// brought opens the timers.
+    /// Takes the first timeout that is due at time `now`, in milliseconds, or returns `None` if none is due.
+    ///
+    /// The first time that is passed opens the timers. An earlier time than the latest one is treated as the latest
+    /// one.
+    ///
     /// Rules: A node with a clock 2, 4 to 6 and 9
     pub fn next_due(&mut self, now: u64) -> Option<Kind>
         ensures due { result ≡ first_due_at self.old now }
@@ -54,7 +61,10 @@ impl NodeClock {
         due
     }
 
-    /// Notes a step of the node, at the latest time brought. Before the first time nothing changes.
+    /// Notes a step of the node, at the latest time passed.
+    ///
+    /// Does nothing before the first time.
+    ///
     /// Rules: A node with a clock 5 and 9
     pub fn note_step(&mut self, outcome: StepOutcome)
         ensures { self.new ≡ clock_after_step self.old outcome }
@@ -64,7 +74,10 @@ impl NodeClock {
         }
     }
 
-    /// Returns the earliest time at which a timeout is due, in milliseconds, or `None` if no time was brought.
+    /// Returns the earliest time at which a timeout is due, in milliseconds, or `None` before the first time is passed.
+    ///
+    /// It saturates at `u64::MAX`.
+    ///
     /// Rules: A node with a clock 7 and 9
     pub fn next_time(&self) -> Option<u64>
         ensures { result ≡ next_time_of self.now }

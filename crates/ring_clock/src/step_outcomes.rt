@@ -1,4 +1,5 @@
-//! The outcome of a step of a node, as far as its timers depend on it.
+//! What a node's timers need to know of a step, derived from its input and its frames.
+//!
 //! Rules: A node with a clock 5; Nodes that records drive 3
 
 ghost use Rattle.std.specs.Prelude.{◌≡◌};
@@ -12,7 +13,9 @@ use ring_timers::StepOutcome;
 use ring_wire::Frame;
 use std::alloc::Allocator;
 
-/// Returns the timeout that the input is, if it is one.
+/// Returns the kind of the timeout if the input is one, otherwise `None`.
+///
+/// Rules: A node with a clock 5
 pub fn timeout_in<A: Allocator + Copy>(input: &Input<A>) -> Option<Kind>
     ensures { result ≡ timeout_in input.now }
 {
@@ -23,6 +26,8 @@ pub fn timeout_in<A: Allocator + Copy>(input: &Input<A>) -> Option<Kind>
 }
 
 /// Returns whether the input is a token or a commit token.
+///
+/// Rules: A node with a clock 5
 pub fn is_token<A: Allocator + Copy>(input: &Input<A>) -> bool
     ensures { result ≡ is_token input.now }
 {
@@ -32,7 +37,10 @@ pub fn is_token<A: Allocator + Copy>(input: &Input<A>) -> bool
     }
 }
 
-/// Returns whether a step sent at least one frame. Of a step on a token, this is whether the node took the token.
+/// Returns whether a step sent at least one frame.
+///
+/// For a step on a token or a commit token, this is whether the node took it.
+///
 /// Rules: Nodes that records drive 3
 pub fn has_sent<A: Allocator + Copy>(sends: &[OutgoingFrame<A>]) -> bool
     ensures { result ≡ has_sent sends.now }
@@ -40,7 +48,10 @@ pub fn has_sent<A: Allocator + Copy>(sends: &[OutgoingFrame<A>]) -> bool
     !sends.is_empty()
 }
 
-/// Returns the outcome of a step, from its input ([`timeout_in`], [`is_token`]) and the frames that it sent.
+/// Returns what the timers need to know of a step with these `sends`.
+///
+/// `timeout` and `is_token` are those of its input: see [`timeout_in`] and [`is_token()`].
+///
 /// Rules: A node with a clock 5
 pub fn step_outcome<A: Allocator + Copy>(
     timeout: Option<Kind>,

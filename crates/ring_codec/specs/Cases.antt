@@ -1,4 +1,5 @@
--- Tagged values: a list of cases, each a tag, the format of the body after it, and the value made from that body.
+-- Tagged values as a list of cases: each case has a tag, the format of the body after it, and the value made from that
+-- body.
 -- Formats: Numbers and parts
 use Rattle.std.proofs.Common.{◌≡◌, ℕ, Bool, true, false, eqb, cond, List, [], ◌∷◌, Option, None, sym, subst, ◌∙◌, inl, inr}
 use Rattle.std.specs.Prelude.{◌==◌, if◌then◌else◌}
@@ -18,7 +19,7 @@ pub record Case (A : Type 0) : Type 1 where
 abbrev pub case : {A B : Type 0} → ℕ → Format B → (B → A) → Case A
 case {A} {B} tag body make = record { tag = tag; Body = B; body = body; make = make }
 
--- reads the body after the tag b
+-- reads the body after tag b
 abbrev pub cases_at : {A : Type 0} → List (Case A) → ℕ → List ℕ → Option (A × List ℕ)
 cases_at [] b bytes = None
 cases_at (c ∷ cs) b bytes = if b == c.tag then made_at c.make c.body.at bytes else cases_at cs b bytes
@@ -27,7 +28,7 @@ cases_at (c ∷ cs) b bytes = if b == c.tag then made_at c.make c.body.at bytes 
 abbrev pub tagged_cases_at : {A : Type 0} → List (Case A) → List ℕ → Option (A × List ℕ)
 tagged_cases_at cases bytes = tagged_at (cases_at cases) bytes
 
--- the value is made by the case of the tag b, from a body that fits
+-- the value is made by the case of tag b, from a body that fits
 abbrev pub IsMade : {A : Type 0} → List (Case A) → ℕ → A → Type 0
 IsMade [] b a = ⊥
 IsMade (c ∷ cs) b a = cond (b == c.tag) ((x : c.Body) × c.body.Fits x × (c.make x ≡ a)) (IsMade cs b a)
@@ -56,7 +57,7 @@ case_format {A} tag body Fits (c ∷ cs) b are made =
       | inr e ↦ subst P (sym e) (case_format tag body Fits cs b are.1 (λ a f t. subst (Q a) e (made a f t)))
     ]
 
--- The cases make values that fit, and each value that fits is made by the case of its tag.
+-- the cases make values that fit, and each value that fits is made by the case of its tag
 pub record HasTaggedCases {A : Type 0} (cases : List (Case A)) (tag : A → ℕ) (body : A → List ℕ) (Fits : A → Type 0) : Type 0 where
   pub each : AreCases tag body Fits cases
   pub made : (a : A) → Fits a → IsMade cases (tag a) a

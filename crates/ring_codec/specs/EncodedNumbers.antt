@@ -1,4 +1,4 @@
--- Numbers of eight bytes each, one after the other.
+-- Numbers of eight bytes each, encoded one after the other.
 -- Formats: Numbers and parts
 use Rattle.std.specs.Prelude.{ℕ, zero, suc, List, [], ◌∷◌, drop}
 use Rattle.byteorder.specs.Endian.{big_number}

@@ -86,7 +86,7 @@ sized a short = record {
 
 -- ---- values made of fields
 
--- The values that fit are just those made of fields that fit, and are encoded as these.
+-- the values that fit are exactly those made of fields that fit, and are encoded as these
 pub record IsMadeOfFields {A B : Type 0} (fields : Format A) (make : A → B) (encoding : B → List ℕ) (Fits : B → Type 0) : Type 0 where
   pub encoded : (a : A) → fields.Fits a → encoding (make a) ≡ fields.encoding a
   pub fits : (a : A) → fields.Fits a → Fits (make a)
@@ -98,7 +98,7 @@ pub fields_format : {A B : Type 0} (fields : Format A) (make : A → B) (encodin
 fields_format fields make encoding Fits told = made_format fields.encoding fields.Fits fields.at encoding Fits make
     (λ a f. (told.encoded a f, told.fits a f)) told.back fields.exact
 
--- The values that fit are just those made of fields that fit and pass the test, and are encoded as these.
+-- the values that fit are exactly those made of fields that fit and pass the test, and are encoded as these
 pub record IsMadeOfTestedFields {A B : Type 0} (fields : Format A) (make : A → B) (test : B → Bool) (encoding : B → List ℕ) (Fits : B → Type 0) : Type 0 where
   pub encoded : (a : A) → encoding (make a) ≡ fields.encoding a
   pub fits : (a : A) → fields.Fits a → test (make a) ≡ true → Fits (make a)

@@ -29,20 +29,20 @@ abbrev pub with_rest : {A : Type 0} → Option A → List ℕ → Option (A × L
 with_rest None rest = None
 with_rest (Some v) rest = Some (v, rest)
 
--- A call puts the value that is read into the place, and leaves the rest to read. A refusal leaves the place
--- unchanged.
+-- the call puts the value that it reads into the place, and leaves the rest to read; a refusal leaves the place
+-- unchanged
 abbrev pub IsReadIntoPlace : {U A : Type 0} → Result U Fault → Option A → Option A → List ℕ → Option (A × List ℕ) → Type 0
 IsReadIntoPlace (Ok u) old new rest read = (read ≡ with_rest new rest) × IsSome new
 IsReadIntoPlace (Err e) old new rest read = (new ≡ old) × IsReadRefusal e read
 
--- two encodings at the front of the same bytes are of the same value, and leave the same rest
+-- if two encodings begin the same bytes, they are of the same value and leave the same rest
 pub same_prefix : {A : Type 0} {encoding : A → List ℕ} {Fits : A → Type 0} {at : List ℕ → Option (A × List ℕ)} → IsFormat encoding Fits at
     → (v w : A) (x y : List ℕ) → Fits v → Fits w → encoding v ++ x ≡ encoding w ++ y → (v ≡ w) × (x ≡ y)
 same_prefix {A} {encoding} {Fits} {at} p v w x y f g e =
     let h = some_is (v, x) (w, y) (sym (p.again v x f) ∙ ap at e ∙ p.again w y g) in
     (ap (λ (q : A × List ℕ). q.0) h, ap (λ (q : A × List ℕ). q.1) h)
 
--- the value read is encoded by just the bytes before the rest
+-- the encoding of the value read is exactly the bytes before the rest
 pub is_encoded_prefix : {A : Type 0} {encoding : A → List ℕ} {Fits : A → Type 0} {at : List ℕ → Option (A × List ℕ)} → IsFormat encoding Fits at
     → (bytes : List ℕ) (v : A) (rest : List ℕ) → IsBytes bytes → at bytes ≡ Some (v, rest)
     → (length rest ≤ length bytes) × IsEncodedPrefix encoding Fits bytes v (length bytes - length rest)
@@ -52,7 +52,7 @@ is_encoded_prefix {A} {encoding} {Fits} {at} p bytes v rest fits e =
     let n : length (encoding v) ≡ length bytes - length rest = omega arith in
     (omega arith, record { fits = t.1; within = omega arith; front = rw (← n, t.0.parts) (take_at (encoding v) rest (length (encoding v)) refl) })
 
--- if all bytes are an encoding, any encoding at their front is all of them
+-- if all bytes are an encoding, an encoding that begins them is all of them
 pub is_whole : {A : Type 0} {encoding : A → List ℕ} {Fits : A → Type 0} {at : List ℕ → Option (A × List ℕ)} → IsFormat encoding Fits at
     → (bytes : List ℕ) (v : A) (n : ℕ) (w : A) → IsEncodedPrefix encoding Fits bytes v n → Fits w → bytes ≡ encoding w → n ≡ length bytes
 is_whole {A} {encoding} {Fits} {at} p bytes v n w g f e =
@@ -65,26 +65,26 @@ is_whole {A} {encoding} {Fits} {at} p bytes v n w g f e =
 none_some : {A : Type 0} (x : A) → None ≡ Some x → ⊥
 none_some x e = cc
 
--- if an encoding is at the front, its value is read
+-- if an encoding begins the bytes, its value is read
 pub read_is : {A : Type 0} {encoding : A → List ℕ} {Fits : A → Type 0} {at : List ℕ → Option (A × List ℕ)} → IsFormat encoding Fits at
     → (bytes : List ℕ) (v : A) (rest : List ℕ) → Fits v → bytes ≡ encoding v ++ rest → at bytes ≡ Some (v, rest)
 read_is {A} {encoding} {Fits} {at} p bytes v rest f e = ap at e ∙ p.again v rest f
 
--- if a reading is refused with `BadFrame`, no encoding is at the front
+-- if a reading is refused with `BadFrame`, no encoding begins the bytes
 pub refused_prefix : {A : Type 0} {encoding : A → List ℕ} {Fits : A → Type 0} {at : List ℕ → Option (A × List ℕ)} → IsFormat encoding Fits at
     → (bytes : List ℕ) (e : Fault) → IsReadRefusal e (at bytes) → e ≡ BadFrame → HasNoEncodedPrefix encoding Fits bytes
 refused_prefix {A} {encoding} {Fits} {at} p bytes e refuses bad v rest f is =
     let none : at bytes ≡ None = subst (λ (g : Fault). IsReadRefusal g (at bytes)) bad refuses in
     none_some (v, rest) (sym none ∙ read_is p bytes v rest f is)
 
--- the value put into a place is encoded by just the bytes before the rest
+-- the encoding of the value put into a place is exactly the bytes before the rest
 pub placed_prefix : {A : Type 0} {encoding : A → List ℕ} {Fits : A → Type 0} {at : List ℕ → Option (A × List ℕ)} → IsFormat encoding Fits at
     → (bytes : List ℕ) (place : Option A) (rest : List ℕ) → IsBytes bytes → at bytes ≡ with_rest place rest → IsSome place
     → (length rest ≤ length bytes) × IfSome place (λ v. IsEncodedPrefix encoding Fits bytes v (length bytes - length rest))
 placed_prefix p bytes None rest fits e some = absurd (let no : false ≡ true = some in cc)
 placed_prefix p bytes (Some v) rest fits e some = is_encoded_prefix p bytes v rest fits e
 
--- if a value can be read, only `Memory` refuses it
+-- if a value can be read, the only refusal is `Memory`
 pub only_memory : {A : Type 0} (e : Fault) (r : Option A) (x : A) → r ≡ Some x → IsReadRefusal e r → e ≡ Memory
 only_memory Memory r x s h = refl
 only_memory BadFrame r x s h = absurd (none_some x (sym h ∙ s))
@@ -102,7 +102,7 @@ only_memory BadScript r x s h = absurd h
 only_memory NoAnswer r x s h = absurd h
 only_memory BadSnapshot r x s h = absurd h
 
--- if an encoding is at the front, exactly its value and its bytes are read, or `Memory` refuses
+-- if an encoding begins the bytes, exactly its value and its bytes are read, or `Memory` refuses
 pub only_it : {A : Type 0} {encoding : A → List ℕ} {Fits : A → Type 0} {at : List ℕ → Option (A × List ℕ)} → IsFormat encoding Fits at
     → (bytes : List ℕ) (w : A) (left : List ℕ) (v : A) (rest : List ℕ) → at bytes ≡ Some (w, left) → Fits v
     → bytes ≡ encoding v ++ rest → (w ≡ v) × (length bytes - length left ≡ length (encoding v))

@@ -16,15 +16,15 @@ use Rattle.ring_codec.specs.Formats.{Format, byte, such, fields_format}
 abbrev pub proc_encoding : ℕ → List ℕ
 proc_encoding n = n ∷ []
 
--- whether the number is a processor's, as a test
+-- whether the number is a processor, 1 to 16, as a test
 abbrev pub is_proc : ℕ → Bool
 is_proc n = nat_le 1 n && nat_le n max_processors
 
--- a number that passes the test is a processor's
+-- a number that passes the test is a processor
 is_proc-true : (n : ℕ) → is_proc n ≡ true → IsProc n
 is_proc-true n h = grind (arith, nat_tests)
 
--- a processor's number passes the test
+-- a processor passes the test
 true-is_proc : (n : ℕ) → IsProc n → is_proc n ≡ true
 true-is_proc n h = grind (arith, nat_tests)
 
@@ -42,19 +42,19 @@ proc_format = such_format proc_encoding (λ n. n < 256) IsProc byte_at is_proc (
 abbrev pub proc : Format ℕ
 proc = record { encoding = proc_encoding; Fits = IsProc; at = proc_at; exact = proc_format }
 
--- ---- a processor or none: one byte, 0 where there is none
+-- ---- a processor or none: one byte, 0 for none
 
 -- the encoding of a processor or none: one byte
 abbrev pub some_proc_encoding : Option ℕ → List ℕ
 some_proc_encoding None = 0 ∷ []
 some_proc_encoding (Some n) = n ∷ []
 
--- it is a processor or none
+-- the limits of a processor or none
 abbrev pub SomeProcFits : Option ℕ → Type 0
 SomeProcFits None = Unit {0}
 SomeProcFits (Some n) = IsProc n
 
--- the processor of this number, or none for 0
+-- the processor with the number, or none for 0
 abbrev some_proc_of : ℕ → Option ℕ
 some_proc_of n = if n == 0 then None else Some n
 

@@ -19,7 +19,7 @@ pub record IsSplitAfter (bytes text rest : List ℕ) : Type 0 where
   pub parts : bytes ≡ text ++ rest
   pub rest_fits : IsBytes rest
 
--- Reading is exact: it gives a value that fits where its encoding is at the front, and nothing elsewhere.
+-- reading is exact: it gives a value that fits if the bytes begin with its encoding, and nothing otherwise
 pub record IsFormat {A : Type 0} (encoding : A → List ℕ) (Fits : A → Type 0) (at : List ℕ → Option (A × List ℕ)) : Type 0 where
   pub takes : (bytes : List ℕ) (x : A × List ℕ) → IsBytes bytes → at bytes ≡ Some x → IsSplitAfter bytes (encoding x.0) x.1 × Fits x.0
   pub again : (v : A) (rest : List ℕ) → Fits v → at (encoding v ++ rest) ≡ Some (v, rest)
@@ -32,17 +32,17 @@ IsReadRefusal Memory read = Unit {0}
 IsReadRefusal BadFrame read = read ≡ None
 IsReadRefusal _ read = ⊥
 
--- the call returned what the reading gives, seen by `view`, and left its rest, unless memory ran out
+-- the call returned what the reading gives, seen by `view`, and left its rest, or it refused as `IsReadRefusal` allows
 abbrev pub IsReadResultBy : {X Y : Type 0} → (X → Y) → Result X Fault → List ℕ → Option (Y × List ℕ) → Type 0
 IsReadResultBy view (Ok x) rest read = read ≡ Some (view x, rest)
 IsReadResultBy view (Err e) rest read = IsReadRefusal e read
 
--- the call returned what the reading gives, and left its rest, unless memory ran out
+-- the call returned what the reading gives, and left its rest, or it refused as `IsReadRefusal` allows
 abbrev pub IsReadResult : {X : Type 0} → Result X Fault → List ℕ → Option (X × List ℕ) → Type 0
 IsReadResult (Ok x) rest read = read ≡ Some (x, rest)
 IsReadResult (Err e) rest read = IsReadRefusal e read
 
--- the call appended the text, in the room that there was
+-- the call appended the text, for which there was room
 pub record Appends (old new : Filled) (text : List ℕ) : Type 0 where
   pub items : new.items ≡ old.items ++ text
   pub room : old.spare ≤ new.spare + length text
@@ -100,7 +100,7 @@ then_at first second bytes = do
   y ← second x.0 x.1
   Some ((x.0, y.0), y.1)
 
--- reads a value that passes a test
+-- reads a value, which must pass a test
 abbrev pub such_at : {A : Type 0} → (A → Bool) → (List ℕ → Option (A × List ℕ)) → List ℕ → Option (A × List ℕ)
 such_at test at bytes = do
   x ← at bytes

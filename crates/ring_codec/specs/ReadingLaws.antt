@@ -1,4 +1,4 @@
--- Combinations of exact readings are exact.
+-- Laws of exact readings: combinations of exact readings are exact.
 use Rattle.std.proofs.Common.{◌≡◌, ℕ, zero, suc, ◌^◌, ◌<◌, ◌≤◌, Bool, true, false, cond, ltb, eqb, List, [], ◌∷◌, ◌++◌}
 use Rattle.std.proofs.Common.{length, take, drop, Option, Some, None, refl, sym, ap, subst, ◌∙◌, append_assoc, arith}
 use Rattle.std.proofs.Common.{inl, inr}
@@ -11,7 +11,7 @@ use Rattle.ring_codec.specs.Reading.{◌>>=◌, IsBytes, IsSplitAfter, IsFormat,
 use Rattle.ring_codec.specs.Reading.{then_at, such_at, made_at, tagged_at, sized_at, sized_with, empty_at}
 use Rattle.ring_codec.specs.NumberFormats.{IsBytes-drop, IsBytes-take, guard_some, number_format4}
 
--- two steps that gave a value: the first gave one, and the second made it from that
+-- if two steps gave a value, the first gave one, and the second made the value from that
 pub bind_some : {A B : Type 0} (r : Option A) (f : A → Option B) (y : B) → (r >>= f) ≡ Some y → (x : A) × (r ≡ Some x) × (f x ≡ Some y)
 bind_some (Some x) f y e = (x, refl, e)
 bind_some None f y e = absurd cc
@@ -19,20 +19,20 @@ bind_some None f y e = absurd cc
 abbrev some : {A : Type 0} → A → Option A
 some x = Some x
 
--- equal options that are values have equal values
+-- options that are equal and have values have equal values
 pub some_is : {A : Type 0} (x y : A) → some x ≡ some y → x ≡ y
 some_is x y e = cc
 
--- a test that let a value through holds
+-- if a test let a value through, it is true
 pub passed_some : {A : Type 0} (b : Bool) (x y : A) → cond b (Some x) None ≡ Some y → (b ≡ true) × (x ≡ y)
 passed_some true x y e = (refl, cc)
 passed_some false x y e = absurd cc
 
--- two splits, one after the other, are a split after both texts
+-- two splits in sequence are a split after both texts
 pub IsSplitAfter-then : (a x b y c : List ℕ) → IsSplitAfter a x b → IsSplitAfter b y c → IsSplitAfter a (x ++ y) c
 IsSplitAfter-then a x b y c p q = record { parts = p.parts ∙ ap (λ (t : List ℕ). x ++ t) q.parts ∙ sym (append_assoc x y c); rest_fits = q.rest_fits }
 
--- n bytes as they are are read exactly
+-- reading n bytes unchanged is exact
 pub text_format : (n : ℕ) → IsFormat (λ t. t) (λ t. length t ≡ n) (text_at n)
 text_format n = record {
   takes = λ bytes x fits e.
@@ -58,7 +58,7 @@ nothing_format s F none = record {
   again = λ v rest f. absurd (none v f);
 }
 
--- one value, then another that may depend on it
+-- reading one value, then another that may depend on it, is exact
 pub then_format : {A B : Type 0} (sa : A → List ℕ) (FA : A → Type 0) (ra : List ℕ → Option (A × List ℕ))
     (sb : A → B → List ℕ) (FB : A → B → Type 0) (rb : A → List ℕ → Option (B × List ℕ))
     → IsFormat sa FA ra → ((a : A) → FA a → IsFormat (sb a) (FB a) (rb a)) → IsFormat (λ p. sa p.0 ++ sb p.0 p.1) (λ p. FA p.0 × FB p.0 p.1) (then_at ra rb)
@@ -76,7 +76,7 @@ then_format {A} {B} sa FA ra sb FB rb p q = record {
       rw (e, p.again v.0 (sb v.0 v.1 ++ rest) f.0, (q v.0 f.0).again v.1 rest f.1) refl;
 }
 
--- values that pass a test, if just these fit
+-- reading a value that passes a test is exact, if exactly the values that pass fit
 pub such_format : {A : Type 0} (s : A → List ℕ) (F G : A → Type 0) (at : List ℕ → Option (A × List ℕ)) (test : A → Bool)
     → ((a : A) → F a → test a ≡ true → G a) → ((a : A) → G a → F a × (test a ≡ true)) → IsFormat s F at → IsFormat s G (such_at test at)
 such_format {A} s F G at test to from p = record {
@@ -91,7 +91,7 @@ such_format {A} s F G at test to from p = record {
       rw (p.again v rest f.0, f.1) refl;
 }
 
--- values made of others, if they are encoded like these and all values that fit are made so
+-- reading a value made of another is exact, if it is encoded like the other and all values that fit are made so
 pub made_format : {A B : Type 0} (sa : A → List ℕ) (FA : A → Type 0) (at : List ℕ → Option (A × List ℕ)) (sb : B → List ℕ) (FB : B → Type 0) (make : A → B)
     → ((a : A) → FA a → (sb (make a) ≡ sa a) × FB (make a)) → ((b : B) → FB b → (a : A) × FA a × (make a ≡ b))
     → IsFormat sa FA at → IsFormat sb FB (made_at make at)
@@ -119,7 +119,7 @@ take_tagged tag s F at p (b ∷ bytes) x fits e =
     let t = (p b).takes bytes x (λ i. fits (suc i)) e in
     (record { parts = rw t.1.1 (ap (λ (w : List ℕ). b ∷ w) t.0.parts); rest_fits = t.0.rest_fits }, t.1.0)
 
--- a tag and the body after it, if the body is read exactly under each tag
+-- reading a tag and the body after it is exact, if the body is read exactly for each tag
 pub tagged_format : {A : Type 0} (tag : A → ℕ) (s : A → List ℕ) (F : A → Type 0) (at : ℕ → List ℕ → Option (A × List ℕ))
     → ((b : ℕ) → IsFormat s (λ a. F a × (tag a ≡ b)) (at b)) → IsFormat (λ a. tag a ∷ s a) F (tagged_at at)
 tagged_format {A} tag s F at p = record { takes = take_tagged tag s F at p; again = λ v rest f. (p (tag v)).again v rest (f, refl) }
@@ -151,7 +151,7 @@ again_times s F at p (x ∷ xs) rest fits =
     (flat_map-cons s x xs) ∙ append_assoc (s x) (flat_map s xs) rest in
     ap (times_at (suc (length xs)) at) regrouped ∙ rw (p.again x (flat_map s xs ++ rest) fits.0, again_times s F at p xs rest fits.1) refl
 
--- n values, one after the other
+-- reading n values in sequence is exact
 pub times_format : {A : Type 0} (s : A → List ℕ) (F : A → Type 0) (at : List ℕ → Option (A × List ℕ)) → IsFormat s F at
     → (n : ℕ) → IsFormat (flat_map s) (λ xs. (length xs ≡ n) × AllByRecursion F xs) (times_at n at)
 times_format {A} s F at p n = record {
@@ -159,7 +159,7 @@ times_format {A} s F at p n = record {
   again = λ v rest f. subst (λ (k : ℕ). times_at k at (flat_map s v ++ rest) ≡ Some (v, rest)) f.0 (again_times s F at p v rest f.1);
 }
 
--- a length, and a value of that length
+-- reading a length, then a value of that length, is exact
 sized_by : {A : Type 0} (sn : ℕ → List ℕ) (FN : ℕ → Type 0) (rn : List ℕ → Option (ℕ × List ℕ)) (s : A → List ℕ)
     (F : A → Type 0) (at : List ℕ → Option (A × List ℕ)) → IsFormat sn FN rn → ((a : A) → F a → FN (length (s a)))
     → IsFormat s F at
@@ -185,13 +185,13 @@ sized_by {A} sn FN rn s F at q short p = record {
       rw (e, q.again (length (s v)) (s v ++ rest) (short v f), (text_format (length (s v))).again (s v) rest refl, whole) refl;
 }
 
--- a value prefixed by its length in 4 bytes, if all values that fit are short enough
+-- reading a value prefixed by its length in 4 bytes is exact, if all values that fit are short enough
 pub sized_format : {A : Type 0} (s : A → List ℕ) (F : A → Type 0) (at : List ℕ → Option (A × List ℕ))
     → ((a : A) → F a → length (s a) < 256 ^ 4) → IsFormat s F at
     → IsFormat (λ a. big_bytes 4 (length (s a)) ++ s a) F (sized_at at)
 sized_format s F at short p = sized_by (λ v. big_bytes 4 v) (IsWord 4) (number_at 4) s F at number_format4 short p
 
--- the value of no bytes
+-- reading the value of no bytes is exact
 pub empty_format : IsFormat (λ (u : Unit {0}). []) (λ u. Unit {0}) (empty_at tt)
 empty_format = record {
   takes = λ bytes x fits e. (

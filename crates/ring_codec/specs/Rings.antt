@@ -32,7 +32,7 @@ pub record RingFits (r : RingId) : Type 0 where
   pub seq : r.seq ≤ max_number
   pub rep : IsProc r.rep
 
--- the ring of this number and representative
+-- the ring with this number and representative
 abbrev ring_of : ℕ × ℕ → RingId
 ring_of p = record { seq = p.0; rep = p.1 }
 
@@ -69,11 +69,11 @@ abbrev pub SomeRingFits : Option RingId → Type 0
 SomeRingFits None = Unit {0}
 SomeRingFits (Some r) = RingFits r × (1 ≤ r.seq)
 
--- whether number and representative are those of no ring: both 0
+-- whether the number and the representative encode none: both are 0
 abbrev is_none_pair : ℕ × ℕ → Bool
 is_none_pair p = (p.0 == 0) && (p.1 == 0)
 
--- whether number and representative are those of a ring of number at least 1
+-- whether the number and the representative are those of a ring of number at least 1
 abbrev is_ring_pair : ℕ × ℕ → Bool
 is_ring_pair p = nat_le 1 p.0 && (nat_le p.0 max_number && (nat_le 1 p.1 && nat_le p.1 max_processors))
 

@@ -1,4 +1,5 @@
 //! Arrays of bytes, encoded as they are.
+//!
 //! Formats: Numbers and parts
 
 ghost use Rattle.std.specs.Prelude.{◌≡◌, ℕ, ◌+◌, ◌^◌, ◌<◌, ◌≤◌, List, [], ◌∷◌, ◌++◌, length};

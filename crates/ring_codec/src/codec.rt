@@ -1,7 +1,8 @@
-//! How a value is encoded and decoded: encoded whole where there is room, decoded from the front of bytes.
+//! The traits of values that are encoded into a buffer with room for them, and decoded from the front of bytes.
 //!
-//! A type states its encoding, the limits of its values and how they are read. Its law `format` proves that the
-//! reading is exact.
+//! A type states its encoding, the limits of its values and how they are read. Its law `format` proves that reading is
+//! exact.
+//!
 //! Formats: Numbers and parts; Frames
 
 ghost use Rattle.std.specs.Prelude.{◌≡◌, ℕ, ◌+◌, ◌^◌, ◌<◌, ◌≤◌, List, ◌++◌, length, Option};
@@ -12,23 +13,31 @@ use bytes::BytesMut;
 use ring_base::Fault;
 use std::alloc::Allocator;
 
-/// A type whose values have exactly one encoding each, a list of bytes. The law `format` proves that reading is exact.
+/// A type whose values have exactly one encoding each, a list of bytes.
+///
+/// The law `format` proves that reading is exact.
+///
 /// Formats: Numbers and parts; Frames
 pub trait Encode: Sized {
     /// The value's encoding: a list of bytes.
     ghost encoding: { Self → List ℕ };
 
-    /// The greatest length of an encoding of this type, in bytes.
+    /// The maximum length of an encoding of this type, in bytes.
     ghost most: { ℕ };
 
-    /// Holds of the values that keep the limits of their format. Only these are written.
+    /// True of the values that are within the limits of their format.
+    ///
+    /// Only these are written.
     ghost fits: { Self → Type 0 };
 
-    /// Reads from the front of bytes: the value there with the bytes after it, or nothing where no encoding begins the
-    /// bytes.
+    /// Reads from the front of bytes: returns the value there with the bytes after it, or nothing if no encoding begins
+    /// the bytes.
     ghost at: { List ℕ → Option (Self × List ℕ) };
 
-    /// Returns the length of the value's encoding in bytes. That the value keeps its limits is the caller's condition.
+    /// Returns the length of the value's encoding in bytes.
+    ///
+    /// The value must be within the limits of its format.
+    ///
     /// Formats: Numbers and parts; Frames
     fn size(&self) -> usize
         requires { fits self.now }
@@ -36,26 +45,33 @@ pub trait Encode: Sized {
         ensures small { result ≤ most };
 
     /// Appends the value's encoding to `out`, and changes nothing before it.
-    /// That the value keeps its limits and that `out` has room for the encoding is the caller's condition. So the call
-    /// takes no memory.
+    ///
+    /// The value must be within the limits of its format, and `out` must have room for the encoding. Does not allocate.
+    ///
     /// Formats: Numbers and parts; Frames
     fn write<B: Allocator + Copy>(&self, out: &mut BytesMut<B>)
         requires fits { fits self.now }
         requires room { length (encoding self.now) ≤ out.old.spare }
         ensures { Appends out.old out.new (encoding self.now) };
 
-    /// States that reading is exact: where the encoding of a value that keeps the limits begins the bytes, `at` gives
-    /// that value. Elsewhere it gives nothing.
+    /// States that reading is exact: if the bytes begin with the encoding of a value within the limits, `at` returns
+    /// that value.
+    ///
+    /// Otherwise it returns nothing.
     ghost format: { IsFormat encoding fits at };
 }
 
-/// A type whose values are decoded from the front of bytes, into memory of the allocator.
+/// A type whose values are decoded from the front of bytes, into memory of the given allocator.
+///
 /// Formats: Numbers and parts; Frames
 pub trait Decode<A: Allocator + Copy>: Encode {
     /// Decodes the value at the front of `from`, and moves `from` past its encoding.
-    /// A decoded value keeps the limits of its format.
-    /// Errors: `BadFrame`, only if no value's encoding begins `from`; `Memory`, in either case. How much is then left
-    /// to read is unspecified.
+    ///
+    /// The decoded value is within the limits of its format.
+    ///
+    /// Errors: `BadFrame`, only if no value's encoding begins `from`. `Memory` if an allocation fails, even if the
+    /// bytes would turn out to be invalid. What is then left to read is unspecified.
+    ///
     /// Formats: Numbers and parts; Frames
     fn read(alloc: A, from: &mut Reader<'_>) -> Result<Self, Fault>
         ensures { IsReadResult result from.new (Self.at from.old) };

@@ -1,8 +1,9 @@
-//! How values are encoded in bytes: numbers, processors, sets, rings, counted lists, length-prefixed values. Every
-//! value has exactly one encoding.
-//! [`Encode`] writes a value whole where there is room for it; [`Decode`] reads it from the front of bytes. [`Wire`]
-//! does the same with bytes that grow: it appends the encoding or refuses, and reads a value with the length of its
-//! encoding.
+//! How values are encoded in bytes: numbers, processors, sets, rings, counted lists, length-prefixed values.
+//!
+//! Every value has exactly one encoding. [`Encode`] writes a value into a buffer that has room for it; [`Decode`] reads
+//! it from the front of bytes. [`Wire`] does the same with a buffer that grows: it appends the encoding or refuses, and
+//! it reads a value together with the length of its encoding.
+//!
 //! Formats: Numbers and parts; Frames
 #![tactic(auto)]
 

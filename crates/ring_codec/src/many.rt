@@ -1,4 +1,4 @@
-//! Several values, one after the other.
+//! Lists of values, encoded one after the other.
 
 ghost use Rattle.std.specs.Prelude.{◌≡◌, ℕ, ◌+◌, ◌^◌, ◌<◌, ◌≤◌, List, [], ◌++◌, length, All};
 ghost use Rattle.std.specs.List.{flat_map};
@@ -12,9 +12,12 @@ use bytes::BytesMut;
 use ring_base::Fault;
 use std::alloc::Allocator;
 
-/// Appends the encodings of the values to `out`, in order, and nothing for an empty list.
-/// The number of values isn't written. That the values keep their limits and that `out` has room is the caller's
-/// condition. So the call takes no memory.
+/// Appends the encodings of `items` to `out`, in order, without their number.
+///
+/// The values must be within the limits of their format, and `out` must have room for all encodings. An empty list
+/// appends nothing. Does not allocate.
+///
+/// Formats: Numbers and parts
 pub fn write_many<T: Encode, B: Allocator + Copy>(items: &[T], out: &mut BytesMut<B>)
     requires fits { All T.fits items.now }
     requires room { length (flat_map T.encoding items.now) ≤ out.old.spare }
@@ -25,8 +28,11 @@ pub fn write_many<T: Encode, B: Allocator + Copy>(items: &[T], out: &mut BytesMu
     }
 }
 
-/// Returns the length of all the values' encodings together, in bytes.
-/// That the values keep their limits and that this length is at most 8,192 is the caller's condition.
+/// Returns the total length of the encodings of `items`, in bytes.
+///
+/// The values must be within the limits of their format, and the total must be at most 8,192.
+///
+/// Formats: Numbers and parts
 pub fn size_many<T: Encode>(items: &[T]) -> usize
     requires fits { All T.fits items.now }
     requires small { length (flat_map T.encoding items.now) ≤ max_frame_bytes }
@@ -40,8 +46,11 @@ pub fn size_many<T: Encode>(items: &[T]) -> usize
 }
 
 /// Decodes the `count` values at the front of `from` into a new vector, in order, and moves `from` past them.
-/// Errors: `BadFrame`, only if the encodings of `count` values don't begin `from`; `Memory`. How much is then left to
-/// read is unspecified.
+///
+/// Errors: `BadFrame`, only if `from` doesn't begin with the encodings of `count` values. `Memory` if an allocation
+/// fails. What is then left to read is unspecified.
+///
+/// Formats: Numbers and parts
 pub fn read_many<A: Allocator + Copy, T: Decode<A> + Drop>(
     alloc: A,
     count: usize,
@@ -58,9 +67,13 @@ pub fn read_many<A: Allocator + Copy, T: Decode<A> + Drop>(
 }
 
 /// Decodes the `count` values at the front of `from` into `place`, in order, and moves `from` past them.
-/// That `place` is empty and has room for `count` values is the caller's condition.
-/// Errors: `BadFrame`, only if the encodings of `count` values don't begin `from`; `Memory`. The content of `place`,
-/// and how much is left to read, are then unspecified.
+///
+/// `place` must be empty, and `count` must be at most its capacity `N`.
+///
+/// Errors: `BadFrame`, only if `from` doesn't begin with the encodings of `count` values. `Memory` if an allocation
+/// fails. The content of `place`, and what is left to read, are then unspecified.
+///
+/// Formats: Numbers and parts
 pub fn read_in_place<A: Allocator + Copy, T: Decode<A> + Drop, const N: usize>(
     alloc: A,
     count: usize,

@@ -1,4 +1,5 @@
 //! Numbers of 1, 2, 4 and 8 bytes, big-endian.
+//!
 //! Formats: Numbers and parts
 
 ghost use Rattle.std.specs.Prelude.{◌≡◌, ℕ, ◌+◌, ◌^◌, ◌<◌, ◌≤◌, List, [], ◌∷◌, ◌++◌, length, IsOk};

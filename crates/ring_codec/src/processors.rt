@@ -1,4 +1,5 @@
 //! How processors and sets of them are encoded: a processor as its number, a set as its word.
+//!
 //! Formats: Numbers and parts
 
 ghost use Rattle.std.specs.Prelude.{◌≡◌, ℕ, ◌+◌, ◌^◌, ◌<◌, ◌≤◌, List, [], ◌∷◌, ◌++◌, length};
@@ -46,6 +47,8 @@ impl<A: Allocator + Copy> Decode<A> for Proc {
 }
 
 /// Encoded in one byte: the processor's number, or 0 for `None`.
+///
+/// Formats: Frames
 impl Encode for Option<Proc> {
     ghost encoding = { some_proc_encoding };
 

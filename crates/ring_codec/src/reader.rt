@@ -1,4 +1,4 @@
-//! A reader of bytes, from the front.
+//! A reader that takes bytes from the front of a slice.
 
 ghost use Rattle.std.specs.Prelude.{◌≡◌, ℕ, ◌-◌, ◌≤◌, List, length, take, drop};
 ghost use Rattle.ring_codec.specs.Reading.{IsReadResultBy, text_at};
@@ -6,7 +6,9 @@ ghost use Rattle.ring_codec.specs.Reading.{IsReadResultBy, text_at};
 use ring_base::Fault;
 use std::marker::Model;
 
-/// A reader that takes bytes from the front of borrowed bytes. Contracts see the bytes that are left to read.
+/// A reader that takes bytes from the front of borrowed bytes.
+///
+/// Contracts see the bytes that are left to read.
 #[derive(Drop)]
 pub struct Reader<'a> {
     rest: &'a [u8],
@@ -19,7 +21,7 @@ impl<'a> Model for Reader<'a> {
 }
 
 impl<'a> Reader<'a> {
-    /// Returns a reader of these bytes, with all of them left to read.
+    /// Returns a reader of `bytes` that has all of them left to read.
     pub fn new(bytes: &'a [u8]) -> Reader<'a>
         ensures { result ≡ bytes.now }
     {
@@ -33,8 +35,9 @@ impl<'a> Reader<'a> {
         self.rest.len()
     }
 
-    /// Takes the next `count` bytes and returns them. They stay borrowed from the bytes that are read.
-    /// Errors: `BadFrame` if fewer than `count` bytes are left; the reader is then unchanged.
+    /// Takes the next `count` bytes and returns them, borrowed from the bytes that are read.
+    ///
+    /// Errors: `BadFrame` if fewer than `count` bytes are left. What is then left to read is unspecified.
     pub fn take(&mut self, count: usize) -> Result<&'a [u8], Fault>
         ensures { IsReadResultBy (λ x. x.now) result self.new (text_at count self.old) }
     {

@@ -1,5 +1,8 @@
-//! How the names of rings are encoded: the number, then the representative. Nine bytes 0 stand for `None`.
-//! Formats: Numbers and parts
+//! How the names of rings are encoded: the number, then the representative.
+//!
+//! Nine bytes 0 encode `None`.
+//!
+//! Formats: Numbers and parts; Payloads
 
 ghost use Rattle.std.specs.Prelude.{◌≡◌, ℕ, ◌+◌, ◌^◌, ◌<◌, ◌≤◌, List, [], ◌∷◌, ◌++◌, length};
 ghost use Rattle.ring_codec.specs.Reading.{Appends, IsReadResult};
@@ -45,6 +48,7 @@ impl<A: Allocator + Copy> Decode<A> for RingId {
 }
 
 /// Encoded in nine bytes: a ring of number at least 1, or nine bytes 0 for `None`.
+///
 /// Formats: Payloads
 impl Encode for Option<RingId> {
     ghost encoding = { some_ring_encoding };

@@ -1,4 +1,5 @@
-//! Length-prefixed values: the length is a number of four bytes.
+//! Values prefixed by their length in bytes, a big-endian `u32`.
+//!
 //! Formats: Frames
 
 ghost use Rattle.std.specs.Prelude.{◌≡◌, ℕ, ◌+◌, ◌^◌, ◌<◌, ◌≤◌, List, [], ◌∷◌, ◌++◌, length};
@@ -11,11 +12,14 @@ use bytes::BytesMut;
 use ring_base::Fault;
 use std::alloc::Allocator;
 
-/// Decodes a length of four bytes from the front of `from`, then a value that takes exactly that many bytes.
+/// Decodes a length in bytes, a big-endian `u32`, and then a value that takes exactly that many bytes.
+///
 /// Moves `from` past both.
-/// Errors: `BadFrame`, only if `from` doesn't begin with a length and a value of just that length; `Memory`. How much
-/// is then left to read is unspecified.
-/// Formats: Frames
+///
+/// Errors: `BadFrame`, only if `from` doesn't begin with a length and a value of exactly that length. `Memory` if an
+/// allocation fails. What is then left to read is unspecified.
+///
+/// Formats: Numbers and parts; Frames
 pub fn read_sized<A: Allocator + Copy, T: Decode<A> + Drop>(
     alloc: A,
     from: &mut Reader<'_>,
@@ -31,10 +35,12 @@ pub fn read_sized<A: Allocator + Copy, T: Decode<A> + Drop>(
     Ok(value)
 }
 
-/// Appends the length of the value's encoding to `out`, in four bytes, then the encoding.
-/// That the value keeps its limits and that `out` has room for both is the caller's condition. So the call takes no
-/// memory.
-/// Formats: Frames
+/// Appends the value's encoding to `out`, preceded by its length in bytes as a big-endian `u32`.
+///
+/// `value` must be within the limits of its format, the encodings of `T` must be shorter than 2^32 bytes, and `out`
+/// must have room for the length and the encoding. Does not allocate.
+///
+/// Formats: Numbers and parts; Frames
 pub fn write_sized<T: Encode, B: Allocator + Copy>(value: &T, out: &mut BytesMut<B>)
     requires fits { T.fits value.now }
     requires short { T.most < 2 ^ 32 }

@@ -1,4 +1,5 @@
-//! Values that are appended to bytes, and read from the front of bytes.
+//! Values that are appended to a growing buffer, and read from the front of bytes.
+//!
 //! Formats: Frames
 
 ghost use Rattle.std.specs.Prelude.{◌≡◌, ℕ, ◌+◌, ◌^◌, ◌<◌, ◌≤◌, List, ◌++◌, length, take, OnOk, OnErr, IfOk, IfErr, MatchResult};
@@ -13,17 +14,21 @@ use std::alloc::Allocator;
 
 /// `Wire`: a type with a wire format: each value has exactly one encoding, and no encoding is a proper prefix of
 /// another.
+///
 /// Formats: Frames
 pub trait Wire<A: Allocator + Copy>: Sized {
     /// The value's encoding: a list of bytes.
     ghost encoding: { Self → List ℕ };
 
-    /// Holds of the values that keep the limits of their format.
+    /// True of the values that are within the limits of their format.
     ghost fits: { Self → Type 0 };
 
     /// Appends the value's encoding to `out`, which grows as needed, and changes nothing before it.
-    /// That the value keeps its limits is the caller's condition.
-    /// Errors: `Memory`; `out` is then unchanged.
+    ///
+    /// The value must be within the limits of its format.
+    ///
+    /// Errors: `Memory` if an allocation fails; the content of `out` is then unchanged.
+    ///
     /// Formats: Frames
     fn put(&self, out: &mut BytesMut<A>) -> Result<(), Fault>
         requires { fits self.now }
@@ -31,9 +36,13 @@ pub trait Wire<A: Allocator + Copy>: Sized {
         ensures err { OnErr result (out.new.items ≡ out.old.items) }
         ensures memory { IfErr result (λ fault. fault ≡ Memory) };
 
-    /// Returns the one value whose encoding begins `src`, and the length of that encoding in bytes, whatever follows
-    /// it.
-    /// Errors: `BadFrame`, only if no encoding begins `src`; `Memory`, whether or not an encoding begins `src`.
+    /// Returns the one value whose encoding begins `src`, and the length of that encoding in bytes.
+    ///
+    /// More bytes may follow it.
+    ///
+    /// Errors: `BadFrame`, only if no encoding begins `src`. `Memory` if an allocation fails, even if the bytes would
+    /// turn out to be invalid.
+    ///
     /// Formats: Frames
     fn get(alloc: A, src: &[u8]) -> Result<(Self, usize), Fault>
         ensures found { IfOk result (λ got. IsEncodedPrefix encoding fits src.now got.0 got.1) }
@@ -43,7 +52,8 @@ pub trait Wire<A: Allocator + Copy>: Sized {
             (λ fault. fault ≡ Memory) }
         ensures faults { IfErr result IsReadFault };
 
-    /// States that no encoding is a prefix of another: two encodings that begin the same bytes are of the same value.
+    /// States that no encoding is a prefix of another: if two encodings begin the same bytes, they are of the same
+    /// value.
     ghost prefix_free: { (v w : Self) (x y : List ℕ) → fits v → fits w
         → encoding v ++ x ≡ encoding w ++ y → (v ≡ w) × (x ≡ y) };
 }

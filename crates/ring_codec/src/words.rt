@@ -1,4 +1,4 @@
-//! Numbers that are read where they are, in the bytes that encode them.
+//! Lists of numbers that are read in place, from the bytes that encode them.
 
 ghost use Rattle.std.specs.Prelude.{◌≡◌, ℕ, ◌<◌, ◌≤◌, List, length, slice_index, IfOk};
 ghost use Rattle.ring_codec.specs.Reading.{IsReadResult, number_at, times_at};
@@ -8,7 +8,10 @@ use byteorder::{BigEndian, ByteOrder};
 use ring_base::Fault;
 use std::marker::Model;
 
-/// A list of numbers of eight bytes each, big-endian, borrowed from the bytes that encode them. Contracts see the list.
+/// A list of numbers of eight bytes each, big-endian, borrowed from the bytes that encode them.
+///
+/// Contracts see the list.
+///
 /// Formats: Numbers and parts
 #[derive(Drop)]
 pub struct EncodedNumbers<'a> {
@@ -28,9 +31,12 @@ impl<'a> Model for EncodedNumbers<'a> {
 }
 
 impl<'a> EncodedNumbers<'a> {
-    /// Takes the `count` numbers at the front of `from`.
-    /// They stay borrowed from its bytes. That `count` is at most 1,024 is the caller's condition.
-    /// Errors: `BadFrame` if fewer than 8 * `count` bytes are left; `from` is then unchanged.
+    /// Takes the `count` numbers at the front of `from`, which stay borrowed from its bytes.
+    ///
+    /// `count` must be at most 1,024. Does not allocate.
+    ///
+    /// Errors: `BadFrame` if fewer than 8 * `count` bytes are left. What is then left to read is unspecified.
+    ///
     /// Formats: Numbers and parts
     pub fn read(count: usize, from: &mut Reader<'a>) -> Result<EncodedNumbers<'a>, Fault>
         requires { count ≤ 1024 }
@@ -48,7 +54,10 @@ impl<'a> EncodedNumbers<'a> {
         self.count
     }
 
-    /// Returns the number at `index`, counted from 0. That `index` is below the length is the caller's condition.
+    /// Returns the number at `index`, counted from 0.
+    ///
+    /// `index` must be below the length of the list.
+    ///
     /// Formats: Numbers and parts
     pub fn number(&self, index: usize) -> u64
         requires { index < length self.now }

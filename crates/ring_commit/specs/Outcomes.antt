@@ -14,7 +14,7 @@ use Rattle.ring_commit.specs.Rounds.{receiver, hop_with_entries, proposal, is_fi
 abbrev pub is_at : ℕ → CommitToken → Bool
 is_at me k = receiver k == me
 
--- The commit token 4: the proposal of a ring with this number, up to the greatest number.
+-- The commit token 4: the proposal of a ring with this number, if that is at most `MAX`.
 abbrev pub after_proposal : ℕ → ℕ → ℕ → CommitEntry → CommitOutcome
 after_proposal me number members own = if nat_le number max_number then Pass (proposal me number members own) else Ignored
 
@@ -26,6 +26,6 @@ fill_outcome me floor candidates own k = if is_at me k && is_first_round floor c
 abbrev pub learn_outcome : ℕ → Configuration → CommitEntry → CommitToken → CommitOutcome
 learn_outcome me running own k = if is_at me k && is_second_round running own k then Recover (hop_with_entries k []) else Ignored
 
--- The commit token 7: in Recovery, the end of the second round; the token that it starts is visited if it is accepted.
+-- The commit token 7: in Recovery, the end of the second round. The token that it starts is visited if it is accepted.
 abbrev pub start_outcome : ℕ → Configuration → Token → CommitToken → CommitOutcome
 start_outcome me running first k = if is_at me k && is_start running k then Start first else Ignored

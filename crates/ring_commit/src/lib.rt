@@ -1,4 +1,4 @@
-//! The commit token: how a ring is proposed, and how its commit token makes two rounds of the members.
+//! The commit token: how a ring is proposed, and how its commit token goes twice round the members.
 //!
 //! Rules: The commit token 1, 2, 4 to 9 and 11
 #![tactic(auto)]

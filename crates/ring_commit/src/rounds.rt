@@ -1,4 +1,5 @@
-//! The two rounds of a commit token: when a node takes it, and what it sends on.
+//! The two rounds of a commit token: when a node takes it, and what it forwards.
+//!
 //! Rules: The commit token 1, 2, 4 to 9 and 11; Recovery 1
 
 ghost use Rattle.std.specs.Prelude.{◌≡◌, ℕ, suc, ◌+◌, ◌<◌, ◌≤◌, [], ◌∷◌, ◌++◌, length, slice_get, true};
@@ -12,8 +13,11 @@ use crate::configuration::Configuration;
 use crate::outcome::CommitOutcome;
 use ring_wire::{CommitEntry, CommitToken, Entries, MAX, Proc, ProcSet, RingId, Token};
 
-/// Returns the member to which the commit token goes: hop h of m members goes to the member at position h mod m,
-/// counted from 0. That the token names a member is the caller's condition.
+/// Returns the member to which the commit token goes.
+///
+/// Among m members, hop h goes to the member at position h mod m, counted from 0 in ascending order. The token must
+/// name at least one member.
+///
 /// Rules: The commit token 1
 pub fn receiver(token: &CommitToken) -> Proc
     requires { 0 < size token.now.members }
@@ -24,6 +28,7 @@ pub fn receiver(token: &CommitToken) -> Proc
 }
 
 /// Returns whether `me` is the member to which the commit token goes. It is false for a token without members.
+///
 /// Rules: The commit token 1
 pub fn is_at(me: Proc, token: &CommitToken) -> bool
     ensures { result ≡ is_at me token.now }
@@ -31,9 +36,13 @@ pub fn is_at(me: Proc, token: &CommitToken) -> bool
     receiver_number(token) == me.number()
 }
 
-/// Returns whether a node in Gather takes the commit token in its first round, if the token is at it ([`is_at`]).
-/// That is so if the hop is below the number of members, the members are `candidates`, and the ring's number is above
-/// `floor`. `candidates` are the node's `proc_set` less `fail_set`, and `floor` is its floor.
+/// Returns whether a node in Gather takes this commit token in its first round, if the token is at this node
+/// ([`is_at`]).
+///
+/// True if the hop is below the number of members, the members are exactly `candidates`, and the ring's number is above
+/// `floor`. `candidates` must be the node's `proc_set` less `fail_set`, and `floor` the greatest number of a ring that
+/// it has taken part in. Consensus isn't checked.
+///
 /// Rules: The commit token 5
 pub fn is_first_round(floor: u64, candidates: ProcSet, token: &CommitToken) -> bool
     ensures { result ≡ is_first_round floor candidates token.now }
@@ -43,11 +52,17 @@ pub fn is_first_round(floor: u64, candidates: ProcSet, token: &CommitToken) -> b
         && floor < token.ring.seq
 }
 
-/// Returns whether a node in Commit takes the commit token in its second round, if the token is at it ([`is_at`]).
-/// That is so if the hop is m to 2m - 1, of m members, ring and members are the ones of `running`, and the node's entry
-/// is `own`. Also, no member from the node's old ring reports a front below a safe mark that a member from this ring
-/// reports.
-/// Rules: The commit token 6
+/// Returns whether a node in Commit takes this commit token in its second round, if the token is at this node
+/// ([`is_at`]).
+///
+/// With m members, all of these must hold:
+///
+/// - The hop is m to 2m - 1.
+/// - Ring and members are those of `running`.
+/// - The node's entry in the token equals `own`, which must be the entry that the node would write now.
+/// - No member from the node's old ring reports a front below the greatest safe mark that a member from it reports.
+///
+/// Rules: The commit token 6; Recovery 1
 pub fn is_second_round(running: &Configuration, own: &CommitEntry, token: &CommitToken) -> bool
     ensures { result ≡ is_second_round running.now own.now token.now }
 {
@@ -65,8 +80,11 @@ pub fn is_second_round(running: &Configuration, own: &CommitEntry, token: &Commi
     is_own(own, token) && is_sound(&own.old, token.entries.as_slice())
 }
 
-/// Returns whether the commit token has completed both rounds, at hop 2m of m members, and is of the ring and members
-/// of `running`.
+/// Returns whether the commit token has completed both rounds of the ring `running`.
+///
+/// True if its hop is 2m, with m members, and ring and members are those of `running`. Whether the token is at this
+/// node isn't checked: see [`is_at`].
+///
 /// Rules: The commit token 7
 pub fn is_start(running: &Configuration, token: &CommitToken) -> bool
     ensures { result ≡ is_start running.now token.now }
@@ -75,6 +93,7 @@ pub fn is_start(running: &Configuration, token: &CommitToken) -> bool
 }
 
 /// Returns the greatest safe mark in the entries of members from the ring `old`, 0 if there is no such entry.
+///
 /// Rules: Recovery 1
 pub fn safe_of(old: &RingId, entries: &[CommitEntry]) -> u64
     ensures { result ≡ safe_of (reports_of old.now entries.now) }
@@ -88,10 +107,12 @@ pub fn safe_of(old: &RingId, entries: &[CommitEntry]) -> u64
     safe
 }
 
-/// Returns the proposal of a ring of these members, with the number after `greatest` and `me` as its representative.
-/// It is `Pass` with the commit token of hop 1, which has the node's own entry alone. It is `Ignored` if the number
-/// would be above `MAX`. Whether there is consensus isn't checked.
-/// Rules: Gather 10; The commit token 4
+/// Returns the proposal of a ring of `members`, with the number after `greatest` and `me` as its representative.
+///
+/// It is `Pass` with the commit token of hop 1, whose only entry is `own`, or `Ignored` if the number would be above
+/// `MAX`. Whether there is consensus isn't checked.
+///
+/// Rules: Gather 10; The commit token 4 and 11
 pub fn propose(me: Proc, greatest: u64, members: ProcSet, own: CommitEntry) -> CommitOutcome
     ensures { result ≡ after_proposal me (suc greatest) members own }
 {
@@ -112,11 +133,13 @@ pub fn propose(me: Proc, greatest: u64, members: ProcSet, own: CommitEntry) -> C
     })
 }
 
-/// Does the first round, in Gather: adds the node's entry and forwards the token as `Pass`.
-/// Returns `Ignored` where the token isn't at the node or [`is_first_round`] is false. That a token at hop h of m
-/// members has min(h, m) entries is the caller's condition. The ring core uses [`is_at`] and [`is_first_round`] as it
-/// decides, and adds the entry in place: `RunningCore::fill` of `ring_srp_transitions`.
-/// Rules: The commit token 5
+/// Performs the first round, in Gather: adds the node's entry, and returns the token to forward as `Pass`.
+///
+/// Returns `Ignored` if the token isn't at the node ([`is_at`]) or [`is_first_round`] is false. A token of hop h with m
+/// members must have min(h, m) entries. The ring core tests `is_at` and `is_first_round` as it decides, and adds the
+/// entry in place: `RunningCore::fill` of `ring_srp_transitions`.
+///
+/// Rules: The commit token 5 and 11
 pub fn fill(
     me: Proc,
     floor: u64,
@@ -138,11 +161,12 @@ pub fn fill(
     CommitOutcome::Pass(token)
 }
 
-/// Does the second round, in Commit: forwards the token, whose entries recovery uses, as `Recover`.
-/// Returns `Ignored` where the token isn't at the node or [`is_second_round`] is false. The ring core uses [`is_at`]
-/// and [`is_second_round`] as it decides, and forwards the token in place: `RunningCore::learn` of
-/// `ring_srp_transitions`.
-/// Rules: The commit token 6
+/// Performs the second round, in Commit: returns the token to forward as `Recover`. Its entries are the node's plan.
+///
+/// Returns `Ignored` if the token isn't at the node ([`is_at`]) or [`is_second_round`] is false. The ring core tests
+/// both as it decides, and forwards the token in place: `RunningCore::learn` of `ring_srp_transitions`.
+///
+/// Rules: The commit token 6 and 11
 pub fn learn(
     me: Proc,
     running: &Configuration,
@@ -161,11 +185,13 @@ pub fn learn(
     CommitOutcome::Recover(token)
 }
 
-/// Ends the second round, in Recovery: returns `Start` with `first`, the first token of the ring, which the
-/// representative visits. Returns `Ignored` where the token isn't at the node or [`is_start`] is false. The ring core
-/// uses these two tests as it decides, and checks that it accepts `first`: `RunningCore::decide` of
+/// Ends the second round, in Recovery: returns `Start` with `first`, the first token of the ring, for a visit.
+///
+/// Returns `Ignored` if the commit token isn't at the node ([`is_at`]) or [`is_start`] is false. Whether the node
+/// accepts `first` isn't checked. The ring core makes all three tests as it decides: `RunningCore::decide` of
 /// `ring_srp_transitions`.
-/// Rules: The commit token 7
+///
+/// Rules: The commit token 7 and 11
 pub fn start(me: Proc, running: &Configuration, first: Token, token: &CommitToken) -> CommitOutcome
     ensures { result ≡ start_outcome me running.now first token.now }
 {
@@ -176,7 +202,7 @@ pub fn start(me: Proc, running: &Configuration, first: Token, token: &CommitToke
     }
 }
 
-/// Returns the number of the member to which a commit token goes, 0 if it names none.
+/// Returns the number of the member to which a commit token goes, 0 if it names no member.
 fn receiver_number(token: &CommitToken) -> u8
     ensures { result ≡ receiver token.now }
 {
@@ -186,14 +212,15 @@ fn receiver_number(token: &CommitToken) -> u8
     receiver(token).number()
 }
 
-/// Returns whether a commit token is of this ring and of these members.
+/// Returns whether a commit token has exactly this ring and these members.
 fn is_of(running: &Configuration, token: &CommitToken) -> bool
     ensures { result ≡ is_of running.now token.now }
 {
     token.ring == running.ring && token.members == running.members
 }
 
-/// Returns whether the entry of the member to which the token goes is this one.
+/// Returns whether the entry of the member to which the token goes equals `own`. The token must name at least one
+/// member.
 fn is_own(own: &CommitEntry, token: &CommitToken) -> bool
     requires { 0 < size token.now.members }
     ensures { result ≡ is_own own.now (slice_get token.now.entries (position_of_hop token.now)) }
@@ -211,14 +238,15 @@ fn is_same(a: &CommitEntry, b: &CommitEntry) -> bool
     a.old == b.old && a.front == b.front && a.mark == b.mark && a.held == b.held
 }
 
-/// Returns whether no member from an old ring reports a front below a safe mark that one of them reports.
+/// Returns whether each member from the ring `old` reports a front of at least the greatest safe mark that one of them
+/// reports.
 fn is_sound(old: &RingId, entries: &[CommitEntry]) -> bool
     ensures { result ≡ is_sound old.now entries.now }
 {
     none_behind(safe_of(old, entries), old, entries)
 }
 
-/// Returns whether no member from an old ring reports a front below `safe`.
+/// Returns whether each member from the ring `old` reports a front of at least `safe`.
 fn none_behind(safe: u64, old: &RingId, entries: &[CommitEntry]) -> bool
     ensures { result ≡ none_behind safe (reports_of old.now entries.now) }
 {

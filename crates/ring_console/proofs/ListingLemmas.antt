@@ -22,9 +22,9 @@ use Rattle.ring_console.specs.declared.frame_reader.FrameReader.{FrameReader}
 use Rattle.ring_console.specs.Listings.{encodings_of, BeginsWithNoFrame, unread_bytes, left_of, IsEndRight, IsNext, IsStop, AreListed, IsListed, IsCut, IsCutListing}
 use Rattle.ring_base.specs.Numbers.{max_frame_bytes}
 
--- ---- one frame
+-- ---- one frame.
 
--- a decoded frame was a prefix of the bytes from a place on
+-- A decoded frame was a prefix of the bytes from a place on.
 pub got_front : {A : Type 0} (bytes : List ℕ) (start n : ℕ) (frame : Frame A) → IsEncodedPrefix encoding_of FrameFits
     (take (length bytes - start) (drop start bytes)) frame n
     → (drop start bytes ≡ encoding_of frame ++ drop (start + n) bytes) × (length (encoding_of frame) ≡ n)
@@ -40,7 +40,7 @@ got_front bytes start n frame got =
     let size : length (take n rest) ≡ n = omega arith in
     (parts ∙ ap (λ (t : List ℕ). t ++ drop n rest) front ∙ ap (λ (t : List ℕ). encoding_of frame ++ t) after, sym (ap length front) ∙ size)
 
--- a frame decoded from there in place is the next one
+-- A frame decoded from there in place is the next one.
 pub next_put : {A : Type 0} (bytes : List ℕ) (start n from to : ℕ) (place : Option (Frame A)) → IsSome place
     → IfSome place (λ (frame : Frame A). IsEncodedPrefix encoding_of FrameFits (take (length bytes - start) (drop start bytes)) frame n) → to ≡ u64_saturate (from + n)
     → IsNext (Some (drop start bytes)) (Some (drop (start + n) bytes)) from to place
@@ -49,7 +49,7 @@ next_put bytes start n from to (Some frame) some got place =
     let front = got_front bytes start n frame got in
     (got.fits, front.0, place ∙ ap (λ (m : ℕ). u64_saturate (from + m)) (sym front.1))
 
--- where at least this number of bytes begins with no frame, a longer text doesn't either
+-- If at least this number of bytes begins with no frame, a longer text doesn't either.
 pub none_longer : (A : Type 0) (bytes more : List ℕ) → max_frame_bytes ≤ length bytes → BeginsWithNoFrame A bytes → BeginsWithNoFrame A (bytes ++ more)
 none_longer A bytes more long none frame rest fits e =
     let n = length (encoding_of frame) in
@@ -58,9 +58,9 @@ none_longer A bytes more long none frame rest fits e =
     let front : take n bytes ≡ encoding_of frame = sym (take-append-le n bytes more within) ∙ ap (take n) e ∙ take_at (encoding_of frame) rest n refl in
     none frame (drop n bytes) fits (sym (take-append-drop n bytes) ∙ ap (λ (t : List ℕ). t ++ drop n bytes) front)
 
--- ---- the bytes read ahead, and those still to be read
+-- ---- the bytes read ahead, and those still to be read.
 
--- the next frame of the bytes read ahead is the next of the whole rest
+-- The next frame of the bytes read ahead is the next of the whole rest.
 pub next_of_all : {A : Type 0} (bytes bytes' : List ℕ) (rest : Option (List ℕ)) (from to : ℕ)
     (next : Option (Frame A)) → IsNext (Some bytes) (Some bytes') from to next
     → (next ≡ None → IsAtEnd rest) → IsNext (prepend_known bytes rest) (prepend_known bytes' rest) from to next
@@ -71,7 +71,7 @@ next_of_all bytes bytes' None from to (Some frame) (fits, taken, passed) end = (
 next_of_all bytes bytes' (Some xs) from to (Some frame) (fits, taken, passed) end =
     (fits, ap (λ (t : List ℕ). t ++ xs) taken ∙ append_assoc (encoding_of frame) bytes' xs, passed)
 
--- where enough was read ahead, or nothing more can be read, a stop there is a stop of the whole rest
+-- If enough was read ahead, or nothing more can be read, a stop there is a stop of the whole rest.
 pub stop_of_all : (A : Type 0) (bytes : List ℕ) (rest : Option (List ℕ)) (from : ℕ) (state : InputState)
     (failure : Failure) → IsStop A (Some bytes) (Some []) from state failure
     → (state ≡ Open → max_frame_bytes ≤ length bytes) → (state ≡ Ended → IsAtEnd rest) → IsStop A (prepend_known bytes rest) rest from state failure
@@ -87,21 +87,21 @@ stop_of_all A bytes (Some xs) from Ended (BadFrame byte) stop enough ended =
 stop_of_all A bytes rest from state (BadScript line) stop enough ended = absurd stop
 stop_of_all A bytes rest from state Output stop enough ended = absurd stop
 
--- where reading did not fail and no frame begins there, this byte is the reported one
+-- If reading did not fail and no frame begins there, this byte is the reported one.
 pub stop_here : (A : Type 0) (bytes : List ℕ) (from : ℕ) (state : InputState) → (state ≡ Failed → ⊥)
     → BeginsWithNoFrame A bytes → IsStop A (Some bytes) (Some []) from state (BadFrame from)
 stop_here A bytes from Open unfailed none = (refl, none)
 stop_here A bytes from Ended unfailed none = (refl, none)
 stop_here A bytes from Failed unfailed none = absurd (unfailed refl)
 
--- where reading failed and no frame begins in the bytes that were read, byte 0 is the reported one
+-- If reading failed and no frame begins in the bytes that were read, byte 0 is the reported one.
 pub stop_failed : (A : Type 0) (bytes : List ℕ) (from : ℕ) (state : InputState) → state ≡ Failed
     → BeginsWithNoFrame A bytes → IsStop A (Some bytes) (Some []) from state (BadFrame 0)
 stop_failed A bytes from Open failed none = absurd cc
 stop_failed A bytes from Ended failed none = absurd cc
 stop_failed A bytes from Failed failed none = (refl, bytes, append-nil bytes, none)
 
--- ---- after a step that keeps the rest of the input
+-- ---- after a step that keeps the rest of the input.
 
 pub next_after : {A : Type 0} (old mid new : Option (List ℕ)) (from to : ℕ) (next : Option (Frame A)) → Keeps old mid
     → IsNext mid new from to next → IsNext old new from to next
@@ -134,21 +134,21 @@ stop_after A (Some xs) (Some ys) rest from Ended (BadFrame byte) kept stop = (st
 stop_after A old mid rest from state (BadScript line) kept stop = absurd stop
 stop_after A old mid rest from state Output kept stop = absurd stop
 
--- ---- a result's facts
+-- ---- a result's facts.
 
--- a fact that two facts at `Ok` imply there
+-- A fact that two facts at `Ok` imply there.
 pub both_at_ok : {T E : Type 0} (r : Result T E) (P Q R : Type 0) → OnOk r P → OnOk r Q → (P → Q → R) → OnOk r R
 both_at_ok (Ok x) P Q R p q more = more p q
 both_at_ok (Err e) P Q R p q more = tt
 
--- a fact that a fact at `Err` implies there
+-- A fact that a fact at `Err` implies there.
 pub weaker_at_err : {T E : Type 0} (r : Result T E) (P Q : E → Type 0) → IfErr r P → ((e : E) → P e → Q e) → IfErr r Q
 weaker_at_err (Ok x) P Q told more = tt
 weaker_at_err (Err e) P Q told more = more e told
 
--- ---- a listing that goes on
+-- ---- a listing that goes on.
 
--- some frames were a prefix of the input and are listed, and the next begins where `frame_reader` says
+-- Some frames were a prefix of the input and are listed, and the next begins where `frame_reader` says.
 pub record IsSoFar {A : Type 0} (frame_reader : FrameReader A) (input input' out out' : Option (List ℕ)) : Type 0 where
   pub frames : List (Frame A)
   pub lists : AreListed input (left_of frame_reader input') out out' frames
@@ -167,7 +167,7 @@ appends_none : (out : Option (List ℕ)) → Appends out out []
 appends_none None = tt
 appends_none (Some xs) = sym (append-nil xs)
 
--- nothing is read yet
+-- Nothing is read yet.
 pub so_far_none : {A : Type 0} (frame_reader : FrameReader A) (input out : Option (List ℕ)) → unread_bytes frame_reader ≡ []
     → frame_reader.position ≡ 0 → frame_reader.state ≡ Open → IsSoFar frame_reader input input out out
 so_far_none frame_reader input out empty first fresh = record {
@@ -183,11 +183,11 @@ consumes_more (Some as') None c xs ys h k = absurd h
 consumes_more (Some as') (Some bs) None xs ys h k = absurd k
 consumes_more (Some as') (Some bs) (Some cs) xs ys h k = h ∙ ap (λ (t : List ℕ). xs ++ t) k ∙ sym (append_assoc xs ys cs)
 
--- the index of the next frame, at most the greatest u64
+-- The index of the next frame, at most the greatest u64.
 saturated : (p p' m n all : ℕ) → p ≡ u64_saturate m → p' ≡ u64_saturate (p + n) → all ≡ m + n → p' ≡ u64_saturate all
 saturated p p' m n all e f sum = omega arith
 
--- nothing is listed where memory is refused at once
+-- Nothing is listed if an allocation fails at once.
 pub none_cut : (A : Type 0) (input left out : Option (List ℕ)) (failure : Failure) → failure ≡ Refused Memory → IsCut A input left out out failure
 none_cut A input left out failure e =
     let nothing : AreListed {A = A} input input out out [] = record {
@@ -197,7 +197,7 @@ none_cut A input left out failure e =
     } in
     subst (IsCut A input left out out) (sym e) ([], input, Open, nothing, refl)
 
--- one more frame is taken, and its line is printed
+-- One more frame is taken, and its line is printed.
 pub so_far_more : {A : Type 0} (frame_reader frame_reader' : FrameReader A) (input mid last out printed out' : Option (List ℕ))
     (frame : Frame A) → IsSoFar frame_reader input mid out printed
     → IsNext (left_of frame_reader mid) (left_of frame_reader' last) frame_reader.position frame_reader'.position (Some frame)
@@ -236,14 +236,14 @@ all_consumed (Some xs) (Some ys) (Some zs) bytes encoded read kept end =
     let none = nil_right bytes zs end in
     (read ∙ ap (λ (t : List ℕ). encoded ++ t) (sym kept ∙ end ∙ sym none), none)
 
--- where nothing is left, all of the input is listed
+-- If nothing is left, all of the input is listed.
 pub so_far_whole : {A : Type 0} (frame_reader frame_reader' : FrameReader A) (input mid last out out' : Option (List ℕ)) → IsSoFar frame_reader input mid out out'
     → IsNext {A = A} (left_of frame_reader mid) (left_of frame_reader' last) frame_reader.position frame_reader'.position None → IsListed A input last out out'
 so_far_whole frame_reader frame_reader' input mid last out out' so (kept, end) =
     let whole = all_consumed input (left_of frame_reader mid) last (unread_bytes frame_reader') (encodings_of so.frames) so.lists.read kept end in
     (so.frames, record { fit = so.lists.fit; read = whole.0; printed = so.lists.printed }, whole.1)
 
--- where there is no next frame, the listing is cut there
+-- If there is no next frame, the listing is cut there.
 pub so_far_cut : {A : Type 0} (frame_reader : FrameReader A) (input mid left out out' : Option (List ℕ)) (state : InputState) (failure : Failure)
     → IsSoFar frame_reader input mid out out' → IsStop A (left_of frame_reader mid) left frame_reader.position state failure
     → IsCut A input left out out' failure
@@ -253,9 +253,9 @@ so_far_cut {A} frame_reader input mid left out out' state (BadFrame byte) so sto
 so_far_cut {A} frame_reader input mid left out out' state (BadScript line) so stop = absurd stop
 so_far_cut {A} frame_reader input mid left out out' state Output so stop = tt
 
--- ---- a listing that has ended
+-- ---- a listing that has ended.
 
--- the lines reached the output as they were written
+-- The lines reached the output as they were written.
 moved_cut : (A : Type 0) (input left mid mid' out out' : Option (List ℕ)) (failure : Failure) → failure ≢ Output
     → ((text : List ℕ) → Appends mid mid' text → Appends out out' text) → IsCut A input left mid mid' failure → IsCutListing A input left out out'
 moved_cut A input left mid mid' out out' (Refused fault) other moved cut = (
@@ -271,8 +271,8 @@ moved_cut A input left mid mid' out out' (BadFrame byte) other moved cut = (
 moved_cut A input left mid mid' out out' (BadScript line) other moved cut = absurd cut.4
 moved_cut A input left mid mid' out out' Output other moved cut = absurd (other refl)
 
--- nothing is reported where the listing is complete or its output failed, or where its lines did not reach the output; else it
--- is cut there
+-- Nothing is reported if the listing is complete or its output failed, or if its lines did not reach the output;
+-- otherwise it is cut there.
 pub cut_told : {T : Type 0} (A : Type 0) (done : Result T Failure) (input left mid mid' out out' : Option (List ℕ)) (Untold Emptied Unread : Type 0)
     → (done ≡ Err Output → Untold) → (IsOk done → Untold) → Untold ⊎ Emptied → IfErr done (IsCut A input left mid mid')
     → ((text : List ℕ) → Emptied → Appends mid mid' text → Appends out out' text) → Untold ⊎ (Unread ⊎ IsCutListing A input left out out')

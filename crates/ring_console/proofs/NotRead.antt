@@ -5,7 +5,7 @@ use Rattle.ring_script.specs.Scripts.{IsAllOf, IsScriptOfInputBy, schedule_by}
 use Rattle.ring_script.specs.ScriptTexts.{IsNoScript}
 use Rattle.ring_script.specs.declared.scripts.Script.{Script}
 
--- where all bytes of an input are known and are no script, no script was read of it
+-- If all bytes of an input are known and are no script, no script was read of it.
 pub no_script_read : {A : Type 0} (forms : List OperationForm) (script : Script A) (known : Option (List ℕ)) (read bytes : List ℕ)
     → IsAllOf known read → IsScriptOfInputBy forms (Ok script) read → known ≡ Some bytes → IsNoScript forms bytes → ⊥
 no_script_read forms script known read bytes all answers is none =

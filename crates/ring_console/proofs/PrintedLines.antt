@@ -19,11 +19,11 @@ use Rattle.ring_failure.specs.Texts.{line_of}
 use Rattle.ring_console.specs.OutputLines.{told_text, one_text}
 use Rattle.ring_console.specs.Running.{RunView, HasPrinted, UnlessOutputFailed, IsLineDone, IsLineInterrupted, AreLinesDone, AreLinesInterrupted, IsTextOf, IsCutTextOf, IsVerdict, run_opening, legal_line, text_of}
 
--- one property of the text implies another
+-- One property of the text implies another.
 pub printed_as : (old new : Option (List ℕ)) (P Q : List ℕ → Type 0) → ((text : List ℕ) → P text → Q text) → HasPrinted old new P → HasPrinted old new Q
 printed_as old new P Q f p = record { text = p.text; appended = p.appended; holds = f p.text p.holds }
 
--- one text was printed after the other
+-- One text was printed after the other.
 pub printed_then : (old mid new : Option (List ℕ)) (text : List ℕ) (P R : List ℕ → Type 0)
     → ((a : List ℕ) → P a → R (a ++ text)) → HasPrinted old mid P → Appends mid new text → HasPrinted old new R
 printed_then old mid new text P R f p q = record {
@@ -33,7 +33,7 @@ printed_then old mid new text P R f p q = record {
 }
 
 module _ {O A : Type 0} (object : Sequential O) where
-  -- a line other than `show` prints the new reports
+  -- A line other than `show` prints the new reports.
   pub told_alone : (line : ScriptLine A) (old new : WorldView A) → (line ≡ Show → ⊥) → text_of object line old new ≡ told_text (drop (length old.told) new.told)
   told_alone (Call node call) old new other = refl
   told_alone (Deliver node frame) old new other = refl
@@ -45,7 +45,7 @@ module _ {O A : Type 0} (object : Sequential O) where
   told_alone (Pump turns) old new other = refl
   told_alone Show old new other = absurd (other refl)
 
-  -- one more line of the script
+  -- One more line of the script.
   pub AreLinesDone-snoc : (ls : List (NumberedLine A)) (l : NumberedLine A) (old mid new : RunView A) (a : List ℕ) → AreLinesDone object ls old mid a → IsLineDone object l.line mid new
       → AreLinesDone object (ls ++ l ∷ []) old new (a ++ text_of object l.line mid.world_view new.world_view)
   AreLinesDone-snoc [] l old mid new a h does = (
@@ -70,7 +70,7 @@ module _ {O A : Type 0} (object : Sequential O) where
     ),
   )
 
-  -- some lines are carried out, and the next one fails
+  -- Some lines are carried out, and the next one fails.
   breaks_behind : (done : List (NumberedLine A)) (line : NumberedLine A) (others : List (NumberedLine A))
       (old mid new : RunView A) (a : List ℕ) → AreLinesDone object done old mid a → IsLineInterrupted object line.line mid new
       → AreLinesInterrupted object (done ++ line ∷ others) old new (a ++ text_of object line.line mid.world_view new.world_view)
@@ -93,7 +93,7 @@ module _ {O A : Type 0} (object : Sequential O) where
         ),
       )
 
-  -- the line after these fails
+  -- The line after these fails.
   pub broken_run : (lines done : List (NumberedLine A)) (line : NumberedLine A) (old mid new : RunView A) (a : List ℕ)
       → done ≡ take (length done) lines → length done < length lines → line ≡ get_or lines (length done) line
       → AreLinesDone object done old mid a → IsLineInterrupted object line.line mid new → AreLinesInterrupted object lines old new (a ++ text_of object line.line mid.world_view new.world_view)
@@ -106,7 +106,7 @@ module _ {O A : Type 0} (object : Sequential O) where
       (a ++ text_of object line.line mid.world_view new.world_view)) (sym whole)
       (breaks_behind done line (drop (length done + 1) lines) old mid new a h breaks)
 
--- ---- the reports
+-- ---- the reports.
 
 one_told : {A : Type 0} (told : List (Told A)) (k : ℕ) (x : Told A) → slice_get told k ≡ Some x
     → told_text (take k told) ++ line_of (one_text x) ≡ told_text (take (suc k) told)
@@ -115,7 +115,7 @@ one_told (y ∷ ys) zero x e = let same : y ≡ x = cc in ap (λ z. line_of (one
 one_told (y ∷ ys) (suc k) x e = append_assoc (line_of (one_text y)) (told_text (take k ys)) (line_of (one_text x))
     ∙ ap (λ t. line_of (one_text y) ++ t) (one_told ys k x e)
 
--- one more report
+-- One more report.
 pub told_more : {A : Type 0} (old mid new : Option (List ℕ)) (told : List (Told A)) (k : ℕ) (x : Told A)
     → slice_get told k ≡ Some x → Appends old mid (told_text (take k told)) → Appends mid new (line_of (one_text x))
     → Appends old new (told_text (take (k + 1) told))
@@ -123,7 +123,7 @@ told_more old mid new told k x e first then =
     let all = Appends-trans old mid new (told_text (take k told)) (line_of (one_text x)) first then in
     subst (λ (n : ℕ). Appends old new (told_text (take n told))) (sym (add-one k)) (subst (λ (t : List ℕ). Appends old new t) (one_told told k x e) all)
 
--- ---- where it is not the output that failed
+-- ---- where it is not the output that failed.
 
 pub unless_map : {T : Type 0} (r : Result T Failure) (P Q : Type 0) → (P → Q) → UnlessOutputFailed r P → UnlessOutputFailed r Q
 unless_map (Ok x) P Q f h = f h
@@ -139,12 +139,12 @@ unless_both (Err (BadFrame byte)) P Q h k = (h, k)
 unless_both (Err (BadScript line)) P Q h k = (h, k)
 unless_both (Err Output) P Q h k = tt
 
--- a fact that holds where the result is true
+-- A fact that holds if the result is true.
 pub at_true : {E : Type 0} (r : Result Bool E) (P : Bool → Type 0) → IfOk r P → r ≡ Ok true → P true
 at_true (Ok b) P h e = let same : b ≡ true = cc in subst P same h
 at_true (Err x) P h e = absurd cc
 
--- the text of a run, and then that of the verdict
+-- The text of a run, and then that of the verdict.
 pub whole_text : {O A : Type 0} (object : Sequential O) (group : Group) (is_checked : Bool)
     (lines : List (NumberedLine A)) (r : Result Bool Failure) (old mid new : Option (List ℕ)) (opening ran : RunView A)
     → opening ≡ run_opening group → HasPrinted old mid (λ text. AreLinesDone object lines opening ran text)
@@ -165,9 +165,9 @@ whole_text object group is_checked lines (Ok is_legal) old mid new opening ran f
   };
 }
 
--- ---- where a run is cut
+-- ---- where a run is cut.
 
--- nothing more was printed
+-- Nothing more was printed.
 appends_kept : (old mid new : Option (List ℕ)) (text : List ℕ) → new ≡ mid → Appends old mid text → Appends old new text
 appends_kept old mid new text same printed = subst (λ (o : Option (List ℕ)). Appends old o text) (sym same) printed
 
@@ -176,7 +176,7 @@ appends_nothing None = tt
 appends_nothing (Some xs) = sym (append-nil xs)
 
 module _ {O A : Type 0} (object : Sequential O) (group : Group) (is_checked : Bool) (lines : List (NumberedLine A)) where
-  -- nothing was run
+  -- Nothing was run.
   pub cut_before : (out : Option (List ℕ)) → HasPrinted out out (IsCutTextOf object group is_checked lines)
   cut_before out = record { text = []; appended = appends_nothing out; holds = record { ran = run_opening group; cut = inl refl } }
 
@@ -191,7 +191,7 @@ module _ {O A : Type 0} (object : Sequential O) (group : Group) (is_checked : Bo
     };
   }
 
-  -- a line failed, or the output did
+  -- A line failed, or the output did.
   pub cut_in_line : (failure : Failure) (old new : Option (List ℕ)) (opening ran : RunView A) → opening ≡ run_opening group
       → UnlessOutputFailed {T = Unit {0}} (Err failure) (HasPrinted old new (λ text. AreLinesInterrupted object lines opening ran text))
       → (failure ≡ Output) ⊎ HasPrinted old new (IsCutTextOf object group is_checked lines)
@@ -200,7 +200,7 @@ module _ {O A : Type 0} (object : Sequential O) (group : Group) (is_checked : Bo
   cut_in_line (BadFrame byte) old new opening ran first ended = inr (interrupted old new opening ran first ended)
   cut_in_line (BadScript line) old new opening ran first ended = inr (interrupted old new opening ran first ended)
 
-  -- the check failed after all lines, or the output did
+  -- The check failed after all lines, or the output did.
   pub cut_in_check : (r : Result Bool Failure) (old mid new : Option (List ℕ)) (opening ran : RunView A) → opening ≡ run_opening group
       → HasPrinted old mid (λ text. AreLinesDone object lines opening ran text)
       → IfErr r (λ (failure : Failure). (failure ≡ Output) ⊎ ((is_checked ≡ true) × (new ≡ mid)))

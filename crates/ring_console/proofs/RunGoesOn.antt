@@ -10,9 +10,9 @@ use Rattle.ring_world.specs.WorldView.{WorldView, IsEventOutcome}
 use Rattle.ring_console.specs.Running.{RunView, is_connected, IsUnchanged, IsCopyHandled, IsTurnDone, IsTurnInterrupted, AreTurnsDone, IsPumpDone, IsLineDone, IsLineInterrupted, IsLineEnded}
 
 module _ {O A : Type 0} (object : Sequential O) where
-  -- ---- turns
+  -- ---- turns.
 
-  -- a turn was taken
+  -- A turn was taken.
   pub turned : (pair : OpenCopy) (mid closed new : RunView A) → mid.open_copies ≡ pair ∷ closed.open_copies → closed ≡ record mid { open_copies = closed.open_copies }
       → IsCopyHandled object (is_connected closed.groups pair.sender pair.receiver) pair closed new → IsTurnDone object mid new
   turned pair mid closed new first same comes = record {
@@ -22,7 +22,7 @@ module _ {O A : Type 0} (object : Sequential O) where
     comes = subst (λ (r : RunView A). IsCopyHandled object (is_connected r.groups pair.sender pair.receiver) pair r new) same comes;
   }
 
-  -- a turn failed
+  -- A turn failed.
   pub turn_broken : (pair : OpenCopy) (mid closed new : RunView A) → mid.open_copies ≡ pair ∷ closed.open_copies
       → closed ≡ record mid { open_copies = closed.open_copies } → IsUnchanged closed new → IsTurnInterrupted object mid new
   turn_broken pair mid closed new first same rests = record {
@@ -32,21 +32,21 @@ module _ {O A : Type 0} (object : Sequential O) where
     rests = subst (λ (r : RunView A). IsUnchanged r new) same rests;
   }
 
-  -- one turn more
+  -- One more turn.
   pub one_more : (n : ℕ) (old mid new : RunView A) → AreTurnsDone object n old mid → IsTurnDone object mid new → AreTurnsDone object (n + 1) old new
   one_more n old mid new turns turn =
       let more : AreTurnsDone object (suc n) old new = (mid, (turns, turn)) in
       subst (λ (k : ℕ). AreTurnsDone object k old new) (sym (add-one n)) more
 
-  -- all turns were taken, or no copy is open
+  -- All turns were taken, or no copy is open.
   pub pumped : (turns n : ℕ) (old new : RunView A) → n ≤ turns → (n < turns → new.open_copies ≡ []) → AreTurnsDone object n old new → IsPumpDone object turns old new
   pumped turns n old new most rest turn = record { taken = n; most = most; turn = turn; rest = rest }
 
-  -- no copy was open, so nothing has changed
+  -- No copy was open, so nothing has changed.
   pub none_left : (mid closed : RunView A) → closed ≡ record mid { open_copies = closed.open_copies } → closed.open_copies ≡ mid.open_copies → closed ≡ mid
   none_left mid closed same still = same ∙ ap (λ ps. record mid { open_copies = ps }) still
 
-  -- ---- the reports stay
+  -- ---- the reports stay.
 
   told_on : (e : Event A) (p q : WorldView A) → IsEventOutcome object e p q → IsListPrefix p.told q.told
   told_on e p q (inl d) = subst (λ ts. IsListPrefix p.told ts) (sym d.told) (prefix_append p.told _)
@@ -93,7 +93,7 @@ module _ {O A : Type 0} (object : Sequential O) where
       (rests_told (record h.mid { open_copies = h.next.others }) new h.next.rests)
   breaks_told Show old new h = absurd h
 
-  -- the reports stay, whatever a line did
+  -- The reports stay, whatever a line did.
   pub ends_told : {T E : Type 0} (r : Result T E) (line : ScriptLine A) (old new : RunView A) → IsLineEnded object r line old new → IsListPrefix old.world_view.told new.world_view.told
   ends_told (Ok x) line old new h = does_told line old new h
   ends_told (Err x) line old new h = breaks_told line old new h

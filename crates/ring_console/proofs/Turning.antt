@@ -4,12 +4,12 @@ use Rattle.std.proofs.Common.{refl, sym, ap, subst, ◌∙◌, arith}
 use Rattle.ring_object.specs.Operations.{Sequential}
 use Rattle.ring_console.specs.Running.{OpenCopy, RunView, IsTurnDone, AreTurnsDone, IsPumpDone}
 
--- a list with a first element is not empty
+-- A list with a first element is not empty.
 never_empty : (open_copies : List OpenCopy) (pair : OpenCopy) → open_copies ≡ [] → slice_get open_copies 0 ≡ Some pair → ⊥
 never_empty [] pair none first = cc
 never_empty (p ∷ ps) pair none first = cc
 
--- no copy is open where there is no first one
+-- No copy is open if there is no first one.
 pub none_open : (open_copies : List OpenCopy) → slice_get open_copies 0 ≡ None → open_copies ≡ []
 none_open [] none = refl
 none_open (p ∷ ps) none = absurd (cc none)
@@ -22,6 +22,6 @@ module _ {O A : Type 0} (object : Sequential O) where
   taken_once (suc zero) old new pair most turn rest first = subst (λ (r : RunView A). IsTurnDone object r new) turn.1.0 turn.1.1
   taken_once (suc (suc n)) old new pair most turn rest first = absurd (omega (arith, most))
 
-  -- a pump of one turn takes it, where a copy is open
+  -- A pump of one turn takes it, if a copy is open.
   pub one_turn : (old new : RunView A) (pair : OpenCopy) → IsPumpDone object 1 old new → slice_get old.open_copies 0 ≡ Some pair → IsTurnDone object old new
   one_turn old new pair pumps first = taken_once pumps.taken old new pair pumps.most pumps.turn pumps.rest first

@@ -13,40 +13,40 @@ use Rattle.ring_session.specs.declared.answer.Answer.{Answer}
 use Rattle.ring_session.specs.declared.answer.Answer.TheVariants.{Done, Kept, Refused}
 use Rattle.ring_base.specs.declared.state.State.{State}
 
--- whether the call took effect, with its reply, or with the number of the reason why it did not
+-- Whether the call took effect, with its reply, or with the number of the fault because of which it did not.
 abbrev pub outcome_text : Answer → List ℕ
 outcome_text (Done reply) = codes " done " ++ encode_lower reply
 outcome_text (Kept reply) = codes " kept " ++ encode_lower reply
 outcome_text (Refused reason) = codes " refused " ++ decimal reason
 
--- a node's answer to a call
+-- A node's answer to a call.
 abbrev pub answer_text : {A : Type 0} → ℕ → Call A → Answer → List ℕ
 answer_text node call answer =
     codes "reply " ++ decimal node ++ codes " " ++ decimal call.client ++ codes "." ++ decimal call.number ++ outcome_text answer
 
--- a node refused to take a call, with the number of the reason
+-- A call that a node refused, with the number of the fault.
 abbrev pub refused_text : {A : Type 0} → ℕ → Call A → ℕ → List ℕ
 refused_text node call reason =
     codes "refused " ++ decimal node ++ codes " " ++ decimal call.client ++ codes "." ++ decimal call.number ++ codes " " ++ decimal reason
 
--- one report of a node
+-- One report of a node.
 abbrev pub one_text : {A : Type 0} → Told A → List ℕ
 one_text (ToldAnswer node call answer) = answer_text node call answer
 one_text (ToldRefused node call reason) = refused_text node call reason
 
--- the reports of nodes, one line each
+-- The reports of nodes, one line each.
 abbrev pub told_text : {A : Type 0} → List (Told A) → List ℕ
 told_text told = flat_map (λ (t : Told _). line_of (one_text t)) told
 
--- the length of the one order
+-- The length of the one order.
 abbrev pub order_text : ℕ → List ℕ
 order_text length = codes "order " ++ decimal length
 
--- the number of dropped places, unless it is 0
+-- The number of dropped places, unless it is 0.
 abbrev pub trimmed_text : ℕ → List ℕ
 trimmed_text n = if n == 0 then [] else codes " trimmed " ++ decimal n
 
--- a node's state, its last installed ring, its committed length, its log's length, and the number of dropped places
+-- A node's state, its last installed ring, its committed length, its log's length, and the number of dropped places.
 abbrev pub node_text : ℕ → State → RingId → ℕ → ℕ → ℕ → List ℕ
 node_text number state ring committed log trimmed =
     codes "node " ++ decimal number ++ codes " " ++ state_name_text state ++ codes " " ++ ring_text ring

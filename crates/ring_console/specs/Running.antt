@@ -22,14 +22,14 @@ use Rattle.ring_console.specs.OutputLines.{told_text, node_text, order_text}
 
 -- The view that contracts have of a run.
 pub record RunView (A : Type 0) : Type 0 where
-  -- the events of its world, and the reports of its nodes
+  -- The events of its world, and the reports of its nodes.
   pub world_view : WorldView A
-  -- the open copies of frames, ordered by the frame's number, then by receiver
+  -- The open copies of frames, ordered by the frame's number, then by receiver.
   pub open_copies : List OpenCopy
-  -- the groups of the cut, if there is one
+  -- The groups of the cut, if there is one.
   pub groups : Option (List ℕ)
 
--- the run before its first line
+-- The run before its first line.
 abbrev pub run_opening : {A : Type 0} → Group → RunView A
 run_opening group = record { world_view = opening_world_view group; open_copies = []; groups = None }
 
@@ -39,34 +39,35 @@ pub record HasPrinted (old new : Option (List ℕ)) (Holds : List ℕ → Type 0
   pub appended : Appends old new text
   pub holds : Holds text
 
--- the property, unless the output failed
+-- The property, unless the output failed.
 abbrev pub UnlessOutputFailed : {T : Type 0} → Result T Failure → Type 0 → Type 0
 UnlessOutputFailed (Ok x) P = P
 UnlessOutputFailed (Err Output) P = ⊤
 UnlessOutputFailed (Err _) P = P
 
--- the line that says whether a run is legal, if it is requested
+-- The line that says whether a run is legal, if it is requested.
 abbrev pub legal_line : Bool → Bool → List ℕ
 legal_line true is_legal = line_of (legal_text is_legal)
 legal_line false is_legal = []
 
--- ---- the effect of one line or turn on a run
+-- ---- the effect of one line or turn on a run.
 
--- whether the receiver hears the sender: there is no cut, or they are in one group
+-- Whether the receiver hears the sender: there is no cut, or they are in one group.
 abbrev pub is_connected : Option (List ℕ) → ℕ → ℕ → Bool
 is_connected None sender receiver = true
 is_connected (Some groups) sender receiver = has (slice_index groups (sender - 1)) receiver
 
--- the world of a run, with the open copies
+-- The world of a run, with the open copies.
 abbrev pub pump_of : {A : Type 0} → RunView A → PumpView A
 pump_of r = record { world_view = r.world_view; open_copies = r.open_copies }
 
--- The world did and reported nothing; everything else stays too.
+-- The world did and reported nothing, and everything else is unchanged, too.
 pub record IsUnchanged {A : Type 0} (old new : RunView A) : Type 0 where
   pub pump : PumpRests (pump_of old) (pump_of new)
   pub groups : new.groups ≡ old.groups
 
--- the event that a line requests, if it requests one; a frame whose number no u64 holds was never sent, nor was frame 0
+-- The event that a line requests, if it requests one; a frame whose number no u64 holds was never sent, nor was frame
+-- 0.
 abbrev pub event_of : {A : Type 0} → ScriptLine A → Option (Event A)
 event_of (Call node call) = Some (events.Issue node call)
 event_of (Deliver node frame) = Some (events.Deliver node (unwrap_or frame 0))
@@ -78,7 +79,7 @@ event_of Heal = None
 event_of (Pump turns) = None
 event_of Show = None
 
--- a node's line
+-- A node's line.
 abbrev pub node_line_text : {A : Type 0} → ℕ → Node A → List ℕ
 node_line_text number node =
     line_of (node_text number node.core.state node.core.installed.ring (node_known_log node).committed (node_length node) (node_trimmed node))
@@ -89,7 +90,7 @@ module _ {O : Type 0} (object : Sequential O) where
     pub pump : PumpHappens object e (pump_of old) (pump_of new)
     pub groups : new.groups ≡ old.groups
 
-  -- a copy is delivered to its receiver, or is lost
+  -- A copy is delivered to its receiver, or is lost.
   abbrev pub IsCopyHandled : {A : Type 0} → Bool → OpenCopy → RunView A → RunView A → Type 0
   IsCopyHandled true pair old new = HasRunEvent (events.Deliver pair.receiver pair.frame) old new
   IsCopyHandled false pair old new = new ≡ old
@@ -101,19 +102,19 @@ module _ {O : Type 0} (object : Sequential O) where
     pub first : old.open_copies ≡ pair ∷ others
     pub comes : IsCopyHandled (is_connected old.groups pair.sender pair.receiver) pair (record old { open_copies = others }) new
 
-  -- a turn fails: the first open copy is closed and not delivered
+  -- A turn fails: the first open copy is closed and not delivered.
   pub record IsTurnInterrupted {A : Type 0} (old new : RunView A) : Type 0 where
     pub pair : OpenCopy
     pub others : List OpenCopy
     pub first : old.open_copies ≡ pair ∷ others
     pub rests : IsUnchanged (record old { open_copies = others }) new
 
-  -- this number of turns is taken
+  -- This number of turns is taken.
   abbrev pub AreTurnsDone : {A : Type 0} → ℕ → RunView A → RunView A → Type 0
   AreTurnsDone zero old new = new ≡ old
   AreTurnsDone {A} (suc n) old new = (mid : RunView A) × (AreTurnsDone n old mid × IsTurnDone mid new)
 
-  -- This number of turns is taken, or fewer if then no copy is open.
+  -- This number of turns is taken, or fewer if no copy is open then.
   pub record IsPumpDone {A : Type 0} (turns : ℕ) (old new : RunView A) : Type 0 where
     pub taken : ℕ
     pub most : taken ≤ turns
@@ -128,7 +129,7 @@ module _ {O : Type 0} (object : Sequential O) where
     pub turn : AreTurnsDone taken old mid
     pub next : IsTurnInterrupted mid new
 
-  -- the request of a line is carried out
+  -- The request of a line is carried out.
   abbrev pub IsLineDone : {A : Type 0} → ScriptLine A → RunView A → RunView A → Type 0
   IsLineDone (Call node call) old new = HasRunEvent (events.Issue node call) old new
   IsLineDone (Deliver node frame) old new = HasRunEvent (events.Deliver node (unwrap_or frame 0)) old new
@@ -140,7 +141,7 @@ module _ {O : Type 0} (object : Sequential O) where
   IsLineDone (Pump turns) old new = IsPumpDone turns old new
   IsLineDone Show old new = new ≡ old
 
-  -- the request of a line fails, since memory was refused to the world
+  -- The request of a line fails, since an allocation of the world failed.
   abbrev pub IsLineInterrupted : {A : Type 0} → ScriptLine A → RunView A → RunView A → Type 0
   IsLineInterrupted (Call node call) old new = IsUnchanged old new
   IsLineInterrupted (Deliver node frame) old new = IsUnchanged old new
@@ -152,46 +153,46 @@ module _ {O : Type 0} (object : Sequential O) where
   IsLineInterrupted (Pump turns) old new = IsPumpInterrupted turns old new
   IsLineInterrupted Show old new = ⊥
 
-  -- the request of a line is carried out, or fails
+  -- The request of a line is carried out, or fails.
   abbrev pub IsLineEnded : {A T E : Type 0} → Result T E → ScriptLine A → RunView A → RunView A → Type 0
   IsLineEnded (Ok x) line old new = IsLineDone line old new
   IsLineEnded (Err e) line old new = IsLineInterrupted line old new
 
-  -- ---- the printed text
+  -- ---- the printed text.
 
-  -- the lines of the first nodes
+  -- The lines of the first nodes.
   abbrev pub nodes_text : {A : Type 0} → ℕ → World A → List ℕ
   nodes_text zero w = []
   nodes_text (suc n) w = nodes_text n w ++ node_line_text (suc n) (w.nodes (suc n))
 
-  -- the states of all nodes, and the length of the order
+  -- The states of all nodes, and the length of the order.
   abbrev pub show_text : {A : Type 0} → WorldView A → List ℕ
   show_text p = nodes_text p.group.count (world_of object p) ++ line_of (order_text (length (order (world_of object p))))
 
-  -- the text that a line prints: the new reports, or the state for `show`
+  -- The text that a line prints: the new reports, or the state for `show`.
   abbrev pub text_of : {A : Type 0} → ScriptLine A → WorldView A → WorldView A → List ℕ
   text_of Show old new = show_text new
   text_of _ old new = told_text (drop (length old.told) new.told)
 
-  -- the requests of the lines are carried out one after another, and print this text
+  -- The requests of the lines are carried out one after another, and print this text.
   abbrev pub AreLinesDone : {A : Type 0} → List (NumberedLine A) → RunView A → RunView A → List ℕ → Type 0
   AreLinesDone [] old new text = (new ≡ old) × (text ≡ [])
   AreLinesDone {A} (l ∷ ls) old new text = (mid : RunView A) × (others : List ℕ)
       × (IsLineDone l.line old mid × AreLinesDone ls mid new others × (text ≡ text_of l.line old.world_view mid.world_view ++ others))
 
-  -- some of the lines are carried out and print this text, and the next one fails
+  -- Some of the lines are carried out and print this text, and the next one fails.
   abbrev pub AreLinesInterrupted : {A : Type 0} → List (NumberedLine A) → RunView A → RunView A → List ℕ → Type 0
   AreLinesInterrupted [] old new text = ⊥
   AreLinesInterrupted {A} (l ∷ ls) old new text =
       (IsLineInterrupted l.line old new × (text ≡ text_of l.line old.world_view new.world_view))
       ⊎ ((mid : RunView A) × (others : List ℕ) × (IsLineDone l.line old mid × AreLinesInterrupted ls mid new others × (text ≡ text_of l.line old.world_view mid.world_view ++ others)))
 
-  -- the lines are carried out, or one of them fails
+  -- The lines are carried out, or one of them fails.
   abbrev pub AreLinesEnded : {A T E : Type 0} → Result T E → List (NumberedLine A) → RunView A → RunView A → List ℕ → Type 0
   AreLinesEnded (Ok x) lines old new text = AreLinesDone lines old new text
   AreLinesEnded (Err e) lines old new text = AreLinesInterrupted lines old new text
 
-  -- the order of the run's world is legal for its history: Sessions 10
+  -- The order of the run's world is legal for its history: Sessions 10.
   abbrev pub IsLegal : {A : Type 0} → WorldView A → Type 0
   IsLegal p = IsLinearization object (order (world_of object p)) (world_of object p).history
 
@@ -200,7 +201,8 @@ module _ {O : Type 0} (object : Sequential O) where
   IsVerdict true is_legal p = IsTrue is_legal ↔ IsLegal p
   IsVerdict false is_legal p = is_legal ≡ true
 
-  -- The text is the one that a run of these lines prints from its opening, followed by the verdict if that is requested.
+  -- The text is the one that a run of these lines prints from its opening, followed by the verdict if that is
+  -- requested.
   pub record IsTextOf {A : Type 0} (group : Group) (is_checked : Bool) (lines : List (NumberedLine A)) (is_legal : Bool) (text : List ℕ) : Type 0 where
     pub ran : RunView A
     pub told : List ℕ
@@ -208,8 +210,8 @@ module _ {O : Type 0} (object : Sequential O) where
     pub legal : IsVerdict is_checked is_legal ran.world_view
     pub whole : text ≡ told ++ legal_line is_checked is_legal
 
-  -- The text is the one that a run of these lines prints from its opening until memory is refused: before the first line, to the
-  -- world in one of the lines or, after them all, to the check if that is requested.
+  -- The text is the one that a run of these lines prints from its opening until an allocation fails: before the first
+  -- line, in the world during one of the lines, or after them all in the check if that is requested.
   pub record IsCutTextOf {A : Type 0} (group : Group) (is_checked : Bool) (lines : List (NumberedLine A)) (text : List ℕ) : Type 0 where
     pub ran : RunView A
     pub cut : (text ≡ []) ⊎ (AreLinesInterrupted lines (run_opening group) ran text

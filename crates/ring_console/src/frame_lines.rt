@@ -1,4 +1,5 @@
 //! The lines of a listing, one for each frame.
+//!
 //! Formats: Listing frames
 
 ghost use Rattle.std.specs.Prelude.{◌≡◌, ℕ, ◌+◌, ◌*◌, ◌≤◌, List, [], ◌++◌, length, codes};
@@ -17,7 +18,8 @@ use ring_payload::{Call, Content, Head, Pack, Part, Payload, Snap, Wrapped};
 use ring_wire::{CommitToken, Frame, Join, Message, Requests, Token};
 use std::alloc::Allocator;
 
-/// Builds a frame's line, without its line feed, in `line`, which is empty.
+/// Builds a frame's line, without its line feed, in `line`, which must be empty.
+///
 /// Formats: Listing frames
 pub(crate) fn add_frame<A: Allocator + Copy>(line: &mut LineBuffer, frame: &Frame<A>)
     requires { line.old ≡ [] }
@@ -92,7 +94,7 @@ fn add_content<A: Allocator + Copy>(line: &mut LineBuffer, content: &Content<A>)
     }
 }
 
-/// Adds a word, and the ring, number and sender of a message.
+/// Adds the word `word`, and the ring, number and sender of a message.
 fn add_sent(line: &mut LineBuffer, word: &str, ring: RingId, number: u64, sender: Proc)
     requires room { length line.old + 110 ≤ MAX_LINE_BYTES }
     requires word { length word.now ≤ 8 }
@@ -136,7 +138,7 @@ fn add_head(line: &mut LineBuffer, head: &Head)
     add_trimmed(line, head.trimmed);
 }
 
-/// Adds a head's last primary ring, `none` where there is none.
+/// Adds a head's last primary ring, or `none` if there is none.
 fn add_primary(line: &mut LineBuffer, last: Option<RingId>)
     requires { length line.old + 51 ≤ MAX_LINE_BYTES }
     ensures text { line.new ≡ line.old ++ codes "head last " ++ primary_text last }
@@ -257,7 +259,7 @@ fn add_requests(line: &mut LineBuffer, requests: &Requests)
     add_numbers(line, requests.as_slice().iter().copied());
 }
 
-/// Adds numbers separated by commas, `-` where there are none.
+/// Adds numbers separated by commas, or `-` if there are none.
 fn add_numbers<I: Iterator<Item = u64> + Drop>(line: &mut LineBuffer, numbers: I)
     requires can { I.can_next numbers }
     requires ends { IsFinite (I.remaining numbers) }

@@ -1,4 +1,5 @@
 //! A reader of frames with a bounded buffer.
+//!
 //! Formats: Listing frames
 
 ghost use Rattle.std.specs.Prelude.{◌≤◌, vec_len};
@@ -11,11 +12,16 @@ use std::alloc::Allocator;
 use std::io::{ErrorKind, Read};
 use std::mem;
 
-/// The most bytes that are read ahead. Before it reads more, the reader moves the unread rest, which is shorter than the
-/// longest frame, to the front. The larger this buffer, the smaller the share of bytes moved.
+/// The maximum number of bytes that are read ahead.
+///
+/// Before it reads more, the reader moves the rest, which is shorter than the longest frame, to the front. The larger
+/// the buffer, the smaller the share of bytes that are moved.
 const MAX_READ_AHEAD: usize = 8 * MAX_FRAME_BYTES;
 
-/// A buffered reader of consecutive frames. It takes all its memory when it is created.
+/// A buffered reader of consecutive frames.
+///
+/// It allocates its whole buffer when it is created.
+///
 /// Formats: Listing frames
 #[derive(Drop)]
 pub(crate) struct FrameReader<A: Allocator> {
@@ -31,11 +37,11 @@ pub(crate) struct FrameReader<A: Allocator> {
 /// Whether the input may have more bytes.
 #[derive(Clone, Copy, PartialEq, Eq)]
 enum InputState {
-    /// It may have more.
+    /// The input may have more bytes.
     Open,
-    /// It is at its end.
+    /// The input is at its end.
     Ended,
-    /// Reading it failed.
+    /// Reading the input failed.
     Failed,
 }
 
@@ -48,7 +54,8 @@ impl<A: Allocator + Copy> FrameReader<A> {
     ghost use Rattle.ring_console.specs.Listings.{unread_bytes, left_of, IsEndRight, IsNext, IsStop};
 
     /// Creates a reader that has read nothing.
-    /// Errors: `Refused` with `Memory`.
+    ///
+    /// Errors: `Refused` with `Memory` if an allocation fails.
     pub fn new(alloc: A) -> Result<FrameReader<A>, Failure>
         ensures empty { IfOk result (λ frame_reader. frame_reader.bytes.items ≡ []) }
         ensures open { IfOk result (λ frame_reader. (frame_reader.position ≡ 0) × (frame_reader.taken ≡ 0) × (frame_reader.state ≡ Open)) }
@@ -65,11 +72,14 @@ impl<A: Allocator + Copy> FrameReader<A> {
         }
     }
 
-    /// Decodes the next frame of the input into `next`, in place, so no frame is moved. At the end of the input `next`
-    /// becomes `None`. All calls are to be given the same input.
-    /// Errors: `BadFrame` where the unread bytes begin with no frame, with the index of the first of them in the input,
-    /// counted from 0. `BadFrame` with 0 where, besides that, reading has failed. `Refused` with `Memory`. `next` is then
-    /// unspecified.
+    /// Decodes the next frame of the input into `next`, in place, so no frame is moved.
+    ///
+    /// At the end of the input `next` becomes `None`. `input` must be the same in all calls.
+    ///
+    /// Errors: `BadFrame` if the unread bytes begin with no frame, with the index of the first of them in the input,
+    /// counted from 0, or with 0 if reading has failed, too. `Refused` with `Memory` if an allocation fails. `next` is
+    /// then unspecified.
+    ///
     /// Formats: Listing frames
     pub fn next_frame<R: Read>(
         &mut self,
@@ -112,7 +122,7 @@ impl<A: Allocator + Copy> FrameReader<A> {
         }
     }
 
-    /// Reads ahead if the unread bytes are fewer than the longest frame's.
+    /// Reads ahead if there are fewer unread bytes than the longest frame has.
     fn read_enough<R: Read>(&mut self, input: &mut R) -> Result<(), Failure>
         requires { IsEndRight self.old (R.remaining input.old) }
         ensures kept { OnOk result (Keeps (left_of self.old (R.remaining input.old)) (left_of self.new (R.remaining input.new))) }

@@ -1,5 +1,7 @@
-//! The output of the program `totem`: listings of frames and runs of scripts, over any reader and two writers. Each function
-//! writes the bytes for standard output and standard error, and returns the exit status.
+//! The output of the program `totem`: listings of frames and runs of scripts, over any reader and two writers.
+//!
+//! Each function writes the bytes for standard output and standard error, and returns the exit status.
+//!
 //! Formats: The command line
 #![tactic(auto)]
 

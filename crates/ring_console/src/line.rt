@@ -1,5 +1,6 @@
-//! A buffer in which a line is built before it is written in one piece. It doesn't use `write!`, since there is one line for
-//! each answer and each frame. The line `order` uses it too.
+//! A buffer in which a line is built before it is written in a single call.
+//!
+//! It doesn't use `write!`, for speed: each answer and each frame has a line. It is also used for the line `order`.
 
 ghost use Rattle.std.specs.Prelude.{◌≡◌, ◌+◌, ◌<◌, ◌≤◌, [], ◌++◌, length, OnOk, IfErr};
 ghost use Rattle.std.specs.Fmt.{decimal};
@@ -13,15 +14,18 @@ use ring_failure::{Failure, output_result};
 use std::io::Write;
 use std::marker::Model;
 
-/// The capacity of a line in bytes, its line feed included. The longest line is that of a token that requests 32 numbers of
-/// 20 digits each, and has less than 900 bytes.
+/// The capacity of a line in bytes, its line feed included.
+///
+/// The longest line is that of a token that requests 32 numbers of 20 digits each, and has fewer than 900 bytes.
 pub(crate) const MAX_LINE_BYTES: usize = 1_024;
 
-/// A line under construction, of at most 1,024 bytes. Contracts see its bytes.
+/// A line under construction, of at most 1,024 bytes.
+///
+/// Contracts see its bytes.
 #[derive(Drop)]
 pub(crate) struct LineBuffer {
     text: ArrayVec<u8, MAX_LINE_BYTES>,
-    /// A buffer for a number's digits, which is zeroed only once.
+    /// A buffer for the digits of numbers, which is zeroed only once.
     digits: Buffer,
 }
 
@@ -44,7 +48,9 @@ impl LineBuffer {
         }
     }
 
-    /// Adds the bytes at the end. The line must have room for them.
+    /// Adds the bytes at the end.
+    ///
+    /// The line must have room for them.
     pub(crate) fn add(&mut self, bytes: &[u8])
         requires { length self.old + length bytes.now ≤ MAX_LINE_BYTES }
         ensures text { self.new ≡ self.old ++ bytes.now }
@@ -55,7 +61,9 @@ impl LineBuffer {
         };
     }
 
-    /// Adds a word, and directly after it the number in decimal digits. The line must have room for the word and 20 digits.
+    /// Adds a word, and directly after it the number in decimal digits.
+    ///
+    /// The line must have room for the word and 20 digits.
     pub(crate) fn add_number(&mut self, word: &str, number: u64)
         requires { length self.old + length word.now + 20 ≤ MAX_LINE_BYTES }
         ensures text { self.new ≡ self.old ++ word.now ++ decimal number }
@@ -68,8 +76,11 @@ impl LineBuffer {
         };
     }
 
-    /// Writes the line with its line feed, and clears it. The line must have room for the line feed.
-    /// Errors: `Output` where writing fails. The line is cleared then too, and a part of it may be written.
+    /// Writes the line with its line feed, and clears it.
+    ///
+    /// The line must have room for the line feed.
+    ///
+    /// Errors: `Output` if writing fails. The line is then cleared, too, and a part of it may have been written.
     pub(crate) fn print_to<W: Write>(&mut self, out: &mut W) -> Result<(), Failure>
         requires { length self.old < MAX_LINE_BYTES }
         ensures written { OnOk result (Appends (W.contents out.old) (W.contents out.new) (line_of self.old)) }

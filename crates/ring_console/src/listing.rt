@@ -1,4 +1,5 @@
 //! The command `frames`: listing the frames of a file.
+//!
 //! Formats: Listing frames
 
 ghost use Rattle.std.specs.Prelude.{◌≡◌, ◌≤◌, ◌⊎◌, [], OnOk, IfErr};
@@ -18,16 +19,18 @@ use ring_wire::Frame;
 use std::alloc::Allocator;
 use std::io::{BufWriter, Read, Write};
 
-/// Reads consecutive frames and prints a line for each on `out`. Returns the exit status: 0 at the end of the input, else
-/// 1.
+/// Reads consecutive frames and prints a line for each on `out`.
+///
+/// Returns the exit status: 0 at the end of the input, otherwise 1.
 ///
 /// Errors, each reported on `err` unless stated otherwise:
-/// - `BadFrame` where the rest of the input begins with no frame, or reading fails;
-/// - `Memory`;
+/// - `BadFrame` if the rest of the input begins with no frame, or reading fails;
+/// - `Memory` if an allocation fails;
 /// - `out` fails, or there are 2^64 - 1 frames: nothing is reported.
 ///
-/// Wherever an error is reported and the input was read at all, the lines of all frames before are on `out`; with `BadFrame`
-/// these are all frames that were read. It takes the same amount of memory for every input.
+/// If an error is reported after the input was read at all, the lines of all earlier frames are on `out`. With
+/// `BadFrame` these are all frames that were read. The amount of memory doesn't depend on the input.
+///
 /// Formats: Listing frames
 pub fn frames<A: Allocator + Copy, R: Read, O: Write, E: Write>(
     alloc: A,
@@ -55,8 +58,10 @@ pub fn frames<A: Allocator + Copy, R: Read, O: Write, E: Write>(
     }
 }
 
-/// Lists the frames of the input on `out`. Returns the failure that ends the listing before the input: `Output` also where
-/// there are more frames than a u64 counts.
+/// Lists the frames of the input on `out`.
+///
+/// Errors: the failure that ends the listing before the end of the input. It is `Output` even if there are more frames
+/// than a u64 counts.
 fn list_frames<A: Allocator + Copy, R: Read, W: Write>(
     alloc: A,
     input: &mut R,
@@ -76,7 +81,9 @@ fn list_frames<A: Allocator + Copy, R: Read, W: Write>(
     }
 }
 
-/// As [`list_frames`], with a reader that has read nothing. Each frame is decoded into `next`, and its line built in `line`.
+/// Lists frames as [`list_frames`] does, with a reader that must not have read anything yet.
+///
+/// Each frame is decoded into `next`, and its line built in `line`.
 fn list_with_reader<A: Allocator + Copy, R: Read, W: Write>(
     alloc: A,
     input: &mut R,
@@ -102,7 +109,9 @@ fn list_with_reader<A: Allocator + Copy, R: Read, W: Write>(
     Err(Failure::Output)
 }
 
-/// Prints a frame's line, which it builds in `line`. `Output` where writing fails.
+/// Prints a frame's line, which it builds in `line`.
+///
+/// Errors: `Output` if writing fails.
 fn print_frame<A: Allocator + Copy, W: Write>(
     out: &mut W,
     line: &mut LineBuffer,

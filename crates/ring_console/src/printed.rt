@@ -1,4 +1,5 @@
 //! The lines that a script prints.
+//!
 //! Formats: What a script prints
 
 ghost use Rattle.std.specs.Prelude.{◌≡◌, ◌+◌, ◌≤◌, [], ◌++◌, length, codes, IfErr, OnOk};
@@ -23,8 +24,10 @@ use std::io::Write;
 /// The number of hexadecimal digits of the longest reply: two for each of its 64 bytes.
 const MAX_DIGITS: usize = 128;
 
-/// Prints the line of each report of a node, in order: an answer, or a call that the node refused to take.
-/// Errors: `Output` where writing fails. A part of the lines may be written.
+/// Prints the lines of the reports in order: a node's answer to a call, or a call that a node refused.
+///
+/// Errors: `Output` if writing fails. A part of the lines may then have been written.
+///
 /// Formats: What a script prints
 pub(crate) fn print_told<A: Allocator + Copy + Drop, W: Write>(
     out: &mut W,
@@ -39,7 +42,9 @@ pub(crate) fn print_told<A: Allocator + Copy + Drop, W: Write>(
     Ok(())
 }
 
-/// Prints one report of a node. `Output` where writing fails.
+/// Prints one report of a node.
+///
+/// Errors: `Output` if writing fails.
 fn print_one<A: Allocator + Copy + Drop, W: Write>(
     out: &mut W,
     told: &Told<A>,
@@ -53,7 +58,9 @@ fn print_one<A: Allocator + Copy + Drop, W: Write>(
     }
 }
 
-/// Prints a node's answer to a call. `Output` where writing fails. Each call has such a line, so this doesn't use `write!`.
+/// Prints a node's answer to a call.
+///
+/// Errors: `Output` if writing fails. For speed it doesn't use `write!`: each call has such a line.
 fn print_answer<A: Allocator + Copy + Drop, W: Write>(
     out: &mut W,
     node: Proc,
@@ -73,7 +80,9 @@ fn print_answer<A: Allocator + Copy + Drop, W: Write>(
     line.print_to(out)
 }
 
-/// Prints that a node refused to take a call, with the number of its reason. `Output` where writing fails.
+/// Prints that a node refused a call, with the number of the fault.
+///
+/// Errors: `Output` if writing fails.
 fn print_refused<A: Allocator + Copy + Drop, W: Write>(
     out: &mut W,
     node: Proc,
@@ -105,7 +114,7 @@ fn add_call<A: Allocator + Copy + Drop>(
     line.add_number(".", call.number);
 }
 
-/// Adds a word and a reply, as two lower-case hexadecimal digits a byte.
+/// Adds the word `word`, and a reply as two lower-case hexadecimal digits per byte.
 fn add_reply(line: &mut LineBuffer, word: &str, reply: &Reply)
     requires { length line.old + length word.now + MAX_DIGITS ≤ MAX_LINE_BYTES }
     ensures text { line.new ≡ line.old ++ word.now ++ encode_lower reply.now }
@@ -120,7 +129,7 @@ fn add_reply(line: &mut LineBuffer, word: &str, reply: &Reply)
     line.add(digits);
 }
 
-/// The number of dropped places, displayed as the end of a node's line: nothing where it is 0.
+/// The number of dropped places, displayed as the end of a node's line. 0 is displayed as nothing.
 #[derive(Drop)]
 struct TrimmedSuffix(u64);
 
@@ -139,9 +148,13 @@ impl fmt::Display for TrimmedSuffix {
     }
 }
 
-/// Prints the line of a node in `show`: its state, its last installed ring, its committed length and its log's length, both
-/// with the dropped places, and the number of dropped places, left out where it is 0.
-/// Errors: `Output` where writing fails.
+/// Prints the line of a node in `show`.
+///
+/// It has the node's state, its last installed ring, its committed length and its log's length, and the number of
+/// dropped places unless that is 0. Both lengths include the dropped places.
+///
+/// Errors: `Output` if writing fails.
+///
 /// Formats: What a script prints
 pub(crate) fn print_node<W: Write>(
     out: &mut W,
@@ -163,7 +176,9 @@ pub(crate) fn print_node<W: Write>(
 }
 
 /// Prints the last line of `show`, with the length of the one order.
-/// Errors: `Output` where writing fails.
+///
+/// Errors: `Output` if writing fails.
+///
 /// Formats: What a script prints
 pub(crate) fn print_order<W: Write>(out: &mut W, length: u64) -> Result<(), Failure>
     ensures line { OnOk result (Appends (W.contents out.old) (W.contents out.new) (line_of (order_text length))) }
@@ -175,7 +190,9 @@ pub(crate) fn print_order<W: Write>(out: &mut W, length: u64) -> Result<(), Fail
 }
 
 /// Prints `legal yes` or `legal no`.
-/// Errors: `Output` where writing fails.
+///
+/// Errors: `Output` if writing fails.
+///
 /// Formats: The command line
 pub(crate) fn print_legal<W: Write>(out: &mut W, is_legal: bool) -> Result<(), Failure>
     ensures line { OnOk result (Appends (W.contents out.old) (W.contents out.new) (line_of (legal_text is_legal))) }

@@ -1,4 +1,5 @@
-//! The run of a script: the requests of its lines are carried out on a world, one event after another.
+//! The run of a script: the requests of its lines are carried out in a world, one event after another.
+//!
 //! Formats: Scripts; Pump; What a script prints
 
 ghost use Rattle.std.specs.Prelude.{◌≡◌, ◌≤◌, true, false, [], Some, None, length, drop, slice_get, IfOk, IfErr, OnOk, OnErr, IsTrue};
@@ -22,8 +23,10 @@ use ring_world::{Event, Noise, OpenCopy, Pump, World};
 use std::io::Write;
 use std::marker::Model;
 
-/// A running script: the world of its nodes, the open copies of the frames sent, and the cut. A copy is for one receiver,
-/// and is open until a turn of delivery takes it. Contracts see the run as a `RunView`.
+/// A running script: the world of its nodes, the open copies of the frames that were sent, and the cut.
+///
+/// A copy is for a single receiver, and is open until a turn of a pump takes it. Contracts see the run as a `RunView`.
+///
 /// Formats: Scripts; Pump
 #[derive(Drop)]
 pub struct ScriptRun<O: Object> {
@@ -41,8 +44,9 @@ impl<O: Object> Model for ScriptRun<O> {
 }
 
 impl<O: Object> ScriptRun<O> {
-    /// Creates a run of these nodes, all at their opening, without a cut or a frame.
-    /// Errors: `Memory`.
+    /// Creates a run of these nodes, all at their opening, without a cut and without frames.
+    ///
+    /// Errors: `Memory` if an allocation fails.
     pub fn new(alloc: O::Alloc, nodes: Fixed) -> Result<ScriptRun<O>, Fault>
         ensures ok { IfOk result (λ run. run ≡ run_opening nodes) }
         ensures refused { IfErr result (λ fault. fault ≡ Memory) }
@@ -54,8 +58,11 @@ impl<O: Object> ScriptRun<O> {
         })
     }
 
-    /// Returns a copy of this run. From then on the two are independent.
-    /// Errors: `Memory`; this run is unchanged.
+    /// Returns a copy of this run.
+    ///
+    /// From then on the two are independent.
+    ///
+    /// Errors: `Memory` if an allocation fails; this run is unchanged.
     pub fn copy(&self) -> Result<ScriptRun<O>, Fault>
         ensures ok { IfOk result (λ copy. copy ≡ self.now) }
         ensures refused { IfErr result (λ fault. fault ≡ Memory) }
@@ -74,10 +81,13 @@ impl<O: Object> ScriptRun<O> {
         self.pump.world()
     }
 
-    /// Carries out the requests of the lines in order, and prints their outputs on `out`. Each call in them keeps the
-    /// limits of calls, as in every parsed script.
-    /// Errors: `Output` where `out` fails; `Refused` with `Memory` where memory is refused to the world itself. All events
-    /// before stay done; with `Memory` they are printed too.
+    /// Carries out the requests of the lines in order, and prints their outputs on `out`.
+    ///
+    /// Each call in them must be within the limits of a call, as in every parsed script.
+    ///
+    /// Errors: `Output` if `out` fails; `Refused` with `Memory` if an allocation of the world itself fails. All earlier
+    /// events stay done; with `Memory` they are printed, too.
+    ///
     /// Formats: Scripts; Pump; What a script prints
     pub fn take<W: Write>(&mut self, script: Script<O::Alloc>, out: &mut W) -> Result<(), Failure>
         requires { AreFit script.lines.items }
@@ -114,7 +124,9 @@ impl<O: Object> ScriptRun<O> {
         }
     }
 
-    /// Prints the reports from this index on. `Output` where writing fails.
+    /// Prints the reports from the index `before` on.
+    ///
+    /// Errors: `Output` if writing fails.
     fn print_since<W: Write>(&self, before: usize, out: &mut W) -> Result<(), Failure>
         requires { before ≤ length self.now.world_view.told }
         ensures lines { OnOk result (Appends (W.contents out.old) (W.contents out.new) (told_text (drop before self.now.world_view.told))) }
@@ -124,9 +136,13 @@ impl<O: Object> ScriptRun<O> {
         print_told(out, &told[before..])
     }
 
-    /// Carries out the request of a line, and prints nothing. The line `show` does nothing.
-    /// Errors: `Memory` where it is refused to the world itself. Then nothing is done, except in a pump: the turns before
-    /// are done, and the copy whose turn it was is closed and not delivered.
+    /// Carries out the request of a line, and prints nothing.
+    ///
+    /// The line `show` does nothing.
+    ///
+    /// Errors: `Memory` if an allocation of the world itself fails. Nothing is then done, except in a pump: the earlier
+    /// turns are done, and the copy of the failed turn is closed and not delivered.
+    ///
     /// Formats: Scripts; Pump
     pub fn perform(&mut self, line: ScriptLine<O::Alloc>) -> Result<(), Fault>
         requires { IsFit line }
@@ -157,8 +173,11 @@ impl<O: Object> ScriptRun<O> {
         }
     }
 
-    /// Cuts the nodes into these groups. From then on, nodes of different groups don't hear each other. It replaces an
-    /// earlier cut, and loses nothing before a turn of delivery.
+    /// Cuts the nodes into these groups.
+    ///
+    /// From then on, nodes of different groups don't hear each other. It replaces an earlier cut. Copies are lost to it
+    /// only when a turn of a pump takes them.
+    ///
     /// Formats: Scripts; Pump
     pub fn cut(&mut self, groups: Groups)
         ensures { self.new ≡ record self.old { groups = Some groups } }
@@ -166,7 +185,10 @@ impl<O: Object> ScriptRun<O> {
         self.groups = Some(groups);
     }
 
-    /// Removes the cut, if there is one. From then on, all nodes hear each other. Copies that the cut has lost stay closed.
+    /// Removes the cut, if there is one.
+    ///
+    /// From then on, all nodes hear each other. Copies that the cut has lost stay closed.
+    ///
     /// Formats: Scripts; Pump
     pub fn heal(&mut self)
         ensures { self.new ≡ record self.old { groups = None } }
@@ -175,8 +197,10 @@ impl<O: Object> ScriptRun<O> {
     }
 
     /// Runs an event on the world, and opens a copy of each frame that the event sends for each of its receivers.
-    /// Errors: `Memory` where it is refused to the world itself: nothing is done. A node that is refused memory stops,
-    /// which isn't an error.
+    ///
+    /// Errors: `Memory` if an allocation of the world itself fails; nothing is done. A node whose allocation fails
+    /// stops, which isn't an error.
+    ///
     /// Formats: Scripts; Pump
     pub fn run_event(&mut self, event: Event<O::Alloc>) -> Result<(), Fault>
         requires { EventFits event }
@@ -187,7 +211,10 @@ impl<O: Object> ScriptRun<O> {
         self.pump.run_event(event)
     }
 
-    /// Takes this number of turns, fewer if no copy is open.
+    /// Takes `turns` turns, or fewer if no copy is open any more.
+    ///
+    /// Errors: as for [`run_event`](ScriptRun::run_event).
+    ///
     /// Formats: Pump
     fn pump(&mut self, turns: u32) -> Result<(), Fault>
         ensures done { OnOk result (IsPumpDone O.sequential turns self.old self.new) }
@@ -203,8 +230,12 @@ impl<O: Object> ScriptRun<O> {
         Ok(())
     }
 
-    /// Returns the open copy that the next turn takes: the one of the smallest frame number, and of these the one to the
-    /// smallest receiver. Returns `None` where none is open. Nothing changes.
+    /// Returns the open copy that the next turn takes.
+    ///
+    /// It is that of the smallest frame number, and of these the one for the smallest receiver.
+    ///
+    /// Returns `None` if none is open. Nothing changes.
+    ///
     /// Formats: Pump
     pub fn first_open_copy(&self) -> Option<OpenCopy>
         ensures { result ≡ slice_get self.now.open_copies 0 }
@@ -212,8 +243,10 @@ impl<O: Object> ScriptRun<O> {
         self.pump.first_open_copy()
     }
 
-    /// Closes the open copy that the next turn takes, without delivering it, and returns it. Returns `None` where none is
-    /// open.
+    /// Closes the open copy that the next turn takes, without delivering it, and returns it.
+    ///
+    /// Returns `None` if none is open.
+    ///
     /// Formats: Pump
     pub fn close_first_copy(&mut self) -> Option<OpenCopy>
         ensures takes { IsFirstCopyTaken self.old.open_copies result self.new.open_copies }
@@ -222,7 +255,9 @@ impl<O: Object> ScriptRun<O> {
         self.pump.close_first_copy()
     }
 
-    /// Delivers a closed copy to its receiver, unless the cut loses it. Fails as `run_event` does.
+    /// Delivers a closed copy to its receiver, unless the cut loses it.
+    ///
+    /// Errors: as for [`run_event`](ScriptRun::run_event).
     fn deliver_copy(&mut self, pair: OpenCopy) -> Result<(), Fault>
         ensures done { OnOk result (IsCopyHandled O.sequential (is_connected self.old.groups pair.sender pair.receiver) pair self.old self.new) }
         ensures rests { OnErr result (IsUnchanged self.old self.new) }
@@ -235,6 +270,7 @@ impl<O: Object> ScriptRun<O> {
     }
 
     /// Returns whether the receiver hears the sender now: there is no cut, or the two nodes are in one group.
+    ///
     /// Formats: Pump
     pub fn is_connected(&self, sender: Proc, receiver: Proc) -> bool
         ensures { result ≡ is_connected self.now.groups sender receiver }
@@ -245,7 +281,9 @@ impl<O: Object> ScriptRun<O> {
         }
     }
 
-    /// Prints the state of all nodes. `Output` where writing fails.
+    /// Prints the state of all nodes.
+    ///
+    /// Errors: `Output` if writing fails.
     fn show<W: Write>(&self, out: &mut W) -> Result<(), Failure>
         ensures prints { OnOk result (Appends (W.contents out.old) (W.contents out.new) (show_text O.sequential self.now.world_view)) }
         ensures failed { IfErr result (λ failure. failure ≡ Output) }

@@ -1,4 +1,5 @@
 //! The command `script`: running a script, and checking that its order is legal.
+//!
 //! Rules: Sessions 10
 //! Formats: What a script prints; The command line
 
@@ -26,16 +27,18 @@ use ring_things::StandardObjects;
 use std::alloc::Allocator;
 use std::io::{BufWriter, Read, Write};
 
-/// Reads a whole script over the program's object, checks it, runs it, and prints the outputs of its events on `out`.
-/// Returns the exit status: 0 at the script's end, else 1.
+/// Reads a whole script for the standard object, checks it, runs it, and prints the outputs of its events on `out`.
+///
+/// Returns the exit status: 0 at the script's end, otherwise 1.
 ///
 /// Errors, each reported on `err` unless stated otherwise:
-/// - `BadScript` where the input isn't a script: nothing is printed;
-/// - `Memory` where memory is refused to the reading or to the run itself;
+/// - `BadScript` if the input isn't a script: nothing is printed;
+/// - `Memory` if an allocation for the reading or for the run itself fails;
 /// - `out` fails: nothing is reported.
 ///
-/// With `Memory`, the lines of all events before are on `out`. At status 0 the whole input was a script, and the printed
-/// text is that of a run of it.
+/// With `Memory`, the lines of all earlier events are on `out`. At status 0 the whole input was a script, and the
+/// printed text is that of a run of it.
+///
 /// Formats: What a script prints; The command line
 pub fn script<A: Allocator + Copy + Drop, R: Read, O: Write, E: Write>(
     alloc: A,
@@ -54,8 +57,12 @@ pub fn script<A: Allocator + Copy + Drop, R: Read, O: Write, E: Write>(
 }
 
 /// Runs a script as [`script`] does, and then prints `legal yes` or `legal no`: whether the order of the run's world is
-/// legal for its history. The checker knows nothing of how these arose. The exit status is 1 after `legal no` too.
+/// legal for its history.
+///
+/// The checker has only the order and the history. The exit status is 1 after `legal no` too.
+///
 /// Errors: as for [`script`].
+///
 /// Rules: Sessions 10
 /// Formats: The command line
 pub fn script_check<A: Allocator + Copy + Drop, R: Read, O: Write, E: Write>(
@@ -74,8 +81,11 @@ pub fn script_check<A: Allocator + Copy + Drop, R: Read, O: Write, E: Write>(
     script_of::<StandardObjects<A>, ShelfVocabulary, R, O, E>(alloc, input, true, out, err)
 }
 
-/// Runs a script over an object with this vocabulary, as [`script`] does, or as [`script_check`] does if `is_checked`.
+/// Runs a script for objects `T` with the vocabulary `V`, as [`script`] does, or as [`script_check`] does if
+/// `is_checked`.
+///
 /// Errors: as for [`script`].
+///
 /// Rules: Sessions 10
 /// Formats: The command line
 pub fn script_of<T: Object, V: Vocabulary, R: Read, O: Write, E: Write>(
@@ -125,11 +135,14 @@ fn print_run<T: Object, O: Write, E: Write>(
 }
 
 // These are functions of the type, not free functions: here the type parameters have the same positions as in
-// `ScriptRun::take`. With other positions, the checker compares the types of that call down to their last field and runs out of
-// steps.
+// `ScriptRun::take`. With other positions, the checker compares the types of that call down to their last field, and
+// runs out of steps.
 impl<O: Object> ScriptRun<O> {
-    /// Runs the script from the opening of its nodes, and then, if `is_checked`, prints whether the run is legal. Returns the
-    /// printed verdict, or true without a check. Errors: only `Output`, and `Refused` with `Memory`.
+    /// Runs the script from the opening of its nodes, and then, if `is_checked`, prints whether the run is legal.
+    ///
+    /// Returns the printed verdict, or true without a check.
+    ///
+    /// Errors: `Output` if `out` fails; `Refused` with `Memory` if an allocation fails.
     fn print_script<W: Write>(
         alloc: O::Alloc,
         script: Script<O::Alloc>,
@@ -149,7 +162,7 @@ impl<O: Object> ScriptRun<O> {
         }
     }
 
-    /// As `print_script`, with this run, which is at its opening.
+    /// Runs the script as `print_script` does, in this run, which must be at its opening.
     fn print_whole<W: Write>(
         &mut self,
         alloc: O::Alloc,
@@ -169,8 +182,11 @@ impl<O: Object> ScriptRun<O> {
         self.print_verdict(alloc, is_checked, out)
     }
 
-    /// Prints, if `is_checked`, whether the run is legal. Returns the printed verdict, or true without a check. Errors: only
-    /// `Output`, and `Refused` with `Memory`.
+    /// Prints, if `is_checked`, whether the run is legal.
+    ///
+    /// Returns the printed verdict, or true without a check.
+    ///
+    /// Errors: `Output` if `out` fails; `Refused` with `Memory` if an allocation fails.
     fn print_verdict<W: Write>(
         &self,
         alloc: O::Alloc,
@@ -192,8 +208,12 @@ impl<O: Object> ScriptRun<O> {
     }
 }
 
-/// Returns whether the order of the run's world is legal for its history: it explains each reply of the events run so far.
-/// Errors: `Memory`.
+/// Returns whether the order of the run's world is legal for its history.
+///
+/// The history has the calls and replies of the events run so far.
+///
+/// Errors: `Memory` if an allocation fails.
+///
 /// Rules: Sessions 10
 pub fn is_legal<O: Object>(alloc: O::Alloc, run: &ScriptRun<O>) -> Result<bool, Fault>
     ensures ok { IfOk result (λ is_legal. IsTrue is_legal ↔ IsLegal O.sequential run.now.world_view) }
@@ -203,7 +223,7 @@ pub fn is_legal<O: Object>(alloc: O::Alloc, run: &ScriptRun<O>) -> Result<bool, 
     is_linearization::<O>(alloc, order.as_slice(), run.world().history())
 }
 
-/// Flushes the buffer as [`exit_status`] does, and returns the exit status: 1 also where the run is not legal.
+/// Flushes the buffer as [`exit_status`] does, and returns the exit status, which is also 1 if the run isn't legal.
 fn verdict_status<O: Write + Drop, A: Allocator, E: Write>(
     out: &mut BufWriter<O, A>,
     err: &mut E,

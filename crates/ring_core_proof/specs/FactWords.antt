@@ -3,7 +3,7 @@
 use Rattle.std.specs.Prelude.{◌⊎◌, List, [], ◌∷◌}
 pub use Rattle.ring_base.specs.InLists.{IsIn}
 
--- some item of the list satisfies P
+-- Some item of the list satisfies P.
 abbrev pub SomeIs : {X : Type 0} → (X → Type 0) → List X → Type 0
 SomeIs P [] = ⊥
 SomeIs P (x ∷ xs) = P x ⊎ SomeIs P xs

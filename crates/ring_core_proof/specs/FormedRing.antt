@@ -12,14 +12,14 @@ use Rattle.ring_core_proof.specs.declared.event.RingEvent.{RingEvent}
 use Rattle.ring_core_proof.specs.declared.event.RingEvent.TheVariants.{Send, Deliver, Timeout}
 use Rattle.ring_core_proof.specs.Samples.{first_ring, add_five, call_at, token_frame}
 
--- frame 2, the message, never reaches processor 1; frame 5 does, twice
+-- Frame 2, the message, never reaches processor 1; frame 5 does, twice.
 abbrev pub loss_events : List (RingEvent Global)
 loss_events =
     Send 2 (CallPayload add_five) ∷
     Deliver 2 1 ∷ Deliver 1 3 ∷ Deliver 2 4 ∷ Deliver 1 5 ∷ Deliver 1 5 ∷
     Deliver 1 6 ∷ Deliver 2 7 ∷ Deliver 1 8 ∷ Deliver 2 9 ∷ []
 
--- all outputs of both: the message is requested, sent again, agreed at processor 1 too, and safe at both
+-- All outputs of both: the message is requested, sent again, agreed at processor 1 too, and safe at both.
 abbrev pub loss_outs : List (ℕ × Out Global)
 loss_outs =
     (2, SendOut 1 (MessageFrame (call_at 2 1))) ∷
@@ -36,14 +36,14 @@ loss_outs =
     (2, SendOut 1 (token_frame 8 1 1 None [])) ∷
     (2, Safe first_ring 1) ∷ []
 
--- timeouts that do nothing in a formed ring
+-- Timeouts that do nothing in a formed ring.
 abbrev pub idle_timeouts : List (RingEvent Global)
 idle_timeouts = Timeout 1 Loss ∷ Timeout 2 JoinTime ∷ Timeout 1 Consensus ∷ []
 
--- the timeout that acts there
+-- The timeout that has an effect there.
 abbrev pub repeat_timeout : List (RingEvent Global)
 repeat_timeout = Timeout 1 Retransmit ∷ []
 
--- the ring's first frame, sent again: the token that the representative forwarded
+-- The ring's first frame, sent again: the token that the representative forwarded.
 abbrev pub first_token_again : List (ℕ × Out Global)
 first_token_again = (1, SendOut 2 (token_frame 1 0 0 None [])) ∷ []

@@ -11,8 +11,8 @@ use Rattle.ring_core_spec.specs.Tokens.{TokenVisit, Raise, turns_of}
 use Rattle.ring_core_spec.specs.State.{Core, Report, floor}
 use Rattle.ring_core_spec.specs.Views.{front, mark, own_entry}
 
--- all facts of one ring: the messages held, the visits of its token, the raises of its mark, and the report and the
--- plan on the way into it
+-- All facts of one ring: the messages held, the visits of its token, the raises of its mark, and the report and the
+-- plan on the way into it.
 pub record RingKnowledge (A : Type 0) : Type 0 where
   pub held : List (Message A)
   pub turns : List (TokenVisit A)
@@ -20,7 +20,7 @@ pub record RingKnowledge (A : Type 0) : Type 0 where
   pub reports : List Report
   pub plans : List CommitToken
 
--- all facts that a core has of a ring
+-- All facts that a core has of a ring.
 abbrev pub knowledge_of : {A : Type 0} → RingId → Core A → RingKnowledge A
 knowledge_of ring c =
     record {
@@ -31,26 +31,26 @@ knowledge_of ring c =
       plans = filter (λ (k : CommitToken). same_ring k.ring ring) c.plans;
     }
 
--- the ring neither runs nor is installed, and its number is at most the floor: the core left it, or never takes part
--- in it
+-- The ring neither runs nor is installed, and its number is at most the floor: the core left it, or never takes part in
+-- it.
 pub record HasLeft {A : Type 0} (c : Core A) (ring : RingId) : Type 0 where
   pub below : ring.seq ≤ floor c
   pub running : ring ≡ c.running.ring → ⊥
   pub installed : ring ≡ c.installed.ring → ⊥
 
--- the core has taken part in a ring newer than the installed one, and that ring doesn't run yet, or no longer runs
+-- The core has taken part in a ring newer than the installed one, and that ring doesn't run yet, or no longer runs.
 pub record IsBetweenRings {A : Type 0} (c : Core A) : Type 0 where
   pub state : (c.state ≡ Gather) ⊎ ((c.state ≡ Commit) ⊎ (c.state ≡ Stopped))
   pub newer : c.installed.ring.seq < floor c
 
--- a later core has the same facts of this ring, and the same front and safe mark
+-- A later core has the same facts of this ring, and the same front and safe mark.
 pub record KeepsKnowledge {A : Type 0} (ring : RingId) (before later : Core A) : Type 0 where
   pub known : knowledge_of ring later ≡ knowledge_of ring before
   pub front_is : front later ring ≡ front before ring
   pub mark_is : mark later ring ≡ mark before ring
 
--- a later core, until a plan is made, has the same installed ring and the same facts of it, and would report the same
--- entry
+-- A later core, until a plan is made, has the same installed ring and the same facts of it, and would report the same
+-- entry.
 pub record KeepsReport {A : Type 0} (before later : Core A) : Type 0 where
   pub installed : later.plans ≡ before.plans → later.installed ≡ before.installed
   pub known : later.plans ≡ before.plans → knowledge_of before.installed.ring later ≡ knowledge_of before.installed.ring before

@@ -31,34 +31,34 @@ use Rattle.ring_core_spec.specs.Deciding.{EnterGatherAndAgree, EnterGatherAndMer
 use Rattle.ring_core_proof.specs.FactWords.{IsIn}
 use Rattle.ring_core_proof.specs.Moves.{AreLast}
 
--- a ring runs
+-- A ring runs.
 abbrev pub IsRunning : State → Type 0
 IsRunning s = (s ≡ Recovery) ⊎ (s ≡ Operational)
 
--- a join may make a node in this state enter Gather
+-- A join may make a node in this state enter Gather.
 abbrev pub IsAway : State → Type 0
 IsAway s = (s ≡ Commit) ⊎ ((s ≡ Recovery) ⊎ (s ≡ Operational))
 
--- a join makes the core enter Gather, and has this effect on the sets with which Gather begins
+-- A join makes the core enter Gather, and has this effect on the sets with which Gather begins.
 pub record LeadsToGather {A : Type 0} (c : Core A) (j : Join) (join_effect : JoinEffect) : Type 0 where
   pub state : IsAway c.state
   pub passes : is_gather_trigger c j ≡ true
   pub effect_is : join_effect_at (gather_entered c) j ≡ join_effect
 
--- a commit token of the first round is at the member that its hop goes to, which is in Gather, and passes the tests
--- of the round
+-- A commit token of the first round is at the member that its hop goes to, which is in Gather, and passes the tests of
+-- the round.
 pub record PassesFirst {A : Type 0} (c : Core A) (k : CommitToken) : Type 0 where
   pub state : c.state ≡ Gather
   pub here : is_at c.me k ≡ true
   pub passes : takes_first_round c k ≡ true
 
--- the same for the second round, in Commit
+-- The same for the second round, in Commit.
 pub record PassesSecond {A : Type 0} (c : Core A) (k : CommitToken) : Type 0 where
   pub state : c.state ≡ Commit
   pub here : is_at c.me k ≡ true
   pub passes : takes_second_round c k ≡ true
 
--- the tests that a transition has passed
+-- The tests that a transition has passed.
 abbrev pub HasPassed : {A : Type 0} → Core A → Transition A → Type 0
 HasPassed c Ignore = Unit {0}
 HasPassed c (Enqueue payload) = (c.state ≡ Operational) × (is_queued payload ≡ true)
@@ -76,13 +76,13 @@ HasPassed c (Visit t) = IsRunning c.state × (accepts c t ≡ true)
 HasPassed c (Fill k) = PassesFirst c k
 HasPassed c (Learn k) = PassesSecond c k
 
--- a join makes the core enter Gather, and has no effect there
+-- A join makes the core enter Gather, and has no effect there.
 pub record LeavesBy {A : Type 0} (c : Core A) (input : Input A) : Type 0 where
   pub join : Join
   pub received : input ≡ FrameInput (JoinFrame join)
   pub leads : LeadsToGather c join Ignored
 
--- a commit token has returned to the representative and starts this token
+-- A commit token has returned to the representative and starts this token.
 pub record StartsWith {A : Type 0} (c : Core A) (input : Input A) (t : Token) : Type 0 where
   pub commit : CommitToken
   pub received : input ≡ FrameInput (CommitFrame commit)
@@ -91,7 +91,7 @@ pub record StartsWith {A : Type 0} (c : Core A) (input : Input A) (t : Token) : 
   pub starts : is_start c.running commit ≡ true
   pub first : t ≡ first_token commit.ring
 
--- the transition is about this input
+-- The transition is about this input.
 abbrev pub IsInputOf : {A : Type 0} → Core A → Input A → Transition A → Type 0
 IsInputOf c input Ignore = Unit {0}
 IsInputOf c input (Enqueue payload) = input ≡ SendInput payload
@@ -109,35 +109,35 @@ IsInputOf c input (Visit t) = (input ≡ FrameInput (TokenFrame t)) ⊎ StartsWi
 IsInputOf c input (Fill k) = input ≡ FrameInput (CommitFrame k)
 IsInputOf c input (Learn k) = input ≡ FrameInput (CommitFrame k)
 
--- the ring numbers strictly fall along a list, which is newest first
+-- The ring numbers strictly fall along a list, which is newest first.
 abbrev pub IsFalling : List Configuration → Type 0
 IsFalling [] = Unit {0}
 IsFalling (x ∷ []) = Unit {0}
 IsFalling (x ∷ y ∷ rest) = (y.ring.seq < x.ring.seq) × IsFalling (y ∷ rest)
 
--- a core doesn't ignore a commit token
+-- A core doesn't ignore a commit token.
 abbrev pub TakesCommit : {A : Type 0} → Core A → CommitToken → Type 0
 TakesCommit c k = decide c (FrameInput (CommitFrame k)) ≡ Ignore → ⊥
 
--- a visit follows the rules: it forwards the token by them, its front is at most the forwarded `seq`, and the front
--- has only grown since
+-- A visit follows the rules: it forwards the token by them, its front is at most the forwarded `seq`, and the front has
+-- only grown since.
 pub record IsTurnOf {A : Type 0} (me : ℕ) (held : List (Message A)) (v : TokenVisit A) : Type 0 where
   pub goes : v.forwarded ≡ token_after me v.front (length v.fresh) v.forwarded.requests v.received
   pub within : v.front ≤ v.forwarded.seq
   pub grown : v.front ≤ front_of held v.received.ring
 
--- each of these visits does so
+-- Each of these visits follows the rules.
 abbrev pub AreTurnsOf : {A : Type 0} → ℕ → List (Message A) → List (TokenVisit A) → Type 0
 AreTurnsOf me held turns = AllByRecursion (IsTurnOf me held) turns
 
--- in Operational the new payloads are the first that some queue makes, and that queue holds no Pack
+-- In Operational the new payloads are the first that some queue makes, and that queue holds no Pack.
 pub record AreOfQueue {A : Type 0} (fresh : List (Payload A)) : Type 0 where
   pub count : ℕ
   pub queue : List (Payload A)
   pub queued : AreQueued queue
   pub made : fresh ≡ packed_payloads count queue
 
--- in Recovery they are the first of the Wrapped of some plan, from what the core held then, and of its End after them
+-- In Recovery they are the first of the Wrapped of some plan, from what the core held then, and of its End after them.
 pub record AreOfRecovery {A : Type 0} (me : ℕ) (ring : RingId) (held : List (Message A)) (fresh : List (Payload A)) : Type 0 where
   pub count : ℕ
   pub plan : Plan
@@ -146,22 +146,22 @@ pub record AreOfRecovery {A : Type 0} (me : ℕ) (ring : RingId) (held : List (M
   pub grown : later ++ before ≡ held
   pub made : fresh ≡ take count (wraps_and_end me plan ring before)
 
--- the new payloads of a visit: at most as many as a visit may send, none past the greatest number, and made in one of
--- the two ways
+-- The new payloads of a visit: at most as many as a visit may send, none past the greatest number, and made in one of
+-- the two ways.
 pub record IsFreshOf {A : Type 0} (me : ℕ) (held : List (Message A)) (v : TokenVisit A) : Type 0 where
   pub few : length v.fresh ≤ visit_limit
   pub numbered : length v.fresh ≤ max_number - v.received.seq
   pub made : AreOfQueue v.fresh ⊎ AreOfRecovery me v.received.ring held v.fresh
 
--- the new payloads of all these visits are so
+-- The new payloads of all these visits are within these bounds and made in one of the two ways.
 abbrev pub AreFreshOf : {A : Type 0} → ℕ → List (Message A) → List (TokenVisit A) → Type 0
 AreFreshOf me held turns = AllByRecursion (IsFreshOf me held) turns
 
--- a visit of the running ring that sent an End left nothing to wrap: each user message of the installed ring that is
--- held above the least front is seen wrapped
+-- A visit of the running ring that sent an End left nothing to wrap: each user message of the installed ring that is
+-- held above the least front is seen wrapped.
 abbrev pub EndsWrapping : {A : Type 0} → Core A → TokenVisit A → Type 0
 EndsWrapping c v = v.received.ring ≡ c.running.ring → IsIn End v.fresh → AreLast c []
 
--- in Recovery each visit of the core is so
+-- In Recovery, each visit of the core that sent an End left nothing to wrap.
 abbrev pub HasEnded : {A : Type 0} → Core A → Type 0
 HasEnded c = c.state ≡ Recovery → AllByRecursion (EndsWrapping c) c.turns

@@ -1,4 +1,4 @@
--- Inputs, events, cores and outputs that keep the limits of frames. A frame keeps them where it has an encoding.
+-- Inputs, events, cores and outputs within the limits of frames. A frame is within them if it has an encoding.
 -- Rules: Limits 1
 use Rattle.std.specs.Prelude.{◌≡◌, ℕ, ◌^◌, ◌<◌, ◌≤◌, List, Some}
 use Rattle.std.specs.List.{AllByRecursion}
@@ -23,20 +23,20 @@ use Rattle.ring_core_proof.specs.Worlds.{Transmission, World}
 
 -- Inputs and outputs
 
--- an input keeps the limits: a frame has an encoding, and a payload to send keeps those of payloads
+-- An input is within the limits: a frame has an encoding, and a payload to send is within those of payloads.
 abbrev pub InputFits : {A : Type 0} → Input A → Type 0
 InputFits (FrameInput frame) = FrameFits frame
 InputFits (TimeInput kind) = Unit {0}
 InputFits (SendInput payload) = PayloadFits payload
 
--- an event keeps the limits: a payload to send does; a delivered frame was sent, so nothing is asked of it
+-- An event is within the limits: a payload to send is; a delivered frame was sent, so nothing is required of it.
 abbrev pub EventFits : {A : Type 0} → RingEvent A → Type 0
 EventFits (Send i payload) = PayloadFits payload
 EventFits (Deliver i k) = Unit {0}
 EventFits (Timeout i kind) = Unit {0}
 EventFits (Stop i) = Unit {0}
 
--- an output keeps the limits: the frame that it sends has an encoding
+-- An output is within the limits: the frame that it sends has an encoding.
 abbrev pub OutFits : {A : Type 0} → Out A → Type 0
 OutFits (SendOut to frame) = FrameFits frame
 OutFits (Agreed ring n x) = Unit {0}
@@ -47,13 +47,13 @@ OutFits (Regular ring set) = Unit {0}
 
 -- A core
 
--- the ring's name and members are in range, and the processor is a member
+-- The ring's name and members are in range, and the processor is a member.
 pub record RingFitsIn (me : ℕ) (x : Configuration) : Type 0 where
   pub ring : RingFits x.ring
   pub members : x.members < 2 ^ 16
   pub mine : IsMember x.members me
 
--- the sets are in range, the node is a candidate, and only processors of `proc_set` are given up
+-- The sets are in range, the node is a candidate, and only processors of `proc_set` are given up.
 pub record GatheringFits (me : ℕ) (g : Gathering) : Type 0 where
   pub proc_set : g.proc_set < 2 ^ 16
   pub fail_set : g.fail_set < 2 ^ 16
@@ -61,21 +61,21 @@ pub record GatheringFits (me : ℕ) (g : Gathering) : Type 0 where
   pub alive : IsMember g.fail_set me → ⊥
   pub failed_in : IsSubset g.fail_set g.proc_set
 
--- each payload in the queue keeps the limits and is a user's
+-- Each payload in the queue is within the limits and is a user payload.
 pub record QueueFits {A : Type 0} (queue : List (Payload A)) : Type 0 where
   pub each : AllByRecursion PayloadFits queue
   pub users : AllAreUsers queue
 
--- a core keeps the limits of frames: its processors, rings and sets are in range; what it queues, holds and keeps to
--- send again is within limits; marks are at most fronts, all that is held lies within the window, and its rings fit
--- its state
+-- A core is within the limits of frames: its processors, rings and sets are in range; what it queues, holds and keeps
+-- to send again is within limits; marks are at most fronts, all that is held lies within the window, and its rings fit
+-- its state.
 pub record CoreFits {A : Type 0} (c : Core A) : Type 0 where
   pub me : IsProc c.me
   pub among : c.me ≤ c.total
   pub total : c.total ≤ max_processors
   pub running : RingFitsIn c.me c.running
   pub installed : RingFitsIn c.me c.installed
-  -- a ring of number 0 is the processor's own
+  -- A ring of number 0 is the processor's own.
   pub own : c.installed.ring.seq ≡ 0 → c.installed.ring.rep ≡ c.me
   pub gathering : GatheringFits c.me c.gathering
   pub queue : QueueFits c.queue
@@ -86,11 +86,11 @@ pub record CoreFits {A : Type 0} (c : Core A) : Type 0 where
 
 -- A world
 
--- each processor's core keeps the limits, and so does each frame ever sent
+-- Each processor's core is within the limits, and so is each frame ever sent.
 pub record WorldFits {A : Type 0} (w : World A) : Type 0 where
   pub cores : (i : ℕ) → 1 ≤ i → i ≤ w.total → CoreFits (w.cores i)
   pub frames : AllByRecursion (λ (f : Transmission A). FrameFits f.frame) w.frames
 
--- the frame keeps the limits
+-- The frame is within the limits.
 abbrev pub SentFits : {A : Type 0} → OutgoingFrame A → Type 0
 SentFits s = FrameFits s.frame

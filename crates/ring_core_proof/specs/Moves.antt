@@ -36,38 +36,38 @@ use Rattle.ring_core_spec.specs.declared.input.Input.TheVariants.{Frame as Frame
 use Rattle.ring_core_proof.specs.FactWords.{IsIn, SomeIs}
 use Rattle.ring_core_proof.specs.Worlds.{Transmission}
 
--- one of the six moves of a core, with its data
+-- One of the six moves of a core, with its data.
 pub data Move (A : Type 0) : Type 0 where
-  -- no fact is added: the state, the sets or the queue change; joins are sent, or the kept token again
+  -- No fact is added: the state, the sets or the queue change; joins are sent, or the kept token again.
   Idles : (state : State) → (gathering : Gathering) → (last_sent : Option (OutgoingFrame A)) → (queue : List (Payload A)) → (sends : List (OutgoingFrame A)) → Move A
-  -- the core takes part in a ring: by a commit token of the first round, or by a proposal, which has hop 0 and no
-  -- entries
+  -- The core takes part in a ring: by a commit token of the first round, or by a proposal, which has hop 0 and no
+  -- entries.
   Enters : (commit : CommitToken) → Move A
-  -- the full commit token arrives in the second round: Recovery begins
+  -- The full commit token arrives in the second round: Recovery begins.
   Learns : (commit : CommitToken) → Move A
-  -- a token is visited: it is forwarded with these new payloads and these requests, after these messages are sent
-  -- again, and leaves this queue
+  -- A token is visited: it is forwarded with these new payloads and these requests, after these messages are sent
+  -- again, and leaves this queue.
   Visits : (token : Token) → (fresh : List (Payload A)) → (requests : List ℕ) → (again : List (Message A)) → (queue : List (Payload A)) → Move A
-  -- a message is taken
+  -- A message is taken.
   Takes : (message : Message A) → Move A
-  -- the running ring is installed
+  -- The running ring is installed.
   Installs : Move A
 
 -- The effect of each move
 
--- the messages held in a visit, the new ones first
+-- The messages held in a visit, the new ones first.
 abbrev pub held_in : {A : Type 0} → Core A → Token → List (Payload A) → List (Message A)
 held_in c t fresh = reverse (numbered t.ring c.me t.seq fresh) ++ c.held
 
--- the forwarded token
+-- The forwarded token.
 abbrev pub forwarded_with : {A : Type 0} → Core A → Token → List (Payload A) → List ℕ → Token
 forwarded_with c t fresh requests = token_after c.me (front_of (held_in c t fresh) t.ring) (length fresh) requests t
 
--- the visit as a fact
+-- The visit as a fact.
 abbrev pub turn_with : {A : Type 0} → Core A → Token → List (Payload A) → List ℕ → TokenVisit A
 turn_with c t fresh requests = record { received = t; front = front_of (held_in c t fresh) t.ring; fresh = fresh; forwarded = forwarded_with c t fresh requests }
 
--- the core after a move
+-- The core after a move.
 abbrev pub moved : {A : Type 0} → Core A → Move A → Core A
 moved c (Idles state gathering last_sent queue sends) = record c { state = state; gathering = gathering; last_sent = last_sent; queue = queue }
 moved c (Enters k) = (ring_joined c (hop_with_entries k (own_entry c ∷ []))).core
@@ -82,7 +82,7 @@ moved c (Visits t fresh requests again queue) =
 moved c (Takes x) = message_taken c x
 moved c Installs = install c
 
--- the frames that a move sends
+-- The frames that a move sends.
 abbrev pub sends_of : {A : Type 0} → Core A → Move A → List (OutgoingFrame A)
 sends_of c (Idles state gathering last_sent queue sends) = sends
 sends_of c (Enters k) = (ring_joined c (hop_with_entries k (own_entry c ∷ []))).sends
@@ -91,22 +91,22 @@ sends_of c (Visits t fresh requests again queue) = to_others c (again ++ numbere
 sends_of c (Takes x) = []
 sends_of c Installs = []
 
--- the core after a move, with the frames that the move sends
+-- The core after a move, with the frames that the move sends.
 abbrev pub did : {A : Type 0} → Core A → Move A → TransitionResult A
 did c m = record { core = moved c m; sends = sends_of c m }
 
 -- The conditions of each move. `received` are the frames that arrived at the core
 
--- all of these payloads are users'
+-- All of these are user payloads.
 abbrev pub AllAreUsers : {A : Type 0} → List (Payload A) → Type 0
 AllAreUsers ps = AllByRecursion (λ (p : Payload _). is_user p ≡ true) ps
 
--- a join, or the kept token again
+-- A join, or the kept token again.
 abbrev pub IsRepeated : {A : Type 0} → Option (OutgoingFrame A) → OutgoingFrame A → Type 0
 IsRepeated last_sent s = (last_sent ≡ Some s) ⊎ ((j : Join) × (s.frame ≡ JoinFrame j))
 
--- the state becomes Gather or Stopped or stays; the kept token stays or is dropped; only joins and the kept token are
--- sent; the facts about the queue and the counted joins stay true
+-- The state becomes Gather or Stopped or stays; the kept token stays or is dropped; only joins and the kept token are
+-- sent; the facts about the queue and the counted joins stay true.
 pub record MayIdle {A : Type 0} (c : Core A) (state : State) (gathering : Gathering) (last_sent : Option (OutgoingFrame A))
     (queue : List (Payload A)) (sends : List (OutgoingFrame A)) : Type 0 where
   pub leaves : (state ≡ c.state) ⊎ ((state ≡ Gather) ⊎ (state ≡ Stopped))
@@ -115,13 +115,13 @@ pub record MayIdle {A : Type 0} (c : Core A) (state : State) (gathering : Gather
   pub queued : AllAreUsers c.queue → AllAreUsers queue
   pub sent : AllByRecursion (IsRepeated c.last_sent) sends
 
--- a proposal of the core itself: hop 0, and no entry yet
+-- A proposal of the core itself: hop 0, and no entry yet.
 pub record IsProposal (me : ℕ) (k : CommitToken) : Type 0 where
   pub hop : k.hop ≡ 0
   pub entries : k.entries ≡ []
   pub rep : k.ring.rep ≡ me
 
--- the core is in Gather, at the position of the hop in the first round, and the ring is above the floor
+-- The core is in Gather, at the position of the hop in the first round, and the ring is above the floor.
 pub record MayEnter {A : Type 0} (received : Frame A → Type 0) (c : Core A) (k : CommitToken) : Type 0 where
   pub state : c.state ≡ Gather
   pub above : floor c < k.ring.seq
@@ -129,8 +129,8 @@ pub record MayEnter {A : Type 0} (received : Frame A → Type 0) (c : Core A) (k
   pub here : receiver k ≡ c.me
   pub from : IsProposal c.me k ⊎ received (CommitFrame k)
 
--- the core is in Commit, at the position of the hop in the second round, and the ring is its newest; its own entry is
--- in the token, and no transitional member reports a front below a safe mark
+-- The core is in Commit, at the position of the hop in the second round, and the ring is its newest; its own entry is
+-- in the token, and no transitional member reports a front below a safe mark.
 pub record MayLearn {A : Type 0} (received : Frame A → Type 0) (c : Core A) (k : CommitToken) : Type 0 where
   pub state : c.state ≡ Commit
   pub ring : k.ring ≡ c.running.ring
@@ -142,12 +142,12 @@ pub record MayLearn {A : Type 0} (received : Frame A → Type 0) (c : Core A) (k
   pub sound : is_sound c.installed.ring k.entries ≡ true
   pub from : received (CommitFrame k)
 
--- a number of the installed ring is seen wrapped: a message held of the running ring wraps it
+-- A number of the installed ring is seen wrapped: a message held of the running ring wraps it.
 abbrev pub is_seen : {A : Type 0} → Core A → ℕ → Bool
 is_seen c n = is_wrapped (of_ring c.running.ring c.held) c.installed.ring n
 
--- a Wrapped of a message of the installed ring: the one held under its number, a user's, above the least front and
--- not yet seen wrapped
+-- A Wrapped of a message of the installed ring: the user message held under its number, above the least front and not
+-- yet seen wrapped.
 pub record IsHandedOn {A : Type 0} (c : Core A) (w : WrappedMessage A) : Type 0 where
   pub ring : w.ring ≡ c.installed.ring
   pub user : is_user (payload_of w.payload) ≡ true
@@ -155,29 +155,29 @@ pub record IsHandedOn {A : Type 0} (c : Core A) (w : WrappedMessage A) : Type 0 
   pub held : found c.held w.ring w.number ≡ Some (inner_message w)
   pub unseen : is_seen c w.number ≡ false
 
--- the payload is such a Wrapped
+-- The payload is a Wrapped of a message that is left to wrap.
 abbrev pub IsWrapping : {A : Type 0} → Core A → Payload A → Type 0
 IsWrapping {A} c p = (w : WrappedMessage A) × (p ≡ Wrapped w) × IsHandedOn c w
 
--- each payload wraps a greater number than the one before it
+-- Each payload wraps a greater number than the one before it.
 abbrev pub AreRising : {A : Type 0} → ℕ → List (Payload A) → Type 0
 AreRising below [] = Unit {0}
 AreRising {A} below (p ∷ ps) = (w : WrappedMessage A) × (p ≡ Wrapped w) × (below < w.number) × AreRising w.number ps
 
--- nothing but these is left to wrap: where a user message of the installed ring is held above the least front, its
--- number is seen wrapped, or one of these wraps it
+-- Nothing but these is left to wrap: if a user message of the installed ring is held above the least front, its number
+-- is seen wrapped, or one of these wraps it.
 abbrev pub AreLast : {A : Type 0} → Core A → List (Payload A) → Type 0
 AreLast {A} c wraps =
     (n : ℕ) (x : Message A) → low (plan c) < n → found c.held c.installed.ring n ≡ Some x → is_user x.payload ≡ true →
     (is_seen c n ≡ true) ⊎ SomeIs (λ p. is_wrap_of c.installed.ring n p ≡ true) wraps
 
--- one End, after the last message left to wrap, where the core holds no End of its own yet
+-- One End, after the last message left to wrap, if the core holds no End of its own yet.
 pub record MayEnd {A : Type 0} (c : Core A) (wraps ends : List (Payload A)) : Type 0 where
   pub one : ends ≡ End ∷ []
   pub first : has_ended c.me c.running.ring c.held ≡ false
   pub last : AreLast c wraps
 
--- the new payloads in Recovery: first Wrapped, ascending, and then at most one End
+-- The new payloads in Recovery: first Wrapped, ascending, and then at most one End.
 pub record AreWraps {A : Type 0} (c : Core A) (fresh : List (Payload A)) : Type 0 where
   pub wraps : List (Payload A)
   pub ends : List (Payload A)
@@ -186,14 +186,14 @@ pub record AreWraps {A : Type 0} (c : Core A) (fresh : List (Payload A)) : Type 
   pub rising : AreRising (low (plan c)) wraps
   pub ended : (ends ≡ []) ⊎ MayEnd c wraps ends
 
--- the first token, at the representative
+-- The first token, at the representative.
 pub record IsStart {A : Type 0} (c : Core A) (t : Token) : Type 0 where
   pub token : t ≡ first_token c.running.ring
   pub first : at c.running.members 0 ≡ c.me
 
--- the token is of the running ring, newer than each visited one, and its `seq` covers what is held; the new messages
--- fit the window after the safe mark, are users' in Operational, and in Recovery Wrapped and the End; the messages sent
--- again are held
+-- The token is of the running ring, newer than each visited one, and its `seq` covers what is held; the new messages
+-- fit the window after the safe mark, are user messages in Operational, and in Recovery Wrapped and the End; the
+-- messages sent again are held.
 pub record MayVisit {A : Type 0} (received : Frame A → Type 0) (c : Core A) (t : Token) (fresh : List (Payload A))
     (again : List (Message A)) (queue : List (Payload A)) : Type 0 where
   pub state : (c.state ≡ Recovery) ⊎ (c.state ≡ Operational)
@@ -207,34 +207,33 @@ pub record MayVisit {A : Type 0} (received : Frame A → Type 0) (c : Core A) (t
   pub queued : AllAreUsers c.queue → AllAreUsers queue
   pub from : IsStart c t ⊎ received (TokenFrame t)
 
--- a ring runs: the message is of that ring, and a member sent it
+-- A ring runs: the message is of that ring, and a member sent it.
 pub record TakesFrom {A : Type 0} (c : Core A) (x : Message A) : Type 0 where
   pub state : (c.state ≡ Recovery) ⊎ (c.state ≡ Operational)
   pub ring : x.ring ≡ c.running.ring
   pub sender : has c.running.members x.sender ≡ true
 
--- in Gather, before a newer ring is taken part in: the message is of the installed ring, and a member sent it
+-- In Gather, before a newer ring is taken part in: the message is of the installed ring, and a member sent it.
 pub record TakesLate {A : Type 0} (c : Core A) (x : Message A) : Type 0 where
   pub state : c.state ≡ Gather
   pub ring : x.ring ≡ c.installed.ring
   pub newest : floor c ≡ x.ring.seq
   pub sender : has c.installed.members x.sender ≡ true
 
--- a message arrived, of a ring whose messages are taken by one of these two rules; its number is new and in the
--- window
+-- A message arrived, of a ring whose messages are taken by one of these two rules; its number is new and in the window.
 pub record MayTake {A : Type 0} (received : Frame A → Type 0) (c : Core A) (x : Message A) : Type 0 where
   pub ring : TakesFrom c x ⊎ TakesLate c x
   pub new : takes_number c x.ring x.number ≡ true
   pub from : received (MessageFrame x)
 
--- the core is in Recovery, every member's End is in the front, and the core holds every number that a transitional
--- member holds
+-- The core is in Recovery, every member's End is in the front, and the core holds every number that a transitional
+-- member holds.
 pub record MayInstall {A : Type 0} (c : Core A) : Type 0 where
   pub state : c.state ≡ Recovery
   pub ready : is_ready c.held c.running.ring c.running.members (mark c c.running.ring) ≡ true
   pub complete : is_complete (plan c) c.held ≡ true
 
--- a core may make a move: its conditions hold, and the frame that causes it, if any, arrived at the core
+-- A core may make a move: its conditions hold, and the frame that causes it, if any, arrived at the core.
 abbrev pub MayMove : {A : Type 0} → (Frame A → Type 0) → Core A → Move A → Type 0
 MayMove received c (Idles state gathering last_sent queue sends) = MayIdle c state gathering last_sent queue sends
 MayMove received c (Enters k) = MayEnter received c k
@@ -245,26 +244,26 @@ MayMove received c Installs = MayInstall c
 
 -- Lists of moves
 
--- the core after a list of moves
+-- The core after a list of moves.
 abbrev pub after_moves : {A : Type 0} → Core A → List (Move A) → Core A
 after_moves c [] = c
 after_moves c (m ∷ ms) = after_moves (moved c m) ms
 
--- all frames that they send
+-- All frames that they send.
 abbrev pub all_sends : {A : Type 0} → Core A → List (Move A) → List (OutgoingFrame A)
 all_sends c [] = []
 all_sends c (m ∷ ms) = sends_of c m ++ all_sends (moved c m) ms
 
--- the conditions of each hold where it is made
+-- The conditions of each hold when it is made.
 abbrev pub MayAll : {A : Type 0} → (Frame A → Type 0) → Core A → List (Move A) → Type 0
 MayAll received c [] = Unit {0}
 MayAll received c (m ∷ ms) = MayMove received c m × MayAll received (moved c m) ms
 
--- the frame was sent to this processor
+-- The frame was sent to this processor.
 abbrev pub IsReceivedFrame : {A : Type 0} → List (Transmission A) → ℕ → Frame A → Type 0
 IsReceivedFrame frames i frame = SomeIs (λ (f : Transmission _). (has f.to i ≡ true) × (f.frame ≡ frame)) frames
 
--- a step of the definition: one or two moves, the outputs, and perhaps an installation
+-- A step of the definition: one or two moves, the outputs, and perhaps an installation.
 pub record IsMoved {A : Type 0} (c : Core A) (input : Input A) : Type 0 where
   pub moves : List (Move A)
   pub few : length moves ≤ 2

@@ -6,29 +6,29 @@ use Rattle.ring_core_spec.specs.State.{receiver_pairs}
 use Rattle.ring_core_proof.specs.declared.event.RingEvent.TheVariants.{Deliver}
 use Rattle.ring_core_proof.specs.Worlds.{World, happens}
 
--- a world with its undelivered pairs of frame and receiver, oldest first
+-- A world with its undelivered pairs of frame and receiver, oldest first.
 pub record Pumped (A : Type 0) : Type 0 where
   pub world : World A
   pub pairs : List (ℕ × ℕ)
 
--- the pairs of the frames after the first `count` ones
+-- The pairs of the frames after the first `count` ones.
 abbrev pub pairs_after : {A : Type 0} → ℕ → World A → List (ℕ × ℕ)
 pairs_after count w = receiver_pairs (suc count) (drop count w.frames)
 
--- a world after an event: the pairs that were left, then those of the frames sent since
+-- A world after an event: the pairs that were left, then those of the frames sent since.
 abbrev pub pumped_on : {A : Type 0} → World A → World A → List (ℕ × ℕ) → Pumped A
 pumped_on old new pairs = record { world = new; pairs = pairs ++ pairs_after (length old.frames) new }
 
--- the oldest pair is delivered
+-- The oldest pair is delivered.
 abbrev pub turn : {A : Type 0} → World A → List (ℕ × ℕ) → Pumped A
 turn w [] = record { world = w; pairs = [] }
 turn w (p ∷ pairs) = pumped_on w (happens w (Deliver p.1 p.0)) pairs
 
--- this many pairs are delivered, one after another
+-- This many pairs are delivered, one after another.
 abbrev pub turns : {A : Type 0} → ℕ → Pumped A → Pumped A
 turns zero p = p
 turns (suc k) p = turns k (turn p.world p.pairs)
 
--- `k` pairs are delivered from a world whose frames are all undelivered, fewer if none is left
+-- `k` pairs are delivered from a world whose frames are all undelivered, fewer if none is left.
 abbrev pub pump : {A : Type 0} → ℕ → World A → Pumped A
 pump k w = turns k (record { world = w; pairs = pairs_after 0 w })

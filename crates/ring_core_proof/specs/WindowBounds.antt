@@ -12,8 +12,8 @@ use Rattle.ring_core_spec.specs.Tokens.{TokenVisit, Raise, safe_mark}
 use Rattle.ring_core_spec.specs.Commits.{Configuration}
 use Rattle.ring_core_spec.specs.State.{Core, floor}
 
--- the installed ring is below the running one, or equals it, as the state says; in Commit no visit is of the running
--- ring yet
+-- The installed ring is below the running one, or equals it, as the state says; in Commit no visit is of the running
+-- ring yet.
 abbrev pub HasRingOrder : {A : Type 0} → State → Configuration → Configuration → List (TokenVisit A) → Type 0
 HasRingOrder Gather running installed turns = installed.ring.seq ≤ running.ring.seq
 HasRingOrder Commit running installed turns =
@@ -22,21 +22,21 @@ HasRingOrder Recovery running installed turns = installed.ring.seq < running.rin
 HasRingOrder Operational running installed turns = installed ≡ running
 HasRingOrder Stopped running installed turns = installed.ring.seq ≤ running.ring.seq
 
--- the same, and no visit is of a ring above the running one
+-- The same, and no visit is of a ring above the running one.
 pub record HasOrderedRings {A : Type 0} (c : Core A) : Type 0 where
   pub stands : HasRingOrder c.state c.running c.installed c.turns
   pub turns : AllByRecursion (λ (v : TokenVisit A). v.received.ring.seq ≤ floor c) c.turns
 
--- the message is within the window
+-- The message is within the window.
 abbrev pub IsInWindow : {A : Type 0} → List (TokenVisit A) → List Raise → Message A → Type 0
 IsInWindow turns raises x = x.number ≤ safe_mark turns raises x.ring + window_size
 
--- each held message is within the window, and what a mark is computed from is at most the front
+-- Each held message is within the window, and what a mark is computed from is at most the front.
 pub record IsHeldInWindow {A : Type 0} (held : List (Message A)) (turns : List (TokenVisit A)) (raises : List Raise) : Type 0 where
   pub window : AllByRecursion (λ (x : Message A). IsInWindow turns raises x) held
   pub visits : AllByRecursion (λ (v : TokenVisit A). v.forwarded.aru ≤ front_of held v.received.ring) turns
   pub raised : AllByRecursion (λ (x : Raise). x.mark ≤ front_of held x.ring) raises
 
--- no safe mark of the core passes its front, and no held message lies more than 256 past its ring's mark
+-- No safe mark of the core passes its front, and no held message lies more than 256 past its ring's mark.
 abbrev pub IsCoreInWindow : {A : Type 0} → Core A → Type 0
 IsCoreInWindow c = IsHeldInWindow c.held c.turns c.raises

@@ -19,23 +19,23 @@ use Rattle.ring_core_spec.specs.Stepping.{ring_step}
 use Rattle.ring_core_proof.specs.declared.event.RingEvent.{RingEvent}
 use Rattle.ring_core_proof.specs.declared.event.RingEvent.TheVariants.{Send, Deliver, Timeout, Stop}
 
--- a world of ring cores: the cores of its processors, all frames ever sent, and all outputs
+-- A world of ring cores: the cores of its processors, all frames ever sent, and all outputs.
 pub record World (A : Type 0) : Type 0 where
-  -- the number of processors; they are 1 to this
+  -- The number of processors, which are numbered 1 to `total`.
   pub total : ℕ
   pub cores : ℕ → Core A
-  -- all frames ever sent, in order; the first is frame 1
+  -- All frames ever sent, in order; the first is frame 1.
   pub frames : List (Transmission A)
-  -- all outputs in order, each with its processor
+  -- All outputs in order, each with its processor.
   pub outs : List (ℕ × Out A)
 
 -- Steps
 
--- the cores with that of one processor replaced
+-- The cores with that of one processor replaced.
 abbrev pub put : {A : Type 0} → (ℕ → Core A) → ℕ → Core A → ℕ → Core A
 put cores i c j = if j == i then c else cores j
 
--- the frame of an output, with its sender and receivers
+-- The frame of an output, with its sender and receivers.
 abbrev pub transmission_by : {A : Type 0} → ℕ → Out A → Option (Transmission A)
 transmission_by i (SendOut to frame) = Some (record { from = i; to = to; frame = frame })
 transmission_by i (Agreed ring n x) = None
@@ -44,7 +44,7 @@ transmission_by i (Trans old new set) = None
 transmission_by i (Rest ring n x) = None
 transmission_by i (Regular ring set) = None
 
--- a world after a step of one core
+-- A world after a step of one core.
 abbrev pub after_step : {A : Type 0} → World A → ℕ → StepResult A → World A
 after_step w i s =
     record w {
@@ -53,78 +53,78 @@ after_step w i s =
       outs = w.outs ++ map (λ o. (i, o)) s.outs;
     }
 
--- the processor is one of the world's
+-- The processor is one of the world's.
 abbrev pub is_node : {A : Type 0} → World A → ℕ → Bool
 is_node w i = nat_le 1 i && nat_le i w.total
 
--- a step of a processor's core with an input, where the processor exists
+-- A step of a processor's core with an input, if the processor exists.
 abbrev pub stepped_if : {A : Type 0} → Bool → World A → ℕ → Input A → World A
 stepped_if false w i input = w
 stepped_if true w i input = after_step w i (ring_step (w.cores i) input)
 
--- the same; an unknown processor changes nothing
+-- The same; an unknown processor changes nothing.
 abbrev pub stepped : {A : Type 0} → World A → ℕ → Input A → World A
 stepped w i input = stepped_if (is_node w i) w i input
 
--- a stop of a processor's core, where the processor exists; there are no outputs
+-- A stop of a processor's core, if the processor exists; there are no outputs.
 abbrev pub stopped_if : {A : Type 0} → Bool → World A → ℕ → World A
 stopped_if false w i = w
 stopped_if true w i = record w { cores = put w.cores i (halted (w.cores i)) }
 
--- a frame arrives at a processor, where it was sent to it
+-- A frame arrives at a processor, if it was sent to it.
 abbrev pub handed_if : {A : Type 0} → Bool → World A → ℕ → Frame A → World A
 handed_if false w i frame = w
 handed_if true w i frame = stepped w i (FrameInput frame)
 
--- the same; a frame that wasn't sent, or not to this processor, changes nothing
+-- The same; a frame that wasn't sent, or not to this processor, changes nothing.
 abbrev pub handed : {A : Type 0} → World A → ℕ → Option (Transmission A) → World A
 handed w i None = w
 handed w i (Some f) = handed_if (has f.to i) w i f.frame
 
--- the world after an event
+-- The world after an event.
 abbrev pub happens : {A : Type 0} → World A → RingEvent A → World A
 happens w (Send i payload) = stepped w i (SendInput payload)
 happens w (Deliver i k) = handed w i (frame_at w.frames k)
 happens w (Timeout i kind) = stepped w i (TimeInput kind)
 happens w (Stop i) = stopped_if (is_node w i) w i
 
--- the world after a list of events, in order
+-- The world after a list of events, in order.
 abbrev pub run : {A : Type 0} → World A → List (RingEvent A) → World A
 run w [] = w
 run w (e ∷ es) = run (happens w e) es
 
 -- Openings
 
--- the opening: all n in Gather, each alone
+-- The opening: all n in Gather, each alone.
 abbrev pub unformed : {A : Type 0} → ℕ → World A
 unformed n = record { total = n; cores = opening n; frames = []; outs = [] }
 
--- the frames of these sends, as sent by processor i
+-- The frames of these sends, as sent by processor i.
 abbrev pub transmissions_from : {A : Type 0} → ℕ → List (OutgoingFrame A) → List (Transmission A)
 transmissions_from i sends = map (λ s. record { from = i; to = s.to; frame = s.frame }) (addressed sends)
 
--- the representative of the formed ring of n, after it visited the first token
+-- The representative of the formed ring of n, after it visited the first token.
 abbrev pub representative_started : {A : Type 0} → ℕ → TransitionResult A
 representative_started n = token_visited (formed n 1) (first_token (all_of n).ring)
 
--- the formed ring: all n in one ring
+-- The formed ring: all n in one ring.
 abbrev pub ring_formed : {A : Type 0} → ℕ → World A
 ring_formed n = record { total = n; cores = put (formed n) 1 (representative_started n).core; frames = transmissions_from 1 (representative_started n).sends; outs = [] }
 
--- of the timeouts, retransmit alone acts in a formed ring
+-- Of the timeouts, only retransmit has an effect in a formed ring.
 abbrev pub is_repeat : Kind → Bool
 is_repeat Retransmit = true
 is_repeat JoinTime = false
 is_repeat Consensus = false
 is_repeat Loss = false
 
--- the events that act in a formed ring: all but the other three timeouts
+-- The events that have an effect in a formed ring: all except the other three timeouts.
 abbrev pub acts_on_formed : {A : Type 0} → RingEvent A → Bool
 acts_on_formed (Timeout i kind) = is_repeat kind
 acts_on_formed (Send i payload) = true
 acts_on_formed (Deliver i k) = true
 acts_on_formed (Stop i) = true
 
--- the world after these events from the formed ring of n; those that don't act there are left out
+-- The world after these events from the formed ring of n; those that have no effect there are left out.
 abbrev pub run_formed : {A : Type 0} → ℕ → List (RingEvent A) → World A
 run_formed n events = run (ring_formed n) (filter acts_on_formed events)

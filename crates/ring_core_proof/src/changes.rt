@@ -1,5 +1,6 @@
-//! A worked example over two rings: the outputs of a ring change, the text of the old ring, and the rounds of the
-//! commit tokens.
+//! An example over two rings: the outputs of a ring change, the text of the old ring, and the rounds of the commit
+//! tokens.
+//!
 //! Rules: The commit token 10; Outputs 5 and 8 to 10
 
 ghost use Rattle.std.specs.Prelude.{◌≡◌, [], ◌∷◌, map, true};
@@ -12,9 +13,12 @@ ghost use Rattle.ring_core_proof.specs.Samples.{first_ring, call_at};
 ghost use Rattle.ring_core_proof.specs.ChangedRing.{change_events, changed, changed_frames, life_of_two, first_text, summary, hops_of_two, unproposed};
 ghost use Rattle.ring_core_proof.specs.ChangedRing.{misnamed};
 
-/// States a worked example, computed from the definitions: two processors form a ring, a message reaches its sender
-/// alone, and the token is lost. Both deliver the message when they install a second ring.
-/// It gives the frames sent, both lives, the text of the first ring, and the hops that were taken.
+/// States an example, computed from the definitions, of two processors that change rings.
+///
+/// They form a ring, a message reaches only its sender, and the token is lost. Both deliver the message when they
+/// install a second ring. The example has the frames sent, both lives, the text of the first ring, and the hops that
+/// were taken.
+///
 /// Rules: The commit token 10; Outputs 5 and 8 to 10
 pub fn two_change_rings()
     ensures frames { changed.frames ≡ changed_frames }
@@ -28,8 +32,10 @@ pub fn two_change_rings()
     ensures rounds { CommitRounds (unformed 2) change_events }
 {}
 
-/// States two worked examples: a member takes a commit token that nobody sent, since it can't recognise that.
+/// States two examples in which a member takes a commit token that nobody sent, since it can't recognise that.
+///
 /// `CommitRounds`, the facts of the two rounds, then fails.
+///
 /// Rules: The commit token 10
 pub fn forged_hops()
     ensures taken { map summary (takings unproposed (Deliver 2 1 ∷ [])) ≡ (1, 1, 2) ∷ [] }

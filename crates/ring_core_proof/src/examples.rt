@@ -1,4 +1,5 @@
 //! Worked examples, computed from the definitions.
+//!
 //! Formats: Worked examples
 
 ghost use Rattle.std.specs.Prelude.{◌≡◌, ℕ, List, ◌+◌, ◌^◌, ◌-◌, length, drop, [], ◌∷◌, Some, None, map, false, true};
@@ -39,9 +40,12 @@ ghost use Rattle.ring_core_proof.specs.PackedCalls.{around_head, two_and_head, f
 ghost use Rattle.ring_core_proof.specs.PackedCalls.{packed_message, with_pack, wrapped_pack, handed_on, piece};
 ghost use Rattle.ring_core_proof.specs.Recoveries.{with_four, with_three, with_all, with_ends, past_gap, mixed};
 
-/// States a worked example: two processors in a formed ring lose a message once, request it, send it again, and then
-/// agree on it and report it as safe.
-/// Rules: Token and window 7, 8 and 10
+/// States an example of a formed ring of two: they lose a message once, request it and send it again.
+///
+/// Then they agree on the message and report it as safe. The example also has retransmit timeouts, and timeouts that
+/// aren't events of a formed ring.
+///
+/// Rules: Rings and states 14; Token and window 7, 8 and 10
 /// Formats: formed ring of two
 pub fn formed_ring_of_two()
     ensures loss { (run_formed 2 loss_events).outs ≡ loss_outs }
@@ -49,8 +53,10 @@ pub fn formed_ring_of_two()
     ensures again { (run_formed 2 repeat_timeout).outs ≡ first_token_again }
 {}
 
-/// States a worked example: three processors gather and pass the commit token round twice. It gives all frames sent and
-/// the states, which are Recovery.
+/// States an example of three processors that gather and pass the commit token round twice.
+///
+/// It has all frames sent, and the states at the end, which are Recovery.
+///
 /// Rules: Gather 10; The commit token 4 to 6
 /// Formats: commit token of three
 pub fn three_gather()
@@ -58,14 +64,16 @@ pub fn three_gather()
     ensures states { states_of_three (three_after 12) ≡ Recovery ∷ Recovery ∷ Recovery ∷ [] }
 {}
 
-/// States a worked example: two processors give up a silent third and propose a ring of two. It gives all frames sent.
+/// States an example of two processors that give up a silent third and propose a ring of two. It has all frames sent.
+///
 /// Rules: Gather 4 to 7
 /// Formats: one silent
 pub fn third_is_silent()
     ensures { (run (unformed 3) silent_events).frames ≡ silent_frames }
 {}
 
-/// States a worked example: three processors install their first ring, each once. It gives their configurations.
+/// States an example of three processors that install their first ring, each once. It has their configurations.
+///
 /// Rules: Recovery 7; Outputs 1
 /// Formats: installed once
 pub fn three_install()
@@ -74,14 +82,18 @@ pub fn three_install()
     ensures three { configurations_of 3 (three_after 100) ≡ first_configurations 3 }
 {}
 
-/// States a worked example: all outputs of one processor alone, from its first timeout to a call that is safe.
+/// States an example of a group of one: all its outputs, from the first timeout to a call that is safe.
+///
 /// Rules: The commit token 9; Outputs 1
 pub fn ring_of_one()
     ensures { (run (unformed 1) lone_events).outs ≡ lone_outs }
 {}
 
-/// States a worked example: a token arrives at a processor that lacks messages, and arrives there again, which changes
-/// nothing. Then it arrives at a processor that holds the messages requested.
+/// States an example of a token that arrives at a processor that lacks messages, which requests them.
+///
+/// When the same token arrives there again, it changes nothing. When the forwarded token arrives at a processor that
+/// holds the messages, it sends them again.
+///
 /// Rules: Token and window 6 to 8
 /// Formats: two tokens; repeated token
 pub fn token_asks_for_messages()
@@ -91,7 +103,8 @@ pub fn token_asks_for_messages()
     ensures sends_again { (comes having asking_token).outs ≡ sends_again }
 {}
 
-/// States the safe mark after each of four visits that forward the `aru` 10, 8, 10 and 10: it is 0, 8, 8 and 10.
+/// States the safe mark after each of four visits that forward the `aru` 10, 8, 10 and 10: 0, 8, 8 and 10.
+///
 /// Rules: Token and window 10
 pub fn safe_marks()
     ensures first { mark_by (10 ∷ []) ≡ 0 }
@@ -100,8 +113,9 @@ pub fn safe_marks()
     ensures fourth { mark_by (10 ∷ 10 ∷ 8 ∷ 10 ∷ []) ≡ 10 }
 {}
 
-/// States a worked example: two processors of one old ring wrap what the other lacks, and then deliver the same
+/// States an example of two processors from one old ring: each wraps what the other lacks, and both deliver the same
 /// messages.
+///
 /// Rules: Recovery 1, 4, 7 and 8
 /// Formats: wrapped plan
 pub fn plan_of_two()
@@ -117,8 +131,10 @@ pub fn plan_of_two()
     ensures second_gives { rests (plan (with_all 2)) (with_all 2).held ≡ map (call_at 1) (1 ∷ 2 ∷ 3 ∷ 4 ∷ []) }
 {}
 
-/// States a worked example: the plan of two processors of one old ring, where the third member comes from another ring.
+/// States an example of a plan: two processors come from one old ring, and the third member comes from another.
+///
 /// The two report the safe marks 1 and 2.
+///
 /// Rules: Recovery 1 and 8
 pub fn plan_of_mixed_rings()
     ensures transitional_members { (plan mixed).transitional_members ≡ 3 }
@@ -129,8 +145,10 @@ pub fn plan_of_mixed_rings()
     ensures parts { delivery (plan mixed) mixed.held ≡ record { regular = 2 ∷ []; transitional = 3 ∷ 4 ∷ []; past_gap = [] } }
 {}
 
-/// States a worked example of two messages past a gap: the one that a transitional member sent is delivered, and the
-/// one that an outsider sent is discarded.
+/// States an example of two messages past a gap: one is delivered and the other discarded.
+///
+/// A transitional member sent the one that is delivered, an outsider the other.
+///
 /// Rules: Recovery 8 and 9
 /// Formats: past the gap
 pub fn plan_with_gap()
@@ -140,8 +158,9 @@ pub fn plan_with_gap()
     ensures gives { rests (plan past_gap) past_gap.held ≡ map (call_at 1) (1 ∷ 2 ∷ 4 ∷ []) }
 {}
 
-/// States a worked example: the front, the entry and the new numbers of a window with holes, before and after its safe
-/// mark rises.
+/// States an example of a window with holes: its front, its entry and its new numbers, before and after its safe mark
+/// rises.
+///
 /// Rules: Token and window 2 to 4; The commit token 2
 /// Formats: window of bits
 pub fn window_with_holes()
@@ -154,8 +173,15 @@ pub fn window_with_holes()
     ensures later_report { own_entry (marked 2 (holed (1 ∷ 2 ∷ 4 ∷ 256 ∷ 257 ∷ 258 ∷ []))) ≡ report_of first_ring 2 2 (2 + (2 ^ 253 + (2 ^ 254 + 2 ^ 255))) }
 {}
 
-/// States examples at the limits: of the window, of a visit's messages, of requests, and of the greatest numbers.
-/// Rules: Limits 1 and 2
+/// States examples at the limits and just past them.
+///
+/// - The limits are the 256 numbers of the window, the 8 new messages of a visit, the 32 requests of a token, and `MAX`
+///   as a message, token and ring number.
+/// - A request at or below the safe mark isn't answered.
+/// - A token whose `seq` is below the greatest number held isn't accepted.
+/// - A frame that names a processor outside the group is ignored.
+///
+/// Rules: Limits 1 and 2; Token and window 6, 7 and 9; Gather 10; Processors and sets 5
 pub fn limits()
     ensures window { length (new_payloads (sending 250) (token_at 5 250)) ≡ 6 }
     ensures left_over { length (token_visited (sending 250) (token_at 5 250)).core.queue ≡ 4 }
@@ -171,8 +197,10 @@ pub fn limits()
     ensures named { decide (opening 3 1) (FrameInput stranger) ≡ Ignore }
 {}
 
-/// States examples of packing: a visit packs consecutive calls of its queue, as many as fit one message; any other
-/// payload goes alone. A Pack is wrapped and unwrapped whole.
+/// States examples of how a visit packs its queue: consecutive calls, as many as fit one message, become a Pack.
+///
+/// Any other payload becomes a message of its own. Recovery wraps and unwraps a Pack whole.
+///
 /// Rules: Token and window 9; Recovery 4 and 6
 /// Formats: runs of a queue; nine calls in one visit
 pub fn packed_calls()
@@ -192,9 +220,17 @@ pub fn packed_calls()
     ensures unwraps { (comes with_three (MessageFrame handed_on)).core.held ≡ packed_message ∷ handed_on ∷ with_three.held }
 {}
 
-/// States examples of rare cases in each state. They are messages of a ring left, joins that a node in a ring ignores
-/// or that make it enter Gather, proposals by a timeout, and joins to nobody.
-/// Rules: Rings and states 8; Gather 5, 10, 12 and 13; Timeouts 3 and 4; Token and window 11
+/// States examples of rare cases in each state.
+///
+/// - A message of a ring that was left is taken, or is ignored once the node has taken part in a newer ring.
+/// - Entering Gather empties the send queue.
+/// - Some joins are ignored by a node in a ring, and some make it enter Gather.
+/// - The sets are widened by those of a sender that has given up this node, or only another.
+/// - A proposal follows a timeout, but not an ignored frame.
+/// - A join timeout in Operational sends a join to the processors outside the ring, if there are any.
+/// - A stopped node has no outputs.
+///
+/// Rules: Rings and states 8 and 12; Gather 1, 5, 10, 12 and 13; Timeouts 3 and 4; Token and window 11
 pub fn corners()
     ensures left_ring { decide (gathering_from 1) (FrameInput (MessageFrame (call_at 2 1))) ≡ Take (call_at 2 1) }
     ensures newer_floor { decide (gathering_from 2) (FrameInput (MessageFrame (call_at 2 1))) ≡ Ignore }
@@ -213,8 +249,10 @@ pub fn corners()
     ensures stopped { (ring_step (halted formed_three) (Timeout Loss)).outs ≡ [] }
 {}
 
-/// States examples of joins: what each does in Gather, which of them make a node enter it, and how giving up leads to a
-/// proposal.
+/// States examples of joins: what each does in Gather, and which of them make a node enter it.
+///
+/// They also show how giving up leads to a proposal, and the number of the proposed ring.
+///
 /// Rules: Gather 3 to 6, 10, 12 and 13
 pub fn joins()
     ensures own { decide (opening 3 1) (FrameInput (join_frame 1 0 7 0)) ≡ Ignore }
@@ -233,8 +271,10 @@ pub fn joins()
     ensures stopped { decide (halted formed_three) (FrameInput (join_frame 2 1 7 0)) ≡ Ignore }
 {}
 
-/// States examples of timeouts by state: which of them act, and that a retransmission sends the kept token until Gather
-/// is entered.
+/// States examples of timeouts by state: which of them have an effect.
+///
+/// A retransmission sends the kept token until Gather is entered.
+///
 /// Rules: Timeouts 2 and 3
 pub fn timeouts()
     ensures lost { decide formed_three (Timeout Loss) ≡ EnterGather }
@@ -245,7 +285,8 @@ pub fn timeouts()
     ensures shows_no_more { (ring_step (ring_step (comes lacking token_of_ten).core (Timeout Loss)).core (Timeout Retransmit)).outs ≡ [] }
 {}
 
-/// States examples of tokens that are accepted and of tokens that aren't, and of each case of the `aru` rule.
+/// States examples of tokens that are accepted and of tokens that are ignored, and of each case of the `aru` rule.
+///
 /// Rules: Token and window 6 and 8
 pub fn tokens()
     ensures other_ring { decide (gathering_from 1) (FrameInput token_of_ten) ≡ Ignore }
@@ -257,9 +298,14 @@ pub fn tokens()
     ensures lowers_other { token_forwarded (holding 3 3 (numbers_from 1 7)) (token_of 6 10 8 (Some 2) []) ≡ token_of 7 10 7 (Some 3) (8 ∷ 9 ∷ 10 ∷ []) }
 {}
 
-/// States examples of messages that are taken and of messages that aren't; a Wrapped that is taken brings its inner
-/// message.
-/// Rules: Token and window 11; Recovery 6
+/// States examples of messages that a core takes and of messages that it ignores.
+///
+/// - It ignores a message that is already held, one past the window, and one whose sender isn't a member of the ring.
+/// - It ignores every message in Commit, and a message of the old ring in Recovery.
+/// - Taking a Wrapped of the old ring also takes the message inside it, and delivers what the old ring's front then
+///   covers.
+///
+/// Rules: Token and window 11; Recovery 6; Outputs 3
 pub fn messages()
     ensures taken { decide (holding 3 2 []) (FrameInput (MessageFrame (call_at 1 1))) ≡ Take (call_at 1 1) }
     ensures held { decide (holding 3 2 (1 ∷ [])) (FrameInput (MessageFrame (call_at 1 1))) ≡ Ignore }
@@ -276,7 +322,8 @@ pub fn messages()
         (call_at 1 3) ∷ Agreed first_ring 4 (call_at 1 4) ∷ [] }
 {}
 
-/// States examples of commit tokens, round by round: which hop is taken where, and which tests refuse it.
+/// States examples of commit tokens, round by round: which hop is taken where, and which tests reject it.
+///
 /// Rules: The commit token 1 and 5 to 8
 pub fn commit_tokens()
     ensures first { decide (opening 3 2) (FrameInput (hop_at_three 1 (empty_report 1 ∷ []))) ≡ Fill (commit_of first_ring 7 1 (empty_report 1 ∷ [])) }
@@ -299,7 +346,8 @@ pub fn commit_tokens()
     ensures in_operational { decide formed_three (FrameInput (hop_at_three 6 three_reports)) ≡ Ignore }
 {}
 
-/// States examples of payloads to send: which are queued, in which state.
+/// States examples of payloads to send: which of them are queued, and in which state.
+///
 /// Rules: Rings and states 9
 pub fn payloads()
     ensures queued { (ring_step formed_three (Send (CallPayload add_five))).core.queue ≡ CallPayload add_five ∷ [] }
@@ -311,8 +359,8 @@ pub fn payloads()
     ensures in_recovery { decide with_four (Send (CallPayload add_five)) ≡ Ignore }
 {}
 
-/// States examples without effect: a stopped processor has no outputs, and an unknown processor or frame changes
-/// nothing.
+/// States examples of events without effect: on a stopped processor, an unknown processor or an unknown frame.
+///
 /// Rules: Rings and states 12 and 14
 pub fn stops()
     ensures silent { (run (unformed 3) stop_events).outs ≡ [] }

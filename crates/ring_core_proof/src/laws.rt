@@ -1,5 +1,7 @@
 //! Laws of the ring core: facts about every core after any inputs, forged frames included.
-//! Rules: Rings and states 7, 8 and 13; Gather 3 and 9; The commit token 1 and 10; Token and window 3, 4 and 7 to 9; Recovery 4
+//!
+//! Rules: Rings and states 7, 8 and 13; Gather 3 and 9; The commit token 1 and 10; Token and window 3, 4 and 7 to 9;
+//! Recovery 4
 
 ghost use Rattle.std.specs.Prelude.{◌≡◌, ℕ, List, ◌+◌, ◌≤◌, ◌++◌, length, true};
 ghost use Rattle.std.specs.declared.alloc.Global.{Global as Heap};
@@ -28,51 +30,62 @@ ghost use Rattle.ring_core_proof.specs.LawWords.{IsInputOf, HasPassed, IsFalling
 use ring_core_spec::{bits_law, finish_law, front_law, safe_law};
 use std::alloc::{Allocator, Global};
 
-/// States that the transition chosen for an input has passed the tests that the rules name for it, for every core and
-/// every input.
+/// States that the transition chosen for an input has passed the tests that the rules name for it.
+///
+/// The law holds for every core and every input.
+///
 /// Rules: Rings and states 8
 pub fn decision_law<A: Allocator + Copy>()
     ensures { (c : Core A) (input : Input A) → HasPassed c (decide c input) }
 {}
 
-/// States that the transition chosen for an input carries that input's frame, timeout or payload and no other, for
-/// every core and every input.
+/// States that the transition chosen for an input carries the frame, timeout or payload of this input and no other.
+///
+/// The law holds for every core and every input.
+///
 /// Rules: Rings and states 8
 pub fn cause_law<A: Allocator + Copy>()
     ensures { (c : Core A) (input : Input A) → IsInputOf c input (decide c input) }
 {}
 
-/// States that a commit token is taken at one position alone, by the member that its hop is sent to. It holds for every
-/// core and every commit token, forged ones included.
+/// States that a commit token is taken only by the member to which its hop is sent.
+///
+/// The law holds for every core and every commit token, forged ones included.
+///
 /// Rules: The commit token 1
 pub fn hop_law<A: Allocator + Copy>()
     ensures { (c : Core A) (k : CommitToken) → TakesCommit c k → receiver k ≡ c.me }
 {}
 
-/// States that each step of a core consists of at most three moves: at most two before the outputs of the step, and
-/// perhaps an installation after them.
-/// It holds for every core and every input. A move is one of the six kinds of change that the proofs about worlds
-/// follow.
+/// States that each step of a core consists of at most three moves.
+///
+/// At most two come before the outputs of the step, and perhaps an installation after them. A move is one of the six
+/// kinds of change that the proofs about worlds follow. The law holds for every core and every input.
+///
 /// Rules: Rings and states 13
 pub fn moves_law<A: Allocator + Copy>()
     ensures { (c : Core A) (input : Input A) → IsMoved c input }
 {}
 
 /// States that the numbers of the rings that a core takes part in strictly rise, after any inputs from the opening.
+///
 /// Rules: Rings and states 7; The commit token 10
 pub fn rings_law<A: Allocator + Copy>()
     ensures { (n me : ℕ) (inputs : List (Input A)) → IsFalling (after_inputs (opening n me) inputs).rings }
 {}
 
 /// States that a core's safe mark in any ring is at most its front there, after any inputs from the opening.
+///
 /// Rules: Token and window 3
 pub fn mark_law<A: Allocator + Copy>()
     ensures { (n me : ℕ) (inputs : List (Input A)) (ring : RingId) → mark (after_inputs (opening n me) inputs)
         ring ≤ front (after_inputs (opening n me) inputs) ring }
 {}
 
-/// States that a core holds no number of any ring that is more than 256 above its safe mark there, after any inputs
-/// from the opening.
+/// States that a core holds no number of a ring that is more than 256 above its safe mark there.
+///
+/// The law holds after any inputs from the opening.
+///
 /// Rules: Token and window 4
 pub fn window_law<A: Allocator + Copy>()
     ensures { (n me : ℕ) (inputs : List (Input A)) (ring : RingId) (k : ℕ)
@@ -82,16 +95,20 @@ pub fn window_law<A: Allocator + Copy>()
 
 /// States that each join that a core has counted has exactly the core's present sets, after any inputs from the
 /// opening.
+///
 /// So consensus, as `ring_join` tests it, is among processors that sent exactly these sets.
+///
 /// Rules: Gather 3 and 9
 pub fn agreement_law<A: Allocator + Copy>()
     ensures { (n me : ℕ) (inputs : List (Input A)) → AllSaySame (after_inputs (opening n me) inputs).gathering }
 {}
 
 /// States that each visit of a core follows the rules, after any inputs from the opening, whatever the token requests.
-/// The new messages are made of some queue, with runs of calls packed, or are the Wrapped of some plan and the End.
-/// One core alone may receive forged tokens. For every run of cores `ring_chain_proof` states, besides, that each visit
-/// continues the visit before, at the member whose turn it is.
+///
+/// The new messages are made from some queue, with runs of calls packed, or they are the Wrapped messages of some plan
+/// and the End. A single core may receive forged tokens. For every run of cores, `ring_chain_proof` also states that
+/// each visit continues the visit before, at the member whose turn it is.
+///
 /// Rules: Token and window 7 to 9
 pub fn visit_law<A: Allocator + Copy>()
     ensures turns { (n me : ℕ) (inputs : List (Input A)) → AreTurnsOf (after_inputs (opening n me) inputs).me
@@ -101,17 +118,22 @@ pub fn visit_law<A: Allocator + Copy>()
 {}
 
 /// States that a core in Recovery that has sent an End has nothing left to wrap, after any inputs from the opening.
-/// Suppose that the core has sent an End when the running ring's token visited it. Each user message that it holds of
-/// the old ring above the least reported front is then wrapped by a message that it holds of the running ring.
-/// That the core holds an End of its own isn't enough, since a forged frame may have brought it.
+///
+/// Suppose that the core sent an End in a visit of the running ring's token. Then each user message that it holds of
+/// the old ring above the least reported front is wrapped by a message that it holds of the running ring. It isn't
+/// enough that the core holds an End of its own, since a forged frame may have brought it.
+///
 /// Rules: Recovery 4
 pub fn ended_law<A: Allocator + Copy>()
     ensures { (n me : ℕ) (inputs : List (Input A)) → HasEnded (after_inputs (opening n me) inputs) }
 {}
 
-/// States how a visit packs a queue, for every queue: the run of calls that goes out first is the longest that fits one
-/// message. No payload is lost, doubled or moved. The messages keep the limits that the payloads keep, and are user
-/// messages.
+/// States how a visit packs a queue: the run of calls that becomes the first message is the longest that fits one
+/// message.
+///
+/// No payload is lost, duplicated or reordered. The messages are within the limits of their format if the payloads are,
+/// and they are user messages if the payloads are. The law holds for every queue.
+///
 /// Rules: Token and window 9
 pub fn packing_law<A: Allocator + Copy>()
     ensures longest { (queue : List (Payload A)) → IsLongestRun queue (first_run queue) }
@@ -123,8 +145,10 @@ pub fn packing_law<A: Allocator + Copy>()
 {}
 
 /// States five laws of one core for each processor of every world of ring cores, after any events from the opening.
+///
 /// Safe marks are at most fronts. Nothing is held above the window. Each visit follows the rules. Each counted join has
 /// exactly the core's sets. After an End nothing is left to wrap.
+///
 /// Rules: Gather 3; Token and window 3, 4 and 7 to 9; Recovery 4
 pub fn world_law<A: Allocator + Copy>()
     ensures marks { (n i : ℕ) (events : List (RingEvent A)) (ring : RingId) → mark ((run (unformed n) events).cores i)
@@ -141,17 +165,21 @@ pub fn world_law<A: Allocator + Copy>()
 {}
 
 /// States two of the five facts of `CommitRounds`, the two rounds of the commit tokens, for every run of ring cores.
-/// The numbers of the rings that a processor takes part in rise. In the second round only the member at its position
-/// takes a commit token, even a forged one. The token then has a report that this member would write again.
+///
+/// The numbers of the rings that a processor takes part in rise. A commit token, even a forged one, is taken only by
+/// the member at its position, and in the second round only if it has the report that this member would write now.
 /// `ring_chain_proof` states all five facts.
+///
 /// Rules: The commit token 10
 pub fn rounds_law<A: Allocator + Copy>()
     ensures rings { (n : ℕ) (events : List (RingEvent A)) → list_all (λ i. has_rising_rings ((run (unformed n) events).cores i)) (numbers_from 1 n) ≡ true }
     ensures taken { (w : World A) (events : List (RingEvent A)) → list_all is_taken (takings w events) ≡ true }
 {}
 
-/// States `mark_law` for the allocator that programs use. Nothing calls this function.
-/// A law is proved for all allocators that meet its bounds, and this function shows one that does.
+/// States [`mark_law`] for the allocator that programs use. Nothing calls this function.
+///
+/// A law is proved for all allocators that meet its bounds; this function shows that `Global` does.
+///
 /// Rules: Token and window 3
 pub fn laws_at_global()
     ensures { (n me : ℕ) (inputs : List (Input Heap)) (ring : RingId) → mark (after_inputs (opening n me) inputs)

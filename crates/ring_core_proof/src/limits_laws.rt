@@ -1,4 +1,5 @@
-//! Laws of limits: with inputs that keep the limits of frames, a core and every world send frames that keep them.
+//! Laws of limits: if inputs are within the limits of their format, so are the frames that cores and worlds send.
+//!
 //! Rules: Limits 1
 
 ghost use Rattle.std.specs.Prelude.{◌≡◌, ℕ, ◌≤◌, List};
@@ -13,10 +14,13 @@ ghost use Rattle.ring_core_proof.specs.Limits.{InputFits, EventFits, OutFits, Co
 
 use std::alloc::{Allocator, Global};
 
-/// States that a core keeps the limits of frames, and sends frames that keep them, if its inputs keep them.
-/// Each processor of a group of up to 16 keeps them at both openings. A core that keeps them still does so after a step
-/// with such an input, and after a stop.
+/// States that a core stays within the limits of the format, and so do the frames that it sends, if its inputs are.
+///
+/// Each processor of a group of up to 16 is within them at both openings, and so is its core after a step with such an
+/// input and after a stop.
+///
 /// Rules: Limits 1
+/// Formats: Frames
 pub fn fits_law<A: Allocator + Copy>()
     ensures opens { (n me : ℕ) → 1 ≤ me → me ≤ n → n ≤ 16 → CoreFits (opening {A = A} n me) }
     ensures formed { (n me : ℕ) → 1 ≤ me → me ≤ n → n ≤ 16 → CoreFits (formed {A = A} n me) }
@@ -25,17 +29,22 @@ pub fn fits_law<A: Allocator + Copy>()
     ensures stops { (c : Core A) → CoreFits c → CoreFits (halted c) }
 {}
 
-/// States that every core and every frame ever sent keep the limits, in every world of up to 16 processors, from the
-/// opening and from a formed ring.
-/// It holds for all lists of events whose payloads to send keep the limits.
+/// States that every core and every frame ever sent is within the limits of its format, in every world of up to 16
+/// processors.
+///
+/// The law holds from the opening and from a formed ring, for all lists of events whose payloads are within the limits.
+///
 /// Rules: Limits 1
+/// Formats: Frames
 pub fn frames_law<A: Allocator + Copy>()
     ensures unformed { (n : ℕ) (events : List (RingEvent A)) → n ≤ 16 → AllByRecursion EventFits events → WorldFits (run (unformed n) events) }
     ensures formed { (n : ℕ) (events : List (RingEvent A)) → 1 ≤ n → n ≤ 16 → AllByRecursion EventFits events → WorldFits (run_formed n events) }
 {}
 
-/// States `frames_law` from the opening for the allocator that programs use. Nothing calls this function.
-/// A law is proved for all allocators that meet its bounds, and this function shows one that does.
+/// States [`frames_law`] from the opening for the allocator that programs use. Nothing calls this function.
+///
+/// A law is proved for all allocators that meet its bounds; this function shows that `Global` does.
+///
 /// Rules: Limits 1
 pub fn laws_at_global()
     ensures { (n : ℕ) (events : List (RingEvent Heap)) → n ≤ 16 → AllByRecursion EventFits events → WorldFits (run (unformed n) events) }

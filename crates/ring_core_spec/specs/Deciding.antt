@@ -25,39 +25,39 @@ use Rattle.ring_core_spec.specs.Visiting.{accepts}
 use Rattle.ring_core_spec.specs.Joining.{gather_entered, join_effect_at, is_gather_trigger}
 use Rattle.ring_core_spec.specs.Handing.{takes_first_round, takes_second_round, takes_start}
 
--- a transition: what the core does with an input
+-- A transition: what the core does with an input.
 pub data Transition (A : Type 0) : Type 0 where
-  -- nothing changes
+  -- Nothing changes.
   Ignore : Transition A
   Enqueue : (payload : Payload A) → Transition A
-  -- the last token or commit token is sent again
+  -- The last token or commit token is sent again.
   Repeat : Transition A
-  -- the node's own join is sent
+  -- The node's own join is sent.
   Announce : Transition A
-  -- a join is sent to the processors outside the ring
+  -- A join is sent to the processors outside the ring.
   Invite : Transition A
   GiveUp : Transition A
-  -- Gather is entered
+  -- Gather is entered.
   EnterGather : Transition A
-  -- a join with the node's own sets counts as agreement
+  -- A join with the node's own sets: its sender agrees.
   Agree : (join : Join) → Transition A
-  -- a join widens the node's sets
+  -- A join widens the node's sets.
   MergeJoin : (join : Join) → Transition A
-  -- Gather is entered, and then a join counts as agreement or widens the sets
+  -- Gather is entered, and then the join is heard: its sender agrees, or it widens the sets.
   EnterGatherAndAgree : (join : Join) → Transition A
   EnterGatherAndMergeJoin : (join : Join) → Transition A
-  -- a message is taken
+  -- A message is taken.
   Take : (message : Message A) → Transition A
-  -- a token is accepted and visited
+  -- A token is accepted and visited.
   Visit : (token : Token) → Transition A
-  -- the first round of a commit token takes it, or the second
+  -- The first round of a commit token takes it, or the second.
   Fill : (commit : CommitToken) → Transition A
   Learn : (commit : CommitToken) → Transition A
 
 -- Messages: Token and window, rule 11
 
--- messages of this ring are taken: of the running ring, and in Gather of the installed one, until the node takes part
--- in a newer ring
+-- Messages of this ring are taken: of the running ring, and in Gather of the installed one, until the node takes part
+-- in a newer ring.
 abbrev pub takes_of : {A : Type 0} → State → Core A → RingId → Bool
 takes_of Recovery c ring = same_ring ring c.running.ring
 takes_of Operational c ring = same_ring ring c.running.ring
@@ -65,7 +65,7 @@ takes_of Gather c ring = same_ring ring c.installed.ring && (floor c == ring.seq
 takes_of Commit c ring = false
 takes_of Stopped c ring = false
 
--- the members of the ring whose messages are taken
+-- The members of the ring whose messages are taken.
 abbrev pub members_of : {A : Type 0} → State → Core A → ℕ
 members_of Gather c = c.installed.members
 members_of Commit c = c.running.members
@@ -73,17 +73,17 @@ members_of Recovery c = c.running.members
 members_of Operational c = c.running.members
 members_of Stopped c = c.running.members
 
--- a message is taken: its ring's messages are taken, its sender is a member, and its number is new
+-- A message is taken: its ring's messages are taken, its sender is a member, and its number is new.
 abbrev pub is_taken : {A : Type 0} → Core A → Message A → Bool
 is_taken c x = takes_of c.state c x.ring && has (members_of c.state c) x.sender && takes_number c x.ring x.number
 
--- any other message is ignored, as if lost
+-- Any other message is ignored, as if lost.
 abbrev pub decide_message : {A : Type 0} → Core A → Message A → Transition A
 decide_message c x = if is_taken c x then Take x else Ignore
 
 -- Tokens: visited in Recovery and Operational
 
--- the transition for a token, by state
+-- The transition for a token, by state.
 abbrev pub decide_token : {A : Type 0} → State → Core A → Token → Transition A
 decide_token Recovery c t = if accepts c t then Visit t else Ignore
 decide_token Operational c t = if accepts c t then Visit t else Ignore
@@ -93,23 +93,23 @@ decide_token Stopped c t = Ignore
 
 -- Joins: heard in Gather; in other states some of them make the node enter Gather
 
--- the transition for a join in Gather, by its effect there
+-- The transition for a join in Gather, by its effect there.
 abbrev pub transition_in_gather : {A : Type 0} → JoinEffect → Join → Transition A
 transition_in_gather Ignored j = Ignore
 transition_in_gather Agrees j = Agree j
 transition_in_gather Merges j = MergeJoin j
 
--- the transition for a join that makes the node enter Gather, by its effect on the sets with which Gather begins
+-- The transition for a join that makes the node enter Gather, by its effect on the sets with which Gather begins.
 abbrev pub transition_into_gather : {A : Type 0} → JoinEffect → Join → Transition A
 transition_into_gather Ignored j = EnterGather
 transition_into_gather Agrees j = EnterGatherAndAgree j
 transition_into_gather Merges j = EnterGatherAndMergeJoin j
 
--- the transition for a join in Commit, Recovery or Operational: Gather is entered, or the join is ignored
+-- The transition for a join in Commit, Recovery or Operational: Gather is entered, or the join is ignored.
 abbrev pub decide_join_elsewhere : {A : Type 0} → Core A → Join → Transition A
 decide_join_elsewhere c j = if is_gather_trigger c j then transition_into_gather (join_effect_at (gather_entered c) j) j else Ignore
 
--- the transition for a join, by state
+-- The transition for a join, by state.
 abbrev pub decide_join : {A : Type 0} → State → Core A → Join → Transition A
 decide_join Gather c j = transition_in_gather (join_effect_at c j) j
 decide_join Commit c j = decide_join_elsewhere c j
@@ -119,7 +119,7 @@ decide_join Stopped c j = Ignore
 
 -- Commit tokens: taken only at the position of their hop, each round in its state
 
--- the transition for a commit token at its position, by state
+-- The transition for a commit token at its position, by state.
 abbrev pub decide_round : {A : Type 0} → State → Core A → CommitToken → Transition A
 decide_round Gather c k = if takes_first_round c k then Fill k else Ignore
 decide_round Commit c k = if takes_second_round c k then Learn k else Ignore
@@ -127,27 +127,27 @@ decide_round Recovery c k = if takes_start c k then Visit (first_token k.ring) e
 decide_round Operational c k = Ignore
 decide_round Stopped c k = Ignore
 
--- the transition for a commit token: a node that isn't at the position of its hop ignores it
+-- The transition for a commit token: a node that isn't at the position of its hop ignores it.
 abbrev pub decide_commit : {A : Type 0} → Core A → CommitToken → Transition A
 decide_commit c k = if is_at c.me k then decide_round c.state c k else Ignore
 
 -- Frames: each kind has its rule; a frame that names a processor outside the group is ignored
 
--- the transition for a frame, by its kind
+-- The transition for a frame, by its kind.
 abbrev pub decide_frame : {A : Type 0} → Core A → Frame A → Transition A
 decide_frame c (MessageFrame x) = decide_message c x
 decide_frame c (TokenFrame t) = decide_token c.state c t
 decide_frame c (JoinFrame j) = decide_join c.state c j
 decide_frame c (CommitFrame k) = decide_commit c k
 
--- the transition for a frame, by whether it names processors 1 to N alone
+-- The transition for a frame, by whether it names only processors 1 to N.
 abbrev pub decide_if_named : {A : Type 0} → Bool → Core A → Frame A → Transition A
 decide_if_named true c frame = decide_frame c frame
 decide_if_named false c frame = Ignore
 
 -- Timeouts
 
--- the transition for a timeout, by state and kind
+-- The transition for a timeout, by state and kind.
 abbrev pub decide_time : {A : Type 0} → State → Kind → Transition A
 decide_time Gather Retransmit = Repeat
 decide_time Gather JoinTime = Announce
@@ -169,11 +169,11 @@ decide_time Stopped kind = Ignore
 
 -- Payloads: queued in Operational. End and Wrapped belong to recovery, and a visit makes the Packs
 
--- the transition for a payload in Operational
+-- The transition for a payload in Operational.
 abbrev pub decide_user : {A : Type 0} → Payload A → Transition A
 decide_user payload = if is_queued payload then Enqueue payload else Ignore
 
--- the transition for a payload, by state
+-- The transition for a payload, by state.
 abbrev pub decide_payload : {A : Type 0} → State → Payload A → Transition A
 decide_payload Operational payload = decide_user payload
 decide_payload Gather payload = Ignore
@@ -181,7 +181,7 @@ decide_payload Commit payload = Ignore
 decide_payload Recovery payload = Ignore
 decide_payload Stopped payload = Ignore
 
--- the transition for an input
+-- The transition for an input.
 abbrev pub decide : {A : Type 0} → Core A → Input A → Transition A
 decide c (FrameInput frame) = decide_if_named (is_named c.total frame) c frame
 decide c (Timeout kind) = decide_time c.state kind

@@ -10,24 +10,24 @@ use Rattle.ring_base.specs.declared.state.State.{State}
 use Rattle.ring_base.specs.declared.state.State.TheVariants.{Gather, Commit, Recovery, Operational, Stopped}
 use Rattle.ring_core_spec.specs.State.{Core, OutgoingFrame, floor}
 
--- the `proc_set` with which Gather begins: the members of the last installed ring, or all processors where none was
--- installed
+-- The `proc_set` with which Gather begins: the members of the last installed ring, or all processors if none was
+-- installed.
 abbrev pub first_procs : {A : Type 0} → Core A → ℕ
 first_procs c = if c.installed.ring.seq == 0 then everybody c.total else c.installed.members
 
--- the core after it enters Gather: sets, agreement, queue and kept token begin anew
+-- The core after it enters Gather: sets, agreement, queue and kept token start again.
 abbrev pub gather_entered : {A : Type 0} → Core A → Core A
 gather_entered c = record c { state = Gather; gathering = gathering_opening (first_procs c); last_sent = None; queue = [] }
 
--- the core with another gather
+-- The core with another gather.
 abbrev pub with_gathering : {A : Type 0} → Core A → Gathering → Core A
 with_gathering c g = record c { gathering = g }
 
--- the node's own join, sent to all other processors
+-- The node's own join, sent to all other processors.
 abbrev pub join_announcement : {A : Type 0} → Core A → OutgoingFrame A
 join_announcement c = record { to = less (everybody c.total) (only c.me); frame = JoinFrame (own_join c.me (floor c) c.gathering) }
 
--- the join that an Operational node sends to the processors outside its ring
+-- The join that an Operational node sends to the processors outside its ring.
 abbrev pub join_invitation : {A : Type 0} → Core A → OutgoingFrame A
 join_invitation c =
     record {
@@ -35,11 +35,11 @@ join_invitation c =
       frame = JoinFrame (record { sender = c.me; number = floor c; proc_set = c.running.members; fail_set = nobody });
     }
 
--- the effect of a join in Gather
+-- The effect of a join in Gather.
 abbrev pub join_effect_at : {A : Type 0} → Core A → Join → JoinEffect
 join_effect_at c j = join_effect c.me c.gathering j
 
--- the state is Operational
+-- The state is Operational.
 abbrev pub is_operational : State → Bool
 is_operational Operational = true
 is_operational Gather = false
@@ -47,12 +47,12 @@ is_operational Commit = false
 is_operational Recovery = false
 is_operational Stopped = false
 
--- a join in another state makes the node enter Gather: its sender is a member and its number is at least the ring's,
--- or its sender is no member and the state is Operational
+-- A join in another state makes the node enter Gather: its sender is a member and its number is at least the ring's, or
+-- its sender is no member and the state is Operational.
 abbrev pub is_gather_trigger : {A : Type 0} → Core A → Join → Bool
 is_gather_trigger c j = if has c.running.members j.sender then nat_le c.running.ring.seq j.number else is_operational c.state
 
--- a core in this state may propose: only in Gather, with consensus, as the smallest candidate
+-- A core in this state may propose: only in Gather, with consensus, as the smallest candidate.
 abbrev pub proposes_in : {A : Type 0} → State → Core A → Bool
 proposes_in Gather c = may_propose c.me (floor c) c.gathering
 proposes_in Commit c = false
@@ -60,6 +60,6 @@ proposes_in Recovery c = false
 proposes_in Operational c = false
 proposes_in Stopped c = false
 
--- the core may propose a ring
+-- The core may propose a ring.
 abbrev pub proposes : {A : Type 0} → Core A → Bool
 proposes c = proposes_in c.state c

@@ -10,18 +10,18 @@ use Rattle.ring_token.specs.PayloadVariants.{Call, Wrapped, End, Head, Part, Pac
 use Rattle.ring_token.specs.Frames.{CommitEntry, Frame}
 use Rattle.ring_token.specs.FrameVariants.{Message, Token, Join, Commit}
 
--- the representative of a last primary, if there is one, is at most n
+-- The representative of a last primary, if there is one, is at most n.
 abbrev pub last_named : ℕ → Option RingId → Bool
 last_named n None = true
 last_named n (Some ring) = nat_le ring.rep n
 
--- the processor that holds a token's `aru` back, if any, is at most n
+-- The processor that holds a token's `aru` back, if any, is at most n.
 abbrev pub holder_named : ℕ → Option ℕ → Bool
 holder_named n None = true
 holder_named n (Some i) = nat_le i n
 
--- every processor that the content of a Wrapped names is at most n: only a Head names one, the representative of its
--- last primary
+-- Every processor that the content of a Wrapped names is at most n: only a Head names one, the representative of its
+-- last primary.
 abbrev pub content_named : {A : Type 0} → ℕ → Content A → Bool
 content_named n (CallContent call) = true
 content_named n (HeadContent head) = last_named n head.last
@@ -29,8 +29,8 @@ content_named n (PartContent part) = true
 content_named n (PackContent pack) = true
 content_named n (SnapContent snap) = true
 
--- every processor that a payload names is at most n: a Head names that one; a Wrapped names its old ring's
--- representative, its old sender and those of its content
+-- Every processor that a payload names is at most n. A Head names the representative of its last primary; a Wrapped
+-- names its old ring's representative, its old sender, and the processors of its content.
 abbrev pub payload_named : {A : Type 0} → ℕ → Payload A → Bool
 payload_named n (Call call) = true
 payload_named n (Wrapped w) = nat_le w.ring.rep n && nat_le w.sender n && content_named n w.payload
@@ -40,7 +40,7 @@ payload_named n (Part part) = true
 payload_named n (Pack pack) = true
 payload_named n (Snap snap) = true
 
--- the frame names processors 1 to n alone
+-- The frame names only processors 1 to n.
 abbrev pub is_named : {A : Type 0} → ℕ → Frame A → Bool
 is_named n (Message x) = nat_le x.ring.rep n && nat_le x.sender n && payload_named n x.payload
 is_named n (Token t) = nat_le t.ring.rep n && holder_named n t.aru_id

@@ -13,86 +13,86 @@ use Rattle.ring_core_spec.specs.declared.out.Out.{Out}
 use Rattle.ring_base.specs.declared.state.State.{State}
 use Rattle.ring_base.specs.declared.state.State.TheVariants.{Gather, Commit, Recovery, Operational, Stopped}
 
--- a frame with the set of its receivers
+-- A frame with the set of its receivers.
 pub record OutgoingFrame (A : Type 0) : Type 0 where
   pub to : ℕ
   pub frame : Frame A
 
--- a frame sent, with its sender and its receivers
+-- A frame sent, with its sender and its receivers.
 pub record Transmission (A : Type 0) : Type 0 where
   pub from : ℕ
   pub to : ℕ
   pub frame : Frame A
 
--- the frame of number k; frames are numbered from 1
+-- The frame of number k; frames are numbered from 1.
 abbrev pub frame_at : {A : Type 0} → List (Transmission A) → ℕ → Option (Transmission A)
 frame_at frames zero = None
 frame_at frames (suc k) = slice_get frames k
 
--- the frame, if it was sent to this processor
+-- The frame, if it was sent to this processor.
 abbrev pub frame_for : {A : Type 0} → ℕ → Option (Transmission A) → Option (Frame A)
 frame_for i None = None
 frame_for i (Some f) = if has f.to i then Some f.frame else None
 
--- all pairs of frame number and receiver, for a list of frames whose first has number k
+-- All pairs of frame number and receiver, for a list of frames whose first has number k.
 abbrev pub receiver_pairs : {A : Type 0} → ℕ → List (Transmission A) → List (ℕ × ℕ)
 receiver_pairs k [] = []
 receiver_pairs k (f ∷ rest) = map (λ i. (k, i)) (elements f.to) ++ receiver_pairs (suc k) rest
 
--- an entry that a processor reported when it took part in a ring
+-- An entry that a processor reported when it took part in a ring.
 pub record Report : Type 0 where
   pub ring : RingId
   pub entry : CommitEntry
 
--- a processor's ring core: its present state, then its facts, over all rings and newest first
+-- A processor's ring core: its present state, then its facts, over all rings and newest first.
 pub record Core (A : Type 0) : Type 0 where
   pub me : ℕ
-  -- the number of processors
+  -- The number of processors.
   pub total : ℕ
   pub state : State
-  -- the newest ring taken part in: proposed, running or left; its number is the floor
+  -- The newest ring taken part in: proposed, running or left; its number is the floor.
   pub running : Configuration
-  -- the last installed ring
+  -- The last installed ring.
   pub installed : Configuration
-  -- sets and agreement in Gather
+  -- Sets and agreement in Gather.
   pub gathering : Gathering
-  -- the last token or commit token sent since Gather was entered
+  -- The last token or commit token sent since Gather was entered.
   pub last_sent : Option (OutgoingFrame A)
-  -- the send queue: payloads to send as new messages
+  -- The send queue: payloads to send as new messages.
   pub queue : List (Payload A)
-  -- the rings taken part in, and the rings installed
+  -- The rings taken part in, and the rings installed.
   pub rings : List Configuration
   pub installs : List Configuration
-  -- the messages taken, sent or unwrapped
+  -- The messages taken, sent or unwrapped.
   pub held : List (Message A)
-  -- the visits of the token, and the safe marks of old rings raised by plans
+  -- The visits of the token, and the safe marks of old rings raised by plans.
   pub turns : List (TokenVisit A)
   pub raises : List Raise
-  -- the node's own reports, and the full commit tokens with which it entered Recovery
+  -- The node's own reports, and the full commit tokens with which it entered Recovery.
   pub reports : List Report
   pub plans : List CommitToken
 
--- the greatest ring number taken part in
+-- The greatest ring number taken part in.
 abbrev pub floor : {A : Type 0} → Core A → ℕ
 floor c = c.running.ring.seq
 
--- a core after a transition, with the frames it sent
+-- A core after a transition, with the frames it sent.
 pub record TransitionResult (A : Type 0) : Type 0 where
   pub core : Core A
   pub sends : List (OutgoingFrame A)
 
--- a core after a step, with the step's outputs
+-- A core after a step, with the step's outputs.
 pub record StepResult (A : Type 0) : Type 0 where
   pub core : Core A
   pub outs : List (Out A)
 
 -- Openings
 
--- the opening ring of a processor: (0, me), of itself alone
+-- The opening ring of a processor: (0, me), with only itself as a member.
 abbrev pub alone : ℕ → Configuration
 alone me = record { ring = record { seq = 0; rep = me }; members = only me }
 
--- the core of processor me of n at the opening
+-- The core of processor me of n at the opening.
 abbrev pub opening : {A : Type 0} → ℕ → ℕ → Core A
 opening n me =
     record {
@@ -113,19 +113,19 @@ opening n me =
       plans = [];
     }
 
--- the formed ring: (1, 1), of all n
+-- The formed ring: (1, 1), of all n.
 abbrev pub all_of : ℕ → Configuration
 all_of n = record { ring = record { seq = 1; rep = 1 }; members = everybody n }
 
--- the core of processor me of n in the formed ring, with nothing held
+-- The core of processor me of n in the formed ring, with nothing held.
 abbrev pub formed : {A : Type 0} → ℕ → ℕ → Core A
 formed n me = record (opening n me) { state = Operational; running = all_of n; installed = all_of n; rings = all_of n ∷ []; installs = all_of n ∷ [] }
 
--- a core after a stop
+-- A core after a stop.
 abbrev pub halted : {A : Type 0} → Core A → Core A
 halted c = record c { state = Stopped }
 
--- the state is Stopped, which a core never leaves
+-- The state is Stopped, which a core never leaves.
 abbrev pub is_stopped : State → Bool
 is_stopped Stopped = true
 is_stopped Gather = false

@@ -7,11 +7,11 @@ use Rattle.ring_core_spec.specs.Deciding.{decide}
 use Rattle.ring_core_spec.specs.Transitions.{done}
 use Rattle.ring_core_spec.specs.Giving.{delivered}
 
--- the core after an input, with the outputs of the step
+-- The core after an input, with the outputs of the step.
 unfoldable pub ring_step : {A : Type 0} → Core A → Input A → StepResult A
 ring_step c input = delivered c (done c (decide c input))
 
--- the core after a list of inputs, in order
+-- The core after a list of inputs, in order.
 abbrev pub after_inputs : {A : Type 0} → Core A → List (Input A) → Core A
 after_inputs c [] = c
 after_inputs c (input ∷ inputs) = after_inputs (ring_step c input).core inputs

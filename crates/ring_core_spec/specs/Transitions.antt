@@ -14,20 +14,20 @@ use Rattle.ring_core_spec.specs.Handing.{after_proposal, commit_filled, commit_l
 use Rattle.ring_core_spec.specs.Deciding.{Transition, Ignore, Enqueue, Repeat, Announce, Invite, GiveUp, EnterGather, Agree, MergeJoin}
 use Rattle.ring_core_spec.specs.Deciding.{EnterGatherAndAgree, EnterGatherAndMergeJoin, Take, Visit, Fill, Learn}
 
--- the core, with nothing sent
+-- The core, with nothing sent.
 abbrev pub without_sends : {A : Type 0} → Core A → TransitionResult A
 without_sends c = record { core = c; sends = [] }
 
--- the core, which sends its own join with its present sets
+-- The core, which sends its own join with its present sets.
 abbrev pub with_announcement : {A : Type 0} → Core A → TransitionResult A
 with_announcement c = record { core = c; sends = join_announcement c ∷ [] }
 
--- the kept token, sent to the same receiver again, if there is one
+-- The kept token, sent to the same receiver again, if there is one.
 abbrev pub last_sent_repeated : {A : Type 0} → Option (OutgoingFrame A) → List (OutgoingFrame A)
 last_sent_repeated None = []
 last_sent_repeated (Some s) = s ∷ []
 
--- the old ring's messages that a message taken brings: in Recovery its inner message, elsewhere none
+-- The old ring's messages that a taken message brings: in Recovery its inner message, otherwise none.
 abbrev pub old_ring_messages : {A : Type 0} → State → Core A → Message A → List (Message A)
 old_ring_messages Recovery c x = inner_messages c.installed.ring (mark c c.installed.ring) c.held x.payload
 old_ring_messages Gather c x = []
@@ -35,12 +35,12 @@ old_ring_messages Commit c x = []
 old_ring_messages Operational c x = []
 old_ring_messages Stopped c x = []
 
--- the core after it takes a message: it holds the message, and in Recovery also its inner message, where that is new
--- in the old ring
+-- The core after it takes a message: it holds the message, and in Recovery also its inner message, if that is new in
+-- the old ring.
 abbrev pub message_taken : {A : Type 0} → Core A → Message A → Core A
 message_taken c x = record c { held = old_ring_messages c.state c x ++ x ∷ c.held }
 
--- the effect of each transition
+-- The effect of each transition.
 abbrev pub apply_transition : {A : Type 0} → Core A → Transition A → TransitionResult A
 apply_transition c Ignore = without_sends c
 apply_transition c (Enqueue payload) = without_sends (record c { queue = c.queue ++ payload ∷ [] })
@@ -60,7 +60,7 @@ apply_transition c (Learn k) = commit_learned c k
 
 -- After a timeout, or a frame that isn't ignored, a node in Gather may propose
 
--- a proposal may follow this transition
+-- A proposal may follow this transition.
 abbrev pub may_propose_after : {A : Type 0} → Transition A → Bool
 may_propose_after Ignore = false
 may_propose_after (Enqueue payload) = false
@@ -78,15 +78,15 @@ may_propose_after (Visit t) = true
 may_propose_after (Fill k) = true
 may_propose_after (Learn k) = true
 
--- a transition's result with a proposal, if one follows; its commit token comes after the other sends
+-- A transition's result with a proposal, if one follows; its commit token comes after the other sends.
 abbrev pub with_proposal_if : {A : Type 0} → Bool → TransitionResult A → TransitionResult A
 with_proposal_if false did = did
 with_proposal_if true did = record { core = (after_proposal did.core).core; sends = did.sends ++ (after_proposal did.core).sends }
 
--- a transition's result, with a proposal if one may follow and the core may propose
+-- A transition's result, with a proposal if one may follow and the core may propose.
 abbrev pub done_by : {A : Type 0} → Bool → TransitionResult A → TransitionResult A
 done_by follows did = with_proposal_if (follows && proposes did.core) did
 
--- the result of a transition, and of the proposal that may follow it
+-- The result of a transition, and of the proposal that may follow it.
 abbrev pub done : {A : Type 0} → Core A → Transition A → TransitionResult A
 done c a = done_by (may_propose_after a) (apply_transition c a)

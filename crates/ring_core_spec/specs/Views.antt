@@ -11,19 +11,19 @@ use Rattle.ring_token.specs.Turns.{safe_mark}
 use Rattle.ring_recover.specs.Plans.{Plan, plan_of}
 use Rattle.ring_core_spec.specs.State.{Core}
 
--- the core's front in a ring
+-- The core's front in a ring.
 abbrev pub front : {A : Type 0} → Core A → RingId → ℕ
 front c ring = front_of c.held ring
 
--- the core's safe mark in a ring
+-- The core's safe mark in a ring.
 abbrev pub mark : {A : Type 0} → Core A → RingId → ℕ
 mark c ring = safe_mark c.turns c.raises ring
 
--- number n of the ring is new to the core
+-- Number n of the ring is new to the core.
 abbrev pub takes_number : {A : Type 0} → Core A → RingId → ℕ → Bool
 takes_number c ring n = is_new c.held (mark c ring) ring n
 
--- the core's own entry: what it would report of its last installed ring now
+-- The core's own entry: what it would report of its last installed ring now.
 abbrev pub own_entry : {A : Type 0} → Core A → CommitEntry
 own_entry c =
     record {
@@ -33,11 +33,11 @@ own_entry c =
       held = held_bits c.held c.installed.ring;
     }
 
--- the entries of the newest commit token of a ring
+-- The entries of the newest commit token of a ring.
 abbrev pub entries_for : RingId → List CommitToken → List CommitEntry
 entries_for ring [] = []
 entries_for ring (k ∷ ks) = if same_ring k.ring ring then k.entries else entries_for ring ks
 
--- the plan for the running ring
+-- The plan for the running ring.
 abbrev pub plan : {A : Type 0} → Core A → Plan
 plan c = plan_of c.installed.ring c.running.members (entries_for c.running.ring c.plans)

@@ -14,20 +14,20 @@ use Rattle.ring_base.specs.declared.state.State.TheVariants.{Gather, Commit, Rec
 use Rattle.ring_core_spec.specs.State.{Core, OutgoingFrame, TransitionResult}
 use Rattle.ring_core_spec.specs.Views.{mark, plan}
 
--- the core accepts the token: Token and window 6
+-- The core accepts the token: Token and window 6.
 abbrev pub accepts : {A : Type 0} → Core A → Token → Bool
 accepts c t = is_accepted c.running.ring c.turns (highest c.held t.ring) t
 
--- Token and window 7 (a): the requested messages that are held are sent again
+-- Token and window 7 (a): the requested messages that are held are sent again.
 abbrev pub repeated : {A : Type 0} → Core A → Token → List (Message A)
 repeated c t = filter_map (found c.held t.ring) (above_mark (mark c t.ring) t.requests)
 
--- Token and window 7 (b): the number of new messages that the visit has room for
+-- Token and window 7 (b): the number of new messages that the visit has room for.
 abbrev pub room_at : {A : Type 0} → Core A → Token → ℕ
 room_at c t = room (mark c t.ring) t.seq
 
--- the payloads that a core sends, at most count: in Operational those made of its queue, in Recovery the first of its
--- Wrapped and its End
+-- The payloads that a core sends, at most count: in Operational those made of its queue, in Recovery the first of its
+-- Wrapped and its End.
 abbrev pub offers : {A : Type 0} → State → Core A → ℕ → List (Payload A)
 offers Operational c count = packed_payloads count c.queue
 offers Recovery c count = take count (wraps_and_end c.me (plan c) c.running.ring c.held)
@@ -35,36 +35,36 @@ offers Gather c count = []
 offers Commit c count = []
 offers Stopped c count = []
 
--- the payloads that the visit sends as new messages
+-- The payloads that the visit sends as new messages.
 abbrev pub new_payloads : {A : Type 0} → Core A → Token → List (Payload A)
 new_payloads c t = offers c.state c (room_at c t)
 
--- the new messages of the token's ring, with the numbers after its `seq`
+-- The new messages of the token's ring, with the numbers after its `seq`.
 abbrev pub new_messages : {A : Type 0} → Core A → Token → List (Message A)
 new_messages c t = numbered t.ring c.me t.seq (new_payloads c t)
 
--- what the core holds after the visit, newest first; it holds its new messages at once
+-- What the core holds after the visit, newest first; it holds its new messages at once.
 abbrev pub held_after : {A : Type 0} → Core A → Token → List (Message A)
 held_after c t = reverse (new_messages c t) ++ c.held
 
--- Token and window 7 (d): the token's new requests, the 32 smallest numbers of what (a) left and of what the core
--- lacks up to the new `seq`
+-- Token and window 7 (d): the token's new requests, the 32 smallest numbers of those that (a) left and those that the
+-- core lacks up to the new `seq`.
 abbrev pub requests_of : {A : Type 0} → Core A → Token → List (Message A) → ℕ → List ℕ
 requests_of c t held seq = requests_after (requests_left (mark c t.ring) (holds c.held t.ring) t.requests) (missing held t.ring (mark c t.ring) seq)
 
--- Token and window 7 (c) to (e): the forwarded token, from what the core holds and the number of new messages
+-- Token and window 7 (c) to (e): the forwarded token, from what the core holds and the number of new messages.
 abbrev pub forwarded_by : {A : Type 0} → Core A → Token → List (Message A) → ℕ → Token
 forwarded_by c t held sent = token_after c.me (front_of held t.ring) sent (requests_of c t held (t.seq + sent)) t
 
--- the token that this visit forwards
+-- The token that this visit forwards.
 abbrev pub token_forwarded : {A : Type 0} → Core A → Token → Token
 token_forwarded c t = forwarded_by c t (held_after c t) (length (new_payloads c t))
 
--- Token and window 7 (f): the visit as a fact, from which the safe mark is computed
+-- Token and window 7 (f): the visit as a fact, from which the safe mark is computed.
 abbrev pub turn_of : {A : Type 0} → Core A → Token → TokenVisit A
 turn_of c t = record { received = t; front = front_of (held_after c t) t.ring; fresh = new_payloads c t; forwarded = token_forwarded c t }
 
--- the queue after the visit, without the payloads that the new messages were made of
+-- The queue after the visit, without the payloads of which the new messages were made.
 abbrev pub queue_after : {A : Type 0} → State → ℕ → List (Payload A) → List (Payload A)
 queue_after Operational count queue = unpacked_rest count queue
 queue_after Gather count queue = queue
@@ -72,15 +72,15 @@ queue_after Commit count queue = queue
 queue_after Recovery count queue = queue
 queue_after Stopped count queue = queue
 
--- messages, sent to all other members
+-- Messages, sent to all other members.
 abbrev pub to_others : {A : Type 0} → Core A → List (Message A) → List (OutgoingFrame A)
 to_others c xs = map (λ x. record { to = less c.running.members (only c.me); frame = MessageFrame x }) xs
 
--- the token, sent to the next member
+-- The token, sent to the next member.
 abbrev pub to_next : {A : Type 0} → Core A → Token → OutgoingFrame A
 to_next c t = record { to = only (next c.running.members c.me); frame = TokenFrame t }
 
--- the result of the whole visit
+-- The result of the whole visit.
 abbrev pub token_visited : {A : Type 0} → Core A → Token → TransitionResult A
 token_visited c t =
     record {

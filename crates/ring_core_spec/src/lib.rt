@@ -1,5 +1,7 @@
-//! The types and definitions of the ring core: one processor's part in the rings, as a state machine that takes one
-//! input and returns its outputs. It has no clock and no network.
+//! The types and definitions of the ring core: one processor's part in the rings.
+//!
+//! It is a state machine that takes one input at a time and returns its outputs. It has no clock and no network.
+//!
 //! Rules: Processors and sets 5 and 6; Rings and states 3 to 14; Outputs 1 to 7
 #![tactic(auto)]
 

@@ -1,4 +1,5 @@
-//! Checks that a frame names processors of the group alone.
+//! Checks that a frame names only processors of the group.
+//!
 //! Rules: Processors and sets 5
 
 ghost use Rattle.std.specs.Prelude.{◌≡◌, ◌&&◌, nat_le};
@@ -12,9 +13,11 @@ use ring_base::{Fixed, Proc, RingId};
 use ring_token::{CommitEntry, Content, Frame, Payload};
 use std::alloc::Allocator;
 
-/// Returns whether every processor that the frame names, in whatever field, is one of the group's, 1 to N. A core
-/// ignores any other frame, in every state.
-/// Rules: Processors and sets 5
+/// Returns whether every processor that the frame names, in any field, is one of the group's, 1 to N.
+///
+/// A core ignores every other frame, in every state.
+///
+/// Rules: Processors and sets 5 and 6
 pub fn is_named<A: Allocator + Copy>(fixed: Fixed, frame: &Frame<A>) -> bool
     ensures { result ≡ is_named fixed.count frame.now }
 {
@@ -54,7 +57,7 @@ fn is_ring_named(fixed: Fixed, ring: &RingId) -> bool
     is_proc_named(fixed, ring.rep)
 }
 
-/// Returns whether the representative of a last primary, if there is one, is a processor of the group.
+/// Returns whether the representative of the last primary, if there is one, is a processor of the group.
 fn is_last_named(fixed: Fixed, last: Option<RingId>) -> bool
     ensures { result ≡ last_named fixed.count last }
 {
@@ -64,7 +67,7 @@ fn is_last_named(fixed: Fixed, last: Option<RingId>) -> bool
     }
 }
 
-/// Returns whether the processor that holds `aru` back, if any, is a processor of the group.
+/// Returns whether the processor that holds `aru` back, if there is one, is a processor of the group.
 fn is_holder_named(fixed: Fixed, holder: Option<Proc>) -> bool
     ensures { result ≡ holder_named fixed.count holder }
 {

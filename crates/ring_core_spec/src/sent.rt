@@ -1,4 +1,6 @@
-//! A frame to send.
+//! Frames that a core sends.
+//!
+//! Rules: Outputs 2
 
 ghost use Rattle.std.specs.Prelude.{◌≡◌};
 
@@ -8,12 +10,13 @@ use std::alloc::{AllocError, Allocator, Global};
 use std::marker::Model;
 
 /// A frame that a core sends, with the set of its receivers.
+///
 /// Rules: Outputs 2
 #[derive(Drop)]
 pub struct OutgoingFrame<A: Allocator + Copy = Global> {
-    /// The receivers. A core sends no frame without one.
+    /// The receivers. If there are none, the frame isn't sent: it is neither an output nor numbered.
     pub to: ProcSet,
-    /// The frame.
+    /// The frame to send.
     pub frame: Frame<A>,
 }
 

@@ -1,4 +1,5 @@
 //! A world of ring cores: the cores of all processors, the outputs of all steps, and the events that change them.
+//!
 //! Rules: Rings and states 5 and 14
 
 ghost use Rattle.std.specs.Prelude.{◌≡◌, [], ◌∷◌, ◌++◌, ◌≤◌, ◌-◌, length, map, filter_map, IfOk, IfErr, OnOk, option_copied};
@@ -20,13 +21,16 @@ use ring_wire::Frame;
 use std::alloc::{Allocator, Global};
 use std::marker::Model;
 
-/// The ring cores of all processors, with all outputs since the opening. Contracts see the opening and the events.
+/// The ring cores of all processors, with all outputs since the opening.
+///
+/// Contracts see the opening and the events.
+///
 /// Rules: Rings and states 14
 #[derive(Drop)]
 pub struct Cores<A: Allocator + Copy = Global> {
     /// The core of processor i is at index i - 1.
     cores: Vec<Srp<A>, A>,
-    /// In a formed ring, the frame that the representative sent at its opening: frame 1.
+    /// In a formed ring, frame 1: the frame that the representative sent at the opening.
     first: Option<OutgoingFrame<A>>,
     /// All outputs in order, each with its processor.
     outs: Vec<(Proc, Out<A>), A>,
@@ -46,9 +50,11 @@ impl<A: Allocator + Copy> Model for Cores<A> {
 }
 
 impl<A: Allocator + Copy> Cores<A> {
-    /// Returns the world at the opening: each processor 1 to N is in Gather, alone, and no frame has been sent.
-    /// Errors: `Memory` where an allocation fails.
-    /// Rules: Rings and states 5
+    /// Creates the world at the opening: each processor 1 to N is alone in Gather, and no frame has been sent.
+    ///
+    /// Errors: `Memory` if an allocation fails.
+    ///
+    /// Rules: Rings and states 5 and 14
     pub fn unformed(alloc: A, fixed: Fixed) -> Result<Cores<A>, Fault>
         ensures ok { IfOk result (λ world. world ≡ empty_run fixed.count) }
         ensures refused { IfErr result (λ fault. fault ≡ Memory) }
@@ -67,10 +73,12 @@ impl<A: Allocator + Copy> Cores<A> {
         })
     }
 
-    /// Returns the world of a formed ring: all processors are in the ring (1, 1) with nothing held, and the first token
-    /// has visited the representative.
-    /// The token that the representative then sent is frame 1.
-    /// Errors: `Memory` where an allocation fails.
+    /// Creates the world of a formed ring: all processors are in the ring (1, 1) with nothing held.
+    ///
+    /// The representative has visited the first token. The token that it then sent is frame 1.
+    ///
+    /// Errors: `Memory` if an allocation fails.
+    ///
     /// Rules: Rings and states 14
     pub fn formed(alloc: A, fixed: Fixed) -> Result<Cores<A>, Fault>
         ensures ok { IfOk result (λ world. world ≡ empty_formed_run fixed.count) }
@@ -93,9 +101,12 @@ impl<A: Allocator + Copy> Cores<A> {
     }
 
     /// Applies an event to the world and returns the world after it.
+    ///
     /// An event changes nothing if it names an unknown processor, or a frame that wasn't sent or wasn't sent to that
-    /// processor. A payload in it keeps the limits of frames, as a decoded one does.
-    /// Errors: `Memory` where an allocation fails; the world has then been dropped.
+    /// processor. A payload in it must be within the limits of its format, as every decoded payload is.
+    ///
+    /// Errors: `Memory` if an allocation fails; the world is lost.
+    ///
     /// Rules: Rings and states 14
     pub fn happens(self, event: &RingEvent<A>) -> Result<Cores<A>, Fault>
         requires { EventFits event.now }
@@ -113,7 +124,7 @@ impl<A: Allocator + Copy> Cores<A> {
         }
     }
 
-    /// Delivers a frame to a processor, if it was sent to it.
+    /// Delivers frame `number` to a processor, if it was sent to this processor.
     fn deliver(self, node: Proc, number: u64, event: &RingEvent<A>) -> Result<Cores<A>, Fault>
         requires { event.now ≡ Deliver node number }
         ensures ok { IfOk result (λ world. world ≡ more self event.now) }
@@ -126,7 +137,7 @@ impl<A: Allocator + Copy> Cores<A> {
         self.step(node, Input::Frame(frame), event)
     }
 
-    /// Returns the frame of a number, if it was sent to this processor. Frames are numbered from 1 in the order sent.
+    /// Returns frame `number` if it was sent to this processor. Frames are numbered from 1 in the order of sending.
     fn frame_to(&self, node: Proc, number: u64) -> Option<&Frame<A>>
         ensures { option_copied result ≡ frame_for node (frame_at (world_of self.now).frames number) }
     {
@@ -138,7 +149,7 @@ impl<A: Allocator + Copy> Cores<A> {
         }
     }
 
-    /// Does a step of one processor's core. An unknown processor changes nothing.
+    /// Runs one step of a processor's core. An unknown processor changes nothing.
     fn step(mut self, node: Proc, input: Input<A>, event: &RingEvent<A>) -> Result<Cores<A>, Fault>
         requires fits { InputFits input }
         requires same { happens (world_of self) event.now ≡ stepped (world_of self) node input }
@@ -159,7 +170,7 @@ impl<A: Allocator + Copy> Cores<A> {
         }
     }
 
-    /// Stops one processor's core. An unknown processor changes nothing.
+    /// Stops a processor's core. An unknown processor changes nothing.
     fn stop(mut self, node: Proc, event: &RingEvent<A>) -> Cores<A>
         requires { event.now ≡ Stop node }
         ensures { result ≡ more self event.now }
@@ -182,8 +193,10 @@ impl<A: Allocator + Copy> Cores<A> {
         self
     }
 
-    /// Returns all outputs since the opening in order, each with its processor. Those of the opening of a formed ring
-    /// aren't among them.
+    /// Returns all outputs since the opening in order, each with its processor.
+    ///
+    /// The outputs of the opening of a formed ring aren't included.
+    ///
     /// Rules: Rings and states 15
     pub fn outs(&self) -> &[(Proc, Out<A>)]
         ensures { result.now ≡ (world_of self.now).outs }
@@ -191,8 +204,10 @@ impl<A: Allocator + Copy> Cores<A> {
         &self.outs
     }
 
-    /// Returns all outputs since the opening in order, each with its processor, and drops the rest of the world. Those
-    /// of the opening of a formed ring aren't among them.
+    /// Returns all outputs since the opening in order, each with its processor, and drops the rest of the world.
+    ///
+    /// The outputs of the opening of a formed ring aren't included.
+    ///
     /// Rules: Rings and states 15
     pub fn into_outs(self) -> Vec<(Proc, Out<A>), A>
         ensures { result.items ≡ (world_of self).outs }

@@ -1,4 +1,5 @@
 //! Runs ring cores from a formed ring.
+//!
 //! Rules: Rings and states 14 and 15
 
 ghost use Rattle.std.specs.Prelude.{◌≡◌, ℕ, ◌<◌, true, false, length, IfOk, IfErr, OnOk, OnErr};
@@ -21,9 +22,10 @@ use ring_core_spec::Out;
 use std::alloc::{Allocator, Global};
 use std::marker::Model;
 
-/// The ring cores of all processors in the formed ring (1, 1): nothing is held, and the first token has visited the
-/// representative.
-/// They run once, by one call of `run`.
+/// The ring cores of all processors in the formed ring (1, 1), ready for one run.
+///
+/// Nothing is held, and the representative has visited the first token.
+///
 /// Rules: Rings and states 14 and 15
 #[derive(Drop)]
 pub struct FixedRing<A: Allocator + Copy = Global> {
@@ -44,9 +46,12 @@ impl<A: Allocator + Copy> Model for FixedRing<A> {
 }
 
 impl<A: Allocator + Copy> FixedRing<A> {
-    /// Returns the cores of the formed ring of all processors 1 to N, ready to run once.
-    /// Frame 1 is what its representative sent at the opening: the token of number 1.
-    /// Errors: `Memory` where an allocation fails.
+    /// Creates the cores of the formed ring of all processors 1 to N, ready for one run.
+    ///
+    /// Frame 1 is the token of number 1, which the representative sent at the opening.
+    ///
+    /// Errors: `Memory` if an allocation fails.
+    ///
     /// Rules: Rings and states 14
     pub fn new(alloc: A, fixed: Fixed) -> Result<FixedRing<A>, Fault>
         ensures ok { IfOk result (λ ring. ring ≡ record { count = fixed.count; is_fresh = true; done = 0 }) }
@@ -60,12 +65,14 @@ impl<A: Allocator + Copy> FixedRing<A> {
         })
     }
 
-    /// Runs a list of events from the formed ring, and returns all outputs in order, each with its processor. Those of
-    /// the opening aren't among them.
-    /// `run` may be called once. Only the retransmit timeout has an effect here. A payload in an event must be within the
-    /// limits of frames, as every decoded payload is.
-    /// Errors: `Memory` where an allocation fails; the cores have then been dropped. In either case `done` returns the
-    /// number of events done: all of them after a success, fewer after a refusal.
+    /// Runs a list of events from the formed ring, and returns all outputs in order, each with its processor.
+    ///
+    /// Call it only once. The outputs of the opening aren't included. Of the timeouts only retransmit has an effect. A
+    /// payload in an event must be within the limits of its format, as every decoded payload is.
+    ///
+    /// Errors: `Memory` if an allocation fails; the cores and the outputs are lost. [`done`](FixedRing::done) then
+    /// returns how many events were done, fewer than there are.
+    ///
     /// Rules: Rings and states 14 and 15
     pub fn run(&mut self, events: &[RingEvent<A>]) -> Result<Vec<(Proc, Out<A>), A>, Fault>
         requires fresh { self.old.is_fresh ≡ true }
@@ -88,7 +95,10 @@ impl<A: Allocator + Copy> FixedRing<A> {
         run_acting(cores, true, events, &mut self.done)
     }
 
-    /// Returns the number of events done in the run: 0 before it, and all of them after it unless it was refused.
+    /// Returns the number of events done in the run.
+    ///
+    /// It is 0 before the run, the number of all events after a successful run, and less after a failed one.
+    ///
     /// Rules: Rings and states 15
     pub fn done(&self) -> u64
         ensures { result ≡ self.now.done }

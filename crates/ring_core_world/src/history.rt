@@ -8,7 +8,9 @@ use ring_core_proof::RingEvent;
 use std::alloc::{Allocator, Global};
 use std::marker::{Model, PhantomData};
 
-/// The opening and the events of a world of ring cores, for contracts alone. No value of this type is made.
+/// The opening and the events of a world of ring cores, as contracts see them.
+///
+/// Code never creates a value of this type.
 pub(crate) struct WorldHistory<A: Allocator + Copy = Global> {
     allocator: PhantomData<A>,
 }
@@ -29,7 +31,7 @@ pub(crate) fn unformed<A: Allocator + Copy>(fixed: Fixed) -> Ghost<WorldHistory<
     ghost_of(&fixed)
 }
 
-/// Returns the history of a formed ring, without events: the first token has visited the representative.
+/// Returns the history of a formed ring, without events: the representative has visited the first token.
 pub(crate) fn ring_formed<A: Allocator + Copy>(fixed: Fixed) -> Ghost<WorldHistory<A>>
     ensures { result.value ≡ empty_formed_run fixed.count }
 {

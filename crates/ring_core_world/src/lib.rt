@@ -1,4 +1,5 @@
-//! Worlds of ring cores that run, without logs and objects: from the opening, and from a formed ring.
+//! Worlds of ring cores that run without logs and objects: from the opening, and from a formed ring.
+//!
 //! Rules: Rings and states 14 and 15
 #![tactic(auto)]
 

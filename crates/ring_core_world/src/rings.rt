@@ -1,4 +1,5 @@
 //! Runs ring cores from the opening.
+//!
 //! Rules: Rings and states 5 and 15; Outputs 11; The commit token 10
 
 ghost use Rattle.std.specs.Prelude.{◌≡◌, ℕ, ◌<◌, true, false, length, IfOk, IfErr, OnOk, OnErr};
@@ -18,8 +19,8 @@ use ring_core_spec::Out;
 use std::alloc::{Allocator, Global};
 use std::marker::Model;
 
-/// The ring cores of all processors at the opening: each in Gather, alone.
-/// They run once, by one call of `run`.
+/// The ring cores of all processors at the opening, ready for one run. Each is alone in Gather.
+///
 /// Rules: Rings and states 5 and 15
 #[derive(Drop)]
 pub struct Rings<A: Allocator + Copy = Global> {
@@ -40,8 +41,10 @@ impl<A: Allocator + Copy> Model for Rings<A> {
 }
 
 impl<A: Allocator + Copy> Rings<A> {
-    /// Returns the cores of all processors 1 to N at the opening, ready to run once.
-    /// Errors: `Memory` where an allocation fails.
+    /// Creates the cores of all processors 1 to N at the opening, ready for one run.
+    ///
+    /// Errors: `Memory` if an allocation fails.
+    ///
     /// Rules: Rings and states 5 and 15
     pub fn new(alloc: A, fixed: Fixed) -> Result<Rings<A>, Fault>
         ensures ok { IfOk result (λ rings. rings ≡ record { count = fixed.count; is_fresh = true; done = 0 }) }
@@ -56,10 +59,14 @@ impl<A: Allocator + Copy> Rings<A> {
     }
 
     /// Runs a list of events from the opening, and returns all outputs in order, each with its processor.
-    /// Call it once. A payload in an event keeps the limits of frames, as a decoded one does.
-    /// Errors: `Memory` where an allocation fails; the cores have then been dropped. In either case `done` returns the
-    /// number of events done: all of them after a success, fewer after a refusal.
-    /// Rules: Rings and states 14 and 15; Outputs 11
+    ///
+    /// Call it only once. A payload in an event must be within the limits of its format, as every decoded payload is.
+    /// The run is virtually synchronous, and its commit tokens meet the facts of their two rounds.
+    ///
+    /// Errors: `Memory` if an allocation fails; the cores and the outputs are lost. [`done`](Rings::done) then returns
+    /// how many events were done, fewer than there are.
+    ///
+    /// Rules: Rings and states 14 and 15; Outputs 11; The commit token 10
     pub fn run(&mut self, events: &[RingEvent<A>]) -> Result<Vec<(Proc, Out<A>), A>, Fault>
         requires fresh { self.old.is_fresh ≡ true }
         requires fit { AllByRecursion EventFits events.now }
@@ -79,7 +86,10 @@ impl<A: Allocator + Copy> Rings<A> {
         run_acting(cores, false, events, &mut self.done)
     }
 
-    /// Returns the number of events done in the run: 0 before it, and all of them after it unless it was refused.
+    /// Returns the number of events done in the run.
+    ///
+    /// It is 0 before the run, the number of all events after a successful run, and less after a failed one.
+    ///
     /// Rules: Rings and states 15
     pub fn done(&self) -> u64
         ensures { result ≡ self.now.done }

@@ -1,4 +1,5 @@
 //! Runs a list of events, from either opening.
+//!
 //! Rules: Rings and states 14 and 15
 
 ghost use Rattle.std.specs.Prelude.{◌≡◌, ◌<◌, [], ◌∷◌, length, filter, IfOk, IfErr, OnOk, OnErr};
@@ -14,10 +15,13 @@ use ring_core_proof::RingEvent;
 use ring_core_spec::Out;
 use std::alloc::Allocator;
 
-/// Runs the events that act, and returns all outputs in order, each with its processor.
-/// From the opening all events act, from a formed ring all but three kinds of timeout. `done` is set to the number of
-/// events done, those that don't act included.
-/// Errors: `Memory` where an allocation fails; `done` is then below the number of events.
+/// Runs a list of events, and returns all outputs in order, each with its processor.
+///
+/// If `formed`, the timeouts other than retransmit are skipped. `done` is set to the number of events done, skipped
+/// ones included.
+///
+/// Errors: `Memory` if an allocation fails; `done` is then below the number of events.
+///
 /// Rules: Rings and states 14 and 15
 pub(crate) fn run_acting<A: Allocator + Copy>(
     cores: Cores<A>,
@@ -40,7 +44,7 @@ pub(crate) fn run_acting<A: Allocator + Copy>(
     Ok(world.into_outs())
 }
 
-/// Applies an event, if it acts.
+/// Applies an event, unless it has no effect from this opening.
 fn step_if_acting<A: Allocator + Copy>(
     world: Cores<A>,
     formed: bool,
@@ -57,14 +61,14 @@ fn step_if_acting<A: Allocator + Copy>(
     }
 }
 
-/// Returns whether an event acts: from the opening every event does.
+/// Returns whether an event has an effect: from the opening every event does.
 fn acts<A: Allocator + Copy>(formed: bool, event: &RingEvent<A>) -> bool
     ensures { result ≡ acts formed event.now }
 {
     !formed || acts_on_formed(event)
 }
 
-/// Returns whether an event acts from a formed ring: of the timeouts retransmit alone does.
+/// Returns whether an event has an effect from a formed ring: of the timeouts only retransmit does.
 fn acts_on_formed<A: Allocator + Copy>(event: &RingEvent<A>) -> bool
     ensures { result ≡ acts_on_formed event.now }
 {

@@ -1,4 +1,5 @@
-//! Finds the frame of a number among the outputs, for its receivers alone.
+//! Finds a frame among the outputs by its number, for one of its receivers.
+//!
 //! Rules: Rings and states 14
 
 ghost use Rattle.std.specs.Prelude.{◌≡◌, ◌++◌, slice_get, IfOk, IfErr, if◌then◌else◌, Some, None, option_copied};
@@ -20,7 +21,7 @@ fn addressed<A: Allocator + Copy>(node: Proc, to: ProcSet, frame: &Frame<A>) -> 
     if to.contains(node) { Some(frame) } else { None }
 }
 
-/// Returns the frame of an output, if it is sent to this processor.
+/// Returns the frame of an output, if it is a frame sent to this processor.
 fn frame_in<A: Allocator + Copy>(node: Proc, out: &Out<A>) -> Option<&Frame<A>>
     ensures { option_copied result ≡ frame_in node out.now }
 {
@@ -30,7 +31,7 @@ fn frame_in<A: Allocator + Copy>(node: Proc, out: &Out<A>) -> Option<&Frame<A>>
     }
 }
 
-/// Returns the frame of the output at this index, if it is sent to this processor.
+/// Returns the frame of the output at index `place`, if it is a frame sent to this processor.
 fn frame_at_place<A: Allocator + Copy>(
     outs: &[(Proc, Out<A>)],
     place: usize,
@@ -44,7 +45,7 @@ fn frame_at_place<A: Allocator + Copy>(
     }
 }
 
-/// Returns the frame at this index among all frames in `outs`, counted from 0, if it was sent to this processor.
+/// Returns the frame at `index` among all frames in `outs`, counted from 0, if it was sent to this processor.
 fn frame_at_index<'a, A: Allocator + Copy>(
     places: &[usize],
     outs: &'a [(Proc, Out<A>)],
@@ -60,8 +61,10 @@ fn frame_at_index<'a, A: Allocator + Copy>(
     }
 }
 
-/// Returns the frame of this number, if it was sent, to this processor among others; else `None`. All frames in `outs`
-/// are numbered from 1 in their order.
+/// Returns frame `number` if it was sent to this processor, otherwise `None`.
+///
+/// The frames in `outs` are numbered from 1 in their order.
+///
 /// Rules: Rings and states 14
 pub(crate) fn numbered_frame<'a, A: Allocator + Copy>(
     places: &[usize],
@@ -78,8 +81,10 @@ pub(crate) fn numbered_frame<'a, A: Allocator + Copy>(
     frame_at_index(places, outs, node, number - 1)
 }
 
-/// Returns the frame of this number in a formed ring, if it was sent to this processor; else `None`. Frame 1 is
-/// `first`, and the frames in `outs` are numbered from 2.
+/// Returns frame `number` of a formed ring if it was sent to this processor, otherwise `None`.
+///
+/// Frame 1 is `first`; the frames in `outs` are numbered from 2 in their order.
+///
 /// Rules: Rings and states 14
 pub(crate) fn later_frame<'a, A: Allocator + Copy>(
     first: &'a OutgoingFrame<A>,
@@ -101,7 +106,8 @@ pub(crate) fn later_frame<'a, A: Allocator + Copy>(
 }
 
 /// Returns a copy of a frame.
-/// Errors: `Memory` where an allocation fails.
+///
+/// Errors: `Memory` if an allocation fails.
 pub(crate) fn copied<A: Allocator + Copy>(frame: &Frame<A>) -> Result<Frame<A>, Fault>
     ensures ok { IfOk result (λ copy. copy ≡ frame.now) }
     ensures refused { IfErr result (λ fault. fault ≡ Memory) }
@@ -111,7 +117,8 @@ pub(crate) fn copied<A: Allocator + Copy>(frame: &Frame<A>) -> Result<Frame<A>, 
 }
 
 /// Returns a copy of a payload.
-/// Errors: `Memory` where an allocation fails.
+///
+/// Errors: `Memory` if an allocation fails.
 pub(crate) fn copied_payload<A: Allocator + Copy>(payload: &Payload<A>) -> Result<Payload<A>, Fault>
     ensures ok { IfOk result (λ copy. copy ≡ payload.now) }
     ensures refused { IfErr result (λ fault. fault ≡ Memory) }

@@ -33,7 +33,7 @@ pub record DriverView (A : Type 0) : Type 0 where
   -- whether the last step installed a ring
   pub has_installed : Bool
 
--- a driver of a node at its opening, with a clock of these periods to which no time was brought
+-- a driver of a node at its opening, with a clock of these periods to which no time has been passed
 abbrev pub driver_opening : {A : Type 0} → Group → ℕ → Periods → DriverView A
 driver_opening group me periods = record {
   group = group;
@@ -64,7 +64,7 @@ driver_after_step object d input =
 abbrev pub driver_stopped : {A : Type 0} → DriverView A → DriverView A
 driver_stopped d = record d { node = node_stopped d.node }
 
--- the driver to which this time is brought, before a step: the first timeout that is due at it is taken
+-- the driver to which this time is passed, before a step: the first timeout that is due at it is taken
 abbrev pub driver_with_time : {A : Type 0} → DriverView A → ℕ → DriverView A
 driver_with_time d now = record d { clock = clock_after_timeout d.clock now (first_due_at d.clock now) }
 
@@ -73,7 +73,7 @@ abbrev pub driver_after_timeout : {A O : Type 0} → Sequential O → DriverView
 driver_after_timeout object d None = d
 driver_after_timeout object d (Some kind) = driver_after_step object d (Timeout kind)
 
--- the driver to which this time is brought, after a step on the first timeout that is due at it
+-- the driver to which this time is passed, after a step on the first timeout that is due at it
 abbrev pub driver_at : {A O : Type 0} → Sequential O → DriverView A → ℕ → DriverView A
 driver_at object d now = driver_after_timeout object (driver_with_time d now) (first_due_at d.clock now)
 
@@ -81,12 +81,12 @@ driver_at object d now = driver_after_timeout object (driver_with_time d now) (f
 abbrev pub driver_after_call : {A : Type 0} → DriverView A → ℕ → ℕ → List ℕ → DriverView A
 driver_after_call d client number op = record d { node = submitted d.node (call_of client number op) }
 
--- why a node is not opened: memory is refused to a processor of the group, or the processor is not in the group
+-- why a node is not opened: an allocation fails, or the processor is not in the group
 abbrev pub IsNotOpened : Group → ℕ → Fault → Type 0
 IsNotOpened group number fault = ((fault ≡ Memory) × IsInGroup group number) ⊎ ((fault ≡ NotMember) × ¬ IsInGroup group number)
 
--- why a call is not submitted: it can't be made, because it is invalid or memory is refused; or the node has a reason to
--- refuse it; or memory is refused
+-- why a call is not submitted: it can't be made, because it is invalid or an allocation fails; or the node has a reason
+-- to refuse it; or an allocation of the node fails
 abbrev pub IsRefused : {A : Type 0} → DriverView A → ℕ → ℕ → List ℕ → Fault → Type 0
 IsRefused {A} d client number op fault =
     IsNewCall {A = A} client number op (Err fault)

@@ -1,4 +1,5 @@
-//! A node whose type keeps it within the limits of frames.
+//! A node that a program drives, with the outputs of its last step.
+//!
 //! Rules: The replicated log 13 to 15, 18 and 20; Timeouts 1; Refusals 4 to 6; A node with a clock 5 to 7 and 9
 
 ghost use Rattle.std.specs.Prelude.{◌≡◌, ◌≤◌, length, not, false, None, if◌then◌else◌, IfOk, IfErr, IsOk, OnOk, OnErr};
@@ -28,17 +29,21 @@ use ring_session::{Answer, Ticket};
 use std::collections::VecDeque;
 use std::marker::Model;
 
-/// A node, together with the outputs of its last step that have not been taken yet. The program that drives it
+/// A node, together with the outputs of its last step that have not been taken yet.
 ///
-/// - passes it each frame that arrives for it ([`receive`](Driver::receive)), in the order of arrival;
-/// - brings it the time, until no timeout is due any more ([`at`](Driver::at)). A program with timers of its own passes each
-///   timeout that is due ([`timeout`](Driver::timeout)) and brings no time;
-/// - takes the frames that it sends after each of these ([`next_send`](Driver::next_send)), and brings them to their
-///   receivers. Frames may be lost, repeated and reordered. A frame that is not taken before the next step is lost.
+/// The program that drives it repeats this:
 ///
-/// Calls are submitted, and their answers read, by ticket. A program that follows the log also takes the calls newly
-/// committed after each step ([`next_committed`](Driver::next_committed)). They continue those of the steps before or,
-/// where the step restored places ([`restored`](Driver::restored)), the restored places.
+/// - It passes each frame that arrives for the node, in the order of arrival ([`receive`](Driver::receive)).
+/// - It passes the time until no timeout is due ([`at`](Driver::at)). A program with timers of its own passes each
+///   timeout that is due instead ([`timeout`](Driver::timeout)), and no time.
+/// - After each step it takes the frames that the node sends ([`next_send`](Driver::next_send)) and transports them to
+///   their receivers. Frames may be lost, repeated and reordered. A frame that isn't taken before the next step is
+///   lost.
+///
+/// Calls are submitted, and their answers read, by ticket. A program that follows the log also takes the newly
+/// committed calls after each step ([`next_committed`](Driver::next_committed)). They come right after those of earlier
+/// steps or, if the step restored places ([`restored`](Driver::restored)), right after the restored places.
+///
 /// Rules: The replicated log 13 to 15, 18 and 20
 #[derive(Drop)]
 pub struct Driver<O: Object> {
@@ -74,9 +79,12 @@ impl<O: Object> Model for Driver<O> {
 }
 
 impl<O: Object> Driver<O> {
-    /// Returns a driver of the node of this number in the group, at its opening: no output waits to be taken. Its clock has the
-    /// default periods.
-    /// Errors: `NotMember` unless `number` is 1 to the number of processors, else `Memory`.
+    /// Returns a driver of node `number` of the group at its opening, without outputs.
+    ///
+    /// Its clock has the default periods.
+    ///
+    /// Errors: `NotMember` unless `number` is 1 to the number of processors. Otherwise `Memory` if an allocation fails.
+    ///
     /// Rules: Processors and sets 2; Rings and states 5; A node with a clock 3
     pub fn new(alloc: O::Alloc, group: Fixed, number: u8) -> Result<Driver<O>, Fault>
         ensures ok { IfOk result (λ driver. driver ≡ driver_opening group number default_periods) }
@@ -86,8 +94,12 @@ impl<O: Object> Driver<O> {
         Driver::with_periods(alloc, group, number, Periods::default())
     }
 
-    /// Returns a driver of the node of this number in the group, at its opening, whose clock has these periods.
-    /// Errors: `NotMember` unless `number` is 1 to the number of processors, else `Memory`.
+    /// Returns a driver of node `number` of the group at its opening, without outputs.
+    ///
+    /// Its clock has these periods.
+    ///
+    /// Errors: `NotMember` unless `number` is 1 to the number of processors. Otherwise `Memory` if an allocation fails.
+    ///
     /// Rules: Processors and sets 2; Rings and states 5; A node with a clock 3
     pub fn with_periods(
         alloc: O::Alloc,
@@ -117,11 +129,14 @@ impl<O: Object> Driver<O> {
         })
     }
 
-    /// Submits a client's call and returns its ticket. Call numbers start at 1; an operation has at most 1,024 bytes.
-    /// Errors, in this order: `OpTooLong` for an operation over 1,024 bytes; `NumberGap` for number 0; `Stopped` in a
-    /// stopped node; `PendingFull` where 64 tickets are unanswered or 2^62 have been given; `Memory`. Where memory for
-    /// the call itself is refused, `Memory` also comes in place of `Stopped` and `PendingFull`. A refusal leaves the
-    /// node unchanged.
+    /// Submits a client's call and returns its ticket.
+    ///
+    /// `number` counts the client's calls from 1. `operation` has at most 1,024 bytes.
+    ///
+    /// Errors, in this order: `OpTooLong` if the operation has more than 1,024 bytes. `NumberGap` if `number` is 0.
+    /// `Memory` if an allocation for the call fails. `Stopped` if the node has stopped. `PendingFull` if 64 tickets are
+    /// unanswered or 2^62 have been given. `Memory` if an allocation of the node fails. The node is unchanged by each.
+    ///
     /// Rules: The replicated log 13; Sessions 1; Refusals 4
     #[tactic(auto, using(crate::proofs::DriverLimits::not_made, crate::proofs::DriverLimits::not_taken))]
     pub fn submit(&mut self, client: u32, number: u64, operation: &[u8]) -> Result<Ticket, Fault>
@@ -138,10 +153,13 @@ impl<O: Object> Driver<O> {
         self.node.submit(call)
     }
 
-    /// Steps the node on a frame that arrived. Its outputs replace those of the step before, also where the node
-    /// ignores the frame.
-    /// Errors: `Stopped` in a stopped node, else `Memory`, which leaves the node stopped for good. A refused step has
-    /// no outputs, and the outputs of the step before can still be taken.
+    /// Runs one step of the node on a frame that arrived.
+    ///
+    /// Its outputs replace those of the step before, even if the node ignores the frame.
+    ///
+    /// Errors: `Stopped` if the node had already stopped. `Memory` if an allocation fails; the node has then stopped
+    /// for good. A refused step has no outputs, and the outputs of the step before can still be taken.
+    ///
     /// Rules: Rings and states 8 and 13; Refusals 4 and 6
     pub fn receive(&mut self, valid_frame: ValidFrame<O::Alloc>) -> Result<(), Fault>
         ensures runs { OnOk result (is_stopped self.old.node.core.state ≡ false) }
@@ -152,9 +170,13 @@ impl<O: Object> Driver<O> {
         self.step(Input::Frame(valid_frame.into_frame()))
     }
 
-    /// Steps the node on a timeout of this kind, which may come at any time. Its outputs replace those of the step
-    /// before.
-    /// Errors: `Stopped` in a stopped node, else `Memory`, with the same state left as by [`receive`](Driver::receive).
+    /// Runs one step of the node on a timeout, which may come at any time.
+    ///
+    /// Its outputs replace those of the step before.
+    ///
+    /// Errors: `Stopped` if the node had already stopped. `Memory` if an allocation fails; the node has then stopped
+    /// for good. A refused step has no outputs, and the outputs of the step before can still be taken.
+    ///
     /// Rules: Timeouts 1 and 2; Refusals 4 and 6
     pub fn timeout(&mut self, kind: Kind) -> Result<(), Fault>
         ensures runs { OnOk result (is_stopped self.old.node.core.state ≡ false) }
@@ -165,12 +187,17 @@ impl<O: Object> Driver<O> {
         self.step(Input::Timeout(kind))
     }
 
-    /// Steps the node on the first timeout that is due at this time, in milliseconds, and returns it: in the order join,
-    /// retransmit, consensus, loss. Its outputs replace those of the step before. Returns `None`, without a step, if none is due.
-    /// So call it again with the same time until it returns `None`. The first call opens the clock, and an earlier time than the
-    /// latest one counts as that one. Other steps count at the latest time brought.
-    /// Errors: `Stopped` in a stopped node, else `Memory`, with the same state left as by [`receive`](Driver::receive). The
-    /// timeout is taken nevertheless.
+    /// Passes the time `now`, in milliseconds, runs one step on the first timeout that is due, and returns that
+    /// timeout.
+    ///
+    /// The order is join, retransmit, consensus, loss. The step's outputs replace those of the step before. Returns
+    /// `None`, without a step, if no timeout is due: so call it again with the same time until then. The first call
+    /// opens the clock. An earlier time than the latest one is treated as the latest one, at which all other steps are
+    /// noted too.
+    ///
+    /// Errors: `Stopped` if the node had already stopped. `Memory` if an allocation fails; the node has then stopped
+    /// for good. In both cases the timeout is used up, and the outputs of the step before can still be taken.
+    ///
     /// Rules: A node with a clock 2, 4 to 6 and 9; Refusals 4 and 6
     pub fn at(&mut self, now: u64) -> Result<Option<Kind>, Fault>
         ensures due { IfOk result (λ due. due ≡ first_due_at self.old.clock now) }
@@ -186,8 +213,11 @@ impl<O: Object> Driver<O> {
         Ok(due)
     }
 
-    /// Returns the earliest time at which a timeout is due, in milliseconds, at most `u64::MAX`; before it none is due. Returns
-    /// `None` if no time was brought yet.
+    /// Returns the earliest time at which a timeout is due, or `None` before the first call of [`at`](Driver::at).
+    ///
+    /// The time is in milliseconds, on the clock whose times the program passes to `at`. No timeout is due before it.
+    /// It saturates at `u64::MAX`, and no timeout need be due then.
+    ///
     /// Rules: A node with a clock 7 and 9
     pub fn next_time(&self) -> Option<u64>
         ensures { result ≡ next_time_of self.now.clock }
@@ -195,9 +225,12 @@ impl<O: Object> Driver<O> {
         self.clock.next_time()
     }
 
-    /// Stops the node for good. A stop has no outputs and takes no memory; outputs of the step before that haven't been
-    /// taken are dropped.
-    /// Errors: `Stopped` where the node had stopped already; nothing has changed.
+    /// Stops the node for good.
+    ///
+    /// A stop has no outputs; those of the step before are dropped. Does not allocate.
+    ///
+    /// Errors: `Stopped` if the node had already stopped; nothing has then changed.
+    ///
     /// Rules: Rings and states 12; Refusals 4
     pub fn stop(&mut self) -> Result<(), Fault>
         ensures runs { OnOk result (is_stopped self.old.node.core.state ≡ false) }
@@ -209,7 +242,7 @@ impl<O: Object> Driver<O> {
         self.step(Input::Stop)
     }
 
-    /// Does a step and stores its outputs.
+    /// Runs a step and stores its outputs.
     fn step(&mut self, input: Input<O::Alloc>) -> Result<(), Fault>
         requires { InputFits input }
         ensures runs { OnOk result (is_stopped self.old.node.core.state ≡ false) }
@@ -236,8 +269,11 @@ impl<O: Object> Driver<O> {
         Ok(())
     }
 
-    /// Takes the next frame that the last step sent, with its receivers, in the order of sending. Returns `None` once
-    /// all are taken. The node itself may be a receiver.
+    /// Takes the next frame that the last step sent, with its receivers, in the order of sending, or `None` once all
+    /// are taken.
+    ///
+    /// The node itself may be a receiver.
+    ///
     /// Rules: Outputs 2
     pub fn next_send(&mut self) -> Option<(ProcSet, ValidFrame<O::Alloc>)>
         ensures { IsTaken self.old self.new (option_map (λ taken. (taken.0, taken.1)) result) }
@@ -246,8 +282,10 @@ impl<O: Object> Driver<O> {
         Some((sent.to, ValidFrame::of(sent.frame)))
     }
 
-    /// Takes the next call that the last step newly committed, in the order of the log, repeats included. Returns
-    /// `None` once all are taken.
+    /// Takes the next call that the last step newly committed, in the order of the log, or `None` once all are taken.
+    ///
+    /// Repeats are included.
+    ///
     /// Rules: The replicated log 12 and 18
     pub fn next_committed(&mut self) -> Option<Call<O::Alloc>>
         ensures first { IsFirstTaken self.old.committed self.new.committed result }
@@ -256,8 +294,10 @@ impl<O: Object> Driver<O> {
         self.committed.pop_front()
     }
 
-    /// Takes the next call of the committed places that the last step dropped at its end, in order. Places that a restored
-    /// snapshot replaces are not among them. Returns `None` once all are taken.
+    /// Takes the next call of the committed places that the last step dropped, in order, or `None` once all are taken.
+    ///
+    /// Places that a restored snapshot replaces aren't among them.
+    ///
     /// Rules: The replicated log 18 and 20
     pub fn next_dropped(&mut self) -> Option<Call<O::Alloc>>
         ensures first { IsFirstTaken self.old.dropped self.new.dropped result }
@@ -266,8 +306,10 @@ impl<O: Object> Driver<O> {
         self.dropped.pop_front()
     }
 
-    /// Returns the number of the log's first places that came with a snapshot which the last step restored, or `None`
-    /// if it restored none. The calls newly committed in that step begin behind these places.
+    /// Returns the number of places of the snapshot that the last step restored, or `None` if it restored none.
+    ///
+    /// They are the first places of the log. The calls that the step newly committed come after them.
+    ///
     /// Rules: The replicated log 6 and 18
     pub fn restored(&self) -> Option<u64>
         ensures { result ≡ self.now.restored }
@@ -275,7 +317,10 @@ impl<O: Object> Driver<O> {
         self.restored
     }
 
-    /// Returns whether the last step installed a ring. Its name and its members are those of [`node`](Driver::node).
+    /// Returns whether the last step installed a ring.
+    ///
+    /// [`node`](Driver::node) has its name and its members.
+    ///
     /// Rules: Outputs 1
     pub fn has_installed(&self) -> bool
         ensures { result ≡ self.now.has_installed }
@@ -283,7 +328,10 @@ impl<O: Object> Driver<O> {
         self.has_installed
     }
 
-    /// Returns whether the last installed ring is primary; before any was installed, whether the node alone is.
+    /// Returns whether the members of the last installed ring are primary.
+    ///
+    /// Before the first installation, returns whether the node by itself is.
+    ///
     /// Rules: Processors and sets 4
     pub fn is_primary(&self) -> bool
         ensures { result ≡ is_primary self.now.group self.now.node.core.installed.members }
@@ -291,8 +339,8 @@ impl<O: Object> Driver<O> {
         self.group.is_primary(self.node.members())
     }
 
-    /// Returns the answer of a ticket, if it is among the 64 tickets of this node that were answered last; otherwise
-    /// `None`.
+    /// Returns the answer to a ticket if it is one of the last 64 that this node answered, otherwise `None`.
+    ///
     /// Rules: The replicated log 15
     pub fn reply(&self, ticket: Ticket) -> Option<Answer>
         ensures { result ≡ node_reply self.now.node ticket }
@@ -300,7 +348,8 @@ impl<O: Object> Driver<O> {
         self.node.reply(ticket)
     }
 
-    /// Returns the node as the last step or submit left it. Its state, ring and committed log can be read.
+    /// Returns the node, after the last step or submit, to read its state, its ring and its committed log.
+    ///
     /// Rules: The replicated log 18
     pub fn node(&self) -> &Node<O>
         ensures { result.now ≡ self.now.node }
@@ -309,7 +358,7 @@ impl<O: Object> Driver<O> {
     }
 }
 
-/// Returns whether these are two rings.
+/// Returns whether the two rings differ.
 fn is_other_ring(before: RingId, after: RingId) -> bool
     ensures { result ≡ not (same_ring before after) }
 {

@@ -1,8 +1,10 @@
-//! A node that a user-defined program drives over a user-defined network. It receives frames and gives out frames with
-//! their receivers. It measures no time and has no socket: the program brings the time.
+//! A node that a program drives over a network of its own.
 //!
-//! [`Driver`] is a node, and [`ValidFrame`] a frame, whose types keep them within the limits of frames. So no call of this
-//! crate has a condition that its caller must meet.
+//! The node receives frames and gives out frames with their receivers. It has no clock and no socket: the program
+//! passes the time. The types of [`Driver`], a node, and [`ValidFrame`], a frame, keep them within the limits of
+//! frames. So no call of this crate has a condition that its caller must meet.
+//!
+//! Rules: The replicated log 13 to 15, 18 and 20; A node with a clock 9
 #![tactic(auto)]
 
 mod driver;

@@ -1,4 +1,5 @@
-//! A frame whose type keeps it within the limits of frames.
+//! Frames whose type keeps them within the limits of their format.
+//!
 //! Formats: Frames, What is no frame
 
 ghost use Rattle.std.specs.Prelude.{◌≡◌, ◌++◌, IfOk, IfErr, OnOk, OnErr};
@@ -14,7 +15,11 @@ use ring_wire::{Frame, Wire, decode_frame};
 use std::alloc::{Allocator, Global};
 use std::marker::Model;
 
-/// A frame within the limits of frames. So it has an encoding, and a node may receive it. Contracts see the frame.
+/// A frame that is within the limits of its format, so that it has an encoding and a node may receive it.
+///
+/// Contracts see the frame.
+///
+/// Rules: Limits 1
 /// Formats: Frames
 #[derive(Drop)]
 pub struct ValidFrame<A: Allocator + Copy = Global> {
@@ -35,7 +40,9 @@ impl<A: Allocator + Copy> Model for ValidFrame<A> {
 impl<A: Allocator + Copy> ValidFrame<A> {
     ghost use Rattle.ring_wire.specs.Frames.{FrameFits};
 
-    /// Makes a `ValidFrame` of a frame that is within the limits, which the caller has to prove. It checks nothing.
+    /// Wraps a frame without a check.
+    ///
+    /// It must be within the limits of its format.
     pub(crate) fn of(frame: Frame<A>) -> ValidFrame<A>
         requires { FrameFits frame }
         ensures { result ≡ frame }
@@ -43,9 +50,11 @@ impl<A: Allocator + Copy> ValidFrame<A> {
         ValidFrame { frame }
     }
 
-    /// Decodes the frame that all these bytes encode.
-    /// Errors: `BadFrame` only where the bytes don't encode a frame, as where some are left over; `Memory`, which may
-    /// come in place of either result.
+    /// Decodes the frame that `bytes` encode as a whole.
+    ///
+    /// Errors: `BadFrame` only if the bytes don't encode a frame, including when some are left over. `Memory` if an
+    /// allocation fails, even if the bytes don't encode a frame.
+    ///
     /// Formats: Frames, What is no frame
     pub fn read(alloc: A, bytes: &[u8]) -> Result<ValidFrame<A>, Fault>
         ensures found { IfOk result (λ valid_frame. IsFrameEncoding valid_frame bytes.now) }
@@ -57,7 +66,9 @@ impl<A: Allocator + Copy> ValidFrame<A> {
     }
 
     /// Appends the frame's encoding, at most 8,192 bytes, to `out`.
-    /// Errors: `Memory` where room for the bytes is refused; then nothing is appended.
+    ///
+    /// Errors: `Memory` if an allocation fails; nothing is then appended.
+    ///
     /// Formats: Frames
     pub fn put(&self, out: &mut BytesMut<A>) -> Result<(), Fault>
         ensures ok { OnOk result (out.new.items ≡ out.old.items ++ encoding_of self.now) }
@@ -68,7 +79,9 @@ impl<A: Allocator + Copy> ValidFrame<A> {
     }
 
     /// Returns the frame's encoding, at most 8,192 bytes, in a new buffer.
-    /// Errors: `Memory` where room for the bytes is refused.
+    ///
+    /// Errors: `Memory` if an allocation fails.
+    ///
     /// Formats: Frames
     pub fn bytes(&self, alloc: A) -> Result<BytesMut<A>, Fault>
         ensures ok { IfOk result (λ bytes. bytes.items ≡ encoding_of self.now) }
@@ -79,7 +92,10 @@ impl<A: Allocator + Copy> ValidFrame<A> {
         Ok(out)
     }
 
-    /// Returns the frame as a value whose fields can be read. It is within the limits of frames.
+    /// Returns the frame, so that its fields can be read.
+    ///
+    /// It is within the limits of its format.
+    ///
     /// Formats: Frames
     pub fn frame(&self) -> &Frame<A>
         ensures value { result.now ≡ self.now }
@@ -88,7 +104,9 @@ impl<A: Allocator + Copy> ValidFrame<A> {
         &self.frame
     }
 
-    /// Returns the frame as a value, for a node to receive. It is within the limits of frames.
+    /// Returns the frame itself, for a node to receive.
+    ///
+    /// It is within the limits of its format.
     pub(crate) fn into_frame(self) -> Frame<A>
         ensures value { result ≡ self }
         ensures fits { FrameFits result }

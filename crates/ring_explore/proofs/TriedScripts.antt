@@ -15,12 +15,12 @@ use Rattle.ring_explore.specs.Explored.{AreTried, illegal_of, seeds_in}
 use Rattle.ring_explore.specs.Tried.{IsTried, IsTriedIn}
 use Rattle.ring_explore.specs.declared.plan.ExplorePlan.{ExplorePlan}
 
--- the result over one seed
+-- The result over one seed.
 pub tried_one : (IsTried : Bool → Type 0) (is_legal : Bool) (seed : ℕ) → IsTried is_legal → AreTried IsTried seed (seed + 1) (illegal_of is_legal seed)
 tried_one IsTried true seed tried = λ s from upto. tried
 tried_one IsTried false seed tried = (omega arith, omega arith, tried, λ s from upto. absurd (omega (arith, from, upto)))
 
--- a script was generated, run, and checked
+-- A script was generated, run, and checked.
 pub is_tried : {O : Type 0} (object : Sequential O) (forms : List OperationForm) (votes : List ℕ) (lines : ℕ) (made text : List ℕ) (script : Script Global)
     (ran : RunView Global) (is_legal : Bool) → script_by forms made ≡ Ok (schedule_by script) → IsGeneratedBy forms votes lines made
     → AreLinesDone object script.lines.items (run_opening script.nodes) ran text → (IsTrue is_legal ↔ IsLegal object ran.world_view)
@@ -34,7 +34,7 @@ is_tried object forms votes lines made text script ran is_legal is_script is_mad
   told = record { ran = ran; told = text; runs = runs; legal = legal; whole = refl };
 }
 
--- the result of a script that ran to its end
+-- The result of a script that ran to its end.
 pub found_tried : {O E : Type 0} (object : Sequential O) (forms : List OperationForm) (script : Script Global) (seed : ℕ) (ran : RunView Global) (text : List ℕ)
     (r : Result ExploreTotals E) → AreLinesDone object script.lines.items (run_opening script.nodes) ran text
     → IfOk r (λ explore_totals. (is_legal : Bool) × (IsTrue is_legal ↔ IsLegal object ran.world_view) × (explore_totals.illegal ≡ illegal_of is_legal seed))
@@ -45,14 +45,14 @@ found_tried object forms script seed ran text (Ok explore_totals) runs h =
     (tried_one (IsTried object forms votes lines) h.0 seed (is_tried object forms votes lines made text script ran h.0 is_script is_made runs h.1))
 found_tried object forms script seed ran text (Err fault) runs h = tt
 
--- plans with the same votes and number of lines have the same scripts
+-- Plans with the same votes and number of lines have the same scripts.
 pub same_scripts : {O : Type 0} (object : Sequential O) (forms : List OperationForm) (a b : ExplorePlan) (from upto : ℕ) (explore_totals : Option ℕ)
     → a.votes.now ≡ b.votes.now → a.lines ≡ b.lines → AreTried (IsTriedIn object forms a) from upto explore_totals → AreTried (IsTriedIn object forms b) from upto explore_totals
 same_scripts object forms a b from upto explore_totals votes lines tried =
     subst (λ (v : List ℕ). AreTried (IsTried object forms v b.lines) from upto explore_totals) votes
     (subst (λ (n : ℕ). AreTried (IsTried object forms a.votes.now n) from upto explore_totals) lines tried)
 
--- where any seed was tried, the votes are those of a group
+-- If any seed was tried, the votes are those of a group.
 pub tried_votes : {O : Type 0} (object : Sequential O) (forms : List OperationForm) (plan : ExplorePlan) (explore_totals : Option ℕ) → plan.first ≤ plan.last
     → AreTried (IsTriedIn object forms plan) plan.first (plan.first + seeds_in plan.first plan.last) explore_totals → AreVotes plan.votes.now
 tried_votes object forms plan None some tried =

@@ -16,8 +16,8 @@ use Rattle.ring_script_generator.specs.Generated.{IsGeneratedBy}
 use Rattle.ring_console.specs.Running.{IsTextOf}
 use Rattle.ring_explore.specs.declared.plan.ExplorePlan.{ExplorePlan}
 
--- A script over an object with these operations, of nodes with these votes and with this number of lines, was generated and run
--- to its end. `is_legal` says whether its run is legal, as `script --check` does.
+-- A script for an object with these operations, of nodes with these votes and with this number of lines, was generated
+-- and run to its end. `is_legal` says whether its run is legal, as `script --check` does.
 pub record IsTried {O : Type 0} (object : Sequential O) (forms : List OperationForm) (votes : List ℕ) (lines : ℕ) (is_legal : Bool) : Type 0 where
   pub made : List ℕ
   pub is_made : IsGeneratedBy forms votes lines made
@@ -26,19 +26,19 @@ pub record IsTried {O : Type 0} (object : Sequential O) (forms : List OperationF
   pub text : List ℕ
   pub told : IsTextOf object script.nodes true script.lines.items is_legal text
 
--- a script of this plan was tried
+-- A script of this plan was tried.
 abbrev pub IsTriedIn : {O : Type 0} → Sequential O → List OperationForm → ExplorePlan → Bool → Type 0
 IsTriedIn object forms plan is_legal = IsTried object forms plan.votes.now plan.lines is_legal
 
--- why not all seeds are tried: these are no votes of a group; or they are, and a generated text is no such script; or memory
--- was refused
+-- Why not all seeds are tried: these aren't the votes of a group; or they are, and a generated text isn't such a
+-- script; or an allocation failed.
 abbrev pub IsNotTried : List ℕ → Fault → Type 0
 IsNotTried votes NotMember = ¬ AreVotes votes
 IsNotTried votes BadScript = AreVotes votes
 IsNotTried votes Memory = ⊤
 IsNotTried votes _ = ⊥
 
--- such a refusal, as a failure
+-- The same, as a failure.
 abbrev pub IsNotExplored : List ℕ → Failure → Type 0
 IsNotExplored votes (Refused fault) = IsNotTried votes fault
 IsNotExplored votes _ = ⊥

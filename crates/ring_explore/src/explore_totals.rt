@@ -1,22 +1,30 @@
 //! The totals over many seeds.
+//!
 //! Formats: The command line
 
 ghost use Rattle.std.specs.Prelude.{◌≡◌, ◌+◌, ◌-◌, ◌^◌, min, None};
 ghost use Rattle.std.specs.Option.{option_or};
 
-/// The totals over the runs of some seeds. Each count saturates at 2^64 - 1.
+/// The totals over the runs of some seeds.
+///
+/// Each count saturates at 2^64 - 1.
+///
 /// Formats: The command line
 #[derive(Clone, Copy, Debug, PartialEq, Eq)]
 pub(crate) struct ExploreTotals {
-    /// The number of events that were run, as a sweep counts them: each turn of a pump that delivers a copy is one.
+    /// The number of events that were run.
+    ///
+    /// As in a sweep, each turn of a pump that delivers a copy is one event.
     pub events: u64,
-    /// The number of lines `call`, so each try of a call counts.
+    /// The number of lines `call`: repeated calls are counted again.
     pub calls: u64,
     /// The number of answers to these calls at all nodes, refusals by the sessions included.
     pub answered: u64,
-    /// The number of installed rings. In each run a ring counts once, however many nodes install it.
+    /// The number of installed rings.
+    ///
+    /// In each run a ring is counted once, even if several nodes install it.
     pub rings: u64,
-    /// The first seed whose run isn't legal. It is `None` where all are legal.
+    /// The first seed whose run isn't legal, or `None` if all runs are legal.
     pub illegal: Option<u64>,
 }
 
@@ -35,8 +43,11 @@ impl ExploreTotals {
         }
     }
 
-    /// Adds the totals over seeds that come after all seeds so far. The first illegal seed stays, if there is one. Each
-    /// count saturates at 2^64 - 1.
+    /// Adds the totals over seeds that come after all seeds so far.
+    ///
+    /// The first illegal seed is kept, if there is one. Each count saturates at 2^64 - 1.
+    ///
+    /// Formats: The command line
     pub fn add(&mut self, other: &ExploreTotals)
         ensures illegal { self.new.illegal ≡ option_or self.old.illegal other.now.illegal }
         ensures events { self.new.events ≡ min (self.old.events + other.now.events) (2 ^ 64 - 1) }

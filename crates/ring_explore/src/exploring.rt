@@ -1,4 +1,5 @@
 //! Exploring many seeds, and printing the totals.
+//!
 //! Formats: The command line
 
 ghost use Rattle.std.specs.Prelude.{◌≡◌, ℕ, ◌≤◌, ◌<◌, ◌+◌, ◌⊎◌, ◌↔◌, false, IsTrue, Some, None, max, vec_len};
@@ -28,24 +29,26 @@ use std::time::Clock;
 /// The number of seeds for each thread in the first round.
 const FIRST: u64 = 16;
 
-/// Generates the script of each seed over the program's object, runs it, and checks that the order of its world is legal
-/// for its history. Works with `threads` threads, or one if that is 0.
-/// Prints the number of seeds, of events, of submitted calls, of answers and of installed rings, and `legal yes`. The
-/// printed text doesn't depend on the number of threads. Returns the exit status: 0, else 1.
+/// Generates the script of each seed for the standard object, runs it, and checks that its run is legal.
+///
+/// A run is legal if the order of its world is legal for its history. Works with `threads` threads, or one if that is
+/// 0. Prints the number of seeds, of events, of submitted calls, of answers and of installed rings, and `legal yes`.
+/// The printed text doesn't depend on the number of threads. Returns the exit status: 0, or 1 after an error.
 ///
 /// Errors:
+///
 /// - A run isn't legal: a comment that says so and the script of the first such seed are printed, and nothing else.
-/// - `Memory` where it is refused to a script or to a run itself: reported on `err`, and nothing is printed. A node that is
-///   refused memory in its step has stopped, and its run goes on.
+/// - `Memory` if an allocation for a script or for a run itself fails: reported on `err`, and nothing is printed. A
+///   node whose step fails to allocate has stopped, and its run goes on.
 /// - `NotMember` unless there are 1 to 16 votes, each at least 1: reported on `err`, and nothing is printed.
-/// - `BadScript` where a generated text isn't a script: reported on `err`, and nothing is printed.
+/// - `BadScript` if a generated text isn't a script: reported on `err`, and nothing is printed.
 /// - `out` fails: nothing is reported.
 ///
-/// Where the last seed is below the first there are no seeds: the votes aren't checked, and the status is 0, with
-/// `seeds 0`. At status 0, a script of nodes with these votes and of this number of lines was generated and run for each
-/// seed, and each run is legal. No contract says which script a seed gives.
+/// If the last seed is below the first, there are no seeds: the votes aren't checked, and the status is 0, with `seeds
+/// 0`. At status 0, a script of nodes with these votes and of this number of lines was generated and run for each seed,
+/// and each run is legal. No contract says which script a seed gives.
 ///
-/// Where there is a `progress`, it gets the progress from the first second on, and at the end the sequence that clears it
+/// If there is a `progress`, it gets the progress from the first second on, and at the end the sequence that clears it
 /// from a terminal.
 ///
 /// Rules: Sessions 10
@@ -72,8 +75,12 @@ pub fn explore<R: Threads + Clock + Sync, O: Write, E: Write, P: Write>(
     )
 }
 
-/// Explores seeds as [`explore`] does, with scripts over this object and vocabulary. Returns the exit status: 0, else 1.
+/// Explores seeds as [`explore`] does, with objects `T` and scripts in the vocabulary `V`.
+///
+/// Returns the exit status: 0, or 1 after an error.
+///
 /// Errors: as for [`explore`].
+///
 /// Rules: Sessions 10
 /// Formats: The command line
 pub fn explore_of<
@@ -106,8 +113,11 @@ pub fn explore_of<
     }
 }
 
-/// Tries all seeds, and prints the result. Returns whether all runs are legal. Errors: `Output`; or, with nothing printed, a
-/// refusal of `try_seed`.
+/// Tries all seeds, and prints the result.
+///
+/// Returns whether all runs are legal.
+///
+/// Errors: `Output` if `out` fails. A refusal of `try_seed`, with nothing printed.
 fn explore_all<
     T: Object<Alloc = Global> + Send,
     V: Vocabulary + Send,
@@ -137,7 +147,11 @@ fn explore_all<
     print_result::<T, V, O>(alloc, plan, &explore_totals, out)
 }
 
-/// Prints the result. Returns whether all runs are legal. Errors: as for `explore_all`.
+/// Prints the totals, or the script of the first illegal seed.
+///
+/// Returns whether all runs are legal.
+///
+/// Errors: as for `explore_all`.
 fn print_result<T: Object, V: Vocabulary, O: Write>(
     alloc: Global,
     plan: &ExplorePlan<'_>,
@@ -168,7 +182,9 @@ fn print_result<T: Object, V: Vocabulary, O: Write>(
     }
 }
 
-/// Prints the script of a seed whose run is not legal. Errors: as for `explore_all`.
+/// Prints the script of a seed whose run is not legal.
+///
+/// Errors: as for `explore_all`.
 fn print_illegal<V: Vocabulary, O: Write>(
     alloc: Global,
     plan: &ExplorePlan<'_>,
@@ -182,7 +198,9 @@ fn print_illegal<V: Vocabulary, O: Write>(
     write!(out, "# legal no\n{text}").map_err(|_| Failure::Output)
 }
 
-/// Prints the totals over this number of seeds, and that all runs are legal.
+/// Prints the totals over `seeds` seeds, and `legal yes`.
+///
+/// Errors: `Output` if `out` fails.
 fn print_totals<O: Write>(
     seeds: u64,
     explore_totals: &ExploreTotals,
@@ -201,7 +219,9 @@ fn print_totals<O: Write>(
     .map_err(|_| Failure::Output)
 }
 
-/// Tries all seeds with this number of threads, or one if that is 0. It reports its progress if `progress` is given.
+/// Tries all seeds with `threads` threads, or one if that is 0.
+///
+/// Reports its progress if `progress` is given.
 fn try_all<
     O: Object<Alloc = Global> + Send,
     V: Vocabulary + Send,
@@ -232,7 +252,9 @@ fn try_all<
     }
 }
 
-/// Tries the seeds from this index on in rounds, up to a round with a run that is not legal, and reports progress after each.
+/// Tries the seeds from the index `from` on in rounds, and reports progress after each.
+///
+/// Ends after the first round with a run that isn't legal.
 fn try_rounds<
     O: Object<Alloc = Global> + Send,
     V: Vocabulary + Send,
@@ -282,7 +304,7 @@ fn try_part<O: Object<Alloc = Global> + Send, V: Vocabulary + Send, R: Threads +
     joined_totals::<O, V>(plan, threads, parts)
 }
 
-/// Tries the seeds in this number of shares, each in a thread of its own where one can be started.
+/// Tries the seeds in `shares` shares, each in a thread of its own if one can be started.
 fn try_shares<O: Object<Alloc = Global> + Send, V: Vocabulary + Send, R: Threads + Sync>(
     rt: &R,
     alloc: Global,

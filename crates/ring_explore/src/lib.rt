@@ -1,4 +1,5 @@
 //! The command `explore`: scripts are generated from many seeds, run and checked, by many threads.
+//!
 //! Formats: The command line
 #![tactic(auto)]
 

@@ -1,4 +1,5 @@
 //! A single seed: its script is generated, run and checked.
+//!
 //! Formats: The command line
 
 ghost use Rattle.std.specs.Prelude.{◌≡◌, ℕ, ◌+◌, ◌↔◌, Bool, List, Ok, OnOk, IfOk, IfErr, IsTrue, length, count_by};
@@ -20,9 +21,12 @@ use ring_script_generator::generate_script_by;
 use std::alloc::{Allocator, Global};
 
 /// Generates the script of a seed with `lines` lines before its `show`, runs it, and checks whether its run is legal.
+///
 /// Returns the totals over this one seed.
-/// Errors: `NotMember` unless there are 1 to 16 votes, each at least 1. `BadScript` where the generated text isn't such a
-/// script. `Memory` where it is refused to the script or to the run itself.
+///
+/// Errors: `NotMember` unless there are 1 to 16 votes, each at least 1. `BadScript` if the generated text isn't such a
+/// script. `Memory` if an allocation for the script or for the run itself fails.
+///
 /// Rules: Sessions 10
 /// Formats: The command line
 pub(crate) fn try_seed<O: Object<Alloc = Global>, V: Vocabulary>(
@@ -42,7 +46,9 @@ pub(crate) fn try_seed<O: Object<Alloc = Global>, V: Vocabulary>(
     }
 }
 
-/// Runs the script of a seed, and checks its run. `Memory`.
+/// Runs the script of a seed, and checks its run.
+///
+/// Errors: `Memory` if an allocation fails.
 fn try_script<O: Object<Alloc = Global>, V: Vocabulary>(
     alloc: Global,
     script: Script,
@@ -60,7 +66,9 @@ fn try_script<O: Object<Alloc = Global>, V: Vocabulary>(
     explore_totals
 }
 
-/// As `try_script`, with a run at its opening.
+/// Carries out a script in a run at its opening, and checks the run.
+///
+/// Errors: `Memory` if an allocation fails.
 fn totals_by<O: Object<Alloc = Global>, V: Vocabulary>(
     alloc: Global,
     seed_run: &mut SeedRun<O>,
@@ -77,7 +85,7 @@ fn totals_by<O: Object<Alloc = Global>, V: Vocabulary>(
     seed_run.explore_totals(alloc, seed)
 }
 
-/// The run of a script, and the counts taken on the way.
+/// The run of a seed's script, and the counts taken during it.
 #[derive(Drop)]
 struct SeedRun<O: Object> {
     run: ScriptRun<O>,
@@ -89,7 +97,9 @@ struct SeedRun<O: Object> {
 }
 
 impl<O: Object> SeedRun<O> {
-    /// Creates a run with all nodes at their opening, or `Memory`.
+    /// Creates a run with all nodes at their opening.
+    ///
+    /// Errors: `Memory` if an allocation fails.
     fn new(alloc: O::Alloc, nodes: Fixed) -> Result<SeedRun<O>, Fault>
         ensures ok { IfOk result (λ seed_run. seed_run.run ≡ run_opening nodes) }
         ensures refused { IfErr result (λ fault. fault ≡ Memory) }
@@ -106,7 +116,9 @@ impl<O: Object> SeedRun<O> {
         })
     }
 
-    /// Carries out the requests of all lines, or `Memory`.
+    /// Carries out the requests of all lines.
+    ///
+    /// Errors: `Memory` if an allocation fails.
     fn take(&mut self, script: Script<O::Alloc>) -> Result<(), Fault>
         requires { AreFit script.lines.items }
         ensures ok { OnOk result ((text : List ℕ) × AreLinesDone O.sequential script.lines.items self.old.run self.new.run text) }
@@ -118,7 +130,9 @@ impl<O: Object> SeedRun<O> {
         Ok(())
     }
 
-    /// Carries out the request of a line, a pump turn by turn; or `Memory`.
+    /// Carries out the request of a line, a pump turn by turn.
+    ///
+    /// Errors: `Memory` if an allocation fails.
     fn take_line(&mut self, line: ScriptLine<O::Alloc>) -> Result<(), Fault>
         requires { IsFit line }
         ensures ok { OnOk result (IsLineDone O.sequential line self.old.run self.new.run) }
@@ -145,7 +159,9 @@ impl<O: Object> SeedRun<O> {
         }
     }
 
-    /// Takes this number of turns, fewer if no copy is open; or `Memory`.
+    /// Takes `turns` turns, or fewer if no copy is open any more.
+    ///
+    /// Errors: `Memory` if an allocation fails.
     fn pump(&mut self, turns: u32) -> Result<(), Fault>
         ensures ok { OnOk result (IsPumpDone O.sequential turns self.old.run self.new.run) }
         ensures refused { IfErr result (λ fault. fault ≡ Memory) }
@@ -159,7 +175,9 @@ impl<O: Object> SeedRun<O> {
         Ok(())
     }
 
-    /// Delivers a closed copy to its receiver, unless the cut loses it; or `Memory`.
+    /// Delivers a closed copy to its receiver, unless the cut loses it.
+    ///
+    /// Errors: `Memory` if an allocation fails.
     fn deliver_copy(&mut self, pair: OpenCopy) -> Result<(), Fault>
         ensures ok { OnOk result (IsCopyHandled O.sequential (is_connected self.old.run.groups pair.sender pair.receiver) pair self.old.run self.new.run) }
         ensures refused { IfErr result (λ fault. fault ≡ Memory) }
@@ -172,7 +190,9 @@ impl<O: Object> SeedRun<O> {
         self.look(pair.receiver)
     }
 
-    /// Adds the ring that is installed at this node, if it is new; or `Memory`.
+    /// Adds the ring that the node has now to the installed rings, if it is new.
+    ///
+    /// Errors: `Memory` if an allocation fails.
     fn look(&mut self, node: Proc) -> Result<(), Fault>
         ensures run { self.new.run ≡ self.old.run }
         ensures refused { IfErr result (λ fault. fault ≡ Memory) }
@@ -191,7 +211,9 @@ impl<O: Object> SeedRun<O> {
         Ok(())
     }
 
-    /// Returns the totals over this seed. They name it exactly where its run is not legal. Or `Memory`.
+    /// Returns the totals over this seed, which name it exactly if its run isn't legal.
+    ///
+    /// Errors: `Memory` if an allocation fails.
     fn explore_totals(&self, alloc: O::Alloc, seed: u64) -> Result<ExploreTotals, Fault>
         ensures legal { IfOk result (λ explore_totals. (is_legal : Bool) × (IsTrue is_legal ↔ IsLegal O.sequential self.now.run.world_view)
             × (explore_totals.illegal ≡ illegal_of is_legal seed)) }
@@ -212,13 +234,13 @@ impl<O: Object> SeedRun<O> {
     }
 }
 
-/// Returns the last installed ring of a node: `None` where there is no such node.
+/// Returns the last installed ring of a node, or `None` if there is no such node.
 fn ring_of<O: Object>(world: &World<O>, node: Proc) -> Option<RingId> {
     let node = world.fixed().proc(node.number()).ok()?;
     Some(world.node(node).ring())
 }
 
-/// Returns the node that a line's request concerns.
+/// Returns the node that a line's request concerns, or `None` if it concerns none or all of them.
 fn node_of<A: Allocator + Copy>(line: &ScriptLine<A>) -> Option<Proc> {
     match line {
         ScriptLine::Call { node, .. }
@@ -230,7 +252,7 @@ fn node_of<A: Allocator + Copy>(line: &ScriptLine<A>) -> Option<Proc> {
     }
 }
 
-/// Returns the number of answers.
+/// Returns the number of answers that the nodes of a world reported.
 fn answers<O: Object>(world: &World<O>) -> u64
     ensures { result ≡ count_by is_answer world.now.told }
 {

@@ -1,11 +1,12 @@
 //! The scripts to explore.
+//!
 //! Formats: The command line
 
 ghost use Rattle.std.specs.Prelude.{◌≡◌, ◌≤◌, ◌+◌, ◌^◌, ◌<◌, IsTrue};
 ghost use Rattle.ring_explore.specs.Explored.{seeds_in};
 
-/// The scripts to explore: those of all seeds from `first` to `last`, both included, with these votes and this number of
-/// lines.
+/// The scripts to explore: those of all seeds from `first` to `last`, both included.
+///
 /// Formats: The command line
 #[derive(Clone, Copy)]
 pub struct ExplorePlan<'a> {
@@ -13,15 +14,21 @@ pub struct ExplorePlan<'a> {
     pub votes: &'a [u8],
     /// The first seed.
     pub first: u64,
-    /// The last seed. There are no seeds where it is below the first.
+    /// The last seed.
+    ///
+    /// If it is below the first, there are no seeds.
     pub last: u64,
-    /// The number of lines of each script before its final `show`. A number above 10,000 means 10,000.
+    /// The number of lines of each script before its final `show`.
+    ///
+    /// If it is above 10,000, there are 10,000.
     pub lines: u32,
 }
 
 impl ExplorePlan<'_> {
-    /// Returns the number of seeds: 0 where the last is below the first. Of all 2^64 seeds it counts 2^64 - 1: the last is
-    /// left out.
+    /// Returns the number of seeds, 0 if the last is below the first.
+    ///
+    /// It saturates at 2^64 - 1, so of all 2^64 seeds the last is left out.
+    ///
     /// Formats: The command line
     pub fn many(&self) -> u64
         ensures { result ≡ seeds_in self.now.first self.now.last }
@@ -32,8 +39,9 @@ impl ExplorePlan<'_> {
         (self.last - self.first).saturating_add(1)
     }
 
-    /// Returns the plan for the seeds from index `from` up to, but not including, index `upto`, counted from 0. There must
-    /// be at least one such index, and `upto` is at most [`many`](ExplorePlan::many).
+    /// Returns the plan for the seeds from index `from` up to, but not including, index `upto`, counted from 0.
+    ///
+    /// `from` must be below `upto`, and `upto` at most [`many`](ExplorePlan::many).
     pub(crate) fn part(&self, from: u64, upto: u64) -> ExplorePlan<'_>
         requires some { from < upto }
         requires within { upto ≤ seeds_in self.now.first self.now.last }

@@ -7,7 +7,7 @@ use Rattle.std.specs.declared.io.buffered.BufWriter.{BufWriter}
 use Rattle.ring_failure.specs.declared.borrowed_writer.BorrowedWriter.{BorrowedWriter}
 use Rattle.ring_failure.specs.BorrowedWriters.{borrowed_bytes}
 
--- the name in front is the same, and the bytes after it have grown by the text
+-- The name in front is the same, and the bytes after it have grown by the text.
 came_back : (g h : ℕ) (xs text : List ℕ) (mid new : Option (List ℕ)) → Appends (append_known (borrowed_bytes g (Some xs)) [])
     mid text → Keeps mid (append_known (borrowed_bytes h new) [])
     → (h ≡ g) × Appends (Some xs) new text
@@ -19,8 +19,8 @@ came_back g h xs text (Some ys) (Some zs) a k =
     let all : h ∷ zs ≡ g ∷ (xs ++ text) = left ∙ right in
     (cc, cc)
 
--- where an emptied buffer over a borrowed writer gives it back, it is the same borrow, and its known bytes have grown by the
--- written bytes
+-- If an emptied buffer over a borrowed writer gives it back, it is the same borrow, and its known bytes have grown by
+-- the written bytes.
 pub given_back : {A O : Type 0} (contents : O → Option (List ℕ)) (out borrowed_writer : BorrowedWriter O) (first mid last : BufWriter (BorrowedWriter O) A) (text : List ℕ)
     → let C : BufWriter (BorrowedWriter O) A → Option (List ℕ) = writer_contents (λ (w : BorrowedWriter O). borrowed_bytes w.writer.ghost_name (contents w.writer.now)) in
     (xs : List ℕ) → contents out.writer.now ≡ Some xs → writer_inner first ≡ out → writer_buffer first ≡ []
@@ -38,12 +38,12 @@ given_back {A} {O} contents out borrowed_writer first mid last text xs known inn
     let both = came_back out.writer.ghost_name borrowed_writer.writer.ghost_name xs text (writer_contents N mid) (contents borrowed_writer.writer.now) (subst P known a) k in
     (both.0, subst (λ (o : Option (List ℕ)). Appends o (contents borrowed_writer.writer.now) text) (sym known) both.1)
 
--- of unknown bytes there is nothing to prove
+-- Of unknown bytes there is nothing to prove.
 pub where_known : (old new : Option (List ℕ)) (text : List ℕ) → ((xs : List ℕ) → old ≡ Some xs → Appends old new text) → Appends old new text
 where_known None new text h = tt
 where_known (Some xs) new text h = h xs refl
 
--- the fact that holds at `Ok`, where the result is `Ok`
+-- The fact that holds at `Ok`, if the result is `Ok`.
 pub at_ok : {T E P : Type 0} (r : Result T E) → OnOk r P → IsOk r → P
 at_ok (Ok x) h k = h
 at_ok (Err e) h k = absurd (cc k)

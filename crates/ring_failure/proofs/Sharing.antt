@@ -1,4 +1,4 @@
--- Where shares of many items begin, and the results of the shares.
+-- The first items of shares of many items, and the results of the shares.
 use Rattle.std.proofs.Common.{◌≡◌, ℕ, ◌+◌, ◌-◌, ◌<◌, ◌≤◌, ◌⊎◌, inl, inr, min, max}
 use Rattle.std.proofs.Common.{List, [], ◌∷◌, ◌++◌, length, length-append, Result, Ok, Err, IfOk, sym, ap, subst, ◌∙◌, arith}
 use Rattle.std.specs.Prelude.{◌^◌}
@@ -10,20 +10,20 @@ one_longer xs x = sym (length-append xs (x ∷ []))
 pub under_or_past : (n m : ℕ) → (n < m) ⊎ (m ≤ n)
 under_or_past n m = grind arith
 
--- the result of a share is the result of its part
+-- The result of a share is the result of its part.
 pub found_of : {T E : Type 0} (part read : Result T E) (found : T) (P : T → Type 0) → part ≡ read → part ≡ Ok found → IfOk read P → P found
 found_of part (Ok x) found P same is h = let e : x ≡ found = cc in subst P e h
 found_of part (Err e) found P same is h = absurd cc
 
--- a share begins where the one before it ends, or later
+-- A share begins where the one before it ends, or later.
 pub share_grows : (many shares share : ℕ) → share_begin many shares share ≤ share_begin many shares (share + 1)
 share_grows many shares share = grind arith
 
--- the last share ends with the last item
+-- The last share ends with the last item.
 pub shares_end : (many shares share : ℕ) → max shares 1 ≤ share → share_begin many shares share ≡ many
 shares_end many shares share all = grind arith
 
--- a share whose number is too great begins after the last item
+-- A share whose number is too great begins after the last item.
 begin_past : (many shares share : ℕ) → many ≤ share → share_begin many shares share ≡ many
 begin_past many shares share past = grind arith
 
@@ -33,12 +33,12 @@ next_is many shares share next small is (inl less) = ap (share_begin many shares
 next_is many shares share next small is (inr more) =
     begin_past many shares next (omega (arith, is, more, small)) ∙ sym (begin_past many shares (share + 1) (omega (arith, more, small)))
 
--- the number of the next share, up to the greatest u64
+-- The number of the next share, up to the greatest u64.
 pub next_begin : (many shares share next : ℕ) → many < 2 ^ 64 → next ≡ min (share + 1) (2 ^ 64 - 1)
     → share_begin many shares next ≡ share_begin many shares (share + 1)
 next_begin many shares share next small is = next_is many shares share next small is (under_or_past (share + 1) (2 ^ 64))
 
--- a round has at least one item, and ends with the last
+-- A round has at least one item, and ends with the last.
 pub round_grows : (begin size many : ℕ) → begin < many → begin < round_end begin size many
 round_grows begin size many less = grind (arith, less)
 

@@ -3,15 +3,16 @@
 use Rattle.std.specs.Prelude.{ℕ, ◌≡◌, ◌⊎◌, ◌*◌, ◌/◌, ◌-◌, ◌^◌, min, max, true}
 use Rattle.ring_failure.specs.declared.meter.ProgressMeter.{ProgressMeter}
 
--- the number of items that the next round should have: at least the work divided by 500
+-- The number of items that the next round should have: at least the work divided by 500.
 abbrev pub round_size : ProgressMeter → ℕ
 round_size meter = max meter.size (meter.many / 500)
 
--- the size of a round after one of this size: twice as large, half as large, or the same
+-- The size of the round after one of this size: twice as large, half as large, or the same.
 abbrev pub IsSizeAfter : ℕ → ℕ → Type 0
 IsSizeAfter old new = (new ≡ min (old * 2) (2 ^ 64 - 1)) ⊎ ((new ≡ old / 2) ⊎ (new ≡ old))
 
--- A round has ended: the work is the same, the next round has a size that follows this one's, and what was shown stays so.
+-- A round has ended: the work is the same, the next round's size follows from this one's, and progress that was shown
+-- stays shown.
 pub record HasEndedRound (old new : ProgressMeter) : Type 0 where
   pub many : new.many ≡ old.many
   pub size : IsSizeAfter old.size new.size

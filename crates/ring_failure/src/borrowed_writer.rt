@@ -4,9 +4,11 @@ ghost use Rattle.ring_failure.specs.BorrowedWriters.{borrowed_bytes};
 
 use std::io::{self, Write};
 
-/// A writer that passes all bytes on to a writer that it borrows, so a buffer over it can be dropped and the writer stays.
-/// Contracts see the borrow's name and then the known bytes, so they know that a buffer over it still holds the same
-/// borrow.
+/// A writer that passes all bytes on to a writer that it borrows, so that a buffer over it can be dropped and the
+/// writer stays.
+///
+/// In contracts its contents are the borrow's name and then the known bytes, so they know that a buffer over it still
+/// holds the same borrow.
 #[derive(Drop)]
 pub struct BorrowedWriter<'a, W> {
     /// The borrowed writer.

@@ -1,4 +1,5 @@
 //! Failures: the reason why the program ends early, its line on standard error, and the exit status.
+//!
 //! Formats: The command line
 //! Rules: Refusals 1
 
@@ -16,19 +17,26 @@ use std::alloc::Allocator;
 use std::io::{BufWriter, Write};
 use std::{fmt, io};
 
-/// The reason why a command ends early. It decides the line on standard error; the exit status is 1.
+/// The reason why a command ends early.
+///
+/// It determines the line on standard error; the exit status is 1.
+///
 /// Formats: The command line
 #[derive(Clone, Copy, Debug, PartialEq, Eq)]
 pub enum Failure {
-    /// A refusal that names no position in a file.
+    /// A fault without a position in a file.
     Refused(Fault),
-    /// No frame, or no whole record, begins at this byte of the input, counted from 0. It is 0 also where a file of frames
-    /// can't be read.
+    /// No frame, or no whole record, begins at this byte of the input, counted from 0.
+    ///
+    /// It is 0 if a file of frames can't be read.
     BadFrame(u64),
-    /// The line of the script that is at fault, counted from 1. It is 0 for the file as a whole, which can't be read or is
-    /// too long.
+    /// The line of the script that is at fault, counted from 1.
+    ///
+    /// It is 0 for the file as a whole, which can't be read or is too long.
     BadScript(u64),
-    /// Standard output failed. Nothing reports this but the exit status.
+    /// Standard output failed.
+    ///
+    /// Only the exit status reports this.
     Output,
 }
 
@@ -80,7 +88,7 @@ impl fmt::Display for Failure {
     }
 }
 
-/// A refusal's number and text: the beginning of each line on standard error.
+/// A fault's number and text: the beginning of each line on standard error.
 #[derive(Clone, Copy)]
 struct NumberedFault(Fault);
 
@@ -95,8 +103,11 @@ impl fmt::Display for NumberedFault {
     }
 }
 
-/// Converts the result of writing to standard output.
+/// Converts the result of writing to standard output to that of a command.
+///
 /// Errors: `Output` for any error of the writer.
+///
+/// Formats: The command line
 pub fn output_result(written: io::Result<()>) -> Result<(), Failure>
     ensures { MatchResult written (λ done. result ≡ Ok done) (λ _. result ≡ Err Output) }
 {
@@ -106,8 +117,10 @@ pub fn output_result(written: io::Result<()>) -> Result<(), Failure>
     }
 }
 
-/// Writes the failure's line, with its line feed, to `err`, and returns the exit status, always 1. For `Output` nothing is
-/// written. An error of `err` itself is ignored.
+/// Writes the failure's line, with its line feed, to `err`, and returns the exit status, always 1.
+///
+/// For `Output` nothing is written. An error of `err` itself is ignored.
+///
 /// Rules: Refusals 1
 /// Formats: The command line
 pub fn report<E: Write>(err: &mut E, failure: Failure) -> u8
@@ -127,10 +140,11 @@ fn write_report<E: Write>(err: &mut E, failure: Failure) -> io::Result<()>
     writeln!(err, "{failure}")
 }
 
-/// Flushes the buffer over standard output, and reports the failure of `done`, if it is one, on `err`. Returns the exit
-/// status: 0 where the work is done and all its output is written, else 1.
-/// Nothing is reported on `err` where standard output failed or the work is done. Whenever `err` changes, the buffer has
-/// been flushed before.
+/// Flushes the buffer over standard output, and reports `done` on `err` if it is a failure.
+///
+/// Returns the exit status: 0 if the work is done and all its output is written, otherwise 1. Nothing is reported on
+/// `err` if the work is done or standard output failed. Whenever `err` changes, the buffer has been flushed before.
+///
 /// Formats: The command line
 pub fn exit_status<O: Write + Drop, A: Allocator, E: Write>(
     out: &mut BufWriter<O, A>,

@@ -1,5 +1,7 @@
-//! How the program ends: the reason for ending early, the line on standard error that reports it, and the exit status. Also a
-//! borrowed writer for its buffers, the progress of long work, and the names of the states.
+//! How the program ends: the reason for ending early, the line on standard error that reports it, and the exit status.
+//!
+//! Also a borrowed writer for buffers, the progress of long work, and the names of the states.
+//!
 //! Formats: The command line
 #![tactic(auto)]
 

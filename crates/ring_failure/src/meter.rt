@@ -1,4 +1,5 @@
 //! The progress of long work, shown on a terminal.
+//!
 //! Formats: The command line
 
 ghost use Rattle.std.specs.Prelude.{◌≡◌, true, false};
@@ -13,15 +14,18 @@ const SHORT: u128 = 200;
 /// A round that takes more than this, in milliseconds, is followed by one half as large.
 const LONG: u128 = 800;
 
-/// The most rounds, about: each has at least the work divided by this. A round recurses into the next, so this bounds the stack's
-/// depth too.
+/// The approximate maximum number of rounds: each has at least the work divided by this.
+///
+/// A round recurses into the next, so this bounds the stack's depth too.
 const MAX_ROUNDS: u64 = 500;
 
 /// Nothing is shown of work that takes less than this, in milliseconds.
 const SILENT: u128 = 1_000;
 
-/// The progress of long-running work that is done in rounds. It sizes the rounds so that the terminal is updated a few
-/// times a second.
+/// The progress of long-running work that is done in rounds.
+///
+/// It sizes the rounds so that the terminal is updated a few times a second.
+///
 /// Formats: The command line
 #[derive(Clone, Copy)]
 pub struct ProgressMeter {
@@ -37,8 +41,11 @@ pub struct ProgressMeter {
 }
 
 impl ProgressMeter {
-    /// Starts to measure work of `many` items, none of which is done yet. `size` is the wanted number of items of the first
-    /// round. Where `clock` can't be read, no progress is ever shown.
+    /// Creates a meter for work of `many` items, none of which is done yet, and starts its time.
+    ///
+    /// `size` is the wanted number of items of the first round. If `clock` can't be read, no progress is ever shown.
+    ///
+    /// Formats: The command line
     pub fn new<C: Clock>(clock: &C, many: u64, size: u64) -> ProgressMeter
         ensures work { (result.many ≡ many) × (result.size ≡ size) }
         ensures hidden { result.is_shown ≡ false }
@@ -52,18 +59,23 @@ impl ProgressMeter {
         }
     }
 
-    /// Returns the number of items that the next round should have. It is at least the work divided by 500, may be 0, and
-    /// may be more than what is left.
+    /// Returns the number of items that the next round should have.
+    ///
+    /// It is at least the work divided by 500, rounded down, may be 0, and may exceed the number of items left.
+    ///
+    /// Formats: The command line
     pub fn size(&self) -> u64
         ensures { result ≡ round_size self.now }
     {
         self.size.max(self.many / MAX_ROUNDS)
     }
 
-    /// Ends a round, where `done` is the number of items finished since the start. Fits the size of the next round to the
-    /// time that this one took.
-    /// From the first second on it shows the share done and the estimated seconds left, over the line shown before; until then
-    /// `out` is unchanged. Errors of `clock` and of `out` are ignored.
+    /// Ends a round, after which `done` items are finished in all.
+    ///
+    /// Adapts the size of the next round to the time that this one took. From the first second on it shows the share
+    /// done and the estimated seconds left, over the line shown before; until then `out` is unchanged. Errors of
+    /// `clock` and of `out` are ignored.
+    ///
     /// Formats: The command line
     pub fn end_round<C: Clock, W: Write>(&mut self, clock: &C, out: &mut W, done: u64)
         ensures round { HasEndedRound self.old self.new }
@@ -84,7 +96,10 @@ impl ProgressMeter {
         }
     }
 
-    /// Clears the line of progress from the terminal, if one was shown. Errors of `out` are ignored.
+    /// Clears the line of progress from the terminal, if one was shown.
+    ///
+    /// Errors of `out` are ignored.
+    ///
     /// Formats: The command line
     pub fn clear<W: Write>(&self, out: &mut W)
         ensures { self.now.is_shown ≡ false → out.new ≡ out.old }
@@ -96,7 +111,7 @@ impl ProgressMeter {
     }
 }
 
-/// Returns the size of the round after one of this size that took this many milliseconds.
+/// Returns the size of the next round after one of `size` items that took `millis` milliseconds.
 fn size_after(size: u64, millis: u128) -> u64
     ensures { IsSizeAfter size result }
 {
@@ -109,7 +124,7 @@ fn size_after(size: u64, millis: u128) -> u64
     }
 }
 
-/// Shows that `done` of `many` items took this many milliseconds.
+/// Shows the share of `many` items that is done, and the estimated seconds left, after `millis` milliseconds.
 fn write_progress<W: Write>(out: &mut W, done: u64, many: u64, millis: u128) {
     let share = u128::from(done).saturating_mul(100) / u128::from(many.max(1));
     let left = millis.saturating_mul(u128::from(many.saturating_sub(done)))

@@ -1,4 +1,5 @@
 //! The names of the ring states in the program's output.
+//!
 //! Formats: What a script prints
 
 ghost use Rattle.std.specs.Prelude.{◌≡◌};
@@ -7,6 +8,7 @@ ghost use Rattle.ring_failure.specs.Texts.{state_name_text};
 use ring_base::State;
 
 /// Returns the word for a state in the program's output: `gather`, `commit`, `recovery`, `operational` or `stopped`.
+///
 /// Formats: What a script prints
 pub fn state_name(state: State) -> &'static str
     ensures { result.now ≡ state_name_text state }

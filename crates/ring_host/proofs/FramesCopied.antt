@@ -16,13 +16,13 @@ use Rattle.ring_seat.specs.declared.outbox_frames.OutboxFrame.{OutboxFrame}
 use Rattle.ring_seat.proofs.FramesInOrder.{frames_cut}
 
 module _ (text more : List ℕ) (frames : List OutboxFrame) (order : AreInOrder 0 frames) (within : end_of frames ≤ length text) where
-  -- they are as they were
+  -- They are as they were.
   frames_kept : frames_from 0 (text ++ more) frames ≡ frames_from 0 text frames
   frames_kept =
       sym (frames_cut 0 (length text) (text ++ more) frames order within)
       ∙ ap (λ (t : List ℕ). frames_from 0 t frames) (take-append_seam text more)
 
-  -- the new bytes follow those that were put
+  -- The new bytes follow those that were put.
   bytes_added : drop (end_of frames) text ≡ [] → drop (end_of frames) (text ++ more) ≡ more
   bytes_added none = drop-append-le (end_of frames) text more within ∙ ap (λ (l : List ℕ). l ++ more) none
 

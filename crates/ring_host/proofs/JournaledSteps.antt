@@ -44,7 +44,7 @@ module _ {S A : Type 0} (m : Machine S A) where
         line = subst (λ (s : StepView A). book'.lines ≡ book.lines ++ record { number = length book.lines; step = s } ∷ []) one e.lines;
       }
 
-  -- A call that a cell journaled is refused by the book only where the lines are past the cell.
+  -- A call that a cell journaled is refused by the book only if the lines are past the cell.
   call_strange : (old mid : CellView S A) (book : BookView A) (call : Call A) → HasJournaled m old mid (Submitted call) → 0 < book.reserved
       → IsStrange book mid → IsPast old book.lines
   call_strange old mid book call j some strange =

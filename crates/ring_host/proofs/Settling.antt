@@ -1,4 +1,4 @@
--- A cell is left a line ahead only where it was so before, or where the call reports that its line can't be entered.
+-- A cell is left a line ahead only if it was so before, or if the call reports that its line can't be entered.
 use Rattle.std.proofs.Common.{◌≡◌, false, Result, Ok, Err, OnOk, IfErr, inl, inr, ap}
 use Rattle.ring_base.specs.declared.fault.Fault.{Fault}
 use Rattle.ring_book.specs.Books.{HasEntered}

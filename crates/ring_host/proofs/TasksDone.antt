@@ -54,7 +54,7 @@ task_due {A} None r task is some none =
     frame_untimed task (subst (λ (x : Result (Option (Task A)) Fault). IfOk x (λ (task_kind : Option (Task A)). IfSome task_kind IsFrame)) is none)
 task_due {A} (Some kind) r task is some none = let same : task ≡ Timeout kind = cc in ap (λ (t : Task A). timeout_of t) same
 
--- Where no task was found, no timeout was due.
+-- If no task was found, no timeout was due.
 pub none_was_due : {A : Type 0} (due : Option Kind) (r : Result (Option (Task A)) Fault) → r ≡ Ok None
     → IfSome due (λ (kind : Kind). r ≡ Ok (Some (Timeout kind))) → due ≡ None
 none_was_due None r is some = refl

@@ -27,7 +27,7 @@ IsFull book = length book.lines + book.reserved ≡ max_places
 abbrev pub IsReleased : {A : Type 0} → BookView A → BookView A → Type 0
 IsReleased old new = (new.lines ≡ old.lines) × (new.reserved ≡ old.reserved - 1)
 
--- Each is a copy of a frame that was sent: its place, its receivers and its bytes.
+-- Each is a copy of a frame that was sent, with its place, its receivers and its bytes.
 abbrev pub AreCopiesOf : {A : Type 0} → List (OutgoingFrame A) → List FrameCopy → Type 0
 AreCopiesOf sent = All (λ (copy : FrameCopy). IsCopyOf sent copy.place copy.to copy.bytes)
 
@@ -35,7 +35,8 @@ AreCopiesOf sent = All (λ (copy : FrameCopy). IsCopyOf sent copy.place copy.to 
 abbrev pub HasSent : {A : Type 0} → List (LineView A) → ℕ → Type 0
 HasSent {A} lines sent = IsSomeAnd (slice_get lines (length lines - 1)) (λ (l : LineView A). sent ≡ length l.step.frames)
 
--- The reason why a turn gets no place, the first that holds: its frame isn't in the book; the book is full; memory was refused.
+-- The first reason that applies why a turn gets no place: its frame isn't in the book; the book is full; an allocation
+-- failed.
 abbrev pub IsPlaceFault : {A : Type 0} → Type 0 → BookView A → Fault → Type 0
 IsPlaceFault stands book Stranger = stands → ⊥
 IsPlaceFault stands book BookFull = stands × IsFull book
@@ -47,27 +48,28 @@ module _ {S A : Type 0} where
   abbrev pub IsPast : CellView S A → List (LineView A) → Type 0
   IsPast cell lines = (s : StepView A) × (steps_of cell.me lines ≡ cell.journal ++ s ∷ [])
 
-  -- The reason why a step reports nothing. Either memory was refused to it, and its stop is entered. Or its place is released and
-  -- the cell is unchanged, since the step was refused otherwise or can't be entered.
+  -- The reason why a step reports nothing. Either an allocation failed in it, and the node's stop is entered; or its
+  -- place is released and the cell is unchanged, since the step was refused for another reason or can't be entered.
   abbrev pub IsUntold : Result (Unit {0}) Fault → BookView A → BookView A → CellView S A → CellView S A → Fault → Type 0
   IsUntold stepped old new cell cell' fault =
       ((fault ≡ Memory) × (stepped ≡ Err Memory) × HasEntered old new cell cell')
       ⊎ ((((stepped ≡ Err fault) × (fault ≡ Memory → ⊥)) ⊎ ((fault ≡ Stranger) × IsStrange old cell)) × IsReleased old new × (cell' ≡ cell))
 
-  -- A step with this result is finished: its line is entered, so the cell is not ahead. Or the cell stays as the step left it,
-  -- since the step was refused, other than for memory, or since the call reports that the line can't be entered.
+  -- A step with this result is finished. Either its line is entered, so the cell isn't ahead; or the cell stays as the
+  -- step left it, since the step was refused other than by a failed allocation, or since the call reports that the line
+  -- can't be entered.
   abbrev pub IsFinished : {T : Type 0} → Result (Unit {0}) Fault → Result T Fault → CellView S A → CellView S A → Type 0
   IsFinished stepped result cell cell' =
       (cell'.ahead ≡ false)
       ⊎ ((cell' ≡ cell) × (((fault : Fault) × (stepped ≡ Err fault) × (fault ≡ Memory → ⊥)) ⊎ (result ≡ Err Stranger)))
 
-  -- The cell is left a line ahead only where it was so before, or where the call reports that the line can't be entered.
+  -- The cell is left a line ahead only if it was so before, or if the call reports that the line can't be entered.
   abbrev pub IsSettled : {T : Type 0} → Result T Fault → CellView S A → CellView S A → Type 0
   IsSettled result cell cell' = cell'.ahead ≡ true → (cell.ahead ≡ true) ⊎ (result ≡ Err Stranger)
 
 module _ {S A : Type 0} (m : Machine S A) where
-  -- The cell's node did one step on this input, and it is the new last line. The journal is again the lines of that node, and the
-  -- cell is not ahead.
+  -- The cell's node did one step on this input, and it is the new last line. The journal is again the lines of that
+  -- node, and the cell is not ahead.
   pub record IsEntered (cell cell' : CellView S A) (lines lines' : List (LineView A)) (input : LineInput A) : Type 0 where
     pub step : StepView A
     pub step_node : step.node ≡ cell.me
@@ -79,21 +81,21 @@ module _ {S A : Type 0} (m : Machine S A) where
     pub same : cell'.journal ≡ steps_of cell.me lines'
     pub line : lines' ≡ lines ++ record { number = length lines; step = step } ∷ []
 
-  -- The reason why a call isn't entered in a reserved place: the cell refuses it and is unchanged, or the lines are past the
-  -- cell.
+  -- The reason why a call isn't entered in a reserved place: the cell refuses it and is unchanged, or the lines are
+  -- past the cell.
   abbrev pub IsCallRefused : CellView S A → CellView S A → List (LineView A) → Fault → Type 0
   IsCallRefused cell cell' lines fault = (SubmitRefused m cell fault × (cell' ≡ cell)) ⊎ ((fault ≡ Stranger) × IsPast cell lines)
 
-  -- The reason why a call isn't submitted, the first that holds: the book is full; memory was refused for the place; it isn't
-  -- entered.
+  -- The first reason that applies why a call isn't submitted: the book is full; an allocation for its place failed; it
+  -- isn't entered.
   abbrev pub IsSubmitRefused : CellView S A → CellView S A → BookView A → Fault → Type 0
   IsSubmitRefused cell cell' book fault =
       ((fault ≡ BookFull) × IsFull book × (cell' ≡ cell))
       ⊎ ((IsFull book → ⊥) × (((fault ≡ Memory) × (cell' ≡ cell)) ⊎ IsCallRefused cell cell' book.lines fault))
 
 module _ {O A : Type 0} (object : Sequential O) (group : Group) where
-  -- The lines of some book are a run of the group and end with the cell's step, which sent `sent` frames. The cell's node is a
-  -- member, and its state is the one after that run.
+  -- The lines of some book are a run of the group and end with the cell's step, which sent `sent` frames. The cell's
+  -- node is a member, and its state is the one after that run.
   pub record IsEndOfRun (cell cell' : CellView (Node A) A) (sent : ℕ) : Type 0 where
     pub book : BookView A
     pub book' : BookView A

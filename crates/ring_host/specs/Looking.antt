@@ -3,7 +3,7 @@
 use Rattle.std.specs.Prelude.{ℕ, ◌-◌, ◌==◌, ◌&&◌, List, Option, None, nat_le, slice_get, if◌then◌else◌}
 use Rattle.ring_session.specs.declared.answer.Answer.{Answer}
 
--- The answers to the node's tickets, which count up from `first`.
+-- The answers to the node's tickets with the numbers from `first` on.
 pub record AnswerCacheView : Type 0 where
   pub node : ℕ
   pub first : ℕ

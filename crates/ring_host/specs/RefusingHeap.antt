@@ -1,10 +1,10 @@
--- The refusals of a host's calls.
+-- The faults with which a host's calls are refused.
 -- Rules: The book and the threads 22, 24 and 25
 use Rattle.std.specs.Prelude.{⊤}
 use Rattle.ring_base.specs.declared.fault.Fault.{Fault}
 use Rattle.ring_base.specs.declared.fault.Fault.TheVariants.{PendingFull, Stopped, BookFull, Stranger, Memory}
 
--- The refusals of a turn or a stop.
+-- The faults of a turn or a stop.
 abbrev pub IsTurnFault : Fault → Type 0
 IsTurnFault Stopped = ⊤
 IsTurnFault BookFull = ⊤
@@ -12,7 +12,7 @@ IsTurnFault Stranger = ⊤
 IsTurnFault Memory = ⊤
 IsTurnFault _ = ⊥
 
--- The refusals of a submit.
+-- The faults of a submit.
 abbrev pub IsSubmitFault : Fault → Type 0
 IsSubmitFault PendingFull = ⊤
 IsSubmitFault fault = IsTurnFault fault

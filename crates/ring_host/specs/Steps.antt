@@ -17,19 +17,20 @@ use Rattle.ring_host.specs.declared.item.TaskKind.TheVariants as task_kind
 use Rattle.ring_host.specs.declared.item.Task.{Task}
 use Rattle.ring_host.specs.declared.step.StepReport.{StepReport}
 
--- A step that sent `sent` frames leaves this node quiet: at most one frame, the ring installed, and all of the log committed.
+-- A step that sent `sent` frames leaves this node quiet: at most one frame, the ring installed, and all of the log
+-- committed.
 abbrev pub IsLeftQuiet : {A : Type 0} → Node A → ℕ → Type 0
 IsLeftQuiet node sent = (sent ≤ 1) × (node.core.state ≡ Operational) × (node_length node ≡ (node_known_log node).committed)
 
--- The activity that a step on a task of this kind reports to a gate, by the node after it and its number of frames sent. It is a
--- timeout or a token that left the node quiet, or else busy.
+-- The activity that a step on a task of this kind reports to a gate, by the node after it and its number of frames
+-- sent. It is a timeout or a token that left the node quiet, otherwise busy.
 abbrev pub IsTurnActivity : {A : Type 0} → Node A → TaskKind → ℕ → TurnActivity → Type 0
 IsTurnActivity node what sent stirs.Nothing = ⊥
 IsTurnActivity node what sent stirs.Timeout = (kind : Kind) × (what ≡ task_kind.Timeout kind) × IsLeftQuiet node sent
 IsTurnActivity node what sent stirs.Quiet = (what ≡ task_kind.Token) × IsLeftQuiet node sent
 IsTurnActivity node what sent stirs.Busy = IsLeftQuiet node sent → what ≡ task_kind.Other
 
--- These lines followed by a line of this step.
+-- These lines, followed by a line of this step.
 abbrev pub with_step : {A : Type 0} → List (LineView A) → StepView A → List (LineView A)
 with_step lines step = lines ++ record { number = length lines; step = step } ∷ []
 
@@ -38,8 +39,9 @@ module _ {O A : Type 0} (object : Sequential O) (group : Group) where
   abbrev pub node_after_lines : List (LineView A) → ℕ → Node A
   node_after_lines lines node = (run object (world_opening group) (events_of lines)).nodes node
 
-  -- The step report of a task. Some run of the group ends with a step on the task: on its timeout, or on the frame read into the
-  -- place. The report has the task's kind, that step's number of frames, the node's committed length after it, and its activity.
+  -- The step report of a task. Some run of the group ends with a step on the task: on its timeout, or on the frame read
+  -- into the place. The report has the task's kind, that step's number of frames, the node's committed length after it,
+  -- and its activity.
   pub record IsStepReport (place : Option (OneFrame A)) (task : Task A) (done : StepReport) : Type 0 where
     pub lines : List (LineView A)
     pub step : StepView A

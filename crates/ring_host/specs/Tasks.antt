@@ -15,7 +15,7 @@ use Rattle.ring_host.specs.declared.item.TaskKind.TheVariants as task_kind
 use Rattle.ring_host.specs.declared.item.Task.{Task}
 use Rattle.ring_host.specs.declared.item.Task.TheVariants.{Timeout, Received}
 
--- A frame within the limits of frames was read, and this text is its encoding.
+-- A frame within the limits of its format was read, and this text is its encoding.
 abbrev pub IsRead : {A : Type 0} → Option (OneFrame A) → List ℕ → Type 0
 IsRead None text = ⊥
 IsRead (Some frame) text = FrameFits frame × (text ≡ encoding_of frame)
@@ -35,7 +35,7 @@ abbrev pub timeout_of : {A : Type 0} → Task A → Option Kind
 timeout_of (Timeout kind) = Some kind
 timeout_of (Received bytes at) = None
 
--- The kind of the frame that was read: a token for tokens and commit tokens, else other.
+-- The kind of the frame that was read: a token for tokens and commit tokens, otherwise other.
 abbrev pub frame_task_kind : {A : Type 0} → Option (OneFrame A) → TaskKind
 frame_task_kind None = task_kind.Other
 frame_task_kind (Some (Message message)) = task_kind.Other
@@ -63,7 +63,7 @@ abbrev pub input_of : {A : Type 0} → Option (OneFrame A) → Task A → Input 
 input_of place (Timeout kind) = TimedOut kind
 input_of place (Received bytes at) = frame_input place
 
--- The task's reference to the book, which counts for a frame alone.
+-- The task's reference to the book, which has a meaning only for a frame.
 abbrev pub ref_of : {A : Type 0} → Task A → FrameRef
 ref_of (Timeout kind) = record { line = 0; place = 0 }
 ref_of (Received bytes at) = at

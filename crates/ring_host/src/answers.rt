@@ -16,10 +16,13 @@ use ring_session::{Answer, MAX_UNANSWERED, Ticket};
 use std::alloc::Allocator;
 use std::marker::{Model, PhantomData};
 
-/// The answers that one look at a host's book found: those to a node's tickets from one ticket on, up to the first ticket without
-/// an answer, and at most 64. Contracts see the node, the first ticket and the answers.
+/// The answers that one look at a host's book found, at most 64.
 ///
-/// Each is an answer of the host's book: some run of the group has the ticket's issue and this answer to it.
+/// They are the answers to a node's tickets from one ticket on, up to the first ticket without an answer.
+///
+/// Contracts see the node, the first ticket and the answers.
+///
+/// Each is an answer of the host's book: some run of the group issues the ticket and has this answer to it.
 ///
 /// Rules: The book and the threads 26
 #[derive(Drop)]
@@ -42,7 +45,9 @@ impl<O: Object, K: BookName<O::Alloc>> Model for AnswerCache<O, K> {
 }
 
 impl<O: Object, K: BookName<O::Alloc>> AnswerCache<O, K> {
-    /// Makes an empty cache for the node, whose first ticket is 0. It takes no memory.
+    /// Creates an empty cache for the node, which begins at ticket 0.
+    ///
+    /// Does not allocate.
     pub(crate) fn none(alloc: O::Alloc, node: Proc) -> AnswerCache<O, K>
         ensures { result ≡ record { node = node; first = 0; found = [] } }
     {
@@ -54,15 +59,17 @@ impl<O: Object, K: BookName<O::Alloc>> AnswerCache<O, K> {
         }
     }
 
-    /// Returns the answer to the ticket that the last look found. Returns `None` where it found none, also for a ticket of
-    /// another node and for one outside those looked up. It takes no lock.
+    /// Returns the answer to the ticket that the last look found.
+    ///
+    /// Returns `None` if it found none, including for a ticket of another node or outside those looked up. Takes no
+    /// lock.
     ///
     /// Rules: The book and the threads 26
     pub fn answer(&self, ticket: &HostTicket) -> Option<Answer>
         ensures kept { result ≡ cached_answer self.now ticket.now.node ticket.now.ticket }
         ensures answered { IfSome result (IsAnswered O.Alloc O.sequential K.name.group ticket.now.node ticket.now.ticket) }
     {
-        // No effect at run time. The proof sees the invariant of `AnswerCache` only where the body reads a field.
+        // No effect at run time. The proof has the invariant of `AnswerCache` only if the body reads a field.
         let _found = &self.found;
         self.kept(ticket)
     }
@@ -80,15 +87,19 @@ impl<O: Object, K: BookName<O::Alloc>> AnswerCache<O, K> {
         )
     }
 
-    /// Makes room for all answers that a look may find, 64, as far as memory gives it. Then the look itself asks for none.
+    /// Allocates room for all answers that a look may find, 64, so that the look itself doesn't allocate.
+    ///
+    /// If the allocation fails, the look tries again.
     pub(crate) fn make_room(&mut self)
         ensures { self.new ≡ self.old }
     {
         let _room = self.found.reserve(MAX_UNANSWERED);
     }
 
-    /// Replaces the cached answers by those of the book, from this ticket of its node on: up to the first ticket without an
-    /// answer, and at most 64. Where memory refuses room for an answer, the list ends before it.
+    /// Replaces the cached answers by those of the book, from `ticket` of its node on: up to the first ticket without
+    /// an answer, and at most 64.
+    ///
+    /// If an allocation for an answer fails, the list ends before that answer.
     ///
     /// Rules: The book and the threads 26
     pub(crate) fn look(&mut self, book: &Book<O, K>, ticket: &HostTicket)
@@ -97,7 +108,7 @@ impl<O: Object, K: BookName<O::Alloc>> AnswerCache<O, K> {
         ensures found { (i : ℕ) (answer : OneAnswer) → slice_get self.new.found i ≡ Some answer
             → answer_in book.now.lines ticket.now.node (ticket.now.ticket + i) ≡ Some answer }
     {
-        // A law: no effect at run time. It gives the proof that the book's lines are a run of the group.
+        // A law: no effect at run time. It tells the proof that the book's lines are a run of the group.
         book.run_law();
         self.node = ticket.node;
         self.first = ticket.ticket;
@@ -109,8 +120,9 @@ impl<O: Object, K: BookName<O::Alloc>> AnswerCache<O, K> {
     }
 }
 
-/// Copies the answers from this ticket on to `found`, up to the first missing one, and at most 64. Where memory refuses room for
-/// one, the list ends before it.
+/// Copies the answers from index `from` on to `found`, up to the first missing one, and at most 64.
+///
+/// If an allocation for an answer fails, the list ends before that answer.
 fn keep<A: Allocator + Copy + Drop>(
     told: &[Option<Answer>],
     from: usize,
@@ -132,7 +144,7 @@ fn keep<A: Allocator + Copy + Drop>(
     }
 }
 
-/// Returns the answer to the ticket of this number, if there is one.
+/// Returns the answer to ticket `at`, or `None` if there is none.
 fn answer_at(told: &[Option<Answer>], at: usize) -> Option<Answer>
     ensures { result ≡ answer_of_ticket told.now at }
 {

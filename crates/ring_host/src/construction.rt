@@ -1,4 +1,4 @@
-//! Makes a host of an opening.
+//! The construction of a host from an opening.
 //!
 //! Rules: The book and the threads 19
 
@@ -20,10 +20,12 @@ use std::sync::Mutex;
 use std::sync::atomic::AtomicBool;
 
 impl<O: Object, K: BookName<O::Alloc>> HostOf<Cell<O, K>, Book<O, K>, O::Alloc> {
-    /// Makes the host of the opening that `K` names. Returns with it the own seat of each node, ascending, then `more` seats of
-    /// no node, 0 to 256. Each inbox has room for 1,024 items.
+    /// Creates the host of the opening that `K` names, and its seats.
     ///
-    /// Errors: `Memory` where an allocation fails; the opening is then dropped.
+    /// The seats are the own seat of each node, in ascending order, then `more` seats of no node. `more` must be at
+    /// most 256. Each inbox has room for 1,024 items.
+    ///
+    /// Errors: `Memory` if an allocation fails; the opening is then dropped.
     ///
     /// Rules: The book and the threads 19
     pub fn new(
@@ -42,9 +44,9 @@ impl<O: Object, K: BookName<O::Alloc>> HostOf<Cell<O, K>, Book<O, K>, O::Alloc> 
         HostOf::with_inbox(alloc, opening, more, INBOX)
     }
 
-    /// Makes a host as [`HostOf::new`] does, with inboxes of `size` items, 1 to 1,024.
+    /// Creates a host as [`HostOf::new`] does, with inboxes of `size` items, 1 to 1,024.
     ///
-    /// Errors: `Memory` where an allocation fails; the opening is then dropped.
+    /// Errors: `Memory` if an allocation fails; the opening is then dropped.
     ///
     /// Rules: The book and the threads 19 and 23
     pub fn with_inbox(
@@ -80,7 +82,9 @@ impl<O: Object, K: BookName<O::Alloc>> HostOf<Cell<O, K>, Book<O, K>, O::Alloc> 
     }
 }
 
-/// Puts each cell behind a lock.
+/// Puts each cell into a lock.
+///
+/// Errors: `Memory` if an allocation fails.
 fn locks<C: Drop, A: Allocator + Copy + Drop>(
     alloc: A,
     parts: Vec<C, A>,
@@ -95,7 +99,9 @@ fn locks<C: Drop, A: Allocator + Copy + Drop>(
     Ok(cells)
 }
 
-/// Makes `count` inboxes of this size.
+/// Creates `count` inboxes of `size` items.
+///
+/// Errors: `Memory` if an allocation fails.
 fn inboxes<A: Allocator + Copy + Drop>(
     alloc: A,
     count: usize,

@@ -4,10 +4,14 @@ use std::sync::Wait;
 use std::sync::atomic::{AtomicU64, Ordering};
 use std::time::Duration;
 
-/// A thread waits on the low half of the counter.
+/// The factor of the counter's high half.
+///
+/// A thread waits on the low half.
 const HALF: u64 = 1 << 32;
 
-/// A counter of notifications on which threads wait. It only rises, and starts at 0.
+/// A counter of notifications on which threads wait.
+///
+/// It only rises, and starts at 0.
 #[derive(Drop)]
 pub(crate) struct EventCount {
     /// The number of notifications.
@@ -17,7 +21,9 @@ pub(crate) struct EventCount {
 }
 
 impl EventCount {
-    /// Makes an event count with no notification and no waiter yet. It takes no memory.
+    /// Creates an event count without notifications or waiters.
+    ///
+    /// Does not allocate.
     pub(crate) fn new() -> EventCount {
         EventCount {
             count: AtomicU64::new(0),
@@ -25,7 +31,7 @@ impl EventCount {
         }
     }
 
-    /// Returns the number of notifications so far, which a thread reads before it looks whether it has to wait.
+    /// Returns the number of notifications so far, which a thread reads before it checks whether it has to wait.
     pub(crate) fn count(&self) -> u64 {
         self.count.load(Ordering::SeqCst)
     }
@@ -43,8 +49,10 @@ impl EventCount {
         }
     }
 
-    /// Waits until a notification comes, at most for this duration. `count` is the number of notifications that the thread has
-    /// read before: where there have been more since, it returns at once. A wait may also end for no reason.
+    /// Waits until a notification comes, for at most the duration `most`.
+    ///
+    /// `count` is the number of notifications that the thread read before. If there have been more since, it returns at
+    /// once. Waits may end spuriously.
     pub(crate) fn wait<W: Wait>(&self, rt: &W, count: u64, most: Duration) {
         self.prepare_wait();
         self.park(rt, count, most);
@@ -61,7 +69,7 @@ impl EventCount {
         self.waiters.fetch_sub(1, Ordering::SeqCst);
     }
 
-    /// Waits as `wait` does, as a thread that is counted as a waiter already.
+    /// Waits as `wait` does, for a thread that is already counted as a waiter.
     pub(crate) fn park<W: Wait>(&self, rt: &W, count: u64, most: Duration) {
         self.count.park_timeout(rt, (count % HALF) as u32, most);
     }

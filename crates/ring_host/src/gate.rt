@@ -10,31 +10,37 @@ use std::thread;
 /// Rules: The book and the threads 21 and 29
 #[derive(Clone, Copy, Debug, PartialEq, Eq)]
 pub enum GatePlace {
-    /// The thread holds the node's lock, and the turn's step comes next. A place in the book isn't reserved yet.
+    /// The thread holds the node's lock, and the turn's step comes next.
+    ///
+    /// A place in the book isn't reserved yet.
     Held,
-    /// The node's line is entered, the frames are sent and the node's length is published. A refused turn doesn't reach this
-    /// point.
+    /// The node's line is entered, the frames are sent and the node's length is published.
+    ///
+    /// A turn that fails doesn't reach this point.
     Entered,
 }
 
-/// The activity seen in one turn that was not refused, from which a gate decides whether the node may rest.
+/// The activity seen in a turn that succeeded, from which a gate decides whether the node may rest.
 ///
 /// Rules: The book and the threads 29
 #[derive(Clone, Copy, Debug, PartialEq, Eq)]
 pub enum TurnActivity {
-    /// The turn found no timeout that is due and no item in the inbox.
+    /// The turn found no due timeout and no item in the inbox.
     Nothing,
     /// A timeout only: the node sent at most one frame, its ring is installed, and all of its log is committed.
     Timeout,
-    /// A token or a commit token only: the node sent at most one frame, its ring is installed, and all of its log is committed.
-    Quiet,
-    /// Anything else: a message or a join came, the node sent more frames, its ring isn't installed, or its log isn't all
+    /// A token or a commit token only: the node sent at most one frame, its ring is installed, and all of its log is
     /// committed.
+    Quiet,
+    /// Anything else: a message or a join came, the node sent more frames, its ring isn't installed, or its log isn't
+    /// all committed.
     Busy,
 }
 
-/// An observer of the turns of [`Host::run`](crate::HostOf::run), which may hold its threads up. At `Held` the thread has its
-/// node's lock, so a gate must not call the host there, nor wait for anything that this node does.
+/// An observer of the turns of [`Host::run`](crate::HostOf::run), which may hold its threads up.
+///
+/// At `Held` the thread has its node's lock. A gate must then not call the host, nor wait for anything that this node
+/// does.
 ///
 /// Rules: The book and the threads 29
 pub trait Gate {
@@ -44,21 +50,24 @@ pub trait Gate {
     // Whether the gate was called with this node at this point. Nothing but such a call states it.
     ghost has_reached: { Self → ℕ → OnePlace → Type 0 } = { λ gate node place. Unit {0} };
 
-    /// Called when a turn of the node reaches this point, on the thread that takes the turn. The turn goes on when the call
-    /// returns.
+    /// Called when a turn of the node reaches `place`, on the thread that takes the turn.
+    ///
+    /// The turn goes on when the call returns.
     ///
     /// Rules: The book and the threads 21 and 29
     fn at(&self, node: Proc, place: GatePlace)
         ensures { has_reached self.now node place };
 
-    /// Called when a turn of the node that was not refused is over, with the activity seen in it. The node's next turn begins
-    /// when the call returns. A gate that doesn't define it does nothing here.
+    /// Called at the end of each turn of the node that succeeds, with the activity seen in it.
+    ///
+    /// The node's next turn begins when the call returns. By default it does nothing.
     ///
     /// Rules: The book and the threads 29
     fn after_turn(&self, _node: Proc, _activity: TurnActivity) {}
 
-    /// Returns whether `after_turn` makes a thread wait that finds nothing to do. Where it doesn't, such turns wait as under
-    /// [`OpenGate`]. A gate that doesn't define it returns false.
+    /// Returns whether `after_turn` itself makes a thread that finds nothing to do wait.
+    ///
+    /// If it is false, such turns wait as under [`OpenGate`]. The default is false.
     ///
     /// Rules: The book and the threads 29
     fn has_own_waits(&self) -> bool {
@@ -85,16 +94,16 @@ impl Gate for YieldingGate {
     }
 }
 
-/// A gate that lets all threads pass: the nodes run at full speed, also where there is nothing to do.
+/// A gate that lets all threads pass: the nodes run at full speed, even if there is nothing to do.
 ///
-/// After a turn that finds nothing node 1 yields once, and each next node up to two times more, until an item comes. After 50
-/// such turns in a row the node sleeps instead at each tenth, until an item comes: node 1 for at most 50 microseconds, and each
-/// next node for 100 more. After the others it looks again at once.
+/// After a turn that finds nothing node 1 yields once, and each next node up to two times more, until an item comes.
+/// After 50 such turns in a row the node sleeps instead at each tenth, until an item comes: node 1 for at most 50
+/// microseconds, and each next node for 100 more. After the other turns it looks again at once.
 ///
-/// In Gather a node yields once after each of the first 500 turns that find nothing, and then *naps* after each further 200, and
-/// when it enters Gather. Node 1's nap has ten slices of a millisecond, and that of each next node four more. An item begins the
-/// present slice anew, so joins neither end a nap nor put it off. Node 1 gives up a silent node after some 40 naps, and each next
-/// node later: by then it has heard of this.
+/// In Gather a node yields once after each of the first 500 turns that find nothing, and then *naps* after each further
+/// 200, and when it enters Gather. Node 1's nap has ten slices of a millisecond, and that of each next node four more.
+/// An item restarts the current slice, so joins neither end a nap nor put it off. Node 1 gives up a silent node after
+/// some 40 naps, and each next node later: by then it has heard of this.
 ///
 /// Rules: The book and the threads 29
 #[derive(Clone, Copy, Debug, PartialEq, Eq)]

@@ -1,4 +1,4 @@
-//! The host: a book's nodes behind locks, and the calls of its threads and callers.
+//! The host: a book's nodes in locks, and the calls of its threads and callers.
 //!
 //! Rules: The book and the threads 19, 20, 24 to 26 and 28
 
@@ -37,19 +37,23 @@ use std::marker::Model;
 use std::sync::atomic::{AtomicBool, Ordering};
 use std::sync::{Mutex, Wait};
 
-/// The ticket of a call that was submitted at a node of the host. [`HostOf::poll`] takes this and returns the answer.
+/// The ticket of a call that was submitted at a node of the host.
+///
+/// [`HostOf::poll`] takes this and returns the answer.
 ///
 /// Rules: The book and the threads 24 and 26
 #[derive(Clone, Copy, Debug, PartialEq, Eq)]
 pub struct HostTicket {
     /// The node at which the call was submitted.
     pub node: Proc,
-    /// The ticket that the node gave for the call: its place, from 0, among all tickets of the node.
+    /// The ticket that the node gave for the call: its index, from 0, among all tickets of the node.
     pub ticket: Ticket,
 }
 
-/// A book's nodes behind locks, with their inboxes, the book and the gauge. `C` is the content of a node's lock, and `B` that of
-/// the book's lock. Contracts see the host's gauge: its seats belong to it, and it has a word for each node.
+/// A host: a book's nodes in locks, with their inboxes, the book and the gauge.
+///
+/// `C` is the content of a node's lock, and `B` that of the book's lock. Contracts see the host's gauge: its seats
+/// belong to it, and it has a word for each node.
 ///
 /// Lock order: a node's lock, then the book's. No call holds the locks of two nodes.
 ///
@@ -58,7 +62,7 @@ pub struct HostTicket {
 pub struct HostOf<C, B, A: Allocator + Copy + Drop = Global> {
     /// The allocator of copies of frames.
     pub(crate) alloc: A,
-    /// The cells behind locks, that of processor 1 first.
+    /// The cells in their locks, that of processor 1 first.
     pub(crate) cells: Vec<Mutex<C>, A>,
     /// The inboxes of the nodes, that of processor 1 first.
     pub(crate) inboxes: Vec<Inbox<A>, A>,
@@ -68,7 +72,7 @@ pub struct HostOf<C, B, A: Allocator + Copy + Drop = Global> {
     pub(crate) event_count: EventCount,
     /// Whether the host is closed.
     pub(crate) closed: AtomicBool,
-    /// The book behind its lock.
+    /// The book in its lock.
     pub(crate) book: Mutex<B>,
 }
 
@@ -83,13 +87,15 @@ impl<C, B, A: Allocator + Copy + Drop> Model for HostOf<C, B, A> {
     ghost invariant = { λ h. (vec_len h.cells ≡ h.gauge.words) × (vec_len h.inboxes ≡ h.gauge.words) };
 }
 
-/// The host of the book that `K` names: its cells, of nodes with objects `O`, and that book behind locks.
+/// The host of the book that `K` names: the cells of its nodes, with objects `O`, and the book, all in locks.
 ///
 /// Rules: The book and the threads 19
 pub type Host<O: Object, K> = HostOf<Cell<O, K>, Book<O, K>, O::Alloc>;
 
 impl<C, B, A: Allocator + Copy + Drop> HostOf<C, B, A> {
-    /// Runs the closure with the book locked and returns its result. It waits for the lock. Calling the host inside deadlocks.
+    /// Runs the closure with the book locked and returns its result.
+    ///
+    /// It waits for the lock. Calling the host inside deadlocks.
     ///
     /// Rules: The book and the threads 26
     pub fn read_book<W: Wait, R, F: FnOnce(&B) -> R>(&self, rt: &W, f: F) -> R
@@ -100,7 +106,7 @@ impl<C, B, A: Allocator + Copy + Drop> HostOf<C, B, A> {
         f(&book)
     }
 
-    /// Returns the host's processor of this number.
+    /// Returns the host's processor `number`.
     ///
     /// Errors: `NotMember` unless `number` is 1 to the number of nodes.
     ///
@@ -116,8 +122,12 @@ impl<C, B, A: Allocator + Copy + Drop> HostOf<C, B, A> {
         Ok(Proc::new(number))
     }
 
-    /// Removes and returns the last of these seats of the host; `None` for an empty list. From the list that the host was made
-    /// with, the seats of no node come first. The nodes' own seats follow, from the last node to node 1.
+    /// Removes and returns the last of these seats, or returns `None` if the list is empty.
+    ///
+    /// The seats must be this host's.
+    ///
+    /// Of the list that the host was created with, the seats of no node come first. The nodes' own seats follow, from
+    /// the last node to node 1.
     ///
     /// Rules: The book and the threads 19
     pub fn take_seat(&self, seats: &mut Vec<Seat<A>, A>) -> Option<Seat<A>>
@@ -130,7 +140,8 @@ impl<C, B, A: Allocator + Copy + Drop> HostOf<C, B, A> {
         seats.pop()
     }
 
-    /// Returns the host's gauge: for each node a word with the greatest committed length that was published for it, 0 at first.
+    /// Returns the host's gauge: for each node a word with the greatest committed length that was published for it, 0
+    /// at first.
     ///
     /// Rules: The book and the threads 33 and 34
     pub fn gauge(&self) -> &Gauge<A>
@@ -139,8 +150,9 @@ impl<C, B, A: Allocator + Copy + Drop> HostOf<C, B, A> {
         &self.gauge
     }
 
-    /// Closes the host for good: the threads of `run` end after their present turn, and all rests end. Turns and submits of other
-    /// callers don't look at it and go on. It takes no lock and no memory.
+    /// Closes the host for good: the threads of `run` end after their current turn, and all rests end.
+    ///
+    /// Turns and submits of other callers still succeed. Takes no lock and does not allocate.
     ///
     /// Rules: The book and the threads 28 and 29
     pub fn close(&self) {
@@ -148,10 +160,12 @@ impl<C, B, A: Allocator + Copy + Drop> HostOf<C, B, A> {
         self.event_count.notify_all();
     }
 
-    /// Takes the node's next task: the timeout that is due, else the first item of the inbox, whose frame is read into `place`.
-    /// Returns `None` where there is neither.
+    /// Takes the node's next task: the timeout that is due, otherwise the first item of the inbox, whose frame is read
+    /// into `place`.
     ///
-    /// Errors: `Memory` or `Stranger` where the item can't be read; the item is then spent.
+    /// Returns `None` if there is neither.
+    ///
+    /// Errors: `Memory` or `Stranger` if the item can't be read; the item is then spent.
     ///
     /// Rules: The book and the threads 21 and 22
     pub(crate) fn task<W: Wait>(
@@ -178,16 +192,17 @@ impl<C, B, A: Allocator + Copy + Drop> HostOf<C, B, A> {
 }
 
 impl<O: Object, K: BookName<O::Alloc>> HostOf<Cell<O, K>, Book<O, K>, O::Alloc> {
-    /// Does one turn of the seat's node: a timeout that is due, or else the first item of its inbox. Returns the number of copies
-    /// dropped and the node's committed length, dropped places included, which it publishes on the seat. A turn that finds
-    /// nothing yields and publishes nothing.
+    /// Runs one turn of the seat's node: a timeout that is due, or else the first item of its inbox.
     ///
-    /// The seat is one of this host's and a node's own. [`Seat::tick`] counts the turn on its clock. [`Seat::take`] restarts the
-    /// timeouts where the item is a token or a commit token that the step doesn't ignore.
+    /// Returns the number of dropped copies and the node's committed length, dropped places included, which it
+    /// publishes on the seat. A turn that finds nothing yields and publishes nothing.
     ///
-    /// Errors: `Memory` or `Stranger` where the item can't be read or isn't in the book; then `BookFull`, or `Memory` for the
-    /// place; then those of the node's step: `Stranger`, `Stopped`, or `Memory`, which leaves the node stopped. A refused turn
-    /// publishes nothing, and the timeout or item that it took is spent.
+    /// The seat must be a node's own seat of this host. [`Seat::tick`] counts the turn on its clock. [`Seat::take`]
+    /// restarts the timeouts if the item is a token or a commit token that the step doesn't ignore.
+    ///
+    /// Errors: `Memory` or `Stranger` if the item can't be read or isn't in the book; then `BookFull`, or `Memory` for
+    /// the place; then those of the node's step: `Stranger`, `Stopped`, or `Memory`, which leaves the node stopped. A
+    /// turn that fails publishes nothing, and the timeout or item that it took is spent.
     ///
     /// Rules: The book and the threads 21 and 22, 30 to 32
     pub fn turn<W: Wait>(&self, rt: &W, seat: &mut Seat<O::Alloc>) -> Result<Turn, Fault>
@@ -205,11 +220,14 @@ impl<O: Object, K: BookName<O::Alloc>> HostOf<Cell<O, K>, Book<O, K>, O::Alloc> 
         Ok(turn_of(done))
     }
 
-    /// Submits a call at the node, enters its line, and returns the node with its ticket. Seat and node are this host's. The call
-    /// keeps the limits of frames, as each call from `Call::new` does. A submit that was taken ends all rests.
+    /// Submits a call at the node, enters its line, and returns the node with its ticket.
     ///
-    /// Errors, in this order: `BookFull`; `Memory` for the place; `Stranger`; `Stopped`; `PendingFull`; `Memory` for the call.
-    /// Node and book are then as before.
+    /// Seat and node must be this host's. `call` must be within the limits of its format, as each call from `Call::new`
+    /// is. A successful submit ends all rests.
+    ///
+    /// Errors, in this order: `BookFull` if the book has no free place; `Memory` if an allocation for the place fails;
+    /// `Stranger` while the node's last step isn't in the book; `Stopped` if the node has stopped; `PendingFull` if it
+    /// can give no ticket; `Memory` if an allocation for the call fails. Node and book are then unchanged.
     ///
     /// Rules: The book and the threads 24 and 29
     pub fn submit<W: Wait>(
@@ -235,10 +253,14 @@ impl<O: Object, K: BookName<O::Alloc>> HostOf<Cell<O, K>, Book<O, K>, O::Alloc> 
         submitted
     }
 
-    /// Stops a node of this host for good, and enters the stop in the book. Like a submit it ends all rests: resting nodes count
-    /// so few turns that they would give up the stopped one only after hours.
+    /// Stops a node of this host for good, and enters the stop in the book.
     ///
-    /// Errors, in this order: `BookFull`, `Memory`, `Stranger`, `Stopped`. Node and book are then as before.
+    /// Like a submit it ends all rests: resting nodes take so few turns that they would give up the stopped node only
+    /// after hours.
+    ///
+    /// Errors, in this order: `BookFull` if the book has no free place; `Memory` if an allocation fails; `Stranger`
+    /// while the node's last step isn't in the book; `Stopped` if the node had already stopped. Node and book are then
+    /// unchanged.
     ///
     /// Rules: The book and the threads 25
     pub fn stop<W: Wait>(&self, rt: &W, node: Proc) -> Result<(), Fault>
@@ -254,21 +276,25 @@ impl<O: Object, K: BookName<O::Alloc>> HostOf<Cell<O, K>, Book<O, K>, O::Alloc> 
         Ok(())
     }
 
-    /// Returns the answer to the ticket's call if this host's book has it. Then some run of the group has the ticket's issue and
-    /// this answer to it. It may stay `None` for ever, as where the node stops or the book is full; a caller bounds its polls. It
-    /// waits for the book's lock.
+    /// Returns the answer to the ticket's call if this host's book has it.
+    ///
+    /// If there is an answer, some run of the group issues the ticket and has this answer to it. The result may be
+    /// `None` forever, for example if the node stops or the book is full, so a caller should limit its polls. Waits for
+    /// the book's lock.
     ///
     /// Rules: The book and the threads 26
     pub fn poll<W: Wait>(&self, rt: &W, ticket: &HostTicket) -> Option<Answer>
         ensures { IfSome result (IsAnswered O.Alloc O.sequential K.name.group ticket.now.node ticket.now.ticket) }
     {
         let book = take(rt, &self.book);
-        // A law: no effect at run time. It gives the proof that the book's lines are a run of the group.
+        // A law: no effect at run time. It tells the proof that the book's lines are a run of the group.
         book.run_law();
         book.answer(ticket.node, ticket.ticket)
     }
 
-    /// Returns an empty cache for the node's answers, which [`poll_from`](HostOf::poll_from) fills. It takes no memory.
+    /// Returns an empty cache for the node's answers, which [`poll_from`](HostOf::poll_from) fills.
+    ///
+    /// Does not allocate.
     ///
     /// Rules: The book and the threads 26
     pub fn empty_answers(&self, node: Proc) -> AnswerCache<O, K>
@@ -277,9 +303,10 @@ impl<O: Object, K: BookName<O::Alloc>> HostOf<Cell<O, K>, Book<O, K>, O::Alloc> 
         AnswerCache::none(self.alloc, node)
     }
 
-    /// Looks up many answers under one lock. The book's answers to this ticket and to those of the same node behind it replace
-    /// the content of the cache. They end before the first ticket without an answer, and at 64. They may also end early where
-    /// memory refused room for them.
+    /// Looks up many answers under one lock.
+    ///
+    /// The book's answers to `ticket` and to the later tickets of the same node replace the contents of the cache. They
+    /// end before the first ticket without an answer, and at 64. They also end early if an allocation fails.
     ///
     /// Rules: The book and the threads 26
     pub fn poll_from<W: Wait>(&self, rt: &W, ticket: &HostTicket, answers: &mut AnswerCache<O, K>)
@@ -291,8 +318,10 @@ impl<O: Object, K: BookName<O::Alloc>> HostOf<Cell<O, K>, Book<O, K>, O::Alloc> 
         answers.look(&book, ticket);
     }
 
-    /// Submits a call under the node's lock and the book's. It holds the book's lock from the reservation to the line: taking the
-    /// lock twice would take longer than the submit in between.
+    /// Submits a call under the node's lock and the book's.
+    ///
+    /// It holds the book's lock from the reservation to the line: taking it twice would cost more time than the submit
+    /// in between.
     fn submit_locked<W: Wait>(
         &self,
         rt: &W,

@@ -18,19 +18,21 @@ use std::sync::Wait;
 use std::thread;
 use std::time::Duration;
 
-/// At full speed a node yields after each empty turn, up to this one in a row.
+/// At full speed a node yields after each of this number of empty turns in a row.
 const EMPTY_TURNS_TO_SHORT_SLEEP: u64 = 50;
 
-/// At full speed a node then sleeps after each further empty turns of this number, and looks at once after the others.
+/// After that, at full speed, one empty turn in this number is followed by a sleep, and the others by no wait.
 const EMPTY_TURNS_PER_SHORT_SLEEP: u64 = 10;
 
-/// The longest sleep of node 1 at full speed, in microseconds. That of another node is longer by as much as it yields more often.
+/// The longest sleep of node 1 at full speed, in microseconds.
+///
+/// Another node's is longer in proportion to its yields.
 const SHORT_SLEEP_MICROS: u64 = 50;
 
-/// Under `PacedGate` a node sleeps after this one of the empty turns in a row.
+/// Under `PacedGate` a node sleeps after this number of empty turns in a row.
 const EMPTY_TURNS_TO_SLEEP: u64 = 50;
 
-/// Under `PacedGate` a node sleeps again after each further empty turns of this number.
+/// Under `PacedGate` a node sleeps again after each further such number of empty turns.
 const EMPTY_TURNS_PER_SLEEP: u64 = 200;
 
 /// The length of a slice of a sleep under `PacedGate`, in microseconds.
@@ -39,8 +41,8 @@ const SLEEP_SLICE_MICROS: u64 = 200;
 /// The length of a slice of a nap, in milliseconds.
 const NAP_SLICE_MILLIS: u64 = 1;
 
-/// A node's inbox: a bounded queue, an event count on which the node's thread sleeps until an item comes, and the pace of the
-/// node where it finds none.
+/// A node's inbox: a bounded queue, an event count on which the node's thread sleeps until an item comes, and the pace
+/// of the node while it finds none.
 ///
 /// Rules: The book and the threads 23 and 29
 #[derive(Drop)]
@@ -51,9 +53,11 @@ pub(crate) struct Inbox<A: Allocator + Copy + Drop = Global> {
 }
 
 impl<A: Allocator + Copy + Drop> Inbox<A> {
-    /// Makes an empty inbox with room for `size` items, at least 1.
+    /// Creates an empty inbox with room for `size` items.
     ///
-    /// Errors: `Memory` where an allocation fails.
+    /// `size` must be at least 1.
+    ///
+    /// Errors: `Memory` if an allocation fails.
     pub(crate) fn new(alloc: A, size: usize) -> Result<Inbox<A>, Fault>
         requires { 0 < size }
         ensures size { IfOk result (λ inbox. queue_capacity inbox.items ≡ size) }
@@ -67,8 +71,10 @@ impl<A: Allocator + Copy + Drop> Inbox<A> {
         })
     }
 
-    /// Adds an item at the end and wakes a sleeping thread. Returns whether there was room; a full inbox drops the item. The item
-    /// is a copy of the outbox's frame at this index.
+    /// Adds an item at the end and wakes a sleeping thread.
+    ///
+    /// Returns whether there was room; a full inbox drops the item. `item` must be a copy of the outbox's frame at
+    /// `index`.
     ///
     /// Rules: The book and the threads 23
     pub(crate) fn push<W: Wait>(
@@ -83,15 +89,15 @@ impl<A: Allocator + Copy + Drop> Inbox<A> {
         // Only the contract uses these.
         let (_, _) = (outbox, index);
         let is_pushed = self.items.push(rt, item).is_ok();
-        // Read after the push: a thread that wants to sleep counts itself as a waiter before it looks for items. So no item is
-        // overlooked.
+        // Read after the push: a thread that wants to sleep counts itself as a waiter before it looks for items. So no
+        // item is missed.
         if self.event_count.has_waiters() {
             self.event_count.notify_all();
         }
         is_pushed
     }
 
-    /// Removes and returns the first item, or returns `None` where the inbox is empty.
+    /// Removes and returns the first item, or returns `None` if the inbox is empty.
     ///
     /// Rules: The book and the threads 23
     pub(crate) fn pop<W: Wait>(&self, rt: &W) -> Option<InboxFrame<A>> {
@@ -150,7 +156,9 @@ impl<A: Allocator + Copy + Drop> Inbox<A> {
         }
     }
 
-    /// Waits for a slice of a nap. An item ends the wait, and the slice begins anew after it.
+    /// Waits for a slice of a nap.
+    ///
+    /// An item ends the wait, and the slice restarts after it.
     fn wait_for_slice<W: Wait>(&self, rt: &W) {
         self.wait_for_item(rt, Duration::from_millis(NAP_SLICE_MILLIS));
         if self.items.is_empty() {
@@ -158,8 +166,9 @@ impl<A: Allocator + Copy + Drop> Inbox<A> {
         }
     }
 
-    /// Sleeps until an item comes, at most for this duration; returns at once where an item is there. It may also return for no
-    /// reason.
+    /// Sleeps until an item comes, for at most the duration `most`.
+    ///
+    /// Returns at once if there is an item. May also return spuriously.
     ///
     /// Rules: The book and the threads 29
     fn wait_for_item<W: Wait>(&self, rt: &W, most: Duration) {

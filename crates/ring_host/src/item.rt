@@ -15,7 +15,9 @@ use ring_book::FrameRef;
 use ring_wire::Frame;
 use std::alloc::{Allocator, Global};
 
-/// A frame in an inbox: its bytes, and the reference to its place in the book. The book checks that the two belong together.
+/// A frame in an inbox: its bytes, and a reference to its place in the book.
+///
+/// The book checks that the two belong together.
 ///
 /// Rules: The book and the threads 23
 #[derive(Drop)]
@@ -39,22 +41,24 @@ pub(crate) enum TaskKind {
     Other,
 }
 
-/// The task of a turn. The frame that came is read into a place of the turn and never moved.
+/// The task of a turn.
+///
+/// A received frame is decoded into a variable of the turn and never moved.
 ///
 /// Rules: The book and the threads 21
 #[derive(Drop)]
 pub(crate) enum Task<A: Allocator + Copy + Drop = Global> {
     /// A timeout of this kind, which is due.
     Timeout(Kind),
-    /// A frame that came: its encoding, and the reference to its place in the book.
+    /// A received frame: its encoding, and the reference to its place in the book.
     Received(Vec<u8, A>, FrameRef),
 }
 
 impl<A: Allocator + Copy + Drop> Task<A> {
     /// Reads the item's frame into `place` and returns the task.
     ///
-    /// Errors: `Stranger` for bytes that don't encode a frame: they are in no book, so this is the book's refusal. `Memory` may
-    /// come instead. The content of `place` is then unspecified.
+    /// Errors: `Stranger` if the bytes don't encode a frame: no book has them, so this is the fault with which a book
+    /// would refuse them. `Memory` if an allocation fails. The contents of `place` are then unspecified.
     ///
     /// Rules: The book and the threads 21; Refusals 2 and 4
     pub(crate) fn read(
@@ -75,7 +79,9 @@ impl<A: Allocator + Copy + Drop> Task<A> {
         }
     }
 
-    /// Returns the task's kind; `place` has the frame of a task that has one.
+    /// Returns the task's kind.
+    ///
+    /// `place` must have the frame of a task that has one.
     ///
     /// Rules: The book and the threads 29 and 31
     pub(crate) fn task_kind(&self, place: &Option<Frame<A>>) -> TaskKind
@@ -88,7 +94,7 @@ impl<A: Allocator + Copy + Drop> Task<A> {
     }
 }
 
-/// Reads the frame that all the bytes encode into the place.
+/// Decodes the bytes, which must all be one frame, into `place`.
 fn read_frame<A: Allocator + Copy>(
     alloc: A,
     bytes: &[u8],

@@ -1,5 +1,6 @@
-//! Runs the nodes of a book on threads. Each node's cell has a lock and an inbox; the book has a lock; a gauge holds the
-//! committed lengths.
+//! The nodes of a book on threads.
+//!
+//! Each node's cell has a lock and an inbox; the book has a lock; a gauge holds the committed lengths.
 //!
 //! Rules: The book and the threads 19 to 36; Limits 3
 #![tactic(auto)]
@@ -29,7 +30,9 @@ pub use ring_book::{Book, BookName, Cause, Opening, linear_law};
 pub use ring_seat::{Gauge, Seat};
 pub use turn::Turn;
 
-/// The largest size of an inbox, in items, and the size that [`HostOf::new`] gives. A full inbox drops what is pushed to it.
+/// The maximum number of items of an inbox, and the number for which [`HostOf::new`] allocates.
+///
+/// A full inbox drops what is pushed to it.
 ///
 /// Rules: The book and the threads 23; Limits 1 and 2
 pub const INBOX: usize = 1024;

@@ -28,8 +28,8 @@ const NOWHERE: FrameRef = FrameRef { line: 0, place: 0 };
 
 /// Reserves a place for the task's line and returns it.
 ///
-/// Errors, in this order: `Stranger` exactly where the task's frame isn't in the book for the node; `BookFull`; `Memory`. The
-/// book is then as before.
+/// Errors, in this order: `Stranger` exactly if the task's frame isn't in the book for the node; `BookFull`; `Memory`
+/// if an allocation fails. The book is then unchanged.
 ///
 /// Rules: The book and the threads 21 and 22
 pub(crate) fn check_and_reserve<O: Object, K: BookName<O::Alloc>>(
@@ -49,7 +49,9 @@ pub(crate) fn check_and_reserve<O: Object, K: BookName<O::Alloc>>(
     book.reserve()
 }
 
-/// Refuses with `Stranger` exactly where the task's frame isn't in the book for the node.
+/// Checks that the task's frame, if it has one, is in the book for the node.
+///
+/// Errors: `Stranger` exactly if it isn't.
 fn check_task<O: Object, K: BookName<O::Alloc>>(
     book: &mut Book<O, K>,
     node: Proc,
@@ -65,9 +67,11 @@ fn check_task<O: Object, K: BookName<O::Alloc>>(
     }
 }
 
-/// Steps the node on the task. `received` has the frame that was read from the bytes of a task that has one.
+/// Steps the node on the task.
 ///
-/// Errors: `Stranger`, `Stopped` and `Memory` as [`Cell::step`], in this order.
+/// `received` must have the frame that was decoded from the bytes of a task that has one.
+///
+/// Errors: `Stranger`, `Stopped` and `Memory` as for [`Cell::step`], in this order.
 ///
 /// Rules: The book and the threads 21
 pub(crate) fn step_cell<O: Object, K: BookName<O::Alloc>>(
@@ -92,7 +96,9 @@ pub(crate) fn step_cell<O: Object, K: BookName<O::Alloc>>(
     }
 }
 
-/// Steps the node on a timeout. A function of its own keeps the stack slot of the `Input` out of its caller.
+/// Steps the node on a timeout.
+///
+/// A function of its own keeps the stack slot of the `Input` out of its caller.
 #[inline(never)]
 fn time_out<O: Object, K: BookName<O::Alloc>>(
     cell: &mut Cell<O, K>,
@@ -106,10 +112,12 @@ fn time_out<O: Object, K: BookName<O::Alloc>>(
     cell.step(Input::Timeout(kind), NOWHERE)
 }
 
-/// Stops the cell's node, for good. It takes no memory.
+/// Stops the cell's node, for good.
 ///
-/// Errors, in this order: `Stranger` while the cell's last step isn't entered; `Stopped` in a stopped node. Nothing has changed
-/// then.
+/// Does not allocate.
+///
+/// Errors, in this order: `Stranger` while the cell's last step isn't entered; `Stopped` if the node had already
+/// stopped. Nothing has changed then.
 ///
 /// Rules: The book and the threads 25
 pub(crate) fn stop_cell<O: Object, K: BookName<O::Alloc>>(
@@ -123,10 +131,12 @@ pub(crate) fn stop_cell<O: Object, K: BookName<O::Alloc>>(
     cell.step(Input::Stop, NOWHERE)
 }
 
-/// Enters the cell's line and copies its frames into the outbox, or releases the place. Returns the number of frames that the
-/// line sent. `stepped` is the result of the cell's step.
+/// Enters the cell's line and copies its frames into the outbox, or releases the place.
 ///
-/// Errors: that of `stepped`; a step refused for want of memory is entered as a stop. `Stranger` where the line can't be entered.
+/// Returns the number of frames that the line sent. `stepped` is the result of the cell's step.
+///
+/// Errors: that of `stepped`; a step refused because an allocation failed is entered as a stop. `Stranger` if the line
+/// can't be entered.
 ///
 /// Rules: The book and the threads 21 and 22
 pub(crate) fn finish_step<O: Object, K: BookName<O::Alloc>>(
@@ -157,9 +167,11 @@ pub(crate) fn finish_step<O: Object, K: BookName<O::Alloc>>(
     }
 }
 
-/// Enters the cell's line and copies its frames into the outbox. Returns the number of frames that the line sent.
+/// Enters the cell's line and copies its frames into the outbox.
 ///
-/// Errors: `Stranger` where no line can be entered; the place is then released.
+/// Returns the number of frames that the line sent.
+///
+/// Errors: `Stranger` if no line can be entered; the place is then released.
 fn enter_in<O: Object, K: BookName<O::Alloc>>(
     book: &mut Book<O, K>,
     place: Place,
@@ -178,8 +190,8 @@ fn enter_in<O: Object, K: BookName<O::Alloc>>(
         Ok(line) => {
             fill_outbox(line.number(), line.frames(), outbox);
             let sent = line.frames().len();
-            // Laws: no effect at run time. They give the proof that the lines are a run of the group, and that the node is as it
-            // leaves it.
+            // Laws: no effect at run time. They tell the proof that the lines are a run of the group, and that the
+            // node's state is the one after that run.
             book.run_law();
             book.node_law(cell);
             Ok(sent)
@@ -191,8 +203,9 @@ fn enter_in<O: Object, K: BookName<O::Alloc>>(
     }
 }
 
-/// Copies the frames of the line of this number into the outbox. A frame that memory refuses is left out, and its copies are
-/// counted as dropped.
+/// Copies the frames of line `number` into the outbox.
+///
+/// If an allocation for a frame fails, it is left out, and its copies are counted as dropped.
 fn fill_outbox<A: Allocator + Copy + Drop>(number: u32, frames: &Frames<A>, outbox: &mut Outbox<A>)
     ensures line { outbox.new.line ≡ number }
     ensures copies { AreCopiesOf frames.now (frames_in outbox.new) }

@@ -1,4 +1,4 @@
-//! Submits a call with the node's cell and the book locked.
+//! The submit of a call, with the node's cell and the book locked.
 //!
 //! Rules: The book and the threads 24
 
@@ -17,10 +17,12 @@ use ring_object::Object;
 use ring_payload::Call;
 use ring_session::Ticket;
 
-/// Reserves a place, submits the call at the node, enters its line, and returns the ticket. The call keeps the limits of frames.
+/// Reserves a place, submits the call at the node, enters its line, and returns the ticket.
 ///
-/// Errors, in this order: `BookFull`; `Memory` for the place; `Stranger`; `Stopped`; `PendingFull`; `Memory` for the call. The
-/// book is then as before.
+/// `call` must be within the limits of its format.
+///
+/// Errors, in this order: `BookFull`; `Memory` if an allocation for the place fails; `Stranger`; `Stopped`;
+/// `PendingFull`; `Memory` if an allocation for the call fails. The book is then unchanged.
 ///
 /// Rules: The book and the threads 24
 pub(crate) fn submit_call<O: Object, K: BookName<O::Alloc>>(
@@ -49,7 +51,9 @@ pub(crate) fn submit_call<O: Object, K: BookName<O::Alloc>>(
     }
 }
 
-/// Submits the call in a reserved place. The place stays reserved where the call is refused.
+/// Submits the call in a reserved place.
+///
+/// If the call is refused, the place stays reserved.
 fn enter_call<O: Object, K: BookName<O::Alloc>>(
     cell: &mut Cell<O, K>,
     book: &mut Book<O, K>,

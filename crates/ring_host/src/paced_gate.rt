@@ -15,7 +15,7 @@ use std::sync::Wait;
 use std::sync::atomic::{AtomicU64, Ordering};
 use std::time::Duration;
 
-/// A node rests after more quiet tokens than this since it last had something to do.
+/// A node rests once it has had more quiet tokens than this since it last had something to do.
 const QUIET_TOKENS_TO_REST: u64 = 100;
 
 /// The longest rest, in milliseconds.
@@ -24,19 +24,21 @@ const MAX_REST_MILLIS: u64 = 200;
 /// The rest of a node with calls that wait for an answer, in milliseconds.
 const SHORT_REST_MILLIS: u64 = 1;
 
-/// A gate under which a host that has nothing to do rests. A ring that idles at full speed fills the book within seconds.
+/// A gate under which a host that has nothing to do rests.
 ///
-/// A node *rests* once it has had more than 100 quiet tokens since it last had something to do. It then waits after each turn
-/// that isn't busy: at first for as many milliseconds as there are nodes, and for each further quiet token a millisecond longer,
-/// up to 200. A node with calls that have no answer waits for one millisecond: its ring lacks others, which it has to find. All
-/// rests end when a node of the host takes a submit or is stopped, and when the host closes. The nodes then run at full speed
-/// until they have been quiet for as long again.
+/// A ring that idles at full speed fills the book within seconds.
 ///
-/// Timeouts count turns, and an empty turn takes less than a microsecond. A node must not give up others whose threads wait for a
-/// processor, and a thread that yields waits longest where a machine is loaded. So a node that finds nothing doesn't yield. It
-/// *sleeps* after 50 turns in a row that find nothing, and after each further 200, until an item comes: node 1 for at most 2
-/// milliseconds, and each next node for 0.8 more. Node 1 gives up a ring that lost its token after some 190 sleeps. In Gather
-/// nodes nap as under [`OpenGate`](crate::OpenGate).
+/// A node *rests* once it has had more than 100 quiet tokens since it last had something to do. It then waits after
+/// each turn that isn't busy: at first for as many milliseconds as there are nodes, and for each further quiet token a
+/// millisecond longer, up to 200. A node with unanswered calls waits for one millisecond: its ring lacks other nodes,
+/// which it has to find. All rests end when a node of the host accepts a submit or is stopped, and when the host is
+/// closed. The nodes then run at full speed until they have been quiet for as long again.
+///
+/// Timeouts count turns, and an empty turn takes less than a microsecond. A node must not give up others whose threads
+/// wait for a processor, and a thread that yields waits longest on a loaded machine. So a node that finds nothing
+/// doesn't yield. It *sleeps* after 50 turns in a row that find nothing, and after each further 200, until an item
+/// comes: node 1 for at most 2 milliseconds, and each next node for 0.8 more. Node 1 gives up a ring that lost its
+/// token after some 190 sleeps. In Gather nodes nap as under [`OpenGate`](crate::OpenGate).
 ///
 /// Rules: The book and the threads 29
 #[derive(Drop)]
@@ -58,10 +60,11 @@ struct QuietCount {
 }
 
 impl<C, B, A: Allocator + Copy + Drop> HostOf<C, B, A> {
-    /// Makes the gate for this host's `run` under which nodes that have nothing to do rest. No quiet token is counted yet. The
-    /// gate waits by `rt`.
+    /// Creates a gate for this host's `run` under which nodes that have nothing to do rest.
     ///
-    /// Errors: `Memory` where an allocation fails.
+    /// No quiet token is counted yet. The gate waits with `rt`.
+    ///
+    /// Errors: `Memory` if an allocation fails.
     ///
     /// Rules: The book and the threads 29
     pub fn paced_gate<'a, W: Wait>(&'a self, rt: &'a W) -> Result<PacedGate<'a, W, A>, Fault>
@@ -87,8 +90,10 @@ impl<C, B, A: Allocator + Copy + Drop> HostOf<C, B, A> {
 }
 
 impl QuietCount {
-    /// Counts a turn that is over. Returns the length of the rest that is due, in milliseconds, or `None` where none is. `first`
-    /// is the length of the first rest, and `count` the number of notifications.
+    /// Counts a turn that has ended.
+    ///
+    /// Returns the length of the rest that is due, in milliseconds, or `None` if none is. `first` is the length of the
+    /// first rest, and `count` the number of notifications.
     fn rest_after(&self, activity: TurnActivity, count: u64, first: u64) -> Option<u64> {
         if activity == TurnActivity::Busy || self.count.load(Ordering::SeqCst) != count {
             self.count.store(count, Ordering::SeqCst);
@@ -111,8 +116,9 @@ impl<'a, W: Wait, A: Allocator + Copy + Drop> Gate for PacedGate<'a, W, A> {
     /// Does nothing: this gate holds a thread up only between its turns.
     fn at(&self, _node: Proc, _place: GatePlace) {}
 
-    /// Counts the turn, and waits where the node is to rest, to sleep or to nap, as [`PacedGate`] says. For a processor that the
-    /// host doesn't have it returns at once.
+    /// Counts the turn, and waits if the node has to rest, sleep or nap by the rules of [`PacedGate`].
+    ///
+    /// For a processor that the host doesn't have it returns at once.
     ///
     /// Rules: The book and the threads 29
     fn after_turn(&self, node: Proc, activity: TurnActivity) {

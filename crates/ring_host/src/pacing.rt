@@ -1,8 +1,8 @@
-//! How fast the turns of a node follow each other where it finds nothing to do.
+//! The pace of a node's turns while it finds nothing to do.
 //!
-//! Timeouts count turns, so the length of an empty turn decides when a node gives up others. Nodes of lower numbers are faster:
-//! the first one gives up those that are silent, and all agree with it before the next one's consensus timeout is due. Nodes in
-//! step would all give each other up together, again and again.
+//! Timeouts count turns, so the length of an empty turn decides when a node gives up others. Nodes of lower numbers are
+//! faster: the first one gives up those that are silent, and all agree with it before the next one's consensus timeout
+//! is due. Nodes in step would all give each other up together, again and again.
 //!
 //! Rules: The book and the threads 21 and 29
 
@@ -11,27 +11,29 @@ ghost use Rattle.std.specs.Prelude.{◌<◌, ◌≤◌};
 use ring_base::{Proc, State};
 use std::sync::atomic::{AtomicBool, AtomicU64, Ordering};
 
-/// The empty turns of a node in Gather, since the host was made, before its first nap. So its first join goes out at once.
+/// The empty turns of a node in Gather, since the host was made, before its first nap.
+///
+/// So its first join goes out at once.
 const EMPTY_TURNS_TO_NAP: u64 = 500;
 
-/// A node in Gather naps after each further empty turns of this number, whether in a row or not.
+/// A node in Gather naps after each further such number of empty turns, in a row or not.
 const EMPTY_TURNS_PER_NAP: u64 = 200;
 
 /// The length of node 1's naps and sleeps, in slices.
 const FIRST_SLICES: u64 = 10;
 
-/// The number of slices by which those of a node are longer than those of the node before it.
+/// The number of slices by which a node's naps and sleeps are longer than those of the node before it.
 const MORE_SLICES: u64 = 4;
 
 /// The number of yields by which an empty turn of a node at full speed is longer than that of the node before it.
 const MORE_YIELDS: u64 = 2;
 
-/// An empty turn: what it is in the pace of its node.
+/// The position of an empty turn in the pace of its node.
 #[derive(Clone, Copy, Debug, PartialEq, Eq)]
 pub(crate) enum EmptyTurn {
     /// It is one of the first in Gather, before any nap.
     Early,
-    /// It is outside Gather, and this one, from 1, of the empty turns in a row.
+    /// It is outside Gather, and has this position, from 1, among the empty turns in a row.
     InRow(u64),
     /// It is between two naps in Gather.
     BetweenNaps,
@@ -39,7 +41,7 @@ pub(crate) enum EmptyTurn {
     OfNap,
 }
 
-/// The pace of a node: its state, its calls that wait, and its empty turns, on which the length of its waits depends.
+/// The pace of a node: its state, its waiting calls and its empty turns, which determine the length of its waits.
 #[derive(Drop)]
 pub(crate) struct Pace {
     /// Whether the node was in Gather after its last step, as at the opening.
@@ -55,7 +57,7 @@ pub(crate) struct Pace {
 }
 
 impl Pace {
-    /// Makes the pace of a node that has taken no turn.
+    /// Creates the pace of a node that has taken no turn.
     pub(crate) fn new() -> Pace {
         Pace {
             is_gathering: AtomicBool::new(true),
@@ -66,8 +68,10 @@ impl Pace {
         }
     }
 
-    /// Records the state of the node after a step, and how many of its calls have no answer. A node that enters Gather naps at
-    /// once, so that it hears the others before a consensus timeout that was nearly due. One that has left Gather naps no more.
+    /// Records the state of the node after a step, and how many of its calls have no answer.
+    ///
+    /// A node that enters Gather naps at once, so that it hears the others before a consensus timeout that was nearly
+    /// due. One that has left Gather naps no more.
     pub(crate) fn note_step(&self, node: Proc, state: State, waiting: usize) {
         self.has_waiting_calls.store(waiting > 0, Ordering::SeqCst);
         self.in_row.store(0, Ordering::SeqCst);
@@ -85,7 +89,9 @@ impl Pace {
         self.has_waiting_calls.load(Ordering::SeqCst)
     }
 
-    /// Counts an empty turn of the node, and returns what it is. A join neither ends a nap nor puts it off.
+    /// Counts an empty turn of the node, and returns its position.
+    ///
+    /// A join neither ends a nap nor puts it off.
     pub(crate) fn count_empty_turn(&self, node: Proc) -> EmptyTurn {
         if self.slices_left.load(Ordering::SeqCst) > 0 {
             return EmptyTurn::OfNap;
@@ -125,7 +131,7 @@ pub(crate) fn slices_of(node: Proc) -> u64
     FIRST_SLICES + MORE_SLICES * nodes_before(node)
 }
 
-/// Returns the greatest number of yields after an empty turn of the node at full speed, 1 to 31.
+/// Returns the maximum number of yields after an empty turn of the node at full speed, 1 to 31.
 pub(crate) fn yields_of(node: Proc) -> u64
     ensures { result ≤ 31 }
 {

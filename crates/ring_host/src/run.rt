@@ -28,8 +28,9 @@ impl<O: Object, K: BookName<O::Alloc>> HostOf<Cell<O, K>, Book<O, K>, O::Alloc> 
         self.run_node(rt, seat, gate);
     }
 
-    /// Runs a node's turns until the host is closed, the node has stopped or the book is full. In the last two cases all rests
-    /// end.
+    /// Runs a node's turns until the host is closed, the node has stopped or the book is full.
+    ///
+    /// In the last two cases all rests end.
     fn run_node<W: Wait, G: Gate>(&self, rt: &W, seat: &mut Seat<O::Alloc>, gate: &G)
         requires { IsOwn self.now seat.old }
     {
@@ -53,19 +54,19 @@ impl<O: Object + Send, K: BookName<O::Alloc> + Send + Sync> HostOf<Cell<O, K>, B
 where
     O::Alloc: Send + Sync,
 {
-    /// Runs the nodes whose own seats these are, each on its own thread, one turn after the other. Returns when all threads have
-    /// ended.
+    /// Runs the nodes of these seats, each on its own thread, one turn after the other, and returns when all threads
+    /// have ended.
     ///
-    /// The seats are this host's; a seat of no node takes no turn. The threads report their turns to the gate. A thread ends
-    /// without a report once the host is closed, its node has stopped or the book is full. After `Stranger` and `Memory` it goes
-    /// on with its next turn.
+    /// The seats must be this host's. A seat of no node takes no turn. The threads report their turns to the gate. A
+    /// thread ends without a report once the host is closed, its node has stopped or the book is full. After `Stranger`
+    /// and `Memory` it goes on with its next turn.
     ///
     /// A book has 262,144 places. A ring that idles at full speed uses them up within seconds; under
-    /// [`PacedGate`](crate::PacedGate) it rests. [`read_book`](HostOf::read_book) borrows the book, whose `places` returns the
-    /// number used or reserved.
+    /// [`PacedGate`](crate::PacedGate) it rests. [`read_book`](HostOf::read_book) borrows the book, whose `places`
+    /// returns the number used or reserved.
     ///
-    /// Errors: `Memory` where a thread can't be started. The host is then closed, started threads end, and what they have entered
-    /// stays.
+    /// Errors: `Memory` if a thread can't be started. The host is then closed, started threads end, and what they have
+    /// entered stays.
     ///
     /// Rules: The book and the threads 27
     pub fn run<W: Threads + Wait + Sync, G: Gate + Sync>(

@@ -29,7 +29,7 @@ use ring_wire::Frame;
 use std::alloc::Allocator;
 use std::sync::Wait;
 
-/// The report of a turn's step, which was not refused.
+/// The report of a turn's step that succeeded.
 ///
 /// Rules: The book and the threads 21
 #[derive(Clone, Copy)]
@@ -37,15 +37,20 @@ pub(crate) struct StepReport {
     /// The node's committed length after the step, dropped places included.
     length: u64,
     task_kind: TaskKind,
-    /// The number of frames that its line sent. A token that the node ignores sends none.
+    /// The number of frames that its line sent.
+    ///
+    /// A token that the node ignores sends none.
     sent: usize,
     /// The number of copies of these that were dropped.
     dropped: u32,
     activity: TurnActivity,
 }
 
-/// Makes the report of a step on a task of this kind that sent `sent` frames; `node` is the node after it. No copy is dropped
-/// yet.
+/// Returns the report of a step on a task of this kind that sent `sent` frames.
+///
+/// `node` is the node after it.
+///
+/// No copy is dropped yet.
 fn step_report<O: Object>(node: &Node<O>, task_kind: TaskKind, sent: usize) -> StepReport
     ensures task_kind { result.task_kind ≡ task_kind }
     ensures sent { result.sent ≡ sent }
@@ -63,7 +68,9 @@ fn step_report<O: Object>(node: &Node<O>, task_kind: TaskKind, sent: usize) -> S
     }
 }
 
-/// Returns the gate's view of a step on a task of this kind that sent `sent` frames; `node` is the node after it.
+/// Returns the activity of a step on a task of this kind that sent `sent` frames.
+///
+/// `node` is the node after it.
 fn turn_activity<O: Object>(node: &Node<O>, task_kind: TaskKind, sent: usize) -> TurnActivity
     ensures { IsTurnActivity node.now task_kind sent result }
 {
@@ -99,8 +106,9 @@ fn note_step<A: Allocator + Copy + Drop>(seat: &mut Seat<A>, done: &StepReport)
     }
 }
 
-/// Returns the report of a turn from that of its step. For `None`, a turn that found nothing to do, no copy is dropped and there
-/// is no length.
+/// Returns the report of a turn from that of its step.
+///
+/// `None` stands for a turn that found nothing to do: it dropped no copy and has no length.
 ///
 /// Rules: The book and the threads 21
 pub(crate) fn turn_of(done: Option<StepReport>) -> Turn
@@ -130,14 +138,16 @@ impl<C, B, A: Allocator + Copy + Drop> HostOf<C, B, A> {
         gate.after_turn(node, TurnActivity::Nothing);
     }
 
-    /// Records the node's state after a step, and how many of its calls have no answer: its waits depend on these.
+    /// Records the node's state after a step and the number of its unanswered calls, on which its waits depend.
     fn note_step(&self, node: Proc, state: State, waiting: usize) {
         if let Some(inbox) = self.inboxes.get(node.number() as usize - 1) {
             inbox.note_step(node, state, waiting);
         }
     }
 
-    /// Pushes a copy of each frame to the inbox of each of its receivers. Returns the number of copies dropped.
+    /// Pushes a copy of each frame to the inbox of each of its receivers.
+    ///
+    /// Returns the number of copies dropped.
     fn send<W: Wait>(&self, rt: &W, outbox: &Outbox<A>) -> u32 {
         let mut dropped = outbox.dropped;
         for (index, outbox_frame) in outbox.frames.as_slice().iter().enumerate() {
@@ -150,8 +160,10 @@ impl<C, B, A: Allocator + Copy + Drop> HostOf<C, B, A> {
         dropped
     }
 
-    /// Pushes a copy of the outbox's frame at this index to the receiver's inbox. Returns false where the receiver is not of this
-    /// host, the inbox is full, or memory refuses the copy.
+    /// Pushes a copy of the outbox's frame at `index` to the receiver's inbox.
+    ///
+    /// Returns false if the receiver isn't one of this host's nodes, the inbox is full, or an allocation for the copy
+    /// fails.
     fn push<W: Wait>(&self, rt: &W, receiver: Proc, outbox: &Outbox<A>, index: usize) -> bool {
         let Some(inbox) = self.inboxes.get(receiver.number() as usize - 1) else {
             return false;
@@ -163,8 +175,9 @@ impl<C, B, A: Allocator + Copy + Drop> HostOf<C, B, A> {
     }
 }
 
-/// Makes the item for the outbox's frame at this index: a copy of its bytes, with its place in the book. Returns `None` where memory
-/// refuses the copy, or the outbox has no such frame.
+/// Makes the item for the outbox's frame at `index`: a copy of its bytes, with its place in the book.
+///
+/// Returns `None` if the outbox has no such frame, or an allocation for the copy fails.
 ///
 /// Rules: The book and the threads 21 and 23
 fn inbox_frame<A: Allocator + Copy + Drop>(
@@ -187,10 +200,11 @@ fn inbox_frame<A: Allocator + Copy + Drop>(
 }
 
 impl<O: Object, K: BookName<O::Alloc>> HostOf<Cell<O, K>, Book<O, K>, O::Alloc> {
-    /// Does one turn of the node whose own seat this is, and reports it to the gate. Returns the report of its step; `None` where
-    /// the turn found nothing to do.
+    /// Runs one turn of the seat's node, and reports it to the gate.
     ///
-    /// Errors: as [`turn`](HostOf::turn). The gate doesn't hear then that the turn is over.
+    /// Returns the report of its step, or `None` if the turn found nothing to do.
+    ///
+    /// Errors: as for [`turn`](HostOf::turn). The end of the turn isn't reported to the gate then.
     ///
     /// Rules: The book and the threads 21 and 22, 29 to 32
     pub(crate) fn gated_turn<W: Wait, G: Gate>(
@@ -218,8 +232,10 @@ impl<O: Object, K: BookName<O::Alloc>> HostOf<Cell<O, K>, Book<O, K>, O::Alloc> 
         turned
     }
 
-    /// Does a turn that the clock has counted, with the timeout that is due, if one is. A frame that comes is read into
-    /// `received`. Returns the report of the step; `None` where the turn found nothing to do.
+    /// Runs a turn that the clock has counted, with the timeout that is due, if one is.
+    ///
+    /// A received frame is decoded into `received`. Returns the report of the step, or `None` if the turn found nothing
+    /// to do.
     fn turn_at<W: Wait, G: Gate>(
         &self,
         rt: &W,
@@ -250,7 +266,7 @@ impl<O: Object, K: BookName<O::Alloc>> HostOf<Cell<O, K>, Book<O, K>, O::Alloc> 
         }
     }
 
-    /// Does the task of a turn: steps the node, sends the frames, publishes the length.
+    /// Performs the task of a turn: steps the node, sends the frames and publishes the length.
     fn run_task<W: Wait, G: Gate>(
         &self,
         rt: &W,
@@ -283,7 +299,9 @@ impl<O: Object, K: BookName<O::Alloc>> HostOf<Cell<O, K>, Book<O, K>, O::Alloc> 
         Ok(done)
     }
 
-    /// Steps the node under its lock, then sends the frames with no lock held. The outbox holds the frames in between.
+    /// Steps the node under its lock, then sends the frames with no lock held.
+    ///
+    /// The outbox holds the frames in between.
     fn step_and_send<W: Wait, G: Gate>(
         &self,
         rt: &W,
@@ -304,8 +322,9 @@ impl<O: Object, K: BookName<O::Alloc>> HostOf<Cell<O, K>, Book<O, K>, O::Alloc> 
         Ok(done)
     }
 
-    /// Reserves a place, steps the node and enters the line, under the node's lock. The line's frames go to the outbox. The
-    /// book's lock is held for the place and for the line, not for the step.
+    /// Reserves a place, steps the node and enters the line, under the node's lock.
+    ///
+    /// The line's frames go to the outbox. The book's lock is held for the place and for the line, not for the step.
     fn step<W: Wait, G: Gate>(
         &self,
         rt: &W,
@@ -364,9 +383,11 @@ impl<O: Object, K: BookName<O::Alloc>> HostOf<Cell<O, K>, Book<O, K>, O::Alloc> 
         check_and_reserve(&mut book, node, task)
     }
 
-    /// Locks the book and finishes the step as [`finish_step`] does. Returns the number of frames that the line sent.
+    /// Locks the book and finishes the step as [`finish_step`] does.
     ///
-    /// Errors: as [`finish_step`].
+    /// Returns the number of frames that the line sent.
+    ///
+    /// Errors: as for [`finish_step`].
     ///
     /// Rules: The book and the threads 21 and 22
     pub(crate) fn lock_and_finish_step<W: Wait>(

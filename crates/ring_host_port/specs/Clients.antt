@@ -19,12 +19,12 @@ pub record AreSeats (gauge : TableId) (nodes : ℕ) (seats : List SeatView) : Ty
 abbrev pub AreForAll : TableId → List SeatView → Type 0
 AreForAll gauge seats = AreSeats gauge (length seats) seats
 
--- The reason why no seats are taken: the list has fewer than the host has nodes, or memory is refused.
+-- The reason why no seats are taken: the list has fewer than the host has nodes, or an allocation fails.
 abbrev pub AreNotTaken : ℕ → List SeatView → Fault → Type 0
 AreNotTaken nodes seats fault = ((fault ≡ NotMember) × (length seats < nodes)) ⊎ ((fault ≡ Memory) × (nodes ≤ length seats))
 
--- The node that a client tries after `passed` others; node 1 follows the last. A `first` that is no node counts as one: 0 as 1,
--- and above the last node the count goes on from node 1.
+-- The node that a client tries after `passed` others; node 1 follows the last. A `first` that is no node is treated as
+-- one: 0 as 1, and above the last node the count goes on from node 1.
 abbrev pub node_after : ℕ → ℕ → ℕ → ℕ
 node_after nodes first passed = (first - 1 + passed) % nodes + 1
 

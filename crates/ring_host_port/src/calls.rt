@@ -1,4 +1,4 @@
-//! The order and the history of the calls of a group's clients, read from the host's book.
+//! The order and the history of the calls of a group's clients, read from a host's book.
 //!
 //! Rules: Sessions 9 to 11; The book and the threads 15
 
@@ -14,21 +14,26 @@ use ring_payload::Call;
 use std::alloc::{Allocator, Global};
 use std::sync::Wait;
 
-/// The calls of a group's clients in the host's book. They are those of a run of the group.
+/// The calls of a group's clients according to a host's book, which are those of a run of the group.
 ///
 /// Rules: Sessions 9 to 11
 #[derive(Drop)]
 pub struct ClientCalls<A: Allocator + Copy + Drop = Global> {
     /// The calls that take effect, in the one order, as far as some node had committed them when the book was read.
     pub order: Vec<Call<A>, A>,
-    /// The history: each issue of a call and each reply, in the order in which they happened. `order` is a linearization of it.
+    /// The history: each issue of a call and each reply, in the order in which they happened.
+    ///
+    /// `order` is a linearization of it.
     pub history: Vec<Item<A>, A>,
 }
 
-/// Returns the order and the history of the host's book, both read under one lock, so they belong to one run. It waits for the
-/// lock.
+/// Returns the order and the history of the host's book.
 ///
-/// Errors: `Memory` where an allocation fails.
+/// Both are read under one lock, so they belong to one run.
+///
+/// It waits for the lock.
+///
+/// Errors: `Memory` if an allocation fails.
 ///
 /// Rules: The book and the threads 15 and 26; Sessions 9 to 11
 pub fn calls_of<O: Object, K: BookName<O::Alloc>, W: Wait>(
@@ -49,7 +54,7 @@ pub fn calls_of<O: Object, K: BookName<O::Alloc>, W: Wait>(
 
 /// Returns the order and the history of a book.
 ///
-/// Errors: `Memory`.
+/// Errors: `Memory` if an allocation fails.
 fn calls_in_book<O: Object, K: BookName<O::Alloc>>(
     book: &Book<O, K>,
 ) -> Result<ClientCalls<O::Alloc>, Fault>
@@ -57,7 +62,8 @@ fn calls_in_book<O: Object, K: BookName<O::Alloc>>(
     ensures lines { IfOk result (AreOfLines O.sequential K.name.group book.now.lines) }
     ensures refused { IfErr result (λ fault. fault ≡ Memory) }
 {
-    // Laws: no effect at run time. They give the proof that the lines are a run, whose order is a linearization of its history.
+    // Laws: no effect at run time. They give the proof that the lines are a run, whose order is a linearization of its
+    // history.
     book.run_law();
     linear_law::<O>();
     let order = book.order()?;

@@ -1,4 +1,4 @@
-//! Makes clients that have a port to each node of a host.
+//! Clients that have a port to each node of a host.
 //!
 //! Rules: Clients 1; The book and the threads 28
 
@@ -14,11 +14,13 @@ use ring_host::{BookName, Host, Seat};
 use ring_object::Object;
 use std::sync::Wait;
 
-/// Removes as many of the host's seats from the end of the list as the host has nodes, and returns them in the same order.
+/// Removes the last `nodes` seats from the list and returns them in the same order.
 ///
-/// `nodes` is exactly the host's number of nodes: a client has a port to each node, and each port takes a seat.
+/// `nodes` must be the host's number of nodes: a client has a port to each node, and each port needs a seat. The seats
+/// must be the host's.
 ///
-/// Errors, in this order: `NotMember` where the list has fewer seats; `Memory`. The seats are then as before.
+/// Errors, in this order: `NotMember` if the list has fewer seats. `Memory` if an allocation fails. The seats are then
+/// unchanged.
 ///
 /// Rules: The book and the threads 28
 pub fn take_seats<O: Object, K: BookName<O::Alloc>>(
@@ -42,14 +44,16 @@ pub fn take_seats<O: Object, K: BookName<O::Alloc>>(
     Ok(seats.split_off(seats.len() - count)?)
 }
 
-/// Makes the client of this number, before its first call, with a port to each node. It tries the node `first`, then the others
-/// in order, with node 1 after the last. Each port takes one of the seats, and nothing was submitted at it. The client polls a
-/// node at most 1,000,000 times a call.
+/// Creates client `number`, before its first call, with a port to each node.
 ///
-/// A `first` that isn't the number of a node is not refused. 0 counts as 1; past the last node the count goes on with node 1, so
-/// 5 of three nodes is node 2.
+/// It tries node `first`, then the others in order, with node 1 after the last, and polls a node at most 1,000,000
+/// times a call. Each port uses one of the seats, and nothing has been submitted at it. There must be as many seats as
+/// nodes.
 ///
-/// Errors: `Memory` where an allocation fails.
+/// A `first` that isn't the number of a node is not refused. 0 is treated as 1. After the last node the count starts
+/// again at node 1: of three nodes, 5 is node 2.
+///
+/// Errors: `Memory` if an allocation fails.
 ///
 /// Rules: Clients 1; The book and the threads 28
 pub fn client_of<'a, O: Object, K: BookName<O::Alloc>, W: Wait>(
@@ -70,9 +74,9 @@ pub fn client_of<'a, O: Object, K: BookName<O::Alloc>, W: Wait>(
     Ok(Client::new(alloc, number, ports, POLLS))
 }
 
-/// Fills the empty list with a port to each node, in order from the node `first` on, each with one of the seats.
+/// Appends a port to each node, in order from node `first` on, each with one of the seats, to the empty list `ports`.
 ///
-/// Errors: `Memory`.
+/// Errors: `Memory` if an allocation fails.
 fn add_ports<'a, O: Object, K: BookName<O::Alloc>, W: Wait>(
     rt: &'a W,
     host: &'a Host<O, K>,
@@ -95,7 +99,7 @@ fn add_ports<'a, O: Object, K: BookName<O::Alloc>, W: Wait>(
     Ok(())
 }
 
-/// Returns the node that a client tries after `passed` others; `first` is the client's first node.
+/// Returns the node that a client tries after `passed` others, if its first node is `first`.
 fn node_after(nodes: u8, first: u8, passed: u8) -> u8
     requires { 1 ≤ nodes }
     ensures { result ≡ node_after nodes first passed }

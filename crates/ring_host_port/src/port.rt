@@ -20,30 +20,30 @@ use std::sync::Wait;
 use std::thread::{self, Parker};
 use std::time::Duration;
 
-/// The number of polls of one call without an answer after which a port starts to sleep.
+/// The number of polls of one call after which a port begins to sleep.
 const POLLS_TO_SLEEP: u64 = 1_000;
 
-/// Once it has started, a port sleeps at every poll of a call whose number this divides.
+/// The number of polls from one sleep to the next, once a port has begun to sleep.
 const POLLS_PER_SLEEP: u64 = 10;
 
-/// A port looks at the book at every poll of a call whose number this divides, also where its node has committed nothing new.
+/// The number of polls of a call between two looks at the book while the port's node commits nothing new.
+///
+/// Rules: The book and the threads 26
 const POLLS_PER_LOOK: u64 = 64;
 
 /// The length of a sleep, in microseconds.
 const SLEEP_MICROS: u64 = 50;
 
-/// The greatest number of polls that a client on a thread makes at one node for one call, before it tries the next node.
+/// The maximum number of polls that a client on a thread makes at one node for one call, before it tries the next node.
 ///
 /// Rules: Clients 4; The book and the threads 28
 pub const POLLS: u64 = 1_000_000;
 
-/// A port to a node of a host, with a seat of that host. Its calls wait for the host's locks, so it borrows the runtime.
+/// A port to a node of a host, with a seat of that host.
 ///
-/// A poll that finds no answer yields to the nodes' threads. From the thousandth poll of a call on, each tenth also sleeps for 50
-/// microseconds, so that a call outlasts the sleeps of its nodes. One look at the book serves 64 tickets of the port's node.
-///
-/// Errors of a submit, in this order: `OpTooLong` over 1,024 bytes; `NumberGap` for number 0; `Memory` for the call's copy; then
-/// those of the host's `submit` at the port's node.
+/// Its calls wait for the host's locks, so it borrows the runtime. A poll that finds no answer yields to the nodes'
+/// threads. From the thousandth poll of a call on, every tenth also sleeps for 50 microseconds, so that a call outlasts
+/// the sleeps of its nodes. One look at the book serves 64 tickets of the port's node.
 ///
 /// Rules: Clients 2; The book and the threads 26
 #[derive(Drop)]
@@ -60,7 +60,8 @@ pub struct HostPort<'a, O: Object, K: BookName<O::Alloc>, W: Wait> {
     ghost fits: { (seat.gauge ≡ host.now) × (node ≤ host.now.words) },
 }
 
-/// A look at the book: its ticket, whether that is the port's node's, and the node's committed length just before the look.
+/// A look at the book: its ticket, whether that ticket is of the port's node, and the node's committed length just
+/// before.
 #[derive(Drop)]
 struct PendingLook {
     ticket: u64,
@@ -69,8 +70,9 @@ struct PendingLook {
 }
 
 impl<'a, O: Object, K: BookName<O::Alloc>, W: Wait> HostPort<'a, O, K, W> {
-    /// Makes the port to this node of the host, before any submit. It uses one of the host's seats, which may be a node's own or
-    /// of no node.
+    /// Creates the port to `node` of the host, before any submit.
+    ///
+    /// `seat` must be one of the host's: a node's own or one of no node. `node` must be a node of the host.
     ///
     /// Rules: Clients 2
     pub fn new(
@@ -99,10 +101,11 @@ impl<'a, O: Object, K: BookName<O::Alloc>, W: Wait> HostPort<'a, O, K, W> {
         }
     }
 
-    /// Makes the port to the host's node of this number, counted from 1, with the last of these seats of the host, which it
-    /// removes.
+    /// Creates the port to node `number` of the host, counted from 1, with the last of `seats`, which it removes.
     ///
-    /// Errors: `NotMember` where the host has no such node, or no seat is left. The seats are then as before.
+    /// The seats must be the host's.
+    ///
+    /// Errors: `NotMember` if the host has no such node, or no seat is left. The seats are then unchanged.
     ///
     /// Rules: Clients 2; Refusals 1
     pub fn to(
@@ -145,8 +148,8 @@ impl<'a, O: Object, K: BookName<O::Alloc>, W: Wait> HostPort<'a, O, K, W> {
         self.host.submit(self.rt, &mut self.seat, self.node, call)
     }
 
-    /// Returns whether the last look at the book was for this ticket, of the port's node, and the node has committed nothing
-    /// since.
+    /// Returns whether the last look at the book was for this ticket, of the port's node, and the node has committed
+    /// nothing since.
     fn is_look_redundant(&self, ticket: &HostTicket, length: u64) -> bool {
         self.last_look.is_own
             && ticket.node == self.node
@@ -154,8 +157,10 @@ impl<'a, O: Object, K: BookName<O::Alloc>, W: Wait> HostPort<'a, O, K, W> {
             && self.last_look.length == length
     }
 
-    /// Returns the answer to the ticket, from the port's cache or by a look at the book. After a look in vain it looks again only
-    /// once the port's node has committed more, and at each 64th poll of the call.
+    /// Returns the answer to the ticket, from the port's cache or by a look at the book.
+    ///
+    /// After a look without success it looks again only once the port's node has committed more, and at each 64th poll
+    /// of the call.
     fn find(&mut self, ticket: &HostTicket) -> Option<Answer>
         ensures answered { IfSome result (IsAnswered O.Alloc O.sequential K.name.group ticket.now.node ticket.now.ticket) }
         ensures node { self.new.node ≡ self.old.node }
@@ -177,7 +182,7 @@ impl<'a, O: Object, K: BookName<O::Alloc>, W: Wait> HostPort<'a, O, K, W> {
         self.cache.answer(ticket)
     }
 
-    /// Yields to the nodes' threads, and sleeps at each tenth poll once a call waits for long.
+    /// Yields to the nodes' threads, and also sleeps at every tenth poll once a call has waited for long.
     fn wait(&self) {
         thread::yield_now();
         let polls = self.asked.polls;
@@ -186,7 +191,7 @@ impl<'a, O: Object, K: BookName<O::Alloc>, W: Wait> HostPort<'a, O, K, W> {
         }
     }
 
-    /// Records a poll for which the host returned `found`. Returns that answer if a client may see it.
+    /// Records a poll for which the host returned `found`, and returns that answer if a client may see it.
     fn note(&mut self, found: Option<Answer>) -> Option<Answer>
         ensures answer { result ≡ visible_answer found }
         ensures told { IfSome result IsClientVisible }
@@ -208,10 +213,11 @@ impl<'a, O: Object, K: BookName<O::Alloc>, W: Wait> Port for HostPort<'a, O, K, 
 
     /// Submits a copy of the call at the port's node and records it in `asked`.
     ///
-    /// Errors, in this order: `OpTooLong`, `NumberGap`, `Memory` for the copy, then those of
-    /// [`Host::submit`](ring_host::HostOf::submit).
+    /// Errors, in this order: `OpTooLong` if the operation has more than 1,024 bytes. `NumberGap` if the call's number
+    /// is 0. `Memory` if an allocation for the copy fails. Then those of [`Host::submit`](ring_host::HostOf::submit).
+    /// `asked` has the refusal.
     ///
-    /// Rules: Clients 2
+    /// Rules: Clients 2; The book and the threads 24
     fn submit(&mut self, call: &Call<O::Alloc>) -> Result<HostTicket, Fault>
         ensures ok { OnOk result (self.new.asked ≡ asked_after_submit call.now) }
         ensures refused { IfErr result (λ fault. self.new.asked ≡ asked_after_refusal fault (asked_after_submit call.now)) }
@@ -228,8 +234,10 @@ impl<'a, O: Object, K: BookName<O::Alloc>, W: Wait> Port for HostPort<'a, O, K, 
         submit
     }
 
-    /// Returns the answer to the ticket if the host's book has it and a client may see it. Then some run of the group has the
-    /// ticket's issue and this answer to it. Otherwise it returns `None`, after it has yielded and perhaps slept.
+    /// Returns the answer to the ticket if the host's book has it and a client may see it.
+    ///
+    /// Some run of the group then has the ticket's issue and this answer to it. Otherwise returns `None`, after it has
+    /// yielded and perhaps slept.
     ///
     /// Rules: Clients 2; The book and the threads 26
     fn poll(&mut self, ticket: &HostTicket) -> Option<Answer>
@@ -254,7 +262,7 @@ impl<'a, O: Object, K: BookName<O::Alloc>, W: Wait> Port for HostPort<'a, O, K, 
     }
 }
 
-/// Returns the answer that was found, if a client may see it.
+/// Returns the answer that was found, if there is one and a client may see it.
 fn visible_answer(found: Option<Answer>) -> Option<Answer>
     ensures value { result ≡ visible_answer found }
     ensures told { IfSome result IsClientVisible }

@@ -1,15 +1,20 @@
 //! Suggestions: the name that a misspelled word was perhaps meant to be.
+//!
 //! Formats: The command line
 
 use std::alloc::{AllocError, Global};
 use std::fmt;
 use strsim::osa_distance;
 
-/// The most edits, each one letter left out, added, changed or swapped with the next, from a word to the name that it may mean.
+/// The maximum number of edits from a word to the name that it may mean.
+///
+/// An edit leaves out, adds or changes one letter, or swaps it with the next.
 const MAX_EDITS: usize = 2;
 
-/// The name that a misspelled word was perhaps meant to be. It is displayed as the end of a sentence, and as nothing for
-/// `None`, where no name is close.
+/// The name that a misspelled word was perhaps meant to be.
+///
+/// It is displayed as the end of a sentence. `None`, if no name is close, is displayed as nothing.
+///
 /// Formats: The command line
 #[derive(Clone, Copy)]
 pub(crate) struct Suggestion<'a>(pub(crate) Option<&'a str>);
@@ -23,9 +28,12 @@ impl fmt::Display for Suggestion<'_> {
     }
 }
 
-/// Returns the name closest to the word, and the first of equally close names. A name counts only if at most two edits, and
-/// fewer than the name has bytes, lead from the word to it.
-/// Errors: only that memory is refused.
+/// Returns the name closest to the word, and the first of equally close names.
+///
+/// Only names at most two edits away from the word are considered, and fewer edits than the name has bytes.
+///
+/// Errors: `AllocError` if an allocation fails.
+///
 /// Formats: The command line
 pub(crate) fn closest_name<'a>(
     alloc: Global,

@@ -1,9 +1,11 @@
 //! The forms of lines, by their first words.
+//!
 //! Formats: Scripts
 
 use crate::word_meaning::WordMeaning;
 
 /// The words that follow the words of a form with fixed meanings.
+///
 /// Formats: Scripts
 #[derive(Clone, Copy, Debug, PartialEq, Eq)]
 pub(crate) enum TrailingWords {
@@ -16,6 +18,7 @@ pub(crate) enum TrailingWords {
 }
 
 /// The form of a line's words after the first.
+///
 /// Formats: Scripts
 #[derive(Clone, Copy)]
 pub(crate) struct LineForm {
@@ -30,8 +33,10 @@ pub(crate) const LINES: [&str; 9] = [
     "call", "deliver", "timeout", "noise", "stop", "cut", "heal", "pump", "show",
 ];
 
-/// Returns the form of a line whose first word this is. Returns `None` for `nodes`, for `votes`, and for a word with which
-/// no line begins.
+/// Returns the form of the lines whose first word is `word`.
+///
+/// Returns `None` for `nodes`, for `votes`, and for a word with which no line begins.
+///
 /// Formats: Scripts
 pub(crate) fn line_form(word: &str) -> Option<LineForm> {
     use WordMeaning::{Bytes, Client, Frame, Node, Number, Timeout, Turns};

@@ -1,4 +1,5 @@
 //! The head of a frame, as far as an explanation looks at it.
+//!
 //! Formats: Frames
 
 /// The bytes that every frame begins with.
@@ -7,10 +8,15 @@ pub(crate) const START: [u8; 2] = [0x54, 0x52];
 /// The number of bytes of a frame's head, up to its body.
 pub(crate) const HEAD_BYTES: usize = 8;
 
-/// The greatest version of a frame. The least is 1.
+/// The highest version of a frame.
+///
+/// The lowest is 1.
 pub(crate) const LAST_VERSION: u8 = 3;
 
-/// The fields of a frame's head behind the bytes that every frame begins with. They may have values that no frame has.
+/// The fields of a frame's head after its first two bytes.
+///
+/// Their values aren't checked.
+///
 /// Formats: Frames
 #[derive(Clone, Copy)]
 pub(crate) struct FrameHead {
@@ -23,8 +29,10 @@ pub(crate) struct FrameHead {
 }
 
 impl FrameHead {
-    /// Returns the head that these bytes begin with, whatever its first two bytes are. Returns `None` where there are fewer
-    /// than 8 bytes.
+    /// Returns the head that these bytes begin with, whatever its first two bytes are.
+    ///
+    /// Returns `None` if there are fewer than 8 bytes.
+    ///
     /// Formats: Frames
     pub(crate) fn of(bytes: &[u8]) -> Option<FrameHead> {
         if bytes.len() < HEAD_BYTES {
@@ -37,7 +45,9 @@ impl FrameHead {
         })
     }
 
-    /// Returns the name of the frame's kind, with its article. Returns `None` for a kind that no frame has.
+    /// Returns the name of the frame's kind, with its article.
+    ///
+    /// Returns `None` for a kind that no frame has.
     pub(crate) fn kind_name(self) -> Option<&'static str> {
         match self.kind {
             1 => Some("a message"),

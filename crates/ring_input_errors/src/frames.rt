@@ -1,4 +1,5 @@
-//! The reason why a file is not made of frames alone.
+//! The reason why a file isn't a sequence of frames.
+//!
 //! Formats: Frames; Listing frames; The command line
 
 use crate::frame_head::{FrameHead, HEAD_BYTES, LAST_VERSION, START};
@@ -6,15 +7,20 @@ use ring_base::{Fault, MAX_FRAME_BYTES};
 use ring_wire::Frame;
 use std::alloc::{AllocError, Global};
 
-/// The most bytes that are looked at to see whether they are text.
+/// The maximum number of bytes that are looked at to see whether they are text.
 const MAX_TEXT: usize = 64;
 
-/// The greatest length of a body, in bytes.
+/// The maximum length of a frame's body in bytes.
 const MAX_BODY_BYTES: u32 = MAX_FRAME_BYTES as u32 - HEAD_BYTES as u32;
 
-/// Explains in one sentence why the bytes aren't frames, one behind another: what stands where no further frame begins, and
-/// what was expected there. Returns `None` where they are frames.
-/// Errors: only that memory is refused.
+/// Explains in one sentence why the bytes aren't a sequence of frames.
+///
+/// The sentence says what follows the last frame, and what was expected there.
+///
+/// Returns `None` if they are frames.
+///
+/// Errors: `AllocError` if an allocation fails.
+///
 /// Formats: Frames; Listing frames
 pub fn frames_reason(alloc: Global, bytes: &[u8]) -> Result<Option<String>, AllocError> {
     let mut rest = bytes;
@@ -46,14 +52,16 @@ fn start_reason(alloc: Global, rest: &[u8]) -> Result<String, AllocError> {
     }
 }
 
-/// Returns the first two bytes where these are not the bytes that every frame begins with. Returns `None` for fewer bytes.
+/// Returns the first two bytes if they aren't those that every frame begins with.
+///
+/// Returns `None` if they are, or if there are fewer than two bytes.
 fn wrong_start(rest: &[u8]) -> Option<[u8; 2]> {
     let (first, second) = (*rest.first()?, *rest.get(1)?);
     let start = [first, second];
     (start != START).then_some(start)
 }
 
-/// Explains that the bytes, of which these are the first two, don't begin as a frame does.
+/// Explains that the bytes, whose first two are `start`, don't begin as a frame does.
 fn wrong_start_reason(alloc: Global, rest: &[u8], start: [u8; 2]) -> Result<String, AllocError> {
     if is_text(rest) {
         return String::from_str(
@@ -67,12 +75,12 @@ fn wrong_start_reason(alloc: Global, rest: &[u8], start: [u8; 2]) -> Result<Stri
     )
 }
 
-/// Returns whether the first bytes are characters, spaces and ends of lines alone.
+/// Returns whether the first 64 bytes are only visible ASCII characters, spaces and ends of lines.
 fn is_text(rest: &[u8]) -> bool {
     rest.iter().take(MAX_TEXT).all(|byte| byte.is_ascii_graphic() || byte.is_ascii_whitespace())
 }
 
-/// Explains why a frame with this head, and this number of bytes behind it in the file, is none.
+/// Explains why no frame can have this head, or the `left` bytes after it in the file.
 fn head_reason(alloc: Global, head: FrameHead, left: usize) -> Result<String, AllocError> {
     let FrameHead {
         version,

@@ -1,4 +1,5 @@
 //! Faults in the groups of a cut.
+//!
 //! Formats: Scripts
 
 use crate::comment::{COMMENT, is_comment};
@@ -9,9 +10,12 @@ use ring_base::{MAX_PROCESSORS, Proc, ProcSet};
 use std::alloc::{AllocError, Global};
 use std::str::Split;
 
-/// Takes the remaining words, and explains why they aren't the groups of a cut of this number of nodes. Returns `None`
-/// where no fault is found.
-/// Errors: only that memory is refused.
+/// Takes the remaining words, and explains why they aren't the groups of a cut of `nodes` nodes.
+///
+/// Returns `None` if no fault is found.
+///
+/// Errors: `AllocError` if an allocation fails.
+///
 /// Formats: Scripts
 pub(crate) fn groups_reason(
     alloc: Global,
@@ -67,7 +71,7 @@ fn member_reason(
     Ok(None)
 }
 
-/// Reports the first node that is in no group.
+/// Explains that a node is in no group, naming the first such node.
 fn missing_reason(alloc: Global, nodes: u8, seen: ProcSet) -> Result<Option<String>, AllocError> {
     for before in 0..nodes.min(MAX_PROCESSORS) {
         let number = before + 1;

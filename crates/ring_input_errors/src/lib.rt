@@ -1,7 +1,8 @@
-//! Explanations of faulty files, for people: what stands at the fault, what was expected there, and what was perhaps meant.
+//! Explanations of faulty files, for people: what was found at the fault, what was expected there, and what was perhaps
+//! meant.
 //!
-//! - Of a script: nothing here decides whether it is at fault. `ring_script` does, and finds the line.
-//! - Of a file of frames: where it goes on with no frame, its next bytes.
+//! - Of a script: `ring_script` decides whether it is at fault, and finds the line; this crate only explains it.
+//! - Of a file of frames: the bytes after the last frame are explained.
 //!
 //! Formats: Scripts; Frames; The command line
 #![tactic(auto)]

@@ -1,4 +1,5 @@
 //! The lines of a text, and their positions among the effective lines.
+//!
 //! Formats: Scripts
 
 ghost use Rattle.std.specs.Prelude.{◌≡◌, ◌==◌, position};
@@ -6,15 +7,17 @@ ghost use Rattle.std.specs.Prelude.{◌≡◌, ◌==◌, position};
 use ring_base::MAX_PROCESSORS;
 use ring_script::is_skipped;
 
-/// Returns the index of the first such byte.
+/// Returns the index of the first `byte` in the text, or `None` if there is none.
 fn place_of(text: &[u8], byte: u8) -> Option<usize>
     ensures { result ≡ position (λ other. other == byte) text.now }
 {
     text.iter().position(|other| *other == byte)
 }
 
-/// Splits off the first line of a text. Returns the line without its line feed, and the text after it. Returns `None` for
-/// an empty text.
+/// Splits off the first line of a text.
+///
+/// Returns the line without its line feed, and the text after it. Returns `None` for an empty text.
+///
 /// Formats: Scripts
 pub(crate) fn first_line(text: &[u8]) -> Option<(&[u8], &[u8])> {
     if text.is_empty() {
@@ -42,11 +45,15 @@ pub(crate) enum LinePosition {
 pub(crate) struct PositionedLine<'a> {
     /// The bytes of the line, without its line feed.
     pub(crate) line: &'a [u8],
-    /// The position of the line. A skipped line has that of the next effective line.
+    /// The position of the line.
+    ///
+    /// A skipped line has the position of the next effective line.
     pub(crate) line_position: LinePosition,
 }
 
-/// Returns the line of this number, counted from 1, and its position. Returns `None` where the text has fewer lines.
+/// Returns line `number`, counted from 1, and its position.
+///
+/// Returns `None` if the text has fewer lines.
 pub(crate) fn line_at(text: &[u8], number: u64) -> Option<PositionedLine<'_>> {
     let mut rest = text;
     let mut line_position = LinePosition::First;
@@ -64,7 +71,7 @@ pub(crate) fn line_at(text: &[u8], number: u64) -> Option<PositionedLine<'_>> {
     })
 }
 
-/// Returns the position of the effective line after this one.
+/// Returns the position of the next effective line, given a line at `line_position`.
 fn after(line_position: LinePosition, line: &[u8]) -> LinePosition {
     match line_position {
         LinePosition::First => LinePosition::Second(count_in(line)),
@@ -72,7 +79,9 @@ fn after(line_position: LinePosition, line: &[u8]) -> LinePosition {
     }
 }
 
-/// Returns N of a line `nodes N`, or the greatest N where it isn't such a line, since it is at fault itself then.
+/// Returns N of a line `nodes N`.
+///
+/// If it isn't such a line, the line itself is at fault, and the result is 16.
 fn count_in(line: &[u8]) -> u8 {
     let Ok(text) = str::from_utf8(line) else {
         return MAX_PROCESSORS;

@@ -1,9 +1,11 @@
 //! Lists of names, for people.
+//!
 //! Formats: The command line
 
 use std::fmt;
 
 /// Names, displayed in order as `a, b and c`.
+///
 /// Formats: The command line
 #[derive(Clone, Copy)]
 pub(crate) struct NameList<'a>(pub(crate) &'a [&'static str]);
@@ -19,7 +21,7 @@ impl fmt::Display for NameList<'_> {
     }
 }
 
-/// Returns what stands before the name at this index, given the index of the last.
+/// Returns the separator before the name at index `place`, given the index `last` of the last name.
 fn separator(place: usize, last: usize) -> &'static str {
     if place == 0 {
         ""

@@ -1,4 +1,5 @@
 //! Faults in the operation of a call.
+//!
 //! Formats: Scripts
 
 use crate::closest_name::closest_name;
@@ -14,9 +15,12 @@ use std::str::Split;
 /// The word that introduces an operation given by its bytes.
 const RAW: &str = "raw";
 
-/// Takes the remaining words, and explains why they aren't exactly one operation over this vocabulary. Returns `None` where
-/// no fault is found.
-/// Errors: only that memory is refused.
+/// Takes the remaining words, and explains why they aren't exactly one operation of the vocabulary `V`.
+///
+/// Returns `None` if no fault is found.
+///
+/// Errors: `AllocError` if an allocation fails.
+///
 /// Formats: Scripts
 pub(crate) fn operation_reason<V: Vocabulary>(
     alloc: Global,
@@ -36,7 +40,7 @@ pub(crate) fn operation_reason<V: Vocabulary>(
     }
 }
 
-/// Reports that the word is none of these operations, and lists them.
+/// Explains that the word is none of these operations, and lists them.
 fn unknown_reason(alloc: Global, forms: &'static [OperationForm], word: &str) -> Reason {
     let names = operation_names(alloc, forms)?;
     let meant = closest_name(alloc, word, names.as_slice())?;
@@ -47,7 +51,7 @@ fn unknown_reason(alloc: Global, forms: &'static [OperationForm], word: &str) ->
     )?))
 }
 
-/// Explains why the next words aren't just an operation's bytes.
+/// Explains why the remaining words aren't exactly one word with an operation's bytes.
 fn bytes_reason(alloc: Global, nodes: u8, words: &mut Split<'_, char>) -> Reason {
     match part_reason(alloc, nodes, WordMeaning::Operation, words)? {
         Some(reason) => Ok(Some(reason)),
@@ -55,7 +59,7 @@ fn bytes_reason(alloc: Global, nodes: u8, words: &mut Split<'_, char>) -> Reason
     }
 }
 
-/// Explains why the next words aren't just these arguments.
+/// Explains why the remaining words aren't exactly these arguments.
 fn arguments_reason(
     alloc: Global,
     nodes: u8,
@@ -70,7 +74,7 @@ fn arguments_reason(
     end_reason(alloc, words)
 }
 
-/// Returns the meaning of a word that is this argument.
+/// Returns the meaning of the word that gives this argument.
 fn part_of(argument: Argument) -> WordMeaning {
     match argument {
         Argument::Key => WordMeaning::Key,
@@ -79,7 +83,7 @@ fn part_of(argument: Argument) -> WordMeaning {
     }
 }
 
-/// Returns the first of these forms with this word.
+/// Returns the first of `forms` with the word `word`, or `None` if there is none.
 fn form_of(forms: &'static [OperationForm], word: &str) -> Option<OperationForm> {
     for form in forms {
         if form.word == word {

@@ -1,13 +1,17 @@
-//! Words as messages quote them.
+//! Words as quoted in messages.
+//!
 //! Formats: The command line
 
 use std::fmt;
 
-/// The most characters of a word that are shown.
+/// The maximum number of bytes of a word that are shown.
 const MAX_QUOTED: usize = 40;
 
-/// A word, displayed between backticks. Each byte that can't be seen is shown as `\x` and two digits. Two dots replace the
-/// bytes after the first 40.
+/// A word, displayed between backticks.
+///
+/// Each byte that isn't a visible ASCII character is shown as `\x` and two hex digits. Two dots replace the bytes after
+/// the first 40.
+///
 /// Formats: The command line
 #[derive(Clone, Copy)]
 pub struct QuotedWord<'a>(pub &'a str);

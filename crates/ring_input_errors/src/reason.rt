@@ -1,4 +1,5 @@
 //! The reason why a line is at fault.
+//!
 //! Formats: Scripts; The command line
 
 ghost use Rattle.std.specs.Prelude.{◌↔◌, IsNone, IfOk};
@@ -18,13 +19,18 @@ use ring_script::{MAX_SCRIPT_BYTES, Script, ScriptFault, Vocabulary};
 use std::alloc::{AllocError, Global};
 use std::str::Split;
 
-/// An explanation of the fault that was found, or `None` where none was. It is an error only where memory was refused.
+/// An explanation of the fault that was found, or `None` if none was.
+///
+/// It is an error only if an allocation failed.
 pub(crate) type Reason = Result<Option<String>, AllocError>;
 
-/// Explains in one sentence why the text isn't a script over this vocabulary. The sentence says what the line that
-/// `Script::parse_by` finds at fault contains, and what was expected there. A text of more than 1,048,576 bytes isn't a
-/// script. Returns `None` exactly where the text is a script.
-/// Errors: only that memory is refused.
+/// Explains in one sentence why the text isn't a script with the vocabulary `V`.
+///
+/// The sentence says what the line at fault, as `Script::parse_by` finds it, contains, and what was expected there. A
+/// text of more than 1,048,576 bytes isn't a script. Returns `None` exactly if the text is a script.
+///
+/// Errors: `AllocError` if an allocation fails.
+///
 /// Formats: Scripts; The command line
 pub fn reason_by<V: Vocabulary>(alloc: Global, text: &[u8]) -> Result<Option<String>, AllocError>
     ensures { IfOk result (λ reason. IsNone reason ↔ IsScript V.forms text.now) }
@@ -39,7 +45,7 @@ pub fn reason_by<V: Vocabulary>(alloc: Global, text: &[u8]) -> Result<Option<Str
     }
 }
 
-/// Explains why the line of this number, counted from 1, is at fault.
+/// Explains why line `line`, counted from 1, is at fault.
 fn line_reason<V: Vocabulary>(alloc: Global, text: &[u8], line: u64) -> Result<String, AllocError> {
     let found = match line_at(text, line) {
         Some(placed) => reason_at_position::<V>(alloc, placed)?,
@@ -54,13 +60,14 @@ fn line_reason<V: Vocabulary>(alloc: Global, text: &[u8], line: u64) -> Result<S
     }
 }
 
-/// Returns this text as an explanation.
-/// Errors: only that memory is refused.
+/// Returns a copy of this text as an explanation.
+///
+/// Errors: `AllocError` if an allocation fails.
 pub(crate) fn plain_reason(alloc: Global, words: &str) -> Reason {
     Ok(Some(String::from_str(alloc, words)?))
 }
 
-/// Explains why a line is at fault at its position.
+/// Explains why this line is at fault at its position.
 fn reason_at_position<V: Vocabulary>(alloc: Global, placed: PositionedLine<'_>) -> Reason {
     let PositionedLine {
         line,
@@ -80,7 +87,7 @@ fn reason_at_position<V: Vocabulary>(alloc: Global, placed: PositionedLine<'_>) 
     }
 }
 
-/// Explains a fault in the spaces between the words, before a comment, or at the line's end.
+/// Explains a fault in the spaces between words, in a comment's position, or at the end of the line.
 fn spacing_reason(line: &[u8]) -> Option<&'static str> {
     if line.last() == Some(&b'\r') {
         return Some("the line ends with a carriage return; a line feed alone ends a line");
@@ -103,7 +110,7 @@ fn spacing_reason(line: &[u8]) -> Option<&'static str> {
     None
 }
 
-/// Explains why these words are no line that may come at this position.
+/// Explains why the words of this line aren't allowed at this position.
 fn words_reason<V: Vocabulary>(alloc: Global, line_position: LinePosition, line: &str) -> Reason {
     let mut words = line.split(' ');
     let Some(first) = words.next() else {
@@ -133,7 +140,7 @@ fn first_reason(alloc: Global, first: &str, words: &mut Split<'_, char>) -> Reas
     }
 }
 
-/// Explains why the words after `votes` aren't one vote for each of this number of nodes.
+/// Explains why the words after `votes` aren't one vote for each of `nodes` nodes.
 fn votes_reason(alloc: Global, nodes: u8, words: &mut Split<'_, char>) -> Reason {
     for before in 0..nodes.min(MAX_PROCESSORS) {
         let node = before + 1;
@@ -149,7 +156,7 @@ fn votes_reason(alloc: Global, nodes: u8, words: &mut Split<'_, char>) -> Reason
     end_reason(alloc, words)
 }
 
-/// Explains why the words are no event.
+/// Explains why the words aren't a line that may follow `nodes` and `votes`.
 fn event_reason<V: Vocabulary>(
     alloc: Global,
     nodes: u8,
@@ -172,7 +179,7 @@ fn event_reason<V: Vocabulary>(
     }
 }
 
-/// Reports that no line begins with the word, and lists the words with which one may begin.
+/// Explains that no line begins with the word, and lists the words with which a line may begin.
 fn unknown_reason(alloc: Global, first: &str) -> Reason {
     let meant = closest_name(alloc, first, &LINES)?;
     let listed = NameList(&LINES);
@@ -196,7 +203,7 @@ fn form_reason<V: Vocabulary>(
     }
 }
 
-/// Explains why the next words aren't these parts.
+/// Explains why the next words don't have these meanings.
 fn parts_reason(
     alloc: Global,
     nodes: u8,
@@ -211,9 +218,12 @@ fn parts_reason(
     Ok(None)
 }
 
-/// Takes the next word, and explains why it can't have this meaning in a script of `nodes` nodes, or that it is missing.
-/// Returns `None` where the word can have it.
-/// Errors: only that memory is refused.
+/// Takes the next word, and explains why it can't have this meaning in a script of `nodes` nodes, or that it is
+/// missing.
+///
+/// Returns `None` if the word can have it.
+///
+/// Errors: `AllocError` if an allocation fails.
 pub(crate) fn part_reason(
     alloc: Global,
     nodes: u8,
@@ -230,7 +240,7 @@ pub(crate) fn part_reason(
     }
 }
 
-/// Reports that the word can't be this part.
+/// Explains that the word can't have the meaning `part`.
 fn mismatch_reason(alloc: Global, word: &str, part: WordMeaning, nodes: u8) -> Reason {
     if is_comment(word) {
         return plain_reason(alloc, COMMENT);
@@ -243,8 +253,11 @@ fn mismatch_reason(alloc: Global, word: &str, part: WordMeaning, nodes: u8) -> R
     Ok(Some(format!(in alloc; "{} is not {wanted}{meant}", QuotedWord(word))?))
 }
 
-/// Takes the next word, and reports that it is one too many. Returns `None` where no word is left.
-/// Errors: only that memory is refused.
+/// Takes the next word, and explains that it is one too many.
+///
+/// Returns `None` if no word is left.
+///
+/// Errors: `AllocError` if an allocation fails.
 pub(crate) fn end_reason(alloc: Global, words: &mut Split<'_, char>) -> Reason {
     match words.next() {
         Some(word) if is_comment(word) => plain_reason(alloc, COMMENT),

@@ -1,4 +1,5 @@
 //! The meanings that the words of a line have, and the words that each accepts.
+//!
 //! Formats: Scripts
 
 use ring_base::{Kind, MAX_FRAME_BYTES, MAX_PROCESSORS};
@@ -6,6 +7,7 @@ use ring_script::{MAX_NAME_BYTES, MAX_OPERATION, MAX_TURNS, is_name, timeout_nam
 use std::fmt;
 
 /// The meaning of a word in a line of a script.
+///
 /// Formats: Scripts
 #[derive(Clone, Copy, Debug, PartialEq, Eq)]
 pub(crate) enum WordMeaning {
@@ -48,8 +50,9 @@ pub(crate) fn timeout_names() -> [&'static str; 4] {
 }
 
 impl WordMeaning {
-    /// Returns the least and the greatest number allowed, in a script of this number of nodes. Returns `None` where the
-    /// word isn't a number within bounds.
+    /// Returns the least and the greatest number allowed, in a script of `nodes` nodes.
+    ///
+    /// Returns `None` if the meaning isn't a number with bounds.
     fn bounds(self, nodes: u8) -> Option<(u64, u64)> {
         match self {
             WordMeaning::Count => Some((1, u64::from(MAX_PROCESSORS))),
@@ -68,8 +71,9 @@ impl WordMeaning {
         }
     }
 
-    /// Returns whether the word may have this meaning in a script of this number of nodes: it has the form, and its number
-    /// is in range.
+    /// Returns whether the word may have this meaning in a script of `nodes` nodes: it has the form, and its number is
+    /// in range.
+    ///
     /// Formats: Scripts
     pub(crate) fn accepts(self, nodes: u8, word: &str) -> bool {
         if let Some((least, most)) = self.bounds(nodes) {
@@ -86,7 +90,7 @@ impl WordMeaning {
     }
 }
 
-/// Whether the word is one or more digits, without a leading zero except in `0` itself.
+/// Returns whether the word is one or more digits, without a leading zero except in `0` itself.
 fn is_decimal(word: &str) -> bool {
     let has_leading_zero = word.len() > 1 && word.starts_with("0");
     !word.is_empty()
@@ -94,7 +98,7 @@ fn is_decimal(word: &str) -> bool {
         && word.as_bytes().iter().all(|byte| byte.is_ascii_digit())
 }
 
-/// Whether the word encodes 1 to `most` bytes in hex, two digits each.
+/// Returns whether the word encodes 1 to `most` bytes in hex, two digits each.
 fn are_bytes(word: &str, most: usize) -> bool {
     let are_digits = word.as_bytes().iter().all(|byte| byte.is_ascii_hexdigit()
         && !byte.is_ascii_uppercase());
@@ -102,6 +106,7 @@ fn are_bytes(word: &str, most: usize) -> bool {
 }
 
 /// A description of the words that a meaning accepts, displayed with their range, as in `a node, 1 to 3`.
+///
 /// Formats: The command line
 #[derive(Clone, Copy)]
 pub(crate) struct ExpectedWord {
@@ -135,7 +140,7 @@ impl fmt::Display for ExpectedWord {
     }
 }
 
-/// Writes that at most this many bytes are expected.
+/// Writes that 1 to `most` bytes are expected.
 fn write_bytes<W: fmt::Write>(f: &mut fmt::Formatter<W>, most: usize) -> fmt::Result {
     write!(
         f,

@@ -15,8 +15,8 @@ pub record Gatherer : Type 0 where
 abbrev pub gathering_of : ℕ → ℕ → List Join → Gathering
 gathering_of proc_set fail_set counted_joins = record { proc_set = proc_set; fail_set = fail_set; counted_joins = counted_joins }
 
--- The summary of the counted joins: their senders and their greatest number. Each join has exactly the node's sets and is
--- from a processor.
+-- The summary of the counted joins: their senders and their greatest number. Each join has exactly the node's sets, and
+-- its sender is a processor.
 pub record HasJoinCounts (g : Gathering) (join_senders greatest_counted : ℕ) : Type 0 where
   pub senders_are : join_senders ≡ senders g.counted_joins
   pub greatest_is : greatest_counted ≡ greatest (map (λ (j : Join). j.number) g.counted_joins)

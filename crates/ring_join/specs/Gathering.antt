@@ -23,19 +23,19 @@ own_join me floor g = record { sender = me; number = floor; proc_set = g.proc_se
 
 -- Hearing
 
--- Whether both sets are the own.
+-- Whether both sets of the join equal the node's own.
 abbrev pub has_same_sets : Gathering → Join → Bool
 has_same_sets g j = (j.proc_set == g.proc_set) && (j.fail_set == g.fail_set)
 
--- Whether both sets are subsets of the own.
+-- Whether both sets of the join are subsets of the node's own.
 abbrev pub has_smaller_sets : Gathering → Join → Bool
 has_smaller_sets g j = within j.proc_set g.proc_set && within j.fail_set g.fail_set
 
--- Whether the join is the own one, or from a processor that was given up.
+-- Whether the join's sender is the node itself, or a processor that it has given up.
 abbrev pub is_own_or_failed : ℕ → Gathering → Join → Bool
 is_own_or_failed me g j = (j.sender == me) || has g.fail_set j.sender
 
--- Gather 4: a join with the own sets agrees, one with subsets of them is ignored, and any other widens them.
+-- Gather 4: a join with the node's own sets agrees, one with subsets of them is ignored, and any other widens them.
 abbrev pub join_effect : ℕ → Gathering → Join → JoinEffect
 join_effect me g j = if is_own_or_failed me g j then Ignored else if has_same_sets g j then Agrees else if has_smaller_sets g j then Ignored else Merges
 
@@ -43,7 +43,7 @@ join_effect me g j = if is_own_or_failed me g j then Ignored else if has_same_se
 abbrev pub agreed : Gathering → Join → Gathering
 agreed g j = record g { counted_joins = j ∷ g.counted_joins }
 
--- Gather 5: a sender that gave up this node is given up; otherwise those that it gave up are.
+-- Gather 5: a sender that has given up this node is given up; otherwise the processors that it has given up are.
 abbrev pub merged_fail_set : ℕ → Gathering → Join → ℕ
 merged_fail_set me g j = if has j.fail_set me then union g.fail_set (only j.sender) else union g.fail_set j.fail_set
 
@@ -51,7 +51,7 @@ merged_fail_set me g j = if has j.fail_set me then union g.fail_set (only j.send
 abbrev pub sets_merged : ℕ → Gathering → Join → Gathering
 sets_merged me g j = record { proc_set = union g.proc_set j.proc_set; fail_set = merged_fail_set me g j; counted_joins = [] }
 
--- Gather 5: if the join has the new own sets, its sender agrees.
+-- Gather 5: if the join has exactly the widened sets, its sender agrees.
 abbrev pub agreed_if_same : Gathering → Join → Gathering
 agreed_if_same g j = if has_same_sets g j then agreed g j else g
 
@@ -76,15 +76,15 @@ senders (j ∷ js) = union (only j.sender) (senders js)
 abbrev pub agreeing : ℕ → Gathering → ℕ
 agreeing me g = union (only me) (senders g.counted_joins)
 
--- The processors that are not given up.
+-- The processors of `proc_set` that are not given up.
 abbrev pub candidates : Gathering → ℕ
 candidates g = less g.proc_set g.fail_set
 
--- Gather 9: whether all of these agree.
+-- Gather 9: whether all candidates agree.
 abbrev pub has_consensus : ℕ → Gathering → Bool
 has_consensus me g = within (candidates g) (agreeing me g)
 
--- Gather 6: those that don't agree are given up, and agreement falls back to the node itself.
+-- Gather 6: the candidates that don't agree are given up, and agreement falls back to the node itself.
 abbrev pub silent_given_up : ℕ → Gathering → Gathering
 silent_given_up me g = record g { fail_set = union g.fail_set (less (candidates g) (agreeing me g)); counted_joins = [] }
 
@@ -111,14 +111,14 @@ AllAreProcs g = AllByRecursion (λ (j : Join). 1 ≤ j.sender) g.counted_joins
 
 -- Proposing
 
--- The greatest known ring number: the floor, or the greatest counted number.
+-- The greatest ring number that the node knows: its floor, or the greatest counted number.
 abbrev pub greatest_known : ℕ → Gathering → ℕ
 greatest_known floor g = max floor (greatest (map (λ (j : Join). j.number) g.counted_joins))
 
--- Gather 10: the new ring's number is one more.
+-- Gather 10: the number of a new ring is one more than that.
 abbrev pub new_number : ℕ → Gathering → ℕ
 new_number floor g = suc (greatest_known floor g)
 
--- Gather 10: with consensus the smallest candidate proposes, up to the greatest number.
+-- Gather 10: with consensus the smallest candidate proposes, if the new number is at most `MAX`.
 abbrev pub may_propose : ℕ → ℕ → Gathering → Bool
 may_propose me floor g = has_consensus me g && (smallest (candidates g) == me) && nat_le (new_number floor g) max_number

@@ -1,4 +1,5 @@
 //! The membership state of a node in Gather.
+//!
 //! Rules: Gather 1 to 6, 9, 10 and 14
 
 ghost use Rattle.std.specs.Prelude.{◌≡◌, ◌↔◌, true, [], IsTrue, IsSome, IfSome};
@@ -13,8 +14,11 @@ use ring_wire::{Ghost, Join, Proc, ProcSet, ghost_of};
 use std::alloc::AllocError;
 use std::marker::Model;
 
-/// The membership state of a node in Gather: the processors that it considers, the processors among them that it has
-/// given up, and the processors that agree with it on both sets. Contracts see a `Gatherer`, with each counted join.
+/// The membership state of a node in Gather.
+///
+/// It has the processors that the node considers, those among them that it has given up, and those that agree with it
+/// on both sets. Contracts see a `Gatherer`, with each counted join.
+///
 /// Rules: Gather 3
 #[derive(Drop)]
 pub struct Gather {
@@ -22,10 +26,10 @@ pub struct Gather {
     floor: u64,
     proc_set: ProcSet,
     fail_set: ProcSet,
-    /// The senders of the counted joins, and the greatest number of these joins.
+    /// The senders of the counted joins. `greatest_counted` is the greatest number of these joins, 0 if there are none.
     join_senders: ProcSet,
     greatest_counted: u64,
-    /// The counted joins: each has exactly the node's sets, and was heard since agreement last fell back to the node.
+    /// The counted joins. Each has exactly the node's sets, and was heard since agreement last fell back to the node.
     counted_joins: Ghost<[Join; 0]>,
 }
 
@@ -40,8 +44,11 @@ impl Model for Gather {
 }
 
 impl Gather {
-    /// Returns the state of node `me` as it enters Gather with these processors: none is given up, and only the node
-    /// itself agrees. `floor` is the greatest number of a ring that the node has taken part in.
+    /// Creates the state of node `me` as it enters Gather, with `proc_set` as the processors to consider.
+    ///
+    /// None of them is given up, and only the node itself agrees. `floor` is the greatest number of a ring that the
+    /// node has taken part in.
+    ///
     /// Rules: Gather 1
     pub fn new(me: Proc, floor: u64, proc_set: ProcSet) -> Gather
         ensures { result ≡ record { me = me; floor = floor; gathering = gathering_opening proc_set } }
@@ -57,8 +64,9 @@ impl Gather {
         }
     }
 
-    /// Returns the effect that the join has on this state, and changes nothing.
-    /// Rules: Gather 4
+    /// Returns the effect that the join would have on this state. Changes nothing.
+    ///
+    /// Rules: Gather 4 and 14
     pub fn join_effect(&self, join: &Join) -> JoinEffect
         ensures { result ≡ join_effect self.now.me self.now.gathering join.now }
     {
@@ -75,8 +83,10 @@ impl Gather {
     }
 
     /// Records that the sender of the join agrees, and counts the join's number.
-    /// That the join has exactly the node's `proc_set` and `fail_set` is the caller's condition.
-    /// Rules: Gather 3 and 4
+    ///
+    /// The join must have exactly the node's `proc_set` and `fail_set`.
+    ///
+    /// Rules: Gather 3, 4 and 14
     pub fn agree(&mut self, join: &Join)
         requires { has_same_sets self.old.gathering join.now ≡ true }
         ensures { self.new ≡ record self.old { gathering = agreed self.old.gathering join.now } }
@@ -87,9 +97,12 @@ impl Gather {
         self.greatest_counted = self.greatest_counted.max(join.number);
     }
 
-    /// Widens the node's sets by the sets of the join; agreement falls back to the node itself.
-    /// If the sets now equal the sets of the join, its sender agrees.
-    /// Rules: Gather 5
+    /// Widens the node's sets by those of the join. Agreement falls back to the node itself.
+    ///
+    /// If the widened sets equal those of the join, its sender agrees, and its number is counted. Whether the join has
+    /// this effect isn't checked: see [`join_effect`](Gather::join_effect).
+    ///
+    /// Rules: Gather 5 and 14
     pub fn merge_join(&mut self, join: &Join)
         ensures { self.new ≡ record self.old { gathering = join_merged self.old.me self.old.gathering join.now } }
     {
@@ -99,10 +112,12 @@ impl Gather {
         }
     }
 
-    /// Applies a join, as [`join_effect`](Gather::join_effect) says.
-    /// Returns whether `proc_set` or `fail_set` changed. The ring core uses `join_effect` as it decides, and
+    /// Applies a join, with the effect that [`join_effect`](Gather::join_effect) returns.
+    ///
+    /// Returns whether `proc_set` or `fail_set` changed. The ring core calls `join_effect` as it decides, and
     /// [`agree`](Gather::agree) or [`merge_join`](Gather::merge_join) as it acts.
-    /// Rules: Gather 4 and 5
+    ///
+    /// Rules: Gather 4, 5 and 14
     pub fn hear(&mut self, join: Join) -> bool
         ensures counted_joins { self.new ≡ record self.old { gathering = gathering_after_join (join_effect self.old.me self.old.gathering join) self.old.me self.old.gathering join } }
         ensures join_merged { IsTrue result ↔ (join_effect self.old.me self.old.gathering join ≡ Merges) }
@@ -121,9 +136,11 @@ impl Gather {
         }
     }
 
-    /// Adds each processor of `proc_set` that doesn't agree to `fail_set`.
-    /// Then agreement falls back to the node itself, even if nobody was added.
-    /// Rules: Gather 6
+    /// Gives up each processor of `proc_set` that doesn't agree, by adding it to `fail_set`.
+    ///
+    /// Then agreement falls back to the node itself, even if no processor was added.
+    ///
+    /// Rules: Gather 6 and 14
     pub fn give_up(&mut self)
         ensures { self.new ≡ record self.old { gathering = silent_given_up self.old.me self.old.gathering } }
     {
@@ -132,8 +149,10 @@ impl Gather {
         self.fail_set = self.fail_set.union(silent);
     }
 
-    /// Returns the processors that the node would form a ring with: `proc_set` less `fail_set`.
-    /// The node itself is one of them in every run.
+    /// Returns the processors with which the node would form a ring: `proc_set` less `fail_set`.
+    ///
+    /// In every run the node itself is one of them.
+    ///
     /// Rules: Gather 14
     pub fn candidates(&self) -> ProcSet
         ensures { result ≡ candidates self.now.gathering }
@@ -141,8 +160,10 @@ impl Gather {
         self.proc_set.less(self.fail_set)
     }
 
-    /// Returns the [`candidates`](Gather::candidates) if all of them agree, which is consensus, else `None`.
-    /// Rules: Gather 9
+    /// Returns the [`candidates`](Gather::candidates) if there is consensus, that is if all of them agree, otherwise
+    /// `None`.
+    ///
+    /// Rules: Gather 9 and 14
     pub fn agreed(&self) -> Option<ProcSet>
         ensures members { IfSome result (λ members. members ≡ candidates self.now.gathering) }
         ensures test { IsSome result ↔ (has_consensus self.now.me self.now.gathering ≡ true) }
@@ -155,8 +176,11 @@ impl Gather {
     }
 
     /// Returns the greatest ring number that the node knows: the greatest of its floor and the numbers of the counted
-    /// joins. A ring that it proposes has the next number.
-    /// Rules: Gather 10
+    /// joins.
+    ///
+    /// A ring that it proposes has the next number.
+    ///
+    /// Rules: Gather 10 and 14
     pub fn greatest_number(&self) -> u64
         ensures { result ≡ greatest_known self.now.floor self.now.gathering }
     {
@@ -164,7 +188,8 @@ impl Gather {
     }
 
     /// Returns the join that the node would send now, with its floor and its present sets.
-    /// Rules: Gather 2
+    ///
+    /// Rules: Gather 2 and 14
     pub fn my_join(&self) -> Join
         ensures { result ≡ own_join self.now.me self.now.floor self.now.gathering }
     {
@@ -194,7 +219,7 @@ impl Clone for Gather {
 }
 
 impl Gather {
-    /// Returns whether a join has the node's own sets.
+    /// Returns whether the join has exactly the node's own sets.
     fn has_sets_of(&self, join: &Join) -> bool
         ensures { result ≡ has_same_sets self.now.gathering join.now }
     {
@@ -209,7 +234,7 @@ impl Gather {
         ProcSet::only(self.me).union(self.join_senders)
     }
 
-    /// Agreement falls back to the node itself: no join is counted any more.
+    /// Lets agreement fall back to the node itself: no join is counted any more.
     fn fall_back(&mut self)
         ensures { self.new ≡ record self.old { gathering = record self.old.gathering { counted_joins = [] } } }
     {
@@ -218,8 +243,10 @@ impl Gather {
         self.counted_joins = ghost_of(&());
     }
 
-    /// Widens the sets by the sets of a join. If the sender gave up the node, the sender is given up. Otherwise the
-    /// processors that the sender gave up are given up. Agreement falls back.
+    /// Widens the sets by those of the join. Agreement falls back.
+    ///
+    /// If the sender has given up this node, only the sender is added to `fail_set`. Otherwise all processors that the
+    /// sender has given up are added.
     fn merge_sets(&mut self, join: &Join)
         ensures { self.new ≡ record self.old { gathering = sets_merged self.old.me self.old.gathering join.now } }
     {

@@ -14,7 +14,7 @@ left before after own nodes clients few enough taken all =
     let parts : length before ≡ length (after ++ own) = ap length taken in
     omega (arith, few, enough, all, parts, length-append after own)
 
--- The list has as many seats as a client takes, so only memory refuses them.
+-- The list has as many seats as a client takes, so only an allocation can fail.
 pub enough : {T : Type 0} (r : Result T Fault) (fault : Fault) (seats : List SeatView) (nodes clients : ℕ) → nodes ≤ 16
     → 16 * nodes ≤ length seats + 16 * clients → clients < nodes → IsErrAnd r (λ (f : Fault). f ≡ fault)
     → AreNotTaken nodes seats fault → IfErr r (λ f. f ≡ Memory)

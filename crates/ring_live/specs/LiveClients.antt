@@ -17,11 +17,12 @@ use Rattle.ring_things.specs.declared.replies.ReplyParts.{ReplyParts}
 pub record HasSeats {A : Type 0} (gauge : TableId) (live_client : LiveClient A) : Type 0 where
   pub seats : AreForAll gauge live_client.seats.items
 
--- The bytes of the read operation: the program's counters are 1 on its shelf, and the read is of key 0.
+-- The bytes of the operation that reads key 0 of the counters, which are the second object of the standard object's
+-- shelf.
 abbrev pub read_bytes : List ℕ
 read_bytes = 1 ∷ 2 ∷ 0 ∷ []
 
--- The count in the parts of a reply, 0 where there is none.
+-- The count in the parts of a reply, or 0 if there is none.
 abbrev pub count_of : Option ReplyParts → ℕ
 count_of (Some replied) = unwrap_or replied.value 0
 count_of None = 0
@@ -43,7 +44,7 @@ abbrev pub counter_of : {A : Type 0} → List (LiveClient A) → Result ℕ Faul
 counter_of [] = Err NotMember
 counter_of (first ∷ others) = first.counter
 
--- The first client's counter where the run was not refused, else the run's fault.
+-- The first client's counter if the run succeeded, otherwise the run's fault.
 abbrev pub counter_after : {A T : Type 0} → Result T Fault → List (LiveClient A) → Result ℕ Fault
 counter_after (Ok done) live_clients = counter_of live_clients
 counter_after (Err fault) live_clients = Err fault

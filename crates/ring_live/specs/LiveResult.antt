@@ -16,12 +16,12 @@ live_result_text live_result counter =
     line_of (codes "nodes " ++ decimal live_result.nodes) ++ line_of (codes "calls " ++ decimal live_result.calls) ++ line_of (codes "counter " ++ decimal counter)
     ++ line_of (legal_text live_result.is_legal)
 
--- The reason why a run is refused: there can't be this number of nodes; or there can, and memory is refused.
+-- The reason why a run is refused: there can't be this number of nodes; or there can, and an allocation fails.
 abbrev pub IsNotRun : ℕ → Fault → Type 0
 IsNotRun nodes fault = ((fault ≡ NotMember) × ¬ IsProc nodes) ⊎ ((fault ≡ Memory) × IsProc nodes)
 
--- The reason why a result isn't printed: its counter wasn't read, and the output is unchanged; or it was read, and the output
--- failed.
+-- The reason why a result isn't printed: its counter wasn't read, and the output is unchanged; or it was read, and the
+-- output failed.
 abbrev pub IsNotPrinted : {W : Type 0} → LiveResult → W → W → Failure → Type 0
 IsNotPrinted live_result old new (Refused fault) = (live_result.counter ≡ Err fault) × (new ≡ old)
 IsNotPrinted live_result old new Output = (counter : ℕ) × (live_result.counter ≡ Ok counter)

@@ -1,4 +1,4 @@
-//! Checks the history of a host's clients.
+//! A check of the history of a host's clients.
 //!
 //! Rules: Sessions 10
 
@@ -12,10 +12,12 @@ use ring_object::Object;
 use std::alloc::Allocator;
 use std::sync::Wait;
 
-/// Returns whether the order of the host's book is a linearization of its history. It always is; a checker decides it from order
-/// and history alone. Both are read at one moment, under the book's lock.
+/// Returns whether the order of the host's book is a linearization of its history.
 ///
-/// Errors: `Memory` where an allocation fails.
+/// It always is, and a checker decides it here from only the order and the history. Both are read at one moment, under
+/// the book's lock.
+///
+/// Errors: `Memory` if an allocation fails.
 ///
 /// Rules: Sessions 10
 pub fn is_legal<O: Object, K: BookName<O::Alloc>, W: Wait>(

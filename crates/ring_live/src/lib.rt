@@ -1,4 +1,4 @@
-//! A live run: nodes and clients on threads, the calls that were answered, and whether the history is legal. Prints the result.
+//! A live run: nodes and clients on threads, the calls that were answered, and whether the history is legal.
 //!
 //! Rules: The book and the threads 27 and 35; Sessions 10
 //! Formats: The command line

@@ -19,32 +19,36 @@ use std::sync::atomic::{AtomicU64, Ordering};
 use std::thread::{self, Parker};
 use std::time::Duration;
 
-/// The place of the counters on the program's shelf.
+/// The place of the counters on the shelf of the standard object.
 const COUNTERS: ShelfPlace = ShelfPlace::Second;
 
-/// The number of looks in vain after which a client that waits for the others starts to sleep.
+/// The number of unsuccessful looks after which a client that waits for the others starts to sleep.
 const PATIENCE: u64 = 1_000;
 
 /// The length of a sleep, in microseconds.
 const NAP: u64 = 50;
 
-/// A client with a thread of its own: its number, a seat of the host for each of its ports, and the results of its calls.
+/// A client with a thread of its own: its number, a seat of the host for each of its ports, and the results of its
+/// calls.
 ///
 /// Formats: The command line
 #[derive(Drop)]
 pub(crate) struct LiveClient<A: Allocator + Copy + Drop = Global> {
     /// The client's number, from 1, which is also the number of the node that it tries first.
     pub(crate) number: u8,
-    /// A seat of the host for each node; none once the client has made its ports.
+    /// A seat of the host for each node.
+    ///
+    /// The list is empty once the client has made its ports.
     pub(crate) seats: Vec<Seat<A>, A>,
     /// The number of its adds that were answered.
     pub(crate) answered: u64,
-    /// The counter that client 1 read, 0 for any other client; or why there is none: `NoAnswer` before the client calls.
+    /// The counter that client 1 read, 0 for any other client; or the fault because of which there is none: `NoAnswer`
+    /// before the client calls.
     pub(crate) counter: Result<u64, Fault>,
 }
 
 impl<A: Allocator + Copy + Drop> LiveClient<A> {
-    /// Makes the client of this number, before it calls: no add is answered, and its counter is the fault `NoAnswer`.
+    /// Creates client `number`, which hasn't called yet: no add is answered, and its counter is the fault `NoAnswer`.
     pub(crate) fn new(number: u8, seats: Vec<Seat<A>, A>) -> LiveClient<A>
         ensures { result.seats ≡ seats }
     {
@@ -57,8 +61,10 @@ impl<A: Allocator + Copy + Drop> LiveClient<A> {
     }
 }
 
-/// Makes `calls` adds, one after the other, or ends at the first fault. Client 1 then reads the counter, once no other client
-/// runs. The last client to end closes the host. `running` is the number of clients that run, with this one. The results are in
+/// Makes `calls` adds, one after the other, or ends at the first fault.
+///
+/// Client 1 then reads the counter, once no other client runs. The last client to end closes the host. `running` is the
+/// number of clients that run, this one included; it is lowered by one at the end. The results are stored in
 /// `live_client`.
 ///
 /// Rules: Objects 7
@@ -80,7 +86,9 @@ pub(crate) fn call<O: Object, K: BookName<O::Alloc>, W: Wait>(
     }
 }
 
-/// Makes the client's calls. Returns the counter that client 1 read, and 0 for any other client.
+/// Makes the client's calls.
+///
+/// Returns the counter that client 1 read, and 0 for any other client.
 fn try_call<O: Object, K: BookName<O::Alloc>, W: Wait>(
     rt: &W,
     alloc: O::Alloc,
@@ -102,7 +110,9 @@ fn try_call<O: Object, K: BookName<O::Alloc>, W: Wait>(
     read_counter(&mut client)
 }
 
-/// Makes `calls` adds, or ends at the first fault. Returns the number answered, by which the client's next number has risen.
+/// Makes `calls` adds, or ends at the first fault.
+///
+/// Returns the number of answered adds. The client's next number is higher by as many.
 fn add<P: Port>(client: &mut Client<P>, calls: u8) -> u64
     ensures most { result ≤ calls }
     ensures answered { client.new.next ≡ client.old.next + result }
@@ -116,7 +126,9 @@ fn add<P: Port>(client: &mut Client<P>, calls: u8) -> u64
     u64::from(calls)
 }
 
-/// Reads the counter by a call like any other. Refuses as [`Client::call`] does.
+/// Reads the counter with a call.
+///
+/// Errors: as for [`Client::call`].
 ///
 /// Rules: Objects 7
 fn read_counter<P: Port>(client: &mut Client<P>) -> Result<u64, Fault>
@@ -130,7 +142,9 @@ fn read_counter<P: Port>(client: &mut Client<P>) -> Result<u64, Fault>
     }
 }
 
-/// Waits until only one client runs. Each look that finds more yields, and after many looks also sleeps.
+/// Waits until only one client runs.
+///
+/// A look that finds more yields, and after many looks also sleeps.
 fn wait_for_others<W: Wait>(rt: &W, running: &AtomicU64) {
     let mut looks = 0u64;
     for _ in rt.forever() {
@@ -145,7 +159,7 @@ fn wait_for_others<W: Wait>(rt: &W, running: &AtomicU64) {
     }
 }
 
-/// Returns the count in a reply, 0 where it has none.
+/// Returns the count in a reply, 0 if it has none.
 fn count_in(reply: &Reply) -> u64
     ensures { result ≡ count_in_reply reply.now }
 {

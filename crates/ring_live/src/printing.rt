@@ -1,4 +1,4 @@
-//! Prints the result of a live run.
+//! Printing the result of a live run.
 //!
 //! Formats: The command line
 
@@ -20,16 +20,16 @@ use std::thread::Threads;
 
 /// Runs N nodes and N clients, 1 to 16, each on a thread of its own, and prints the result on `out`.
 ///
-/// Client c tries node c first, and then the others in order. It adds 1 to one counter `calls` times, one after the other, and
-/// ends at its first fault. Then client 1 reads the counter. Once all threads have ended, four lines have the number of nodes,
-/// the number of adds answered, the counter, and whether the history is legal.
+/// Client c tries node c first, and then the others in order. It adds 1 to one counter `calls` times, one after the
+/// other, and ends at its first fault. Then client 1 reads the counter. Once all threads have ended, four lines are
+/// printed: the number of nodes, the number of answered adds, the counter, and whether the history is legal.
 ///
-/// Returns the exit status: 0 where these lines are printed, the last with `legal yes`, or 1
+/// Returns the exit status: 0 if these lines are printed, the last as `legal yes`, or 1
 ///
 /// - after `legal no`, which no run prints;
-/// - where `nodes` isn't 1 to 16, the last read is refused, or memory or a thread is: `err` gets the fault's line, and nothing is
-///   printed;
-/// - where `out` fails: `err` gets nothing.
+/// - if `nodes` isn't 1 to 16, the last read is refused, an allocation fails or a thread can't be started: `err` gets
+///   the fault's line, and nothing is printed;
+/// - if `out` fails: `err` gets nothing.
 ///
 /// Formats: The command line
 pub fn live<W: Threads + Wait + Sync, O: Write, E: Write>(
@@ -59,9 +59,9 @@ pub fn live<W: Threads + Wait + Sync, O: Write, E: Write>(
     }
 }
 
-/// Runs the program's object.
+/// Runs nodes and clients with the standard object.
 ///
-/// Errors: `NotMember` where `nodes` isn't 1 to 16; else `Memory`.
+/// Errors: `NotMember` if `nodes` isn't 1 to 16; otherwise `Memory` if an allocation fails.
 fn run<W: Threads + Wait + Sync>(
     rt: &W,
     alloc: Global,
@@ -78,7 +78,7 @@ fn run<W: Threads + Wait + Sync>(
 
 /// Prints the result of a run.
 ///
-/// Errors: the fault of a counter that wasn't read, with nothing printed; else `Output`.
+/// Errors: if the counter wasn't read, its fault, with nothing printed; otherwise `Output` if `out` fails.
 fn print_live_result<O: Write>(live_result: LiveResult, out: &mut O) -> Result<(), Failure>
     ensures lines { OnOk result ((counter : ℕ) × (live_result.counter ≡ Ok counter) × Appends (O.contents out.old) (O.contents out.new) (live_result_text live_result counter)) }
     ensures refused { IfErr result (IsNotPrinted live_result out.old out.new) }
@@ -90,7 +90,9 @@ fn print_live_result<O: Write>(live_result: LiveResult, out: &mut O) -> Result<(
     print_lines(live_result, counter, out)
 }
 
-/// Prints the result of a run whose counter was read. Refuses with `Output`.
+/// Prints the result of a run whose counter was read.
+///
+/// Errors: `Output` if `out` fails.
 fn print_lines<O: Write>(live_result: LiveResult, counter: u64, out: &mut O) -> Result<(), Failure>
     ensures lines { OnOk result (Appends (O.contents out.old) (O.contents out.new) (live_result_text live_result counter)) }
     ensures failed { IfErr result (λ failure. failure ≡ Output) }

@@ -1,4 +1,4 @@
-//! Runs nodes and clients on threads, and collects the result.
+//! Running nodes and clients on threads, and collecting the result.
 //!
 //! Rules: The book and the threads 27; Refusals 1
 //! Formats: The command line
@@ -21,7 +21,7 @@ use std::sync::atomic::{AtomicBool, AtomicU64, Ordering};
 use std::thread;
 use std::thread::Threads;
 
-/// The most seats of a client: one for each node.
+/// The maximum number of seats of a client: one for each node.
 const MAX_SEATS: u16 = MAX_PROCESSORS as u16;
 
 /// The result of a live run, once all its threads have ended.
@@ -33,8 +33,8 @@ pub struct LiveResult {
     pub nodes: u8,
     /// The number of adds that were answered, of all clients together.
     pub calls: u64,
-    /// The counter that client 1 read once all other clients had ended; or why it wasn't read: `Memory` where a thread couldn't
-    /// be started.
+    /// The counter that client 1 read once all other clients had ended; or the fault because of which it wasn't read:
+    /// `Memory` if a thread couldn't be started.
     pub counter: Result<u64, Fault>,
     /// Whether the order of the book is a linearization of its history, as it always is.
     pub is_legal: bool,
@@ -42,7 +42,7 @@ pub struct LiveResult {
 
 /// Makes a client for each of the host's nodes, each with a seat for each node.
 ///
-/// Errors: `Memory`.
+/// Errors: `Memory` if an allocation fails.
 fn live_clients_of<O: Object, K: BookName<O::Alloc>>(
     alloc: O::Alloc,
     host: &Host<O, K>,
@@ -64,9 +64,12 @@ fn live_clients_of<O: Object, K: BookName<O::Alloc>>(
     Ok(live_clients)
 }
 
-/// Runs the nodes and the clients, each on a thread of its own, with the nodes under the gate. No thread is left when it returns.
+/// Runs the nodes and the clients, each on a thread of its own, with the nodes under the gate.
 ///
-/// Errors: `Memory` where a thread can't be started. Nodes are then stopped as far as memory allows, and started threads end.
+/// No thread is left when it returns.
+///
+/// Errors: `Memory` if a thread can't be started. Nodes whose stop can be allocated are then stopped, and started
+/// threads end.
 fn run_all<
     O: Object + Send,
     K: BookName<O::Alloc> + Send + Sync,
@@ -90,7 +93,7 @@ where
     let refused = AtomicBool::new(false);
     let running = AtomicU64::new(live_clients.len() as u64);
     let (told, left) = (&refused, &running);
-    // The closure takes what it names. It gets a borrow for the scope alone, and `live_clients` itself stays here.
+    // The closure takes what it names. It gets a borrow only for the scope, and `live_clients` itself stays here.
     let each = &mut *live_clients;
     thread::scope(
         thread::scope_env(),
@@ -120,8 +123,9 @@ where
     Ok(())
 }
 
-/// Records that a thread can't be started. Stops all nodes for whose stops there is memory, so that clients don't try their calls
-/// for long, and closes the host.
+/// Records that a thread can't be started.
+///
+/// Stops all nodes whose stop can be allocated, so that clients don't retry their calls for long, and closes the host.
 fn refuse<O: Object, K: BookName<O::Alloc>, W: Wait>(
     rt: &W,
     host: &Host<O, K>,
@@ -137,7 +141,9 @@ fn refuse<O: Object, K: BookName<O::Alloc>, W: Wait>(
     host.close();
 }
 
-/// Returns the number of adds answered to all clients, at most 2^64 - 1.
+/// Returns the number of adds answered to all clients.
+///
+/// It saturates at 2^64 - 1.
 fn answered_in<A: Allocator + Copy + Drop>(live_clients: &[LiveClient<A>]) -> u64
     ensures { result ≡ min (2 ^ 64 - 1) (answered_of live_clients.now) }
 {
@@ -148,7 +154,9 @@ fn answered_in<A: Allocator + Copy + Drop>(live_clients: &[LiveClient<A>]) -> u6
     answered
 }
 
-/// Returns the counter that the first client read, or its fault; `NotMember` where there is no client.
+/// Returns the counter that the first client read.
+///
+/// Errors: the fault because of which it wasn't read; `NotMember` if there is no client.
 fn counter_in<A: Allocator + Copy + Drop>(live_clients: &[LiveClient<A>]) -> Result<u64, Fault>
     ensures { result ≡ counter_of live_clients.now }
 {
@@ -158,7 +166,9 @@ fn counter_in<A: Allocator + Copy + Drop>(live_clients: &[LiveClient<A>]) -> Res
     }
 }
 
-/// Returns the counter that the first client read, or the fault of a run that was refused.
+/// Returns the counter that the first client read after a run.
+///
+/// Errors: the fault of the run; otherwise as for `counter_in`.
 fn counter_after<A: Allocator + Copy + Drop>(
     run_result: Result<(), Fault>,
     live_clients: &[LiveClient<A>],
@@ -188,11 +198,13 @@ fn live_result_of<A: Allocator + Copy + Drop>(
     }
 }
 
-/// Runs a group's nodes on threads, and as many clients, each of which makes `calls` adds, 0 to 255, to a counter. `O` is a shelf
-/// whose second object is `Counters`. Returns the result, whatever was answered. Nodes that have nothing to do rest.
+/// Runs a group's nodes on threads, with as many clients, each of which adds 1 to a counter `calls` times.
 ///
-/// Errors: `Memory` where the host, the clients or the check can't be made. A thread that can't be started is reported in
-/// `counter`.
+/// `O` must be a shelf whose second object is `Counters`. Returns the result, whatever was answered. Nodes that have
+/// nothing to do rest.
+///
+/// Errors: `Memory` if an allocation for the host, the clients or the check fails. A thread that can't be started is
+/// reported in `counter`.
 ///
 /// Rules: The book and the threads 27
 /// Formats: The command line

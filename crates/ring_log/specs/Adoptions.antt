@@ -6,11 +6,11 @@ use Rattle.ring_log.specs.declared.adoption.Adoption.TheVariants.{Refused, Joine
 use Rattle.ring_log.specs.declared.base.Base.{Base}
 use Rattle.ring_log.specs.Logs.{Log, restores, is_adoptable}
 
--- the outcome `Restored` with the snapshot's bytes and the log as it was; without a snapshot the outcome is `Joined`
+-- The outcome `Restored` with the snapshot's bytes and the log as it was; without a snapshot the outcome is `Joined`.
 abbrev pub restored_with : {A : Type 0} → Log A → Option (List ℕ) → Adoption A
 restored_with log None = Joined
 restored_with log (Some bytes) = Restored bytes log
 
--- the outcome of adopting a base: refused if it may not be adopted; else restored or joined
+-- The outcome of adopting a base: refused if it may not be adopted, otherwise restored or joined.
 abbrev pub adoption : {A : Type 0} → Log A → Base A → Adoption A
 adoption log base = if is_adoptable log base then (if restores log base then restored_with log base.snapshot else Joined) else Refused

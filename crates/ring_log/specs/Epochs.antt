@@ -1,4 +1,5 @@
--- The life of a node as its log depends on it: the rings that it installed, newest first, with the messages received there.
+-- The history of a node as its log depends on it: its epochs, the rings that it installed, newest first, with the
+-- messages received there.
 -- Rules: The replicated log 1; Outputs 9
 use Rattle.std.specs.Prelude.{ℕ, suc, List, [], ◌∷◌, ◌++◌}
 use Rattle.ring_base.specs.Processors.{only}
@@ -6,11 +7,10 @@ use Rattle.ring_base.specs.declared.ring_id.RingId.{RingId}
 use Rattle.ring_wire.specs.Payloads.{Call as OneCall, Payload}
 use Rattle.ring_wire.specs.declared.message.Message.{Message}
 
--- an epoch: a node's time in a ring that it installed.
--- It has the messages agreed there, in order; the safe mark; the payloads that the node handed to its core since; and the trimmed
--- length at the end of the last step there that dropped places, 0 if none did. `front` is not known to the node: the places that
--- the snapshot sent in this ring stands for. It is empty in a node's own life, and filled in when all lives are considered
--- together.
+-- An epoch: a node's time in a ring that it installed. It has the messages agreed there, in order; the safe mark; the
+-- payloads that the node handed to its core since; and the trimmed length at the end of the last step there that
+-- dropped places, 0 if none did. `front` is not known to the node: it is the places that the snapshot sent in this ring
+-- replaces. It is empty in a node's own epochs, and filled in when the epochs of all nodes are considered together.
 pub record Epoch (A : Type 0) : Type 0 where
   pub ring : RingId
   pub members : ℕ
@@ -20,37 +20,37 @@ pub record Epoch (A : Type 0) : Type 0 where
   pub trimmed : ℕ
   pub front : List (OneCall A)
 
--- an epoch that has just begun
+-- An epoch that has just begun.
 abbrev pub epoch_opening : {A : Type 0} → RingId → ℕ → Epoch A
 epoch_opening ring members = record { ring = ring; members = members; heard = []; mark = 0; sent = []; trimmed = 0; front = [] }
 
--- the life at the opening: the ring of the node alone
+-- The epochs at the opening: the ring of only the node itself.
 abbrev pub epochs_opening : {A : Type 0} → ℕ → List (Epoch A)
 epochs_opening me = epoch_opening (record { seq = 0; rep = me }) (only me) ∷ []
 
--- a number above those of a life's rings
+-- A number above those of all rings in these epochs.
 abbrev pub above : {A : Type 0} → List (Epoch A) → ℕ
 above [] = 0
 above (s ∷ older) = suc s.ring.seq
 
 -- Additions to the newest epoch: a message received, a safe mark, payloads handed over, places dropped
 
--- the life with one more message received
+-- The epochs with one more message received.
 abbrev pub epochs_with_message : {A : Type 0} → Message A → List (Epoch A) → List (Epoch A)
 epochs_with_message x [] = []
 epochs_with_message x (s ∷ older) = record s { heard = s.heard ++ x ∷ [] } ∷ older
 
--- the life with a new safe mark
+-- The epochs with a new safe mark.
 abbrev pub epochs_with_mark : {A : Type 0} → ℕ → List (Epoch A) → List (Epoch A)
 epochs_with_mark mark [] = []
 epochs_with_mark mark (s ∷ older) = record s { mark = mark } ∷ older
 
--- the life with more payloads handed over
+-- The epochs with more payloads handed over.
 abbrev pub epochs_with_sends : {A : Type 0} → List (Payload A) → List (Epoch A) → List (Epoch A)
 epochs_with_sends payloads [] = []
 epochs_with_sends payloads (s ∷ older) = record s { sent = s.sent ++ payloads } ∷ older
 
--- the life with a new trimmed length
+-- The epochs with a new trimmed length.
 abbrev pub epochs_with_trim : {A : Type 0} → ℕ → List (Epoch A) → List (Epoch A)
 epochs_with_trim places [] = []
 epochs_with_trim places (s ∷ older) = record s { trimmed = places } ∷ older

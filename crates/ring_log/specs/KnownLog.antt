@@ -1,6 +1,6 @@
--- A node's knowledge of its log, from its own life alone.
--- It knows the places after the snapshot that it restored last, if any, and how many places are committed and dropped.
--- EpochHistories defines the same log from all lives together; `kept_law` of ring_log_proof shows that the two agree.
+-- A node's knowledge of its log, from its own epochs only. It knows the places after the snapshot that it restored
+-- last, if any, and how many places are committed and dropped. EpochHistories defines the same log from the epochs of
+-- all nodes; `kept_law` of ring_log_proof shows that the two agree.
 -- Rules: The replicated log 6, 8, 9, 11, 12 and 20
 use Rattle.std.specs.Prelude.{ℕ, ◌+◌, ◌-◌, ◌≤◌, max, Bool, true, ◌&&◌, ◌||◌, nat_le, nat_lt, is_some, if◌then◌else◌, List, [], ◌∷◌, ◌++◌, length, take, drop}
 use Rattle.std.specs.Prelude.{Option, Some, None}
@@ -13,8 +13,8 @@ use Rattle.ring_log.specs.Logs.{Log, begins, is_log_length}
 use Rattle.ring_log.specs.Epochs.{Epoch}
 use Rattle.ring_log.specs.EpochHistories.{CompleteExchange, complete_exchange, calls_in, upto}
 
--- the places from `from` on; the committed and trimmed lengths, which count the places below `from`; the last primary; and the
--- snapshot of the places below `from`
+-- The places from `from` on; the committed and trimmed lengths, which include the places below `from`; the last
+-- primary; and the snapshot of the places below `from`.
 pub record KnownLog (A : Type 0) : Type 0 where
   pub from : ℕ
   pub calls : List (OneCall A)
@@ -23,120 +23,122 @@ pub record KnownLog (A : Type 0) : Type 0 where
   pub last : Option RingId
   pub snapshot : List ℕ
 
--- the known log at the opening: empty
+-- The known log at the opening: empty.
 abbrev pub known_log_opening : {A : Type 0} → KnownLog A
 known_log_opening = record { from = 0; calls = []; committed = 0; trimmed = 0; last = None; snapshot = [] }
 
--- the number of places
+-- The number of places.
 abbrev pub known_log_length : {A : Type 0} → KnownLog A → ℕ
 known_log_length k = k.from + length k.calls
 
--- the committed places that are known
+-- The committed places that are known.
 abbrev pub known_committed : {A : Type 0} → KnownLog A → List (OneCall A)
 known_committed k = take (k.committed - k.from) k.calls
 
--- the committed places that aren't dropped
+-- The committed places that aren't dropped.
 abbrev pub known_retained : {A : Type 0} → KnownLog A → List (OneCall A)
 known_retained k = drop (k.trimmed - k.from) (known_committed k)
 
--- no place below the first known one is kept, only committed places are dropped, and only places of the log are committed
+-- No place below the first known one is kept, only committed places are dropped, and only places of the log are
+-- committed.
 pub record IsKnownLog {A : Type 0} (k : KnownLog A) : Type 0 where
   pub low : k.from ≤ k.trimmed
   pub high : k.trimmed ≤ k.committed
   pub within : k.committed ≤ known_log_length k
 
--- The known log after a life
+-- The known log after all epochs
 
--- a snapshot is restored if the node has committed fewer places than it stands for
+-- A snapshot is restored if the node has committed fewer places than it replaces.
 abbrev pub restores : {A : Type 0} → KnownLog A → Wanted → Bool
 restores k w = is_some w.snapshot && nat_lt k.committed w.from
 
 -- The known log after a complete exchange, given the bytes and the calls that it brought
 
--- the log after a snapshot is restored: its places are committed and dropped, and the calls brought follow
+-- The log after a snapshot is restored: its places are committed and dropped, and the calls brought follow.
 abbrev pub known_log_restored : {A : Type 0} → RingId → Wanted → List ℕ → List (OneCall A) → KnownLog A
 known_log_restored ring w bytes calls = record { from = w.from; calls = calls; committed = w.from; trimmed = w.from; last = Some ring; snapshot = bytes }
 
--- the first place that is taken of those brought: dropped places are skipped
+-- The first place that is taken of those brought: dropped places are skipped.
 abbrev pub first_joined : {A : Type 0} → KnownLog A → Wanted → ℕ
 first_joined k w = max w.from k.trimmed
 
--- the log's own places below the first that is taken, then those that are taken
+-- The log's own places below the first that is taken, then those that are taken.
 abbrev pub known_log_joined : {A : Type 0} → KnownLog A → RingId → Wanted → List (OneCall A) → KnownLog A
 known_log_joined k ring w calls =
     record k { calls = take (first_joined k w - k.from) k.calls ++ drop (first_joined k w - w.from) calls; last = Some ring }
 
--- the known log after an adoption, restored or joined
+-- The known log after an adoption, restored or joined.
 abbrev pub known_log_adopted : {A : Type 0} → KnownLog A → RingId → Wanted → List ℕ → List (OneCall A) → KnownLog A
 known_log_adopted k ring w bytes calls = if restores k w then known_log_restored ring w bytes calls else known_log_joined k ring w calls
 
--- the known log after an adoption, if something is wanted; a complete exchange always wants something
+-- The known log after an adoption, if something is wanted; a complete exchange always wants something.
 abbrev pub adopts_wanted : {A : Type 0} → KnownLog A → RingId → Option Wanted → CompleteExchange A → KnownLog A
 adopts_wanted k ring None whole = k
 adopts_wanted k ring (Some w) whole = known_log_adopted k ring w whole.exchange.bytes whole.exchange.received_calls
 
--- the known log after a complete exchange: its ring is adopted
+-- The known log after a complete exchange: its ring is adopted.
 abbrev pub adopts : {A : Type 0} → KnownLog A → RingId → CompleteExchange A → KnownLog A
 adopts k ring whole = adopts_wanted k ring (wanted whole.exchange) whole
 
--- the committed length rises to n; it never falls
+-- The committed length rises to n; it never falls.
 abbrev pub raised : {A : Type 0} → ℕ → KnownLog A → KnownLog A
 raised n k = record k { committed = max k.committed n }
 
--- the length of a ring's log up to its safe mark
+-- The length of a ring's log up to its safe mark.
 abbrev pub watermark_by : {A : Type 0} → KnownLog A → Option (CompleteExchange A) → ℕ
 watermark_by k None = 0
 watermark_by k (Some whole) = known_log_length k + length (calls_in whole.rest)
 
--- the known log with these calls appended
+-- The known log with these calls appended.
 abbrev pub followed_by : {A : Type 0} → KnownLog A → List (OneCall A) → KnownLog A
 followed_by k calls = record k { calls = k.calls ++ calls }
 
--- the base, the calls after the exchange, and the committed length by the safe mark
+-- The base with the calls after the exchange, and with the committed length that the safe mark gives.
 abbrev pub based_on : {A : Type 0} → KnownLog A → CompleteExchange A → Option (CompleteExchange A) → KnownLog A
 based_on base whole safe = raised (watermark_by base safe) (followed_by base (calls_in whole.rest))
 
--- the known log after an epoch, given the exchange in its messages and in its safe ones; unchanged before the first is complete
+-- The known log after an epoch, given the exchange in its messages and in its safe ones; unchanged before the first is
+-- complete.
 abbrev pub kept_by : {A : Type 0} → RingId → KnownLog A → Option (CompleteExchange A) → Option (CompleteExchange A) → KnownLog A
 kept_by ring k None safe = k
 kept_by ring k (Some whole) safe = based_on (adopts k ring whole) whole safe
 
--- the known log after places are dropped at the end of a step; only committed ones are dropped
+-- The known log after places are dropped at the end of a step; only committed ones are dropped.
 abbrev pub dropped_by : {A : Type 0} → ℕ → KnownLog A → KnownLog A
 dropped_by places k = record k { trimmed = max places k.trimmed }
 
--- the known log of a life
+-- The known log after these epochs.
 abbrev pub known_log_of : {A : Type 0} → Group → List (Epoch A) → KnownLog A
 known_log_of group [] = known_log_opening
 known_log_of group (s ∷ older) =
     dropped_by s.trimmed (kept_by s.ring (known_log_of group older) (complete_exchange group s.members s.heard) (complete_exchange group s.members (upto s.mark s.heard)))
 
--- the log that the node keeps: without the dropped places
+-- The log that the node keeps: without the dropped places.
 abbrev pub retained_log : {A : Type 0} → KnownLog A → Log A
 retained_log k = record { trimmed = k.trimmed; calls = drop (k.trimmed - k.from) k.calls; committed = k.committed; last = k.last }
 
--- the Head that a node states of its known log
+-- The Head that a node states of its known log.
 abbrev pub known_log_head : {A : Type 0} → KnownLog A → OneHead
 known_log_head k = record { last = k.last; length = known_log_length k; committed = k.committed; trimmed = k.trimmed }
 
 -- When a base stops a node
 
--- a base begins with the committed places that aren't dropped
+-- A base begins with the committed places that aren't dropped.
 abbrev pub begins_kept : {A : Type 0} → KnownLog A → KnownLog A → Bool
 begins_kept old new = begins (known_retained old) (drop (old.trimmed - new.from) new.calls)
 
--- a restored snapshot isn't compared; otherwise the places below those brought must be committed, and the base must begin with
--- the kept committed places
+-- A restored snapshot isn't compared; otherwise the places below those brought must be committed, and the base must
+-- begin with the kept committed places.
 abbrev pub keeps_wanted : {A : Type 0} → KnownLog A → RingId → Option Wanted → CompleteExchange A → Bool
 keeps_wanted k ring None whole = true
 keeps_wanted k ring (Some w) whole = restores k w || (nat_le w.from k.committed && begins_kept k (adopts k ring whole))
 
--- the same of a ring's exchange; true before it is complete
+-- The same of a ring's exchange; true before it is complete.
 abbrev pub keeps_kept : {A : Type 0} → KnownLog A → RingId → Option (CompleteExchange A) → Bool
 keeps_kept k ring None = true
 keeps_kept k ring (Some whole) = keeps_wanted k ring (wanted whole.exchange) whole
 
--- each base of a life begins with the places committed before it, and no log has more than the greatest number of places
+-- Each base begins with the places committed before it, and no log has more than `MAX` places.
 abbrev pub is_known_log_sound : {A : Type 0} → Group → List (Epoch A) → Bool
 is_known_log_sound group [] = true
 is_known_log_sound group (s ∷ older) =

@@ -9,114 +9,114 @@ use Rattle.ring_base.specs.declared.ring_id.RingId.{RingId}
 use Rattle.ring_wire.specs.Payloads.{Call as OneCall, Head, is_same}
 use Rattle.ring_log.specs.declared.base.Base.{Base}
 
--- a log: the number of dropped places, the calls of the other places, the number of committed places, and the last primary;
--- places are counted from the log's beginning
+-- A log: the number of dropped places, the calls of the other places, the number of committed places, and the last
+-- primary; places are counted from the log's beginning.
 pub record Log (A : Type 0) : Type 0 where
   pub trimmed : ℕ
   pub calls : List (OneCall A)
   pub committed : ℕ
   pub last : Option RingId
 
--- the log at the opening
+-- The log at the opening.
 abbrev pub empty : {A : Type 0} → Log A
 empty = record { trimmed = 0; calls = []; committed = 0; last = None }
 
--- the number of places, dropped ones included
+-- The number of places, dropped ones included.
 abbrev pub log_length : {A : Type 0} → Log A → ℕ
 log_length log = log.trimmed + length log.calls
 
--- the log with these calls appended
+-- The log with these calls appended.
 abbrev pub appended : {A : Type 0} → Log A → List (OneCall A) → Log A
 appended log calls = record log { calls = log.calls ++ calls }
 
 -- Adopting a base
 
--- the log after a snapshot of the first `base.from` places is restored: they are dropped and committed, and the base's calls
--- follow
+-- The log after a snapshot of the first `base.from` places is restored: they are dropped and committed, and the base's
+-- calls follow.
 abbrev pub restored_log : {A : Type 0} → Log A → RingId → Base A → Log A
 restored_log log ring base = record { trimmed = base.from; calls = base.calls; committed = base.from; last = Some ring }
 
--- the kept places below the base's first one, then the base's calls without those of dropped places
+-- The kept places below the base's first one, then the base's calls without those of dropped places.
 abbrev pub based : {A : Type 0} → Log A → Base A → List (OneCall A)
 based log base = take (base.from - log.trimmed) log.calls ++ drop (log.trimmed - base.from) base.calls
 
--- a snapshot is restored if the log has fewer committed places than it stands for
+-- A snapshot is restored if the log has fewer committed places than it replaces.
 abbrev pub restores : {A : Type 0} → Log A → Base A → Bool
 restores log base = is_some base.snapshot && nat_lt log.committed base.from
 
--- the log after a base without restore: its own places below the base stay
+-- The log after a base that doesn't restore it: its own places below the base stay.
 abbrev pub joined_log : {A : Type 0} → Log A → RingId → Base A → Log A
 joined_log log ring base = record log { calls = based log base; last = Some ring }
 
--- the log after adopting this ring's base
+-- The log after adopting this ring's base.
 abbrev pub adopted : {A : Type 0} → Log A → RingId → Base A → Log A
 adopted log ring base = if restores log base then restored_log log ring base else joined_log log ring base
 
--- the log after its committed places are dropped
+-- The log after its committed places are dropped.
 abbrev pub trimmed_log : {A : Type 0} → Log A → Log A
 trimmed_log log = record log { trimmed = log.committed; calls = drop (log.committed - log.trimmed) log.calls }
 
--- the number of kept committed places at which they are dropped
+-- The number of kept committed places at which they are dropped.
 abbrev pub trim_after : ℕ
 trim_after = 256
 
--- the committed places are to be dropped: the log keeps `trim_after` or more of them
+-- The committed places are to be dropped: the log keeps `trim_after` or more of them.
 abbrev pub is_due_to_trim : {A : Type 0} → Log A → Bool
 is_due_to_trim log = nat_le trim_after (log.committed - log.trimmed)
 
--- the committed length rises to n, but not above the log's length; it never falls
+-- The committed length rises to n, but not above the log's length; it never falls.
 abbrev pub committed_upto : {A : Type 0} → Log A → ℕ → Log A
 committed_upto log n = record log { committed = max log.committed (min n (log_length log)) }
 
--- the committed places that are kept
+-- The committed places that are kept.
 abbrev pub committed_calls : {A : Type 0} → Log A → List (OneCall A)
 committed_calls log = take (log.committed - log.trimmed) log.calls
 
--- the log of the kept committed places alone
+-- The log of only the kept committed places.
 abbrev pub committed_log : {A : Type 0} → Log A → Log A
 committed_log log = record log { calls = committed_calls log }
 
--- the Head that a node states of its log
+-- The Head that a node states of its log.
 abbrev pub head_of : {A : Type 0} → Log A → Head
 head_of log = record { last = log.last; length = log_length log; committed = log.committed; trimmed = log.trimmed }
 
 -- When a base or a call stops a node
 
--- the second list of calls begins with the first
+-- The second list of calls begins with the first.
 abbrev pub begins : {A : Type 0} → List (OneCall A) → List (OneCall A) → Bool
 begins front calls = pointwise (λ (c : OneCall _) (d : OneCall _). is_same d c) front (take (length front) calls)
 
--- a log may have n places
+-- A log may have n places.
 abbrev pub is_log_length : ℕ → Bool
 is_log_length n = nat_le n max_number
 
--- a base may be adopted: it restores the log, or leaves no hole and begins with the kept committed places; and the result isn't
--- too long. Whether the bytes are a snapshot is checked by the session table.
+-- A base may be adopted: it restores the log, or leaves no hole and begins with the kept committed places; and the
+-- result isn't too long. Whether the bytes are a snapshot is checked by the sessions.
 abbrev pub is_adoptable : {A : Type 0} → Log A → Base A → Bool
 is_adoptable log base =
     (restores log base || (nat_le base.from log.committed && begins (committed_calls log) (based log base)))
     && is_log_length (base.from + length base.calls)
 
--- the log after a base, which is adopted if it may be
+-- The log after a base, which is adopted if it may be.
 abbrev pub adopted_if : {A : Type 0} → Log A → RingId → Base A → Log A
 adopted_if log ring base = if is_adoptable log base then adopted log ring base else log
 
--- the log with these calls appended, if there is room for all of them
+-- The log with these calls appended, if there is room for all of them.
 abbrev pub followed : {A : Type 0} → Log A → List (OneCall A) → Log A
 followed log calls = if is_log_length (log_length log + length calls) then appended log calls else log
 
 -- Invariants
 
--- only committed places are dropped, only places of the log are committed, and there are at most `max_number` places
+-- Only committed places are dropped, only places of the log are committed, and there are at most `max_number` places.
 abbrev pub IsKeptLog : ℕ → ℕ → ℕ → Type 0
 IsKeptLog trimmed committed kept = (trimmed ≤ committed) × (committed ≤ trimmed + kept) × (trimmed + kept ≤ max_number)
 
--- only committed places are dropped, and no more places are committed than there are
+-- Only committed places are dropped, and no more places are committed than there are.
 abbrev pub IsLog : {A : Type 0} → Log A → Type 0
 IsLog log = (log.trimmed ≤ log.committed) × (log.committed ≤ log_length log)
 
--- the new log is well formed, its trimmed and committed lengths are no less, and its committed places begin with the old ones
--- that aren't dropped
+-- The new log is well formed, its trimmed and committed lengths are no less, and its committed places begin with the
+-- old ones that aren't dropped.
 pub record KeepsCommitted {A : Type 0} (old new : Log A) : Type 0 where
   pub log : IsLog new
   pub trimmed : old.trimmed ≤ new.trimmed

@@ -1,4 +1,6 @@
-//! Whether one list of calls is a prefix of another.
+//! Tests whether a list of calls is a prefix of another.
+//!
+//! Rules: The replicated log 8
 
 ghost use Rattle.std.specs.Prelude.{◌≡◌, ◌↔◌, length, take, IsTrue};
 ghost use Rattle.ring_log.specs.Logs.{begins};
@@ -6,14 +8,15 @@ ghost use Rattle.ring_log.specs.Logs.{begins};
 use ring_wire::Call;
 use std::alloc::Allocator;
 
-/// Returns whether `calls` begins with `front`: equal calls at the same places. Every list begins with the empty one.
+/// Returns whether `front` is a prefix of `calls`: the same calls at the same places. The empty list is a prefix of
+/// all.
 pub(crate) fn begins<A: Allocator + Copy>(front: &[Call<A>], calls: &[Call<A>]) -> bool
     ensures { result ≡ begins front.now calls.now }
 {
     front.len() <= calls.len() && are_same(front, &calls[..front.len()])
 }
 
-/// Returns whether two lists of equal length hold the same calls.
+/// Returns whether two lists have the same calls in the same order. They must be of equal length.
 fn are_same<A: Allocator + Copy>(some: &[Call<A>], others: &[Call<A>]) -> bool
     requires { length some.now ≡ length others.now }
     ensures { IsTrue result ↔ (some.now ≡ others.now) }

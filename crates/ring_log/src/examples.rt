@@ -1,4 +1,5 @@
 //! Worked examples, computed from the definitions.
+//!
 //! Rules: The replicated log 3 to 6, 12 and 16
 //! Formats: chosen head; short exchange; exchange with a snapshot
 
@@ -15,18 +16,24 @@ ghost use Rattle.ring_log.specs.Examples.{trimmed_whole, known, known_restored};
 ghost use Rattle.ring_log.specs.KnownLog.{known_log_opening, known_retained, adopts};
 ghost use Rattle.ring_log.specs.EpochHistories.{exchange_end, log_of, last_of, has_adopted, committed_of, head_of_epochs, is_sound};
 
-/// States a worked example: the chosen head of three. Processor 1 has three places of ring 4.1; processors 2 and 3 have two of
-/// ring 8.1.
-/// The longer log loses, since its last primary is older. Of the two equal logs, that of the smaller processor is chosen.
+/// States an example of the chosen head: of three logs, the longest one loses, since its last primary is older.
+///
+/// Processor 1 has three places, with ring 4.1 as its last primary; processors 2 and 3 have two places, with ring 8.1.
+/// Of the two equal Heads, that of the smaller processor is chosen.
+///
 /// Rules: The replicated log 4 and 5
 /// Formats: chosen head
 pub fn chosen_logs()
     ensures chosen { wanted longer_but_older ≡ wanted_places 2 0 2 }
 {}
 
-/// States a worked example: an exchange of logs of 20, 18 and 9 places, of which 16, 16 and 9 are committed.
-/// Processor 1 is the owner. Its places 9 to 19 are wanted, and it sends them in two Parts. Three Parts are ignored: one that
-/// arrives before all Heads have arrived, one of another member, and one that doesn't continue the places received so far.
+/// States an example of an exchange without a snapshot: logs of 20, 18 and 9 places, of which 16, 16 and 9 are
+/// committed.
+///
+/// Processor 1 is the owner. Its places 9 to 19 are wanted, and it sends them in two Parts. Three Parts are ignored:
+/// one that arrives before all Heads have, one of another member, and one that doesn't continue the places received so
+/// far.
+///
 /// Rules: The replicated log 2 to 4
 /// Formats: short exchange
 pub fn wanted_parts()
@@ -39,11 +46,13 @@ pub fn wanted_parts()
     ensures early { heard three 1 (Part (part_at 9 7)) ≡ three }
 {}
 
-/// States a worked example: an exchange of logs of 300, 298 and no places, of which 290, 290 and none are committed, and 256, 256
-/// and none dropped.
-/// Processor 1 sends a snapshot of its first 256 places, then the places 256 to 299 in seven Parts, the last of 2 calls. A Part
-/// that arrives before the whole snapshot is ignored. So is a piece that another member sends, that is of other places, or that
+/// States an example of an exchange with a snapshot: logs of 300, 298 and no places.
+///
+/// Of these 290, 290 and none are committed, and 256, 256 and none dropped. Processor 1 sends a snapshot of its first
+/// 256 places, then the places 256 to 299 in seven Parts, the last of two calls. A Part that arrives before the whole
+/// snapshot is ignored. So is a piece that another member sends, that belongs to another number of places, or that
 /// doesn't begin where the bytes received so far end.
+///
 /// Rules: The replicated log 2 to 4
 /// Formats: exchange with a snapshot
 pub fn wanted_snapshot()
@@ -60,9 +69,11 @@ pub fn wanted_snapshot()
     ensures base { base_at (after_parts after_snapshot 256 6) 1 (Part (part_at 298 2)) ≡ trimmed_base }
 {}
 
-/// States a worked example: the complete exchange of `wanted_snapshot`, as each of the three nodes adopts it with ring 9.1.
-/// The nodes that have committed 290 places keep them and take the places after the first 256. The node without places restores
-/// the snapshot, and 256 places are then committed and dropped.
+/// States how each of three nodes adopts the exchange of [`wanted_snapshot`] with ring 9.1.
+///
+/// The two nodes that have committed 290 places keep their own places below 256, and take the places from there on. The
+/// node without places restores the snapshot, so that its first 256 places are committed and dropped.
+///
 /// Rules: The replicated log 6
 /// Formats: exchange with a snapshot
 pub fn adopted_snapshot()
@@ -72,9 +83,11 @@ pub fn adopted_snapshot()
     ensures undropped { known_retained (known 9 300) ≡ calls_from 256 34 }
 {}
 
-/// States a worked example: the logs of a life in two primary rings, with a ring of one between them.
-/// A ring's log is its base and the calls after the exchange. Once the safe mark covers the exchange, the calls up to the mark
-/// are committed. The ring of one isn't primary and changes nothing.
+/// States an example of a node's log and committed places in two primary rings, with a ring of one between them.
+///
+/// A ring's log is its base and the calls after the exchange. Once the safe mark covers the exchange, the calls up to
+/// the mark are committed. The ring of one isn't primary and changes nothing.
+///
 /// Rules: The replicated log 12 and 16
 pub fn lived_logs()
     ensures first_end { exchange_end group_of_three 7 first_heard ≡ Some 6 }

@@ -1,4 +1,5 @@
-//! The exchange of a primary ring: which Heads, snapshot pieces and Parts count, and when it is complete.
+//! The exchange of a primary ring: which Heads, snapshot pieces and Parts it accepts, and when it is complete.
+//!
 //! Rules: The replicated log 3, 4 and 6
 
 ghost use Rattle.std.specs.Prelude.{◌≡◌, ◌+◌, ◌^◌, ◌<◌, ◌==◌, nat_le, length, true, IfOk, IfErr, OnOk, OnErr};
@@ -17,10 +18,12 @@ use std::alloc::{AllocError, Allocator, Global};
 use std::marker::Model;
 use std::mem;
 
-/// `Exchange`: the state transfer with which a primary ring begins, as far as one member has received it.
-/// It collects every member's Head, then the owner's snapshot in pieces, if one is wanted, and then the wanted places of the
-/// owner's log. A snapshot is wanted if the owner has dropped places that some member hasn't committed. Contracts see all of
-/// this.
+/// The state transfer with which a primary ring begins, as far as one member has received it.
+///
+/// It collects every member's Head, then the owner's snapshot in pieces, if one is wanted, and then the wanted places
+/// of the owner's log. A snapshot is wanted if the owner has dropped places that some member hasn't committed.
+/// Contracts see its whole state.
+///
 /// Rules: The replicated log 3 and 4
 #[derive(Drop)]
 pub struct Exchange<A: Allocator + Copy = Global> {
@@ -68,7 +71,8 @@ impl<A: Allocator + Copy> Clone for Exchange<A> {
 }
 
 impl<A: Allocator + Copy> Exchange<A> {
-    /// Creates the exchange of a ring of these members, with nothing received. It takes no memory.
+    /// Creates the exchange of a ring of `members`, with nothing received. Does not allocate.
+    ///
     /// Rules: The replicated log 3
     pub fn new(alloc: A, members: ProcSet) -> Exchange<A>
         ensures { result ≡ exchange_opening members }
@@ -85,8 +89,10 @@ impl<A: Allocator + Copy> Exchange<A> {
         }
     }
 
-    /// Returns the owner and the wanted part of its log; `None` until every member's Head has arrived. It takes no memory.
-    /// Rules: The replicated log 4 and 5
+    /// Returns the owner and the wanted part of its log, or `None` until every member's Head has arrived. Does not
+    /// allocate.
+    ///
+    /// Rules: The replicated log 4, 5 and 19
     pub fn wanted(&self) -> Option<Wanted>
         ensures { result ≡ wanted self.now }
     {
@@ -97,12 +103,15 @@ impl<A: Allocator + Copy> Exchange<A> {
         }
     }
 
-    /// Applies a member's payload, and returns the base if this payload completes the exchange; else `None`.
-    /// Payloads must come in the ring's order. A member's first Head counts, then each next piece of a wanted snapshot, then each
-    /// next Part of the wanted places. Every other payload is ignored for good. The base is returned once: its bytes and calls
-    /// leave the exchange.
-    /// Errors: `Memory` where an allocation fails; the exchange is unchanged.
-    /// Rules: The replicated log 3, 4 and 6
+    /// Applies a member's payload. Returns the base if this payload completes the exchange, otherwise `None`.
+    ///
+    /// Payloads must come in the order of the ring. Accepted are a member's first Head; then, from the owner, each next
+    /// piece of a wanted snapshot, and then each next Part of the wanted places. Every other payload is ignored, even
+    /// if it would be wanted later. The base is returned only once, and its bytes and calls leave the exchange.
+    ///
+    /// Errors: `Memory` if an allocation fails; the exchange is unchanged.
+    ///
+    /// Rules: The replicated log 3, 4, 6 and 19
     pub fn hear(&mut self, sender: Proc, payload: &Payload<A>) -> Result<Option<Base<A>>, Fault>
         ensures base { IfOk result (λ base. base ≡ base_at self.old sender payload.now) }
         ensures ok { OnOk result (self.new ≡ exchange_drained (heard self.old sender payload.now)) }
@@ -158,7 +167,9 @@ impl<A: Allocator + Copy> Exchange<A> {
         Ok(())
     }
 
-    /// Takes a piece. The first piece reserves room for the whole snapshot.
+    /// Adds a piece, if it is the next one. The first piece reserves capacity for the whole snapshot.
+    ///
+    /// Errors: `Memory` if an allocation fails; the exchange is unchanged.
     fn hear_snap(&mut self, sender: Proc, snap: &Snap<A>) -> Result<(), Fault>
         ensures ok { OnOk result (self.new ≡ hear_snap self.old sender snap.now) }
         ensures err { OnErr result (self.new ≡ self.old) }
@@ -177,7 +188,7 @@ impl<A: Allocator + Copy> Exchange<A> {
         Ok(())
     }
 
-    /// Returns whether a piece is the next one of the wanted snapshot.
+    /// Returns whether a piece comes from the owner and is the next one of the wanted snapshot.
     fn is_next_piece(&self, sender: Proc, snap: &Snap<A>) -> bool
         ensures value { result ≡ is_next_piece (wanted self.now) self.now.received_bytes self.now.total sender snap.now }
         ensures room { result ≡ true → self.now.received_bytes < 2 ^ 32 }
@@ -188,7 +199,8 @@ impl<A: Allocator + Copy> Exchange<A> {
         }
     }
 
-    /// Returns whether a piece is of the snapshot of `places` places and continues the bytes received so far.
+    /// Returns whether a piece belongs to the snapshot of `places` places and continues the bytes received so far.
+    ///
     /// It must begin where these end, and state the same total as the pieces before it.
     fn is_piece_of(&self, places: Option<u64>, snap: &Snap<A>) -> bool
         ensures value { result ≡ is_piece_of places self.now.received_bytes self.now.total snap.now }
@@ -218,7 +230,7 @@ impl<A: Allocator + Copy> Exchange<A> {
         Ok(())
     }
 
-    /// Returns whether a Part is the next wanted one, and no bytes of a snapshot are missing.
+    /// Returns whether a Part is the next wanted one, and no bytes of a wanted snapshot are missing.
     fn is_wanted(&self, sender: Proc, part: &Part<A>) -> bool
         ensures value { result ≡ is_wanted (wanted self.now) self.now.received_bytes self.now.total self.now.places sender part.now }
         ensures room { result ≡ true → self.now.places + length part.now.calls < 2 ^ 64 }
@@ -231,7 +243,7 @@ impl<A: Allocator + Copy> Exchange<A> {
         }
     }
 
-    /// Takes the base out of a complete exchange, without copying bytes or calls.
+    /// Takes the base out of the exchange if that is complete. Bytes and calls are moved, not copied.
     fn take_base(&mut self) -> Option<Base<A>>
         ensures base { result ≡ handed_out self.old }
         ensures state { self.new ≡ exchange_drained self.old }
@@ -254,7 +266,8 @@ impl<A: Allocator + Copy> Exchange<A> {
     }
 }
 
-/// Returns whether a Part is the owner's, begins where the received places end, and doesn't pass the end of the wanted places.
+/// Returns whether a Part comes from the owner, begins where the received places end, and ends within the wanted
+/// places.
 fn is_next<A: Allocator + Copy>(wanted: &Wanted, places: u64, sender: Proc, part: &Part<A>) -> bool
     ensures value { result ≡ is_next wanted.now places sender part.now }
     ensures room { result ≡ true → places + length part.now.calls < 2 ^ 64 }
@@ -266,7 +279,7 @@ fn is_next<A: Allocator + Copy>(wanted: &Wanted, places: u64, sender: Proc, part
     begins_at(wanted, places, part.first) && ends_within(wanted, part.first, count)
 }
 
-/// Returns whether `first` is the wanted place after the first `places` of them.
+/// Returns whether `first` is the place after the first `places` wanted ones.
 fn begins_at(wanted: &Wanted, places: u64, first: u64) -> bool
     ensures { result ≡ (first == wanted.now.from + places) }
 {

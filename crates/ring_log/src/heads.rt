@@ -1,4 +1,5 @@
-//! How all members' Heads determine the owner and the wanted places.
+//! How the Heads of all members determine the owner and the wanted places.
+//!
 //! Rules: The replicated log 4 and 5
 
 ghost use Rattle.std.specs.Prelude.{◌≡◌};
@@ -10,7 +11,8 @@ use crate::wanted::Wanted;
 use ring_base::Proc;
 use ring_wire::Head;
 
-/// Returns the owner and the wanted part of its log, given the Heads of all members; `None` if there is no Head.
+/// Returns the owner and the wanted part of its log, given the Heads of all members, or `None` if there is no Head.
+///
 /// Rules: The replicated log 4 and 5
 pub(crate) fn wanted_by(heads: &[ReceivedHead]) -> Option<Wanted>
     ensures { result ≡ wanted_by heads.now }
@@ -21,9 +23,10 @@ pub(crate) fn wanted_by(heads: &[ReceivedHead]) -> Option<Wanted>
     Some(wanted_of(chosen.sender, &chosen.head, least))
 }
 
-/// Returns the wanted part of an owner's log, given its Head; `least` is the least committed length of all Heads.
-/// It is the places from `least` on. If the owner has dropped some of these, it is a snapshot of the dropped places and the
-/// places after them.
+/// Returns the wanted part of an owner's log, given its Head and `least`, the least committed length of all Heads.
+///
+/// These are the places from `least` on. If the owner has dropped some of them, a snapshot of all dropped places is
+/// wanted, and the places after them.
 fn wanted_of(owner: Proc, head: &Head, least: u64) -> Wanted
     ensures { result ≡ wanted_of owner head.now least }
 {
@@ -40,7 +43,7 @@ fn wanted_of(owner: Proc, head: &Head, least: u64) -> Wanted
     }
 }
 
-/// Returns the greatest Head.
+/// Returns the chosen Head of `first` and `rest`.
 fn chosen_head(first: ReceivedHead, rest: &[ReceivedHead]) -> ReceivedHead
     ensures { result ≡ chosen_head first rest.now }
 {

@@ -1,5 +1,6 @@
 //! Laws of logs and of their exchange.
-//! Rules: The replicated log 3, 6 and 12
+//!
+//! Rules: The replicated log 3, 6, 12, 16 and 20
 
 ghost use Rattle.std.specs.Prelude.{◌≡◌, ℕ, ◌+◌, ◌≤◌, true, List, [], ◌∷◌, ◌++◌, length, take, Some, None};
 ghost use Rattle.ring_base.specs.Prefixes.{IsListPrefix};
@@ -16,9 +17,11 @@ ghost use Rattle.ring_log.specs.EpochHistories.{CompleteExchange, complete_excha
 
 use std::alloc::Allocator;
 
-/// States that committed places never change, for every log that the calls of `Log` can make, with at most 2^62 places.
-/// No call of a log lowers its committed length or changes a committed place that it keeps, not even `adopt` with an arbitrary
-/// base. Only committed places are dropped. The committed places are always a prefix of the log.
+/// States that committed places never change, for every log that the calls of `Log` can make.
+///
+/// No call of a log lowers its committed length or changes a committed place that the log has kept, not even `adopt`
+/// with an arbitrary base. Only committed places are dropped. The committed places are always a prefix of the log.
+///
 /// Rules: The replicated log 6, 12 and 20
 pub fn committed_law<A: Allocator + Copy>()
     ensures opening { IsLog (empty {A = A}) }
@@ -30,11 +33,13 @@ pub fn committed_law<A: Allocator + Copy>()
     ensures dropped { (log : Log A) → IsLog log → KeepsCommitted log (trimmed_log log) }
 {}
 
-/// States when an exchange hands out its base, and how a log adopts it, for every primary ring and every list of its messages in
-/// order.
-/// The base is handed out exactly once, at the message that completes the exchange. Without a snapshot a log's own first places
-/// come before the base's calls; with one, the places that the snapshot stands for do. Both give the ring's base.
-/// Later messages are the ones after the exchange. All pieces of a wanted snapshot, in their order, give its bytes.
+/// States when an exchange hands out its base, and that a log that adopts the base becomes the ring's base.
+///
+/// The law holds for every primary ring and every list of its messages in order. The base is handed out exactly once,
+/// at the message that completes the exchange; later messages come after the exchange. Without a snapshot, a log's own
+/// places below the base's `from` come before the base's calls; with one, the places that the snapshot replaces do. All
+/// pieces of a wanted snapshot, in their order, give its bytes.
+///
 /// Rules: The replicated log 3, 4, 6 and 16
 pub fn exchange_law<A: Allocator + Copy>()
     ensures handed { (group : Group) (members : ℕ) (text : List (Message A)) (x : Message A) → is_primary group members ≡ true →

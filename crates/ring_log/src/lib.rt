@@ -1,4 +1,5 @@
 //! The replicated log: how the members of a primary ring agree on one log, and how a node stores it.
+//!
 //! Rules: The replicated log 1 to 9, 11, 12, 16, 19 and 20
 #![tactic(auto)]
 

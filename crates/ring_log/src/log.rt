@@ -1,5 +1,6 @@
 //! A node's log: its calls, its committed and trimmed lengths, and its last primary.
-//! Rules: The replicated log 1, 2, 6, 8, 9, 11, 12 and 20
+//!
+//! Rules: The replicated log 1, 2, 6, 8, 9, 11, 12, 19 and 20
 
 ghost use Rattle.std.specs.Prelude.{◌≡◌, ◌≤◌, ◌+◌, ◌&&◌, ◌∷◌, [], ◌++◌, true, nat_le, length, take, drop, IfOk, IfErr, OnOk, OnErr};
 ghost use Rattle.ring_base.specs.declared.fault.Fault.TheVariants.{Memory};
@@ -19,13 +20,15 @@ use std::alloc::{AllocError, Allocator, Global};
 use std::marker::Model;
 use std::mem;
 
-/// The number of committed places that a log keeps at which they are dropped.
+/// The number of kept committed places, 256, from which on they are due to be dropped.
 const TRIM_AFTER: u64 = 256;
 
-/// `Log`: a node's replicated log: a list of calls, whose first places may have been dropped. Places count from 0, dropped ones
-/// included.
-/// It has the number of dropped places, the calls of the other places, the committed length, and the last primary, which is the
-/// newest adopted ring. Contracts see these four. Only committed places are dropped, and a log has at most 2^62 places.
+/// A node's replicated log: a list of calls, whose first places may have been dropped.
+///
+/// It has the number of dropped places, the calls of the other places, the committed length, and the last primary,
+/// which is the newest adopted ring. Contracts see these four. Places are counted from 0, dropped ones included. Only
+/// committed places are dropped, and a log has at most `MAX` places.
+///
 /// Rules: The replicated log 1
 #[derive(Drop)]
 pub struct Log<A: Allocator + Copy = Global> {
@@ -60,7 +63,8 @@ impl<A: Allocator + Copy> Clone for Log<A> {
 }
 
 impl<A: Allocator + Copy> Log<A> {
-    /// Creates the log of the opening: empty, nothing committed, no last primary. It takes no memory.
+    /// Creates the log of the opening: empty, with nothing committed and no last primary. Does not allocate.
+    ///
     /// Rules: The replicated log 1
     pub fn new(alloc: A) -> Log<A>
         ensures { result ≡ empty }
@@ -73,10 +77,11 @@ impl<A: Allocator + Copy> Log<A> {
         }
     }
 
-    /// Appends a call at the log's end and returns true. If the log would then have more than 2^62 places, returns false and
-    /// changes nothing.
-    /// Errors: `Memory` where an allocation fails; the log is unchanged.
-    /// Rules: The replicated log 9 and 11
+    /// Appends a call, and returns true. If the log has `MAX` places already, returns false and changes nothing.
+    ///
+    /// Errors: `Memory` if an allocation fails; the log is unchanged.
+    ///
+    /// Rules: The replicated log 9, 11 and 19
     pub fn append(&mut self, call: Call<A>) -> Result<bool, Fault>
         ensures fits { IfOk result (λ fits. fits ≡ is_log_length (log_length self.old + 1)) }
         ensures log { OnOk result (self.new ≡ followed self.old (call ∷ [])) }
@@ -90,11 +95,14 @@ impl<A: Allocator + Copy> Log<A> {
         Ok(true)
     }
 
-    /// Appends calls at the log's end, in their order, and returns true. If the log would then have more than 2^62 places,
-    /// returns false and appends none.
-    /// The log shares the calls' bytes with `calls`.
-    /// Errors: `Memory` where an allocation fails; the log is unchanged.
-    /// Rules: The replicated log 9 and 11
+    /// Appends calls in their order, and returns true. If the log would then have more than `MAX` places, appends none
+    /// of them and returns false.
+    ///
+    /// The log shares the bytes of their operations with `calls`.
+    ///
+    /// Errors: `Memory` if an allocation fails; the log is unchanged.
+    ///
+    /// Rules: The replicated log 9, 11 and 19
     pub fn append_all(&mut self, calls: &[Call<A>]) -> Result<bool, Fault>
         ensures fits { IfOk result (λ fits. fits ≡ is_log_length (log_length self.old + length calls.now)) }
         ensures log { OnOk result (self.new ≡ followed self.old calls.now) }
@@ -108,12 +116,16 @@ impl<A: Allocator + Copy> Log<A> {
         Ok(true)
     }
 
-    /// Adopts a ring's base if `may_adopt` allows it, and returns how. The ring then is the last primary.
-    /// A base with a snapshot of more places than are committed restores the log: those places then count as dropped and
-    /// committed, and the base's calls follow them. Otherwise the log keeps its own places below the base and takes those of the
-    /// base's calls that it hasn't dropped. Calls are moved, never copied.
-    /// Errors: `Memory` where an allocation fails; the log is unchanged.
-    /// Rules: The replicated log 6 and 8
+    /// Adopts a ring's base if [`may_adopt`](Log::may_adopt) allows it, and returns how. The ring is then the last
+    /// primary.
+    ///
+    /// If the base has a snapshot of more places than are committed, the log is restored: those places are then treated
+    /// as committed and dropped, and the base's calls follow them. Otherwise the log keeps its own places below the
+    /// base, and the base's calls follow, without those of dropped places. Calls are moved, not copied.
+    ///
+    /// Errors: `Memory` if an allocation fails; the log is unchanged, and the base is lost.
+    ///
+    /// Rules: The replicated log 6, 8, 9 and 19
     pub fn adopt(&mut self, ring: RingId, base: Base<A>) -> Result<Adoption<A>, Fault>
         ensures how { IfOk result (λ how. how ≡ adoption self.old base) }
         ensures log { OnOk result (self.new ≡ adopted_if self.old ring base) }
@@ -130,7 +142,7 @@ impl<A: Allocator + Copy> Log<A> {
         Ok(Adoption::Joined)
     }
 
-    /// Replaces the log by one that begins after the places of the base's snapshot.
+    /// Replaces the log with one that begins after the places of the base's snapshot.
     fn restore(&mut self, ring: RingId, base: Base<A>) -> Adoption<A>
         requires short { is_log_length (base.from + length base.calls) ≡ true }
         ensures how { result ≡ restored_with self.old base.snapshot }
@@ -155,6 +167,8 @@ impl<A: Allocator + Copy> Log<A> {
     }
 
     /// Keeps the log's places below the base, and appends the base's calls, except those of dropped places.
+    ///
+    /// Errors: `Memory` if an allocation fails; the log is unchanged.
     #[tactic(auto, using(crate::proofs::Calls::joined_bounds))]
     fn join(&mut self, ring: RingId, base: Base<A>) -> Result<(), Fault>
         requires below { base.from ≤ self.old.committed }
@@ -171,9 +185,11 @@ impl<A: Allocator + Copy> Log<A> {
         Ok(())
     }
 
-    /// Returns whether a base may be adopted: it restores the log, or it leaves no hole and begins with the committed places that
-    /// the log keeps.
-    /// The log after the adoption must have at most 2^62 places, too. In a run only that limit can refuse a base.
+    /// Returns whether a base may be adopted.
+    ///
+    /// It must restore the log, or leave no hole and begin with the committed places that the log has kept. The log
+    /// must then have at most `MAX` places. In a run only this limit can refuse a base.
+    ///
     /// Rules: The replicated log 8 and 9
     pub fn may_adopt(&self, base: &Base<A>) -> bool
         ensures { result ≡ is_adoptable self.now base.now }
@@ -182,22 +198,23 @@ impl<A: Allocator + Copy> Log<A> {
             && is_length(base.from, base.calls.as_slice().len() as u64)
     }
 
-    /// Returns whether a base brings a snapshot of more places than are committed.
+    /// Returns whether a base has a snapshot of more places than are committed.
     fn restores(&self, base: &Base<A>) -> bool
         ensures { result ≡ restores self.now base.now }
     {
         base.snapshot.is_some() && self.committed < base.from
     }
 
-    /// Returns whether a base leaves no hole and begins with the committed places.
+    /// Returns whether a base leaves no hole and begins with the committed places that the log has kept.
     fn continues_committed(&self, base: &Base<A>) -> bool
         ensures { result ≡ nat_le base.now.from self.now.committed && begins (committed_calls self.now) (based self.now base.now) }
     {
         base.from <= self.committed && self.begins_with(base)
     }
 
-    /// Returns whether a base begins with the committed places.
-    /// Only the kept places from `base.from` on are compared: the log keeps its own places below that anyway.
+    /// Returns whether a base begins with the committed places that the log has kept.
+    ///
+    /// Only those from `base.from` on are compared, since the log keeps its own places below that.
     fn begins_with(&self, base: &Base<A>) -> bool
         ensures { result ≡ begins (committed_calls self.now) (based self.now base.now) }
     {
@@ -213,7 +230,10 @@ impl<A: Allocator + Copy> Log<A> {
         begins(&committed[same..], &received_calls[dropped..])
     }
 
-    /// Raises the committed length to `n`, or to the log's length if that is less. It never falls: a smaller `n` changes nothing.
+    /// Raises the committed length to `n`, or to the log's length if that is less.
+    ///
+    /// It never falls: a smaller `n` changes nothing.
+    ///
     /// Rules: The replicated log 12 and 19
     pub fn commit_upto(&mut self, n: u64)
         ensures { self.new ≡ committed_upto self.old n }
@@ -221,18 +241,22 @@ impl<A: Allocator + Copy> Log<A> {
         self.committed = self.committed.max(n.min(self.length()));
     }
 
-    /// Returns whether the committed places are due to be dropped: the log keeps 256 or more of them.
-    /// Rules: The replicated log 20
+    /// Returns whether the committed places are due to be dropped: whether the log has kept 256 or more of them.
+    ///
+    /// Rules: The replicated log 19 and 20
     pub fn is_due_to_trim(&self) -> bool
         ensures { result ≡ is_due_to_trim self.now }
     {
         self.committed - self.trimmed >= TRIM_AFTER
     }
 
-    /// Drops the committed places, and returns the log of these places alone. The committed length becomes the trimmed length.
-    /// Calls are moved, never copied.
-    /// Errors: `Memory` where an allocation fails; the log is unchanged.
-    /// Rules: The replicated log 20
+    /// Drops the committed places, and returns a log with only these places.
+    ///
+    /// The committed length becomes the trimmed length. Calls are moved, not copied.
+    ///
+    /// Errors: `Memory` if an allocation fails; the log is unchanged.
+    ///
+    /// Rules: The replicated log 19 and 20
     pub fn trim(&mut self) -> Result<Log<A>, Fault>
         ensures dropped { IfOk result (λ log. log ≡ committed_log self.old) }
         ensures ok { OnOk result (self.new ≡ trimmed_log self.old) }
@@ -251,6 +275,7 @@ impl<A: Allocator + Copy> Log<A> {
     }
 
     /// Returns the calls of all places that haven't been dropped, in order, committed or not.
+    ///
     /// Rules: The replicated log 1
     pub fn into_calls(self) -> Vec<Call<A>, A>
         ensures { result.items ≡ self.calls }
@@ -258,8 +283,9 @@ impl<A: Allocator + Copy> Log<A> {
         self.calls
     }
 
-    /// Returns the Head that states this log: its last primary, and its length, committed length and trimmed length.
-    /// Rules: The replicated log 2
+    /// Returns the Head of this log: its last primary, and its length, committed length and trimmed length.
+    ///
+    /// Rules: The replicated log 2 and 19
     pub fn head(&self) -> Head
         ensures { result ≡ head_of self.now }
     {
@@ -271,7 +297,8 @@ impl<A: Allocator + Copy> Log<A> {
         }
     }
 
-    /// Returns the number of places, committed or not, dropped ones included; 0 to 2^62.
+    /// Returns the number of places, committed or not, dropped ones included: 0 to `MAX`.
+    ///
     /// Rules: The replicated log 1
     pub fn length(&self) -> u64
         ensures { result ≡ log_length self.now }
@@ -279,7 +306,9 @@ impl<A: Allocator + Copy> Log<A> {
         self.trimmed + self.calls.len() as u64
     }
 
-    /// Returns how many places have been dropped from the front of the log, at most the committed length.
+    /// Returns how many places have been dropped, all from the beginning of the log. It is at most the committed
+    /// length.
+    ///
     /// Rules: The replicated log 1 and 20
     pub fn trimmed(&self) -> u64
         ensures { result ≡ self.now.trimmed }
@@ -287,7 +316,8 @@ impl<A: Allocator + Copy> Log<A> {
         self.trimmed
     }
 
-    /// Returns the number of committed places, dropped ones included. They are the log's first places.
+    /// Returns the number of committed places, dropped ones included. They are the first places of the log.
+    ///
     /// Rules: The replicated log 1 and 12
     pub fn committed_length(&self) -> u64
         ensures { result ≡ self.now.committed }
@@ -295,7 +325,8 @@ impl<A: Allocator + Copy> Log<A> {
         self.committed
     }
 
-    /// Returns the last primary, which is the newest ring that was adopted; `None` before the first adoption.
+    /// Returns the last primary, which is the newest ring adopted, or `None` before the first adoption.
+    ///
     /// Rules: The replicated log 1 and 6
     pub fn last_primary(&self) -> Option<RingId>
         ensures { result ≡ self.now.last }
@@ -303,7 +334,10 @@ impl<A: Allocator + Copy> Log<A> {
         self.last
     }
 
-    /// Returns the calls of all places that haven't been dropped, in order, committed or not. The first is at place `trimmed`.
+    /// Returns the calls of all places that haven't been dropped, in order, committed or not.
+    ///
+    /// The first is at place [`trimmed`](Log::trimmed).
+    ///
     /// Rules: The replicated log 1
     pub fn calls(&self) -> &[Call<A>]
         ensures { result.now ≡ self.now.calls }
@@ -311,7 +345,10 @@ impl<A: Allocator + Copy> Log<A> {
         self.calls.as_slice()
     }
 
-    /// Returns the calls of the committed places that haven't been dropped, in order. The first is at place `trimmed`.
+    /// Returns the calls of the committed places that haven't been dropped, in order.
+    ///
+    /// The first is at place [`trimmed`](Log::trimmed).
+    ///
     /// Rules: The replicated log 1 and 12
     pub fn committed_calls(&self) -> &[Call<A>]
         ensures { result.now ≡ committed_calls self.now }
@@ -319,10 +356,14 @@ impl<A: Allocator + Copy> Log<A> {
         &self.calls[..(self.committed - self.trimmed) as usize]
     }
 
-    /// Returns the Parts of the wanted places; this log must be the owner's. Each Part has 7 places, the last perhaps fewer.
-    /// There is none where nothing is wanted.
-    /// Errors: `Memory` where an allocation fails.
-    /// Rules: The replicated log 2
+    /// Returns the Parts of the wanted places. This must be the owner's log, which has dropped none of them.
+    ///
+    /// Each Part has 7 places, the last perhaps fewer. There are none if nothing is wanted. Wanted places past the end
+    /// of the log are left out.
+    ///
+    /// Errors: `Memory` if an allocation fails.
+    ///
+    /// Rules: The replicated log 2 and 19
     pub fn parts(&self, alloc: A, wanted: &Wanted) -> Result<Vec<Part<A>, A>, Fault>
         ensures ok { IfOk result (λ parts. parts.items ≡ parts_between self.now.trimmed self.now.calls wanted.now.from wanted.now.to) }
         ensures refused { IfErr result (λ fault. fault ≡ Memory) }
@@ -341,8 +382,9 @@ impl<A: Allocator + Copy> Log<A> {
     }
 }
 
-/// Keeps the first `kept` of `own`, and appends `calls` without its first `left_out`. Calls are moved, never copied.
-/// Errors: `Memory` where an allocation fails; the calls are unchanged.
+/// Keeps the first `kept` of `own`, and appends `calls` without its first `left_out`. Calls are moved, not copied.
+///
+/// Errors: `Memory` if an allocation fails; `own` is unchanged.
 fn splice_calls<A: Allocator + Copy>(
     own: &mut Vec<Call<A>, A>,
     kept: u64,
@@ -360,8 +402,9 @@ fn splice_calls<A: Allocator + Copy>(
     Ok(())
 }
 
-/// Returns the calls without their first `left_out`. Calls are moved, never copied.
-/// Errors: `Memory` where an allocation fails.
+/// Returns the calls without their first `left_out`. Calls are moved, not copied.
+///
+/// Errors: `Memory` if an allocation fails.
 #[tactic(auto, using(crate::proofs::Calls::drop_least))]
 fn split_off_calls<A: Allocator + Copy>(
     mut calls: Vec<Call<A>, A>,
@@ -378,7 +421,7 @@ fn split_off_calls<A: Allocator + Copy>(
     Ok(rest)
 }
 
-/// Returns whether a log may have `places + more` places.
+/// Returns whether `places` + `more` is at most `MAX`, the maximum length of a log.
 fn is_length(places: u64, more: u64) -> bool
     ensures { result ≡ is_log_length (places + more) }
 {

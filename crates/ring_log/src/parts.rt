@@ -1,4 +1,5 @@
-//! A log's places encoded as Parts.
+//! A log's places as Parts.
+//!
 //! Rules: The replicated log 2
 
 ghost use Rattle.std.specs.Prelude.{◌≡◌, ◌+◌, ◌^◌, ◌<◌, length, IfOk, IfErr};
@@ -12,8 +13,12 @@ use std::alloc::Allocator;
 /// The number of places in a Part, 7; the last Part may have fewer.
 const CALLS_PER_PART: usize = MAX_PART_CALLS as usize;
 
-/// Returns the Parts of these calls, of which the first is at place `at` of the log, counted from 0. No call gives no Part.
-/// Errors: `Memory` where an allocation fails.
+/// Returns the Parts of these calls, the first of which is at place `at` of the log, counted from 0.
+///
+/// Without a call there is no Part.
+///
+/// Errors: `Memory` if an allocation fails.
+///
 /// Rules: The replicated log 2
 #[tactic(auto, using(ring_base::proofs::ListPlaces::map_numbers, ring_base::proofs::ListFronts::take_shorter))]
 pub(crate) fn parts_of<A: Allocator + Copy>(

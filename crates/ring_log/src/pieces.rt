@@ -1,4 +1,5 @@
 //! A snapshot divided into pieces, the contents of Snaps.
+//!
 //! Rules: The replicated log 2
 
 ghost use Rattle.std.specs.Prelude.{◌≡◌, ◌≤◌, length, IfOk, IfErr};
@@ -13,10 +14,14 @@ use std::alloc::Allocator;
 /// The number of bytes in a piece, 7,000; the last piece may have fewer.
 const BYTES_PER_PIECE: usize = MAX_PIECE_BYTES as usize;
 
-/// Returns the Snaps of the snapshot of a log's first `at` places, in order. Each has 7,000 of its bytes, the last perhaps fewer.
-/// `bytes` has at most 16,777,216 bytes. No byte gives no Snap.
-/// Errors: `Memory` where an allocation fails.
-/// Rules: The replicated log 2
+/// Returns the Snaps of a snapshot of a log's first `at` places, in order.
+///
+/// Each has 7,000 of its bytes, the last perhaps fewer. `bytes` must have at most 16,777,216 bytes. Without a byte
+/// there is no Snap.
+///
+/// Errors: `Memory` if an allocation fails.
+///
+/// Rules: The replicated log 2 and 19; Limits 1
 #[tactic(auto, using(ring_base::proofs::ListPlaces::map_numbers, ring_base::proofs::ListFronts::take_shorter))]
 pub fn pieces_of<A: Allocator + Copy>(
     alloc: A,

@@ -1,4 +1,5 @@
-//! A member's Head and the order by which one is chosen.
+//! A member's Head, and the order by which one is chosen.
+//!
 //! Rules: The replicated log 5
 
 ghost use Rattle.std.specs.Prelude.{◌≡◌};
@@ -8,6 +9,7 @@ use ring_base::Proc;
 use ring_wire::Head;
 
 /// A Head that a member of the ring sent at its installation, with its sender.
+///
 /// Rules: The replicated log 3 and 5
 #[derive(Clone, Copy, Debug, PartialEq, Eq)]
 pub struct ReceivedHead {
@@ -18,9 +20,11 @@ pub struct ReceivedHead {
 }
 
 impl ReceivedHead {
-    /// Returns whether `other` is chosen before this Head.
-    /// It is if it has the greater last primary, where `None` is least. If these are equal, the greater length decides, and then
-    /// the smaller sender.
+    /// Returns whether `other` is to be chosen rather than this Head.
+    ///
+    /// It is if its last primary is greater, where `None` is least. If they are equal, the greater length decides, and
+    /// then the smaller sender.
+    ///
     /// Rules: The replicated log 5
     pub fn is_behind(&self, other: &ReceivedHead) -> bool
         ensures { result ≡ is_behind self.now other.now }

@@ -1,13 +1,19 @@
 //! The bytes of a snapshot.
+//!
+//! Rules: The replicated log 20; Sessions 12
+//! Formats: Snapshots
 
 ghost use Rattle.std.specs.Prelude.{◌≡◌, ℕ, List};
 
 use std::alloc::{AllocError, Allocator, Global};
 use std::marker::Model;
 
-/// The bytes of a snapshot of the session table, on the heap: the table stands for the places of a log that were dropped.
+/// The bytes of a snapshot of the sessions, which replaces the places of a log that were dropped.
+///
 /// Contracts see the bytes.
+///
 /// Rules: The replicated log 20; Sessions 12
+/// Formats: Snapshots
 #[derive(Drop)]
 pub struct Snapshot<A: Allocator + Copy = Global> {
     bytes: Vec<u8, A>,
@@ -30,7 +36,7 @@ impl<A: Allocator + Copy> Clone for Snapshot<A> {
 }
 
 impl<A: Allocator + Copy> Snapshot<A> {
-    /// Creates the snapshot of these bytes, unread: they needn't be a snapshot. It takes no memory.
+    /// Creates a snapshot from its bytes. They are not checked to be a snapshot. Does not allocate.
     pub fn from_vec(bytes: Vec<u8, A>) -> Snapshot<A>
         ensures { result ≡ bytes.items }
     {

@@ -18,6 +18,6 @@ pub record SafeLog {A : Type 0} (group : Group) (node_epochs : ℕ → List (Epo
   pub is : ring_log group node_epochs ring (members ring) front ≡ Some log
   pub safe : IsReceivedByAll node_epochs ring (members ring) front
 
--- a prefix of such a log
+-- The calls are settled: a prefix of a safe log.
 abbrev pub IsSettled : {A : Type 0} → Group → (ℕ → List (Epoch A)) → (RingId → ℕ) → List (OneCall A) → Type 0
 IsSettled group node_epochs members calls = (safe : SafeLog group node_epochs members) × IsListPrefix calls safe.log

@@ -1,4 +1,6 @@
-//! Worked lives, computed from the definitions.
+//! Examples of the epochs of three processors, computed from the definitions.
+//!
+//! Rules: The replicated log 16; Outputs 11
 
 ghost use Rattle.std.specs.Prelude.{◌≡◌, ℕ, List, [], ◌∷◌, Some, None, length};
 ghost use Rattle.std.specs.declared.alloc.Global.{Global};
@@ -10,8 +12,11 @@ ghost use Rattle.ring_log_proof.specs.Examples.{first_ring, second_ring, call_by
 ghost use Rattle.ring_log_proof.specs.Examples.{life_of_one, life_of_two, life_of_three, missing_heads, misheard, smaller, silent, falling, older_head, late_head};
 ghost use Rattle.ring_log_proof.specs.Examples.{wrong_part};
 
-/// States a worked example: of three processors that formed a ring, two go on in a second one. Their histories have the
-/// facts that hold of ring cores, and their logs are those that the contract names.
+/// States an example: of three processors that formed a ring, two go on in a second one.
+///
+/// Their epochs have the facts that the ring core guarantees, the nodes keep their rules, and the logs, the committed
+/// places and the exchange are as listed.
+///
 /// Rules: The replicated log 16; Outputs 11
 pub fn three_lives()
     ensures facts { RingFacts node_epochs members text }
@@ -26,10 +31,18 @@ pub fn three_lives()
     ensures log { ring_log group_of_three node_epochs second_ring 3 second_exchange ≡ Some (call_by 7 ∷ []) }
 {}
 
-/// States examples of wrong lives: lives of processor 2 that no ring core and no node can have. Each breaks one fact or one rule.
-/// Processor 1 knows messages as safe that 2 didn't receive. A Head was received that isn't of the ring's text. A ring has other
-/// members. A payload was sent that was never handed over. Ring numbers fall. A Head names the ring before the last primary, or
-/// comes after a call. A Part has a place that isn't in the log.
+/// States examples of epochs that processor 2 can't have had. Each breaks one fact of the ring core or one rule of
+/// nodes.
+///
+/// - `missing_heads`: processor 1 knows messages as safe that processor 2 hasn't received.
+/// - `misheard`: it received a Head that isn't in the ring's text.
+/// - `smaller`: it was in a ring with other members.
+/// - `silent`: it sent a payload that was never handed over.
+/// - `falling`: the ring numbers fall.
+/// - `older_head`: its Head names a ring before the last primary.
+/// - `late_head`: its Head comes after a call.
+/// - `wrong_part`: its Part has a place that isn't in its log.
+///
 /// Rules: Outputs 11; The replicated log 2
 pub fn wrong_lives()
     ensures missing_heads { RingFacts (lives_with missing_heads) members text → ⊥ }

@@ -1,5 +1,8 @@
-//! The laws of the one order: of the lives of all nodes at one moment, between two moments, and along a run.
-//! Lives are *consistent* if they have the ring core's facts and the nodes keep their rules (`ConsistentEpochs`).
+//! The laws of the one order: for the epochs of all nodes at one moment, between two moments, and along a run.
+//!
+//! The epochs of all nodes are *consistent* (`ConsistentEpochs`) if they have the facts that the ring core guarantees
+//! and the nodes have kept their rules.
+//!
 //! Rules: The replicated log 2, 6, 8, 12, 16 and 17
 
 ghost use Rattle.std.specs.Prelude.{◌≡◌, ℕ, ◌<◌, ◌≤◌, ◌⊎◌, List, [], length, map, take, drop, All, Contains, Some, None, true, slice_get};
@@ -29,9 +32,11 @@ ghost use Rattle.ring_log_proof.specs.Time.{ConsistentMoment, IsOrderlyRun, last
 
 use std::alloc::{Allocator, Global};
 
-/// States that the Heads and Parts in a ring's text state their senders' logs truthfully, in all consistent lives.
-/// Lives are consistent if they have the ring core's facts and the nodes keep their rules. A Head in the text is the one that
-/// states its sender's life before the ring. A Part has places of the log that its sender had then.
+/// States that the Heads and Parts in a ring's text report their senders' logs truthfully, for all consistent epochs.
+///
+/// A Head in the text is the one that reports its sender's log before the ring. A Part has the calls of this log at its
+/// places. Epochs are consistent if they have the facts of the ring core and the nodes have kept their rules.
+///
 /// Rules: The replicated log 2
 pub fn head_law<A: Allocator + Copy>()
     ensures heads { (group : Group) (m : ConsistentEpochs A group) (r : RingId) (k : ℕ) (x : Message A) (head : Head) →
@@ -42,9 +47,12 @@ pub fn head_law<A: Allocator + Copy>()
         IsListPrefix part.calls (drop part.first (log_of group at.older)) }
 {}
 
-/// States that safe logs persist, in all consistent lives: lives with the ring core's facts, of nodes that keep their rules.
-/// Suppose that every member of a primary ring received a prefix of its text that holds the ring's whole exchange. Then the
-/// ring's log after this prefix is a prefix of the base of every later primary ring that has a base.
+/// States that safe logs persist, for all consistent epochs.
+///
+/// Suppose that every member of a primary ring has received a prefix of its text that contains the ring's whole
+/// exchange. Then the ring's log after this prefix is a prefix of the base of every later primary ring that has a base.
+/// Epochs are consistent if they have the facts of the ring core and the nodes have kept their rules.
+///
 /// Rules: The replicated log 17
 pub fn safe_log_persists_law<A: Allocator + Copy>()
     ensures { (group : Group) (m : ConsistentEpochs A group) (earlier later : RingId) (safe heard : List (Message A)) (log : List (Call A)) (whole : CompleteExchange A) →
@@ -54,10 +62,12 @@ pub fn safe_log_persists_law<A: Allocator + Copy>()
         IsListPrefix log (base_of group m.node_epochs later whole.exchange) }
 {}
 
-/// States that of any two settled lists of calls one is a prefix of the other, in all consistent lives: lives with the ring
-/// core's facts, of nodes that keep their rules. Settled calls stay settled as lives are extended.
-/// A list of calls is settled if it is a prefix of a safe log: the log of a primary ring after messages that every member
-/// received, the ring's whole exchange among them.
+/// States that of any two settled lists of calls one is a prefix of the other, for all consistent epochs.
+///
+/// A list of calls is settled if it is a prefix of a safe log. That is the log of a primary ring after messages that
+/// every member has received, with the ring's whole exchange among them. A settled list stays settled as epochs are
+/// extended. Epochs are consistent if they have the facts of the ring core and the nodes have kept their rules.
+///
 /// Rules: The replicated log 17
 pub fn settled_law<A: Allocator + Copy>()
     ensures fronts { (group : Group) (m : ConsistentEpochs A group) (xs ys : List (Call A)) →
@@ -67,9 +77,12 @@ pub fn settled_law<A: Allocator + Copy>()
         IsSettled group before.node_epochs before.members xs → IsSettled group after.node_epochs after.members xs }
 {}
 
-/// States that each node's committed calls are settled, if there are any, and are a prefix of its log, in all consistent lives.
-/// Calls are settled if they are a prefix of a safe log (`settled_law`).
-/// The committed calls of all nodes are prefixes of one list. As lives are extended, the committed calls of each node only grow.
+/// States that each node's committed calls are settled, if there are any, and are a prefix of its log.
+///
+/// Calls are settled if they are a prefix of a safe log: see [`settled_law`]. The committed calls of all nodes are
+/// prefixes of one list. As epochs are extended, each node's committed calls only grow. The law holds for all
+/// consistent epochs.
+///
 /// Rules: The replicated log 12, 16 and 17
 pub fn committed_law<A: Allocator + Copy>()
     ensures settled { (group : Group) (m : ConsistentEpochs A group) (p : ℕ) →
@@ -82,10 +95,13 @@ pub fn committed_law<A: Allocator + Copy>()
         IsListPrefix (committed_of group (before.node_epochs p)) (committed_of group (after.node_epochs p)) }
 {}
 
-/// States that a node that has received a ring's whole exchange builds the ring's base from it, in all consistent lives: lives
-/// with the ring core's facts, of nodes that keep their rules.
-/// Where the node doesn't restore a snapshot, its own first places, as many as the base doesn't bring, are those of the base. The
-/// base begins with the places that the node had committed. So no node is ever stopped because a base lacks committed places.
+/// States that a node that has received a ring's whole exchange makes the ring's base from it, for all consistent
+/// epochs.
+///
+/// If the node doesn't restore a snapshot, its own places below the base's `from` are those of the base. The base
+/// begins with the places that the node had committed. So no node is ever stopped because a base lacks committed
+/// places.
+///
 /// Rules: The replicated log 6, 8 and 17
 pub fn adoption_law<A: Allocator + Copy>()
     ensures base { (group : Group) (m : ConsistentEpochs A group) (p : ℕ) (s : Epoch A) (older : List (Epoch A)) (whole : CompleteExchange A) →
@@ -100,12 +116,15 @@ pub fn adoption_law<A: Allocator + Copy>()
         keeps_committed (log_of group older) s.front (committed_of group older) (complete_exchange group s.members s.heard) ≡ true }
 {}
 
-/// States that the log that a node knows is the rest of its whole log after the snapshot that it restored last. The whole log
-/// counts from the beginning.
-/// This holds for every life that is sound and in which only committed places were dropped; the node's Head then states the whole
-/// log. A life is sound if each base begins with the places committed before.
-/// If all bases of a life do so, the known log is sound exactly if the whole life is. All this holds for all consistent lives. In
-/// these no node finds by its known log that a base lacks committed places.
+/// States that the log that a node knows is its whole log without the places that its last restored snapshot replaces.
+///
+/// The law holds for all epochs of a node that are sound and in which only committed places were dropped: epochs are
+/// sound if each base begins with the places committed before. The node's Head then reports the whole log. If each base
+/// begins with the places committed before, the known log is sound exactly if the whole log is.
+///
+/// All this holds for all consistent epochs. In these, no node finds by its known log that a base lacks committed
+/// places.
+///
 /// Rules: The replicated log 1, 8 and 20
 pub fn kept_law<A: Allocator + Copy>()
     ensures rests { (group : Group) (epochs : List (Epoch A)) → is_sound group epochs ≡ true → DropsOnlyCommitted group epochs → IsView group epochs }
@@ -121,11 +140,13 @@ pub fn kept_law<A: Allocator + Copy>()
         HasEpoch (m.node_epochs p) s older → keeps_kept (known_log_of group older) s.ring (complete_exchange group s.members s.heard) ≡ true }
 {}
 
-/// States that lives may be filled with the places that snapshots stand for, ring by ring, without breaking a fact of the ring
-/// core or a rule of the nodes.
-/// Each life is filled up to a number above all of its rings. Each snapshot then stands for the first places of the log that its
-/// sender had before its ring. Filled lives have the same facts, keep the same rules and are extended as the unfilled ones are.
-/// The places of a snapshot are fixed once its ring's exchange is complete.
+/// States that epochs can be filled with the places that snapshots replace, without breaking a fact or a rule.
+///
+/// The facts are those of the ring core, and the rules those of the nodes. The epochs of each node are filled ring by
+/// ring, up to a number above all its rings. Each snapshot then replaces the first places of the log that its sender
+/// had before its ring. Filled epochs have the same facts, keep the same rules, and are extended as the unfilled ones
+/// are. The places of a snapshot are fixed once its ring's exchange is complete.
+///
 /// Rules: The replicated log 4, 6 and 16
 pub fn fronts_law<A: Allocator + Copy>()
     ensures stand { (group : Group) (node_epochs : ℕ → List (Epoch A)) → ((p : ℕ) → Rises (node_epochs p)) → (bounds : ℕ → ℕ) → AreAbove node_epochs bounds →
@@ -140,10 +161,11 @@ pub fn fronts_law<A: Allocator + Copy>()
         (p : ℕ) → IsEpochsExtended (whole_epochs group node_epochs (bounds p) p) (whole_epochs group after (more p) p) }
 {}
 
-/// States that each call of a log was handed to some core in a Call, whatever Parts have carried it since, in all consistent
-/// lives.
-/// So if all calls handed over are in a list, such as that of the issued calls, all calls of all logs and of their committed
-/// places are in it.
+/// States that each call of a log was handed to some core in a Call, whatever Parts have carried it since.
+///
+/// So if all calls handed over are in a list, such as that of the issued calls, all calls of all logs and of their
+/// committed places are in it. The law holds for all consistent epochs.
+///
 /// Rules: The replicated log 10 and 11; Sessions 10
 pub fn issued_law<A: Allocator + Copy>()
     ensures logs { (group : Group) (m : ConsistentEpochs A group) (issued : List (Call A)) (p : ℕ) →
@@ -152,11 +174,13 @@ pub fn issued_law<A: Allocator + Copy>()
         SendsOnlyKnown (Contains issued) m.node_epochs → Each (Contains issued) (committed_of group (m.node_epochs p)) }
 {}
 
-/// States that the outputs of a core and the payloads that a node hands over extend its life and keep its discipline.
-/// It holds for every list of events that may happen: marks don't fall, dropped places are committed, and the node hands over its
-/// Head first and then payloads that may follow a Head.
-/// If a node hands over only issued calls, then only issued calls were ever handed over. All places that were ever dropped are
-/// committed.
+/// States that the outputs of a core and the payloads that its node hands over extend the node's epochs and keep the
+/// rules.
+///
+/// The law holds for every list of events that may happen: marks don't fall, and dropped places are committed. The node
+/// hands over its Head first, and then only payloads that may follow a Head. If a node hands over only issued calls,
+/// then only issued calls were ever handed over. All places that were ever dropped are committed.
+///
 /// Rules: The replicated log 2, 10 and 20
 pub fn epochs_law<A: Allocator + Copy>()
     ensures goes_on { (group : Group) (epochs : List (Epoch A)) (events : List (EpochEvent A)) →
@@ -172,9 +196,11 @@ pub fn epochs_law<A: Allocator + Copy>()
         DropsCommitted group node_epochs → DropsCommitted group after }
 {}
 
-/// States that each node's committed calls grow along every run of consistent moments.
-/// In such a run all calls handed over at a moment were issued, and lives are extended from each moment to the next. At each
-/// moment the committed calls of all nodes are prefixes of one list, and all were issued.
+/// States that each node's committed calls only grow along every run of consistent moments.
+///
+/// In such a run all calls handed over by a moment have been issued, and epochs are extended from each moment to the
+/// next. At each moment the committed calls of all nodes are prefixes of one list, and all have been issued.
+///
 /// Rules: The replicated log 12 and 17; Sessions 10 and 11
 pub fn run_law<A: Allocator + Copy>()
     ensures grows { (group : Group) (moment : ConsistentMoment A group) (rest : List (ConsistentMoment A group)) (p : ℕ) → IsOrderlyRun moment rest →
@@ -184,8 +210,10 @@ pub fn run_law<A: Allocator + Copy>()
     ensures issued { (group : Group) (moment : ConsistentMoment A group) (p : ℕ) → Each (Contains moment.issued) (committed_at moment p) }
 {}
 
-/// States a part of `committed_law` for the allocator that programs use. Nothing calls this function.
-/// A law is proved for all allocators that meet its bounds, and this function shows one that does.
+/// States a part of [`committed_law`] for the allocator that programs use. Nothing calls this function.
+///
+/// A law is proved for all allocators that meet its bounds; this function shows that `Global` does.
+///
 /// Rules: The replicated log 16
 pub fn laws_at_global()
     ensures { (group : Group) (m : ConsistentEpochs Heap group) (p : ℕ) → IsListPrefix (committed_of group (m.node_epochs p)) (log_of group (m.node_epochs p)) }

@@ -41,7 +41,7 @@ pub record IsNode {A : Type 0} (core : Core A) (replica : Replica A) (last : Con
   pub runs : replica.stopped ≡ false → IsRunningNode core replica
   pub left : replica.stopped ≡ true → last ≡ ended.installed
 
--- the replica's step on the outputs of a core's step, where `core` is the core after it
+-- the replica's step on the outputs of a core's step; `core` is the core after it
 abbrev pub followed_by : {O A : Type 0} → Sequential O → Core A → Replica A → List (Out A) → ReplicaStepResult A
 followed_by object core replica outs = replica_step object (running_of core) replica outs
 

@@ -1,5 +1,7 @@
 //! One step of a ring core together with its replica.
+//!
 //! `follow_step` is a function of its own to keep its large stack slot out of its caller.
+//!
 //! Rules: Rings and states 13; The replicated log 1, 2, 8 and 10
 
 ghost use Rattle.std.specs.Prelude.{◌≡◌, [], true, false, if◌then◌else◌, IfErr, OnOk, OnErr};
@@ -23,7 +25,7 @@ use ring_replica::Replica;
 use ring_srp::Srp;
 use std::alloc::Allocator;
 
-/// Returns the ring in which the core is Operational, `None` in every other state.
+/// Returns the ring in which the core is Operational, or `None` in every other state.
 pub(crate) fn running<A: Allocator + Copy>(core: &Srp<A>) -> Option<RingId>
     ensures { result ≡ running_of core.now }
 {
@@ -33,8 +35,12 @@ pub(crate) fn running<A: Allocator + Copy>(core: &Srp<A>) -> Option<RingId>
     }
 }
 
-/// Hands payloads to the core, in their order. It queues them in Operational, and drops them in every other state.
-/// Errors: `Memory` where an allocation fails; the caller must then stop the node.
+/// Hands payloads to the core, in order.
+///
+/// The core queues them in Operational, and drops them in every other state.
+///
+/// Errors: `Memory` if an allocation fails; the caller must then stop the node.
+///
 /// Rules: The replicated log 1; Rings and states 9
 pub(crate) fn hand_over<A: Allocator + Copy>(
     core: &mut Srp<A>,
@@ -50,8 +56,13 @@ pub(crate) fn hand_over<A: Allocator + Copy>(
     Ok(())
 }
 
-/// Lets the core receive a frame, and the replica follow. The outputs are stored in `outs`, which is empty at the call.
-/// Errors: `Memory` where an allocation fails; the caller must stop both, which leaves the replica as before the step.
+/// Runs a core's step on a frame and the replica's step on its outputs.
+///
+/// Stores the outputs in `outs`, which must be empty. Both must be running, and the frame must be within the limits of
+/// its format.
+///
+/// Errors: `Memory` if an allocation fails; the caller must stop both, which leaves the replica as before the step.
+///
 /// Rules: Rings and states 13; The replicated log 1
 pub(crate) fn advance_by_frame<O: Object>(
     core: &mut Srp<O::Alloc>,
@@ -73,8 +84,12 @@ pub(crate) fn advance_by_frame<O: Object>(
     follow(core, replica, told, outs)
 }
 
-/// Lets the core handle a timeout, and the replica follow. The outputs are stored in `outs`, which is empty at the call.
-/// Errors: `Memory` where an allocation fails; the caller must stop both, which leaves the replica as before the step.
+/// Runs a core's step on a timeout and the replica's step on its outputs.
+///
+/// Stores the outputs in `outs`, which must be empty. Both must be running.
+///
+/// Errors: `Memory` if an allocation fails; the caller must stop both, which leaves the replica as before the step.
+///
 /// Rules: Rings and states 13; The replicated log 1
 pub(crate) fn advance_by_time<O: Object>(
     core: &mut Srp<O::Alloc>,
@@ -95,9 +110,13 @@ pub(crate) fn advance_by_time<O: Object>(
     follow(core, replica, told, outs)
 }
 
-/// Applies the core's outputs to the replica, and hands the due payloads to the core; the frames sent are in `outs` already.
+/// Applies the core's outputs to the replica, and hands the due payloads to the core.
+///
+/// The sent frames already are in `outs`.
+///
 /// If the replica stops, `outs` is emptied. A step that changes nothing of the replica is skipped.
-/// Errors: `Memory` where an allocation fails; the replica, once stopped, is as before the step.
+///
+/// Errors: `Memory` if an allocation fails; once stopped, the replica is as before the step.
 fn follow<O: Object>(
     core: &mut Srp<O::Alloc>,
     replica: &mut Replica<O>,
@@ -121,7 +140,7 @@ fn follow<O: Object>(
     follow_step(core, replica, told.as_slice(), outs)
 }
 
-/// Does the same with a step of the replica.
+/// Does the same as `follow`, without skipping the replica's step.
 #[inline(never)]
 fn follow_step<O: Object>(
     core: &mut Srp<O::Alloc>,
@@ -150,7 +169,7 @@ fn follow_step<O: Object>(
     Ok(())
 }
 
-/// Drops the frames of a step in which the replica stopped.
+/// Drops the step's frames if the replica stopped in it.
 fn clear_if_stopped<A: Allocator + Copy>(stopped: bool, sends: &mut Vec<OutgoingFrame<A>, A>)
     ensures { sends.new.items ≡ (if stopped then [] else sends.old.items) }
 {

@@ -1,4 +1,7 @@
-//! The node and its calls. `time_out` is a function of its own to keep its large stack slot out of its caller.
+//! The node and its calls.
+//!
+//! `time_out` is a function of its own to keep its large stack slot out of its caller.
+//!
 //! Rules: Rings and states 3, 6, 12 and 13; The replicated log 8, 13 to 15, 18 and 20; Refusals 4 to 6
 
 ghost use Rattle.std.specs.Prelude.{◌≡◌, ◌≤◌, true, false, length, if◌then◌else◌, Some, None, Ok, IsOk, IfOk, IfErr, OnOk, OnErr, MatchOption};
@@ -26,15 +29,17 @@ use ring_srp::Srp;
 use std::marker::Model;
 
 /// `Node`: the running state of a processor of the group: its ring core, its log, its tickets and its sessions.
-/// It has neither clock, network nor thread: it takes one input at a time. Contracts see a `Node` value: its group, its core, its
-/// life, its tickets, the calls that it did and the answers that it gave.
+///
+/// It has no clock, no network and no thread, and takes one input at a time. Contracts see its group, its core, its
+/// epochs, its tickets, the calls that it did and the answers that it gave.
+///
 /// Rules: Rings and states 3; The replicated log 1
 #[derive(Drop)]
 pub struct Node<O: Object> {
     alloc: O::Alloc,
     core: Srp<O::Alloc>,
     replica: Replica<O>,
-    /// The last installed ring with its members, at the time the node stopped.
+    /// The last installed ring with its members, at the time when the node stopped.
     last: Configuration,
     /// The core before the step in which the node stopped.
     ended: Ghost<Srp<O::Alloc>>,
@@ -52,10 +57,13 @@ impl<O: Object> Model for Node<O> {
 }
 
 impl<O: Object> Node<O> {
-    /// Creates processor `me` of the group at its opening: alone in Gather, with an empty log. `me` is at most the group's number
-    /// of processors.
-    /// Errors: `Memory` where an allocation fails.
-    /// Rules: Rings and states 5; The replicated log 1
+    /// Creates processor `me` of the group at its opening: alone in Gather, with an empty log.
+    ///
+    /// `me` must be at most the group's number of processors.
+    ///
+    /// Errors: `Memory` if an allocation fails.
+    ///
+    /// Rules: Rings and states 5; The replicated log 1; Processors and sets 2
     pub fn new(alloc: O::Alloc, fixed: Fixed, me: Proc) -> Result<Node<O>, Fault>
         requires { me ≤ fixed.count }
         ensures ok { IfOk result (λ node. node ≡ node_opening fixed me) }
@@ -74,8 +82,12 @@ impl<O: Object> Node<O> {
         })
     }
 
-    /// Returns a copy that runs independently of this node. Its object is restored from a snapshot of this one's.
-    /// Errors: `Memory` where an allocation fails; this node is unchanged.
+    /// Returns a copy that runs independently of this node.
+    ///
+    /// Its object is restored from a snapshot of this one's.
+    ///
+    /// Errors: `Memory` if an allocation fails; this node is unchanged.
+    ///
     /// Rules: Objects 3; Sessions 12
     pub fn copy(&self) -> Result<Node<O>, Fault>
         ensures ok { IfOk result (λ copy. copy ≡ self.now) }
@@ -93,10 +105,15 @@ impl<O: Object> Node<O> {
         })
     }
 
-    /// Submits a call and returns its ticket: its index, from 0, in the list of all tickets that this node gave. The call keeps
-    /// the limits of frames, as each one from `Call::new` does.
-    /// Errors, in this order: `Stopped` in a stopped node; `PendingFull` if 64 tickets are unanswered or 2^62 have been given;
-    /// `Memory` where an allocation fails. The node is unchanged by each.
+    /// Submits a call and returns its ticket, which is its index, from 0, in the list of all tickets that this node
+    /// gave.
+    ///
+    /// The call must be within the limits of a call, as each one from `Call::new` is. It is sent at once if the node
+    /// has adopted the running ring, otherwise as soon as it adopts one.
+    ///
+    /// Errors, in this order: `Stopped` if the node has stopped. `PendingFull` if 64 tickets are unanswered or 2^62
+    /// have been given. `Memory` if an allocation fails. The node is unchanged by each.
+    ///
     /// Rules: The replicated log 10 and 13; Refusals 4
     pub fn submit(&mut self, call: Call<O::Alloc>) -> Result<Ticket, Fault>
         requires fits { CallFits call }
@@ -109,8 +126,12 @@ impl<O: Object> Node<O> {
         self.submit_on(&call)
     }
 
-    /// Submits a copy of a call that the caller keeps, and returns its ticket; otherwise the same as `submit`.
-    /// Errors: as in `submit`, in the same order. The node is unchanged by each.
+    /// Submits a copy of a borrowed call and returns its ticket.
+    ///
+    /// Otherwise the same as `submit`.
+    ///
+    /// Errors: those of `submit`, in the same order. The node is unchanged by each.
+    ///
     /// Rules: The replicated log 10 and 13; Refusals 4
     pub fn submit_on(&mut self, call: &Call<O::Alloc>) -> Result<Ticket, Fault>
         requires fits { CallFits call.now }
@@ -124,12 +145,16 @@ impl<O: Object> Node<O> {
         self.take(copy_of(call)?)
     }
 
-    /// Handles an input, and returns the outputs of the step. A frame must be within the limits of frames, as every
-    /// decoded frame is.
-    /// The outputs are the frames sent, the answers, the calls newly committed, the calls of the places dropped, and the number
-    /// of places restored. A stop takes no memory.
-    /// Errors: `Stopped` in a stopped node, which is unchanged; `Memory` where an allocation fails, also for dropping places.
-    /// After `Memory` the node is stopped for good with its log from before the step, and there are no outputs.
+    /// Runs one step on an input and returns its outputs.
+    ///
+    /// They are the frames sent, the answers, the newly committed calls, the calls of the dropped places, and the
+    /// number of places restored. A frame must be within the limits of its format, as every decoded frame is. A stop
+    /// does not allocate.
+    ///
+    /// Errors: `Stopped` if the node had already stopped; it is unchanged. `Memory` if an allocation fails, including
+    /// one for dropping places; the node has then stopped for good with its log from before the step, and there are no
+    /// outputs.
+    ///
     /// Rules: Rings and states 12 and 13; The replicated log 8, 18 and 20; Refusals 4 and 6
     pub fn step(&mut self, input: Input<O::Alloc>) -> Result<Outs<O::Alloc>, Fault>
         requires fits { InputFits input }
@@ -149,9 +174,15 @@ impl<O: Object> Node<O> {
         Ok(outs)
     }
 
-    /// Handles an input that the caller keeps, and stores the outputs in `outs`; otherwise the same as `step`.
-    /// The node copies the input's frame, unless it is a token. The lists of `outs` are emptied first, and their room is reused.
-    /// Errors: as in `step`; `outs` is then empty.
+    /// Runs one step on a borrowed input and stores the outputs in `outs`.
+    ///
+    /// Otherwise the same as `step`.
+    ///
+    /// The node copies the input's frame, unless it is a token. The lists of `outs` are emptied first, and their
+    /// capacity is reused.
+    ///
+    /// Errors: those of `step`; `outs` is then empty.
+    ///
     /// Rules: Rings and states 12 and 13; The replicated log 8, 18 and 20; Refusals 4 and 6
     pub fn step_into(
         &mut self,
@@ -186,8 +217,12 @@ impl<O: Object> Node<O> {
         }
     }
 
-    /// Handles a frame that the caller keeps, and stores the outputs in `outs`; otherwise the same as `step_into`.
-    /// Errors: as in `step`; `outs` is then empty.
+    /// Runs one step on a borrowed frame and stores the outputs in `outs`.
+    ///
+    /// Otherwise the same as `step_into`.
+    ///
+    /// Errors: those of `step`; `outs` is then empty.
+    ///
     /// Rules: Rings and states 12 and 13; The replicated log 8, 18 and 20; Refusals 4 and 6
     pub fn receive_into(
         &mut self,
@@ -210,7 +245,10 @@ impl<O: Object> Node<O> {
         self.receive(frame, outs)
     }
 
-    /// Returns the answer to a ticket, if it is one of the last 64 answered here; otherwise `None`. It takes no memory.
+    /// Returns the answer to a ticket if it is one of the last 64 that were answered here, otherwise `None`.
+    ///
+    /// Does not allocate.
+    ///
     /// Rules: The replicated log 15
     pub fn reply(&self, ticket: Ticket) -> Option<Answer>
         ensures { result ≡ node_reply self.now ticket }
@@ -218,7 +256,8 @@ impl<O: Object> Node<O> {
         self.replica.reply(ticket)
     }
 
-    /// Returns the calls of the committed places that haven't been dropped, in order, repeats included.
+    /// Returns the calls at the committed places that haven't been dropped, in order, including repeats.
+    ///
     /// Rules: The replicated log 18
     pub fn committed(&self) -> &[Call<O::Alloc>]
         ensures { result.now ≡ node_committed self.now }
@@ -226,7 +265,8 @@ impl<O: Object> Node<O> {
         self.replica.committed()
     }
 
-    /// Returns the node's state: Gather, Commit, Recovery, Operational, or Stopped once it has stopped.
+    /// Returns the node's state, which is `Stopped` once the node has stopped.
+    ///
     /// Rules: Rings and states 6
     pub fn state(&self) -> State
         ensures { result ≡ self.now.core.state }
@@ -238,7 +278,10 @@ impl<O: Object> Node<O> {
         }
     }
 
-    /// Returns the last installed ring; (0, `me`) before any was installed. After a stop it is the one at the stop.
+    /// Returns the last installed ring, which is (0, `me`) before the first installation.
+    ///
+    /// After a stop, it is the ring at the time of the stop.
+    ///
     /// Rules: Rings and states 3 and 5; The replicated log 18
     pub fn ring(&self) -> RingId
         ensures { result ≡ self.now.core.installed.ring }
@@ -246,8 +289,10 @@ impl<O: Object> Node<O> {
         self.installed().ring
     }
 
-    /// Returns the members of the last installed ring; `me` alone before any was installed. After a stop they are those at the
-    /// stop.
+    /// Returns the members of the last installed ring, which are only `me` before the first installation.
+    ///
+    /// After a stop, they are those at the time of the stop.
+    ///
     /// Rules: Rings and states 3 and 5; The replicated log 18
     pub fn members(&self) -> ProcSet
         ensures { result ≡ self.now.core.installed.members }
@@ -255,7 +300,10 @@ impl<O: Object> Node<O> {
         self.installed().members
     }
 
-    /// Returns the number of committed places, dropped ones included. It never falls.
+    /// Returns the number of committed places, including dropped ones.
+    ///
+    /// It never falls.
+    ///
     /// Rules: The replicated log 12 and 18
     pub fn committed_len(&self) -> u64
         ensures { result ≡ (node_known_log self.now).committed }
@@ -263,7 +311,8 @@ impl<O: Object> Node<O> {
         self.replica.committed_len()
     }
 
-    /// Returns the number of committed places that have been dropped: those before the first of `committed`.
+    /// Returns the number of committed places that have been dropped, which are those before the first of `committed`.
+    ///
     /// Rules: The replicated log 18 and 20
     pub fn trimmed(&self) -> u64
         ensures { result ≡ node_trimmed self.now }
@@ -271,7 +320,8 @@ impl<O: Object> Node<O> {
         self.replica.trimmed()
     }
 
-    /// Returns the number of the log's places, committed or not, dropped ones included.
+    /// Returns the number of the log's places, committed or not, including dropped ones.
+    ///
     /// Rules: The replicated log 18
     pub fn log_len(&self) -> u64
         ensures { result ≡ node_length self.now }
@@ -279,8 +329,12 @@ impl<O: Object> Node<O> {
         self.replica.log_len()
     }
 
-    /// Returns the number of committed calls that took effect, at most 2^64 - 1.
+    /// Returns the number of committed calls that took effect.
+    ///
+    /// It saturates at `u64::MAX`.
+    ///
     /// For the places of a restored snapshot, this counts the sum of its clients' last numbers.
+    ///
     /// Rules: Sessions 6; The replicated log 18
     pub fn order_len(&self) -> u64
         ensures { result ≡ effects_at O.sequential (node_known_log self.now) (node_known_log self.now).committed }
@@ -288,7 +342,8 @@ impl<O: Object> Node<O> {
         self.replica.order_len()
     }
 
-    /// Returns the number of tickets that haven't been answered, at most 64.
+    /// Returns the number of unanswered tickets, at most 64.
+    ///
     /// Rules: The replicated log 13 and 18
     pub fn waiting(&self) -> usize
         ensures { result ≡ length (pending_from self.now.done 0 self.now.tickets) }
@@ -309,7 +364,11 @@ impl<O: Object> Node<O> {
         }
     }
 
-    /// Checks whether a ticket may be given, which takes no memory.
+    /// Returns Ok if a ticket may be given now.
+    ///
+    /// Does not allocate.
+    ///
+    /// Errors: `Stopped` or `PendingFull`, as for `submit`.
     fn check(&self) -> Result<(), Fault>
         ensures ok { OnOk result (submit_fault self.now ≡ None) }
         ensures err { IfErr result (λ fault. submit_fault self.now ≡ Some fault) }
@@ -317,8 +376,9 @@ impl<O: Object> Node<O> {
         self.replica.check()
     }
 
-    /// Gives a call a ticket, and sends it at once if an adopted ring runs.
-    /// Errors: `Memory` where an allocation fails; the node is unchanged.
+    /// Gives a call a ticket, and sends it at once if the node has adopted the running ring.
+    ///
+    /// Errors: `Memory` if an allocation fails; the node is unchanged.
     fn take(&mut self, call: Call<O::Alloc>) -> Result<Ticket, Fault>
         requires { submit_fault self.old ≡ None }
         ensures ticket { IfOk result (λ ticket. ticket ≡ length self.old.tickets) }
@@ -333,8 +393,9 @@ impl<O: Object> Node<O> {
         Ok(self.replica.give(&running, call))
     }
 
-    /// Empties the lists for a step.
-    /// Errors: `Stopped` in a stopped node.
+    /// Empties the outputs for a step.
+    ///
+    /// Errors: `Stopped` if the node has stopped.
     fn begin(&self, outs: &mut Outs<O::Alloc>) -> Result<(), Fault>
         ensures nothing { IsEmptyResult outs.new }
         ensures ok { OnOk result (is_stopped self.now.core.state ≡ false) }
@@ -348,8 +409,9 @@ impl<O: Object> Node<O> {
         Ok(())
     }
 
-    /// Does the step on a frame.
-    /// Errors: `Memory` where an allocation fails; the node is stopped.
+    /// Runs the step on a frame.
+    ///
+    /// Errors: `Memory` if an allocation fails; the node has then stopped.
     fn receive(&mut self, frame: &Frame<O::Alloc>, outs: &mut Outs<O::Alloc>) -> Result<(), Fault>
         requires fits { FrameFits frame.now }
         requires empty { IsEmptyResult outs.old }
@@ -372,8 +434,9 @@ impl<O: Object> Node<O> {
         }
     }
 
-    /// Does the step on a timeout.
-    /// Errors: `Memory` where an allocation fails; the node is stopped.
+    /// Runs the step on a timeout.
+    ///
+    /// Errors: `Memory` if an allocation fails; the node has then stopped.
     #[inline(never)]
     fn time_out(&mut self, kind: Kind, outs: &mut Outs<O::Alloc>) -> Result<(), Fault>
         requires empty { IsEmptyResult outs.old }
@@ -396,7 +459,9 @@ impl<O: Object> Node<O> {
         }
     }
 
-    /// Stops the node for good. It takes no memory, and frees the core's memory.
+    /// Stops the node for good, and frees the core's memory.
+    ///
+    /// Does not allocate.
     fn halt(&mut self)
         requires { is_stopped self.old.core.state ≡ false }
         ensures { self.new ≡ node_stopped self.old }

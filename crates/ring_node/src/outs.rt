@@ -1,4 +1,5 @@
 //! The outputs of a node's step.
+//!
 //! Rules: Outputs 1 and 2; The replicated log 14, 18 and 20
 
 ghost use Rattle.ring_node.specs.EmptyResults.{IsEmptyResult};
@@ -9,30 +10,44 @@ use ring_replica::TicketAnswer;
 use std::alloc::{Allocator, Global};
 
 /// `Outs`: the outputs of one step of a node.
+///
 /// Rules: Outputs 2; The replicated log 18
 #[derive(Drop)]
 pub struct Outs<A: Allocator + Copy + Drop = Global> {
-    /// The frames sent, each with its receivers: a join, a commit token, repeated messages, new messages, the token.
+    /// The frames sent, each with its receivers: a join, a commit token, repeated messages, new messages, then the
+    /// token.
+    ///
     /// Rules: Outputs 2
     pub sends: Vec<OutgoingFrame<A>, A>,
-    /// The answers to tickets, in the order of the calls' places, then of the tickets.
+    /// The answers to tickets, in the order of the calls' places, and at one place in the order of the tickets.
+    ///
     /// Rules: The replicated log 14
     pub answers: Vec<TicketAnswer<A>, A>,
-    /// The calls of the places newly committed, in order, but for those that a snapshot brought.
+    /// The calls at the newly committed places, in order, except those that a snapshot brought.
+    ///
     /// Rules: The replicated log 12 and 18
     pub committed: Vec<Call<A>, A>,
-    /// The calls of the places dropped at the end of the step, in order. Afterwards `Node::committed` begins behind these places.
+    /// The calls at the places dropped at the end of the step, in order.
+    ///
+    /// `Node::committed` now begins after these places.
+    ///
     /// Rules: The replicated log 20
     pub dropped: Vec<Call<A>, A>,
-    /// The number of places of the snapshot that the step restored; `None` if it restored none. Afterwards `Node::committed`
-    /// begins behind these places.
-    /// No step of this node reports the calls of those places that it hadn't committed.
+    /// The number of places of the snapshot that the step restored, or `None` if it restored none.
+    ///
+    /// `Node::committed` now begins after these places. If this node hadn't committed some of them, no step of it
+    /// reports their calls.
+    ///
     /// Rules: The replicated log 6 and 18
     pub restored: Option<u64>,
 }
 
 impl<A: Allocator + Copy + Drop> Outs<A> {
-    /// Creates empty outputs, with no room reserved. It takes no memory.
+    /// Creates empty outputs.
+    ///
+    /// Does not allocate.
+    ///
+    /// Rules: Outputs 2
     pub fn new(alloc: A) -> Outs<A>
         ensures { IsEmptyResult result }
     {
@@ -45,7 +60,9 @@ impl<A: Allocator + Copy + Drop> Outs<A> {
         }
     }
 
-    /// Empties the outputs. The lists keep their room.
+    /// Empties the outputs.
+    ///
+    /// The lists keep their capacity.
     pub(crate) fn clear(&mut self)
         ensures { IsEmptyResult self.new }
     {

@@ -1,4 +1,4 @@
--- The payloads that a node hands to its core to be sent, as its life goes on: a Head, the owner's Snaps and Parts, and the
+-- The payloads that a node hands to its core to be sent, epoch by epoch: a Head, the owner's Snaps and Parts, and the
 -- pending calls.
 -- Rules: The replicated log 2, 7 and 10
 use Rattle.std.specs.Prelude.{ℕ, ◌-◌, max, Bool, not, ◌&&◌, ◌==◌, nat_le, if◌then◌else◌, List, [], ◌∷◌, ◌++◌, length, map, filter, drop, Option, Some, None}
@@ -62,8 +62,8 @@ owner_due me bytes log (Some w) = if w.owner == me then places_due bytes log w w
 abbrev pub due_when_heads_complete : {A : Type 0} → ℕ → List ℕ → Log A → Exchange A → Exchange A → List (Payload A)
 due_when_heads_complete me bytes log old new = if has_all_heads new && not (has_all_heads old) then owner_due me bytes log (wanted new) else []
 
--- Due when the exchange completes: the pending calls that occur nowhere in the base past the committed places, in the order of
--- tickets. The places of a restored snapshot count as committed
+-- Due when the exchange completes: the pending calls that aren't in the base after the committed places, in the order
+-- of tickets. The places of a restored snapshot are treated as committed
 
 -- the ticket's call is one of these calls
 abbrev pub contains_call : {A : Type 0} → List (OneCall A) → TicketCall A → Bool
@@ -77,7 +77,7 @@ calls_due pending base = map (λ (t : TicketCall _). Call t.call) (filter (λ (t
 abbrev pub places_past : {A : Type 0} → ℕ → Log A → List (OneCall A)
 places_past committed log = drop (max committed log.trimmed - log.trimmed) log.calls
 
--- due at the message that turns the exchange `old` into `new`, if it completes it; `epochs` is the life after it
+-- due at the message that turns the exchange `old` into `new`, if it completes it; `epochs` are the node's after it
 abbrev pub due_when_complete : {A : Type 0} → Node A → List (Epoch A) → Exchange A → Exchange A → List (Payload A)
 due_when_complete n epochs old new =
     if is_exchange_complete new && not (is_exchange_complete old)
@@ -92,7 +92,7 @@ module _ {O : Type 0} (object : Sequential O) where
   abbrev pub owner_due_on_heads : {A : Type 0} → Node A → KnownLog A → Exchange A → Exchange A → List (Payload A)
   owner_due_on_heads n k old new = due_when_heads_complete n.core.me (snapshot_kept object k) (retained_log k) old new
 
-  -- due at a message of the newest epoch, given the lives and the exchanges before and after it
+  -- due at a message of the newest epoch, given the epochs and the exchanges before and after it
   abbrev pub due_between : {A : Type 0} → Node A → List (Epoch A) → List (Epoch A) → Exchange A → Exchange A → List (Payload A)
   due_between n before epochs old new = owner_due_on_heads n (known_log_of n.group before) old new ++ due_when_complete n epochs old new
 
@@ -103,12 +103,12 @@ module _ {O : Type 0} (object : Sequential O) where
       then due_between n before epochs (after_all (exchange_opening s.members) s.heard) (after_all (exchange_opening s.members) (s.heard ++ x ∷ []))
       else []
 
-  -- due at a message of a life's newest epoch; nothing unless the core is Operational in this ring
+  -- due at a message of a node's newest epoch; nothing unless the core is Operational in this ring
   abbrev pub due_at_agreed : {A : Type 0} → Node A → Core A → RingId → List (Epoch A) → Message A → List (Epoch A) → List (Payload A)
   due_at_agreed n core ring [] x epochs = []
   due_at_agreed n core ring (s ∷ older) x epochs = if runs core ring then due_in_epoch n s (s ∷ older) x epochs else []
 
-  -- due at an output, given the life before it
+  -- due at an output, given the epochs before it
   abbrev pub due_at : {A : Type 0} → Node A → Core A → List (Epoch A) → Out A → List (Payload A)
   due_at n core epochs (Agreed ring k x) = due_at_agreed n core ring epochs x (epochs_after_event epochs (Agreed ring k x))
   due_at n core epochs (Regular ring set) = due_at_regular n.group set epochs

@@ -1,6 +1,6 @@
--- Linearizability: when one order explains a history.
--- The replies are those of one object that applies the calls one after the other in this order, and the order respects the times
--- at which calls were issued and replied.
+-- Linearizability: when one order is a linearization of a history.
+-- The replies are those of one object that applies the calls one after another in this order, and the order respects the
+-- times at which calls were issued and replied.
 -- Rules: Sessions 9 and 10
 use Rattle.std.specs.Prelude.{◌≡◌, ℕ, ◌<◌, List, Some, slice_get}
 use Rattle.ring_session.specs.Objects.{Sequential}
@@ -22,8 +22,8 @@ IsRepliedAt history c r k = slice_get history k ≡ Some (Reply c r)
 abbrev pub AreIssued : {A : Type 0} → List (Item A) → List (Call A) → Type 0
 AreIssued {A} history calls = (p : ℕ) (c : Call A) → StandsAt calls p c → (k : ℕ) × IsIssuedAt history c k
 
--- The order explains the history. The object is given by its reply to an operation, its content after it, and its initial
--- content.
+-- The order is a linearization of the history. The object is given by its reply to an operation, its content after it,
+-- and its initial content.
 pub record IsLinearization {O A : Type 0} (object : Sequential O) (order : List (Call A)) (history : List (Item A)) : Type 0 where
   -- each client's calls are numbered 1, 2, .. in the order
   pub numbered : IsNumbered order

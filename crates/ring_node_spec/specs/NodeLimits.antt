@@ -1,10 +1,10 @@
--- Inputs of a node that keep the limits of frames; a frame that keeps them has an encoding.
+-- Inputs of a node that are within the limits of frames; a frame that is within them has an encoding.
 -- Rules: Limits 1
 use Rattle.ring_core_spec.specs.Frames.{FrameFits}
 use Rattle.ring_node_spec.specs.declared.input.Input.{Input}
 use Rattle.ring_node_spec.specs.declared.input.Input.TheVariants.{Frame, Noise, Timeout, Stop}
 
--- a frame keeps the limits that decoding guarantees
+-- a frame is within the limits that decoding guarantees
 abbrev pub InputFits : {A : Type 0} → Input A → Type 0
 InputFits (Frame frame) = FrameFits frame
 InputFits Noise = Unit {0}

@@ -1,4 +1,5 @@
--- A node: its ring core, its life, its tickets, the calls done and the answers given; and its log, as these define it.
+-- A node: its ring core, its epochs, its tickets, the calls done and the answers given; and its log,
+-- which these define.
 -- Rules: The replicated log 1, 12 to 15, 18 and 20
 use Rattle.std.specs.Prelude.{ℕ, ◌+◌, ◌-◌, ◌^◌, min, Bool, true, false, not, ◌&&◌, ◌||◌, ◌==◌, nat_lt, if◌then◌else◌}
 use Rattle.std.specs.Prelude.{is_some, List, [], ◌∷◌, take, fold, Option, Some, None}
@@ -21,7 +22,7 @@ use Rattle.ring_session.specs.TicketEffects.{done_after, table_effects}
 use Rattle.ring_session.specs.declared.answered.TicketAnswer.{TicketAnswer}
 use Rattle.ring_session.specs.Tickets.{TicketCall, unanswered, kept_answers, answer_to}
 
--- a node, with its life and all that was ever submitted to it, done and answered
+-- a node, with its epochs and all that was ever submitted to it, done and answered
 pub record Node (A : Type 0) : Type 0 where
   pub group : Group
   pub core : Core A

@@ -32,7 +32,8 @@ use Rattle.ring_node_spec.specs.DueSends.{due_by}
 abbrev pub handed_over : {A : Type 0} → Core A → List (Payload A) → Core A
 handed_over core payloads = after_inputs core (map (λ p. SendInput p) payloads)
 
--- the node after its core's step, with its life extended: the due payloads are handed over and recorded in the newest epoch
+-- the node after its core's step, with its epochs extended: the due payloads are handed over and recorded in the newest
+-- epoch
 abbrev pub node_after_outputs : {A : Type 0} → Node A → Core A → List (Epoch A) → List (Payload A) → Node A
 node_after_outputs n core epochs due = record n { core = handed_over core due; epochs = epochs_with_sends due epochs }
 
@@ -97,7 +98,8 @@ module _ {O : Type 0} (object : Sequential O) where
   settled false old new outs k = empty_step (node_stopped old)
   settled true old new outs k = ended (is_closed old.group new.epochs) k (did old new outs k (newly_committed (node_known_log old) k))
 
-  -- the step of a node whose core stepped: its life is extended by the outputs, and the due payloads are handed over
+  -- the step of a node whose core ran its step: its epochs are extended by the outputs, and the due payloads are handed
+  -- over
   abbrev pub moved : {A : Type 0} → Node A → Core A → List (Out A) → List (Epoch A) → NodeStepResult A
   moved n core outs epochs =
       settled (is_known_log_sound n.group epochs && is_restored object (known_log_of n.group epochs)) n
@@ -125,7 +127,7 @@ submit_fault n =
     else if nat_le max_number (length n.tickets) then Some PendingFull
     else None
 
--- due at a submit: the call, if an adopted ring runs; else it stays pending
+-- due at a submit: the call, if an adopted ring runs; otherwise it stays pending
 abbrev pub due_by_submit : {A : Type 0} → Node A → OneCall A → List (Payload A)
 due_by_submit n c = if runs_adopted n then Call c ∷ [] else []
 

@@ -119,7 +119,7 @@ module _ {O : Type 0} (object : Sequential O) where
   handed w i None = w
   handed w i (Some f) = handed_if (has f.to i) w i f.frame
 
-  -- a world after an event; bytes that are no frame change nothing, and bytes that are one are no noise
+  -- a world after an event; bytes that aren't a frame change nothing, and a frame's bytes aren't noise
   abbrev pub happens : {A : Type 0} → World A → Event A → World A
   happens w (Issue i c) = issued_if (is_node w i) w i c
   happens w (Deliver i k) = handed w i (frame_at w.frames k)
@@ -134,11 +134,11 @@ module _ {O : Type 0} (object : Sequential O) where
 
 -- Observations of a world
 
--- the nodes' lives; a processor outside the group has the empty life
+-- the nodes' epochs; a processor outside the group has none
 abbrev pub epochs_in : {A : Type 0} → World A → ℕ → List (Epoch A)
 epochs_in w i = if is_node w i then (w.nodes i).epochs else []
 
--- the lives with the places that their snapshots stand for
+-- the epochs filled with the places that their snapshots replace
 abbrev pub whole_epochs_in : {A : Type 0} → World A → ℕ → List (Epoch A)
 whole_epochs_in w i = whole_epochs w.group (epochs_in w) (above (epochs_in w i)) i
 

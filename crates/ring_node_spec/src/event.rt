@@ -1,4 +1,5 @@
 //! The events of a world of nodes.
+//!
 //! Rules: The book and the threads 2 to 4
 
 ghost use Rattle.std.specs.Prelude.{◌≡◌};
@@ -8,28 +9,36 @@ use ring_base::{Kind, Proc};
 use ring_core_spec::Call;
 use std::alloc::{AllocError, Allocator, Global};
 
-/// `Event`: one event of a world: a step of one node, or a submit at it.
-/// An event of a processor outside the group changes nothing. Neither does an event of a stopped node, except that a submit there
-/// is recorded as refused.
+/// `Event`: one event of a world, which is a step of one node or a submit at it.
+///
+/// An event of a processor outside the group changes nothing. Nor does an event of a stopped node, except that a submit
+/// there is recorded as refused.
+///
 /// Rules: The book and the threads 2 and 4
 #[derive(Drop)]
 pub enum Event<A: Allocator + Copy = Global> {
     /// The call is submitted at the node.
+    ///
     /// Rules: The replicated log 13
     Issue(Proc, Call<A>),
-    /// The node receives the frame of this number.
-    /// Frames are numbered from 1 in the order in which they are sent. A frame that wasn't sent, or not to this node, changes
-    /// nothing.
+    /// The node receives the frame with this number; frames are numbered from 1 in the order in which they are sent.
+    ///
+    /// Changes nothing if the frame wasn't sent, or wasn't sent to this node.
+    ///
     /// Rules: The book and the threads 3 and 4
     Deliver(Proc, u64),
-    /// The node receives bytes, which change nothing. Bytes that are a frame don't either: a frame is delivered only by its
-    /// number.
+    /// The node receives bytes that aren't a frame, which changes nothing.
+    ///
+    /// If the bytes are a frame, nothing changes either: a frame is delivered only by its number.
+    ///
     /// Rules: Rings and states 11; The book and the threads 4
     Noise(Proc, Noise<A>),
     /// A timeout of this kind is due at the node.
+    ///
     /// Rules: Timeouts 1 and 2
     Timeout(Proc, Kind),
     /// The node stops for good.
+    ///
     /// Rules: Rings and states 12
     Stop(Proc),
 }

@@ -1,4 +1,5 @@
 //! The guarantees of each step that give a run one order, and the properties of that order.
+//!
 //! Rules: Sessions 10 and 11
 
 ghost use Rattle.std.specs.Prelude.{◌≡◌, ℕ, List, [], ◌∷◌, ◌++◌, Some, slice_get};
@@ -13,10 +14,15 @@ ghost use Rattle.ring_node_spec.specs.Orders.{Moment, order_of, opening, last_mo
 
 use ring_session::Object;
 
-/// States how one order of calls remains a linearization of a growing history, for every object.
-/// The empty order explains the empty history. An order that explains a history still does after issued calls are added at its
-/// end, after a call is issued, and after a call of the order is replied with the object's reply at its place. No call occurs
-/// twice in such an order.
+/// States which extensions of a history, and of an order of calls, keep the order a linearization of the history.
+///
+/// This holds for every object. The empty order is a linearization of the empty history. A linearization stays one:
+/// - if issued calls are added at its end, and each client's calls are still numbered 1, 2, .. in it,
+/// - if a call is issued,
+/// - if a call of the order is replied with the object's reply at its place.
+///
+/// No call occurs twice in a linearization.
+///
 /// Rules: Sessions 10
 pub fn linearization_law<O: Object>()
     ensures nothing { IsLinearization {A = O.Alloc} O.sequential [] [] }
@@ -36,10 +42,12 @@ pub fn linearization_law<O: Object>()
         StandsAt order p c → StandsAt order q d → c.client ≡ d.client → c.number ≡ d.number → p ≡ q }
 {}
 
-/// States that the order of a run explains the history at each moment, for every object and every number of nodes, if all steps
-/// keep the rules of `IsOrderStep`.
-/// The order is the longest of the nodes' committed logs, without the calls that take no effect. It grows along the run. The
-/// calls that take effect in each node's committed log are a prefix of it.
+/// States that the order of a run is a linearization of its history at every moment.
+///
+/// This holds for every object and every number of nodes, if each step satisfies `IsOrderStep`. The order is the
+/// longest of the nodes' committed logs, without the calls that take no effect. It only grows. The calls that take
+/// effect in each node's committed log are a prefix of it.
+///
 /// Rules: Sessions 6, 10 and 11
 pub fn order_law<O: Object>()
     ensures opens { (n : ℕ) → order_of {A = O.Alloc} (opening n).committed ≡ [] }

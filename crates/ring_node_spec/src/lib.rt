@@ -1,6 +1,8 @@
-//! The definitions of nodes and of worlds of nodes, of linearizability, and of the steps by which a run keeps it.
-//! A node is a ring core, the replicated log over it, and the clients' calls that wait for answers. A world is the nodes, all
-//! frames ever sent, and the history of calls and replies.
+//! Definitions of a node, of a world of nodes, of linearizability, and of the steps by which a run stays linearizable.
+//!
+//! A node is a ring core, the replicated log over it, and the clients' calls that wait for answers. A world is the
+//! nodes, all frames ever sent, and the history of calls and replies.
+//!
 //! Rules: The replicated log 1, 2, 7 to 10, 12 to 15, 18 and 20; Sessions 9 to 11; The book and the threads 1 to 6
 #![tactic(auto)]
 

@@ -5,7 +5,10 @@ ghost use Rattle.std.specs.Prelude.{◌≡◌};
 use std::alloc::{AllocError, Allocator, Global};
 use std::marker::Model;
 
-/// Received bytes that aren't a frame, on the heap. Contracts see the bytes.
+/// Received bytes that aren't a frame, or that aren't known to be one.
+///
+/// Contracts see the bytes.
+///
 /// Rules: Rings and states 11
 #[derive(Drop)]
 pub struct Noise<A: Allocator + Copy = Global> {
@@ -21,14 +24,18 @@ impl<A: Allocator + Copy> Model for Noise<A> {
 }
 
 impl<A: Allocator + Copy> Noise<A> {
-    /// Creates the noise of these bytes, unread. It takes no memory.
+    /// Wraps the bytes without reading them.
+    ///
+    /// Does not allocate.
+    ///
+    /// Rules: Rings and states 11
     pub fn from_vec(bytes: Vec<u8, A>) -> Noise<A>
         ensures { result ≡ bytes.items }
     {
         Noise { bytes }
     }
 
-    /// Returns the bytes received, in order.
+    /// Returns the received bytes, in order.
     pub fn as_slice(&self) -> &[u8]
         ensures { result.now ≡ self.now }
     {

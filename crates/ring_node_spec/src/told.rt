@@ -1,4 +1,5 @@
 //! The reports of the nodes of a world.
+//!
 //! Rules: The book and the threads 5
 
 ghost use Rattle.std.specs.Prelude.{◌≡◌};
@@ -8,14 +9,18 @@ use ring_core_spec::Call;
 use ring_session::Answer;
 use std::alloc::{AllocError, Allocator, Global};
 
-/// `Told`: what a world records for its clients: an answer to a ticket, or the refusal of a submit.
+/// `Told`: a report of a node to its clients that a world records: an answer to a ticket, or the refusal of a submit.
+///
 /// Rules: The book and the threads 5
 #[derive(Drop)]
 pub enum Told<A: Allocator + Copy = Global> {
-    /// The node answered a ticket of the call with this answer.
+    /// The node gave this answer to a ticket of the call.
+    ///
     /// Rules: The replicated log 14
     Answer(Proc, Call<A>, Answer),
-    /// The node refused the submit of the call, with the fault of this number: 2 (`PendingFull`), 8 (`Stopped`) or 11 (`Memory`).
+    /// The node refused the submit of the call, with this fault number: 2 (`PendingFull`), 8 (`Stopped`) or 11
+    /// (`Memory`).
+    ///
     /// Rules: The replicated log 13; Refusals 1
     Refused(Proc, Call<A>, u8),
 }

@@ -1,4 +1,5 @@
-//! Worked runs of worlds of nodes, computed from the definitions.
+//! Worked runs of worlds of nodes, computed from the definitions of a node and of a world.
+//!
 //! Rules: The replicated log 2 to 14 and 20
 //! Formats: first reply; nine calls in one visit; dropped places
 #![tactic(auto)]
@@ -14,8 +15,10 @@ ghost use Rattle.ring_node_spec_examples.specs.Rows.{late_submit, late_timeout, 
 ghost use Rattle.ring_node_spec_examples.specs.Rows.{sent_again, answered_again, sent_nine, answered_nine, answered_three};
 ghost use Rattle.ring_node_spec_examples.specs.Rows.{counter, after_lots, snapshot_of_seven, two_after, joined_after, asked_after, known_there};
 
-/// States a worked example: one node alone. A call is appended to its log at a visit, and is committed and answered at the next
-/// one. The history has the submit, and then the reply.
+/// States a worked example of one node, whose log gets a call at a visit, and commits and answers it at the next one.
+///
+/// The history has the submit, and then the reply.
+///
 /// Rules: The replicated log 11, 12 and 14
 /// Formats: first reply
 pub fn ring_of_one()
@@ -33,7 +36,8 @@ pub fn ring_of_one()
     ensures reply { node_reply (answered_one.nodes 1) 0 ≡ Some (Done (0 ∷ [])) }
 {}
 
-/// States a worked example: nine calls are sent at one visit, as one Pack, and all are answered at the next one.
+/// States a worked example of nine calls that are sent at one visit, as one Pack, and are all answered at the next one.
+///
 /// Rules: The replicated log 11, 12 and 14
 /// Formats: nine calls in one visit
 pub fn nine_calls()
@@ -44,8 +48,10 @@ pub fn nine_calls()
     ensures ordered { length (order answered_nine) ≡ 9 }
 {}
 
-/// States a worked example: three nodes form a ring. A call is answered where it was submitted, and is committed and done
-/// everywhere.
+/// States a worked example of three nodes that form a ring and commit a call.
+///
+/// The call is answered at node 2, where it was submitted. It is committed and done at all three.
+///
 /// Rules: The replicated log 12 and 14
 pub fn ring_of_three()
     ensures shown { shown answered_three 3 ≡ (1, 1) ∷ (1, 1) ∷ (1, 1) ∷ [] }
@@ -55,8 +61,10 @@ pub fn ring_of_three()
     ensures ordered { order answered_three ≡ call_of_seven 1 ∷ [] }
 {}
 
-/// States a worked example: a call that is submitted again after it was done belongs to a later ticket.
-/// The call is done again, and is answered by the session table as it is then.
+/// States a worked example of a call that is submitted again after it was done: it gets a second ticket.
+///
+/// The call is appended again, and is answered `Kept`, by the session table at that place. The order has it once.
+///
 /// Rules: The replicated log 14; Sessions 3
 pub fn submitted_again()
     ensures waiting { shown sent_again 1 ≡ (1, 2) ∷ [] }
@@ -68,9 +76,11 @@ pub fn submitted_again()
     ensures ordered { order answered_again ≡ call_of_seven 1 ∷ [] }
 {}
 
-/// States a worked example: after four batches of 64 calls, 256 places are committed, and they are dropped.
-/// A snapshot of the session table stands for them, and all lengths still count them. The calls are answered as before, and are
-/// in the order.
+/// States a worked example of a node that commits 256 places, in four batches of 64 calls, and then drops them.
+///
+/// A snapshot of the session table replaces them, and all lengths still count them. The calls are answered as before,
+/// and the order has all of them.
+///
 /// Rules: The replicated log 20
 /// Formats: dropped places
 pub fn dropped_places()
@@ -85,10 +95,13 @@ pub fn dropped_places()
     ensures ordered { length (order (after_lots 4)) ≡ 256 }
 {}
 
-/// States a worked example: a node that was away while 256 calls were committed and dropped receives their snapshot as it joins,
-/// and restores it.
-/// The snapshot's places are then committed and dropped, though the node did none of their calls. Considered together with the
-/// others' lives, it has committed the same 256 calls. A call submitted there is done after them.
+/// States a worked example of a node that joins after 256 calls were committed and dropped, and restores their
+/// snapshot.
+///
+/// The snapshot's places are then committed and dropped there, though the node did none of their calls. Filled with the
+/// snapshot's places, its committed log is the same 256 calls as the others'. A call that is submitted there is done
+/// after them.
+///
 /// Rules: The replicated log 6, 14 and 20
 pub fn restored_snapshot()
     ensures away { shown (two_after 4).world 3 ≡ (256, 256) ∷ (256, 256) ∷ (0, 0) ∷ [] }
@@ -99,8 +112,11 @@ pub fn restored_snapshot()
     ensures reply { node_reply ((asked_after 30).world.nodes 3) 0 ≡ Some (Done (256 ∷ [])) }
 {}
 
-/// States worked examples: the 65th unanswered ticket is refused, and so is each submit at a stopped node, which is in no
-/// history. A timeout of a stopped node sends nothing. Events of an unknown node, and a frame that wasn't sent, change nothing.
+/// States worked examples of submits that are refused: with 64 tickets unanswered, and at a stopped node.
+///
+/// Neither is in the history. Also: a timeout of a stopped node sends nothing; events of an unknown node, and of a frame
+/// that wasn't sent, change nothing.
+///
 /// Rules: The replicated log 13; The book and the threads 4
 pub fn refused_submits()
     ensures full { one_too_many.told ≡ refused_at 1 65 2 ∷ [] }

@@ -8,7 +8,7 @@ use Rattle.std.proofs.lemmas.List.Elements.{All-get_or, All-from_get_or}
 abbrev pub AreBytes : List ℕ → Type 0
 AreBytes bytes = All (λ byte. byte < 256) bytes
 
--- the element at each place is a byte, with 0 past the end
+-- the element at each index is a byte, and 0 past the end
 pub bytes_everywhere : (bytes : List ℕ) → AreBytes bytes → (i : ℕ) → get_or bytes i 0 < 256
 bytes_everywhere bytes are i =
     elim (cases_lt i (length bytes)) [

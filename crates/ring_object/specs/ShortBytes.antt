@@ -2,17 +2,17 @@
 use Rattle.std.proofs.Common.{◌≡◌, ℕ, ◌-◌, ◌≤◌, List, ◌++◌, length, take, drop, replicate}
 use Rattle.std.proofs.lemmas.List.{take_at, drop-replicate}
 
--- the bytes, followed by zeros up to n places
+-- the bytes, followed by zeros up to n bytes
 abbrev pub filled : ℕ → List ℕ → List ℕ
 filled n bytes = bytes ++ replicate (n - length bytes) 0
 
--- the first `len` of n places hold bytes, the others zeros
+-- the list of n has `len` bytes, followed by zeros
 pub record IsFilled (n len : ℕ) (places : List ℕ) : Type 0 where
   pub fits : len ≤ n
   pub exact : length (take len places) ≡ len
   pub zeros : filled n (take len places) ≡ places
 
--- zeros whose first places were overwritten by the bytes
+-- n zeros of which the first were overwritten by the bytes are such a list
 pub IsFilled-overwritten : (n : ℕ) (bytes places : List ℕ) → length bytes ≤ n → places ≡ bytes ++ drop (length bytes)
     (replicate {A = ℕ} n 0) → IsFilled n (length bytes) places
 IsFilled-overwritten n bytes places le is =

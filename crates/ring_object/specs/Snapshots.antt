@@ -5,7 +5,7 @@ use Rattle.ring_base.specs.declared.fault.Fault.{Fault}
 use Rattle.ring_base.specs.declared.fault.Fault.TheVariants.{Memory, BadSnapshot}
 use Rattle.ring_object.specs.Bytes.{AreBytes}
 
--- Exactly the snapshots of contents are restored, each to its content.
+-- exactly the snapshots of valid contents are restored, each to its content
 pub record HasExactSnapshots {O : Type 0} (IsContent : O → Type 0) (snapshot_of : O → List ℕ) (restored : List ℕ → Option O) : Type 0 where
   pub same : (o : O) → IsContent o → length (snapshot_of o) < 2 ^ 64 → restored (snapshot_of o) ≡ Some o
   pub only : (bytes : List ℕ) (o : O) → AreBytes bytes → restored bytes ≡ Some o → IsContent o × (snapshot_of o ≡ bytes)
@@ -15,6 +15,6 @@ abbrev pub IsSnapshotRefusal : {O : Type 0} → Option O → Fault → Type 0
 IsSnapshotRefusal None fault = fault ≡ BadSnapshot
 IsSnapshotRefusal (Some o) fault = fault ≡ Memory
 
--- the result is allowed: the content, if there is one, or a refusal
+-- the result is allowed: the content, if the bytes are a snapshot, or a refusal
 abbrev pub IsRestoreResult : {O : Type 0} → Option O → Result O Fault → Type 0
 IsRestoreResult content answer = MatchResult answer (λ restored. content ≡ Some restored) (IsSnapshotRefusal content)

@@ -1,4 +1,4 @@
--- The object without a state: no operation can be read, and its one snapshot has no bytes.
+-- The object without a state: no operation can be read, and its only snapshot has no bytes.
 -- Rules: Objects 2 and 3
 use Rattle.std.proofs.Common.{◌≡◌, ℕ, ◌<◌, Bool, false, List, [], ◌∷◌, Option, Some, None, refl, arith}
 use Rattle.std.proofs.lemmas.List.Elements.{All-nil, All-cons}
@@ -6,7 +6,7 @@ use Rattle.ring_object.specs.Bytes.{AreBytes}
 use Rattle.ring_object.specs.Operations.{Sequential, IsReply, unreadable}
 use Rattle.ring_object.specs.Snapshots.{HasExactSnapshots}
 
--- its one content
+-- the only content
 abbrev pub Content : Type 0
 Content = Unit {0}
 
@@ -26,11 +26,11 @@ reply content op = unreadable
 abbrev pub next : Content → List ℕ → Content
 next content op = content
 
--- its snapshot is the empty byte string
+-- the snapshot has no bytes
 abbrev pub snapshot_of : Content → List ℕ
 snapshot_of content = []
 
--- the empty byte string restores it, and nothing else does
+-- the empty byte string restores it, and no other does
 abbrev pub restored : List ℕ → Option Content
 restored [] = Some tt
 restored (byte ∷ bytes) = None

@@ -6,8 +6,12 @@ ghost use Rattle.ring_base.specs.declared.fault.Fault.TheVariants.{Memory};
 use crate::object::Object;
 use ring_base::Fault;
 
-/// Returns a copy of the object with the same content: it is restored from the object's snapshot, in memory of `alloc`.
-/// Errors: `Memory`; `object` is unchanged in any case.
+/// Returns a copy of the object with the same content, in memory of `alloc`.
+///
+/// The copy is restored from the object's snapshot.
+///
+/// Errors: `Memory` if an allocation fails.
+///
 /// Rules: Objects 3
 pub fn copy_by_snapshot<O: Object>(alloc: O::Alloc, object: &O) -> Result<O, Fault>
     ensures ok { IfOk result (λ copy. copy ≡ object.now) }

@@ -1,4 +1,5 @@
-//! The effect of a list of operations on any object.
+//! The law of the contents and replies to which a list of operations leads, for any object.
+//!
 //! Rules: Objects 1 and 3
 
 ghost use Rattle.std.specs.Prelude.{◌≡◌, ℕ, ◌+◌, ◌^◌, ◌<◌, List, ◌++◌, length, Some, All};
@@ -7,9 +8,12 @@ ghost use Rattle.ring_object.specs.Operations.{IsReply, content_after, reply_at}
 
 use crate::object::Object;
 
-/// States that, for every object and every list of operations, which are any bytes, the content after the list is a
-/// valid content. A snapshot of this content that has fewer than 2^64 bytes restores it. The reply to each operation of
-/// the list has at most 64 bytes, and further operations don't change it.
+/// States that operations lead only to valid contents, and that later operations don't change earlier replies.
+///
+/// This holds for every object and every list of operations, which may be any bytes. A snapshot of the content after
+/// the list restores that content, if it has fewer than 2^64 bytes. The reply to each operation of the list has at most
+/// 64 bytes, and stays the same when operations are appended to the list.
+///
 /// Rules: Objects 1 and 3
 pub fn object_law<O: Object>()
     ensures reached { (ops : List (List ℕ)) → All AreBytes ops →

@@ -1,7 +1,9 @@
-//! Sequential objects: their interface, their laws, and the content that a list of operations leads to.
+//! Sequential objects: their interface, their laws, and the content after a list of operations.
 //!
-//! An object has one start content. An operation, any bytes, gives a reply and the next content; both are functions
-//! of the content and the operation. A snapshot is the content as bytes, from which the same content is restored.
+//! An object has one start content. An operation is any bytes; it yields a reply and the next content. Both are
+//! functions of the content and the operation. A snapshot is the content as bytes, from which the same content is
+//! restored.
+//!
 //! Rules: Objects 1 to 4
 #![tactic(auto)]
 

@@ -1,4 +1,5 @@
 //! The object without a state.
+//!
 //! Rules: Objects 2
 
 use crate::{Object, Reply};
@@ -7,7 +8,9 @@ use std::alloc::Allocator;
 use std::marker::{Model, PhantomData};
 
 /// An object without a state: every operation changes nothing, and its reply is the byte `FF`.
-/// Its snapshot has no bytes, and any other bytes are refused with `BadSnapshot`. No call takes memory.
+///
+/// Its snapshot is empty; `restore` refuses any other bytes with `BadSnapshot`. No call allocates.
+///
 /// Rules: Objects 2 and 3
 #[derive(Drop)]
 pub struct StatelessObject<A: Allocator + Copy> {

@@ -5,16 +5,21 @@ ghost use Rattle.std.specs.Prelude.{◌≡◌, ◌==◌, ◌≤◌, length};
 use std::fmt;
 use std::marker::Model;
 
-/// The most bytes of a reply.
+/// The maximum length of a reply in bytes.
+///
 /// Rules: Limits 1
 pub const MAX_REPLY: usize = 64;
 
 /// The reply to an operation: 0 to 64 bytes, stored inline.
+///
 /// Rules: Objects 1
 pub type Reply = ShortBytes<MAX_REPLY>;
 
-/// A string of 0 to `N` bytes, stored inline. Copying and comparing such strings takes no memory. Contracts see the
-/// bytes.
+/// A string of 0 to `N` bytes, stored inline.
+///
+/// Copying and comparing such strings does not allocate. Contracts see the bytes.
+///
+/// Rules: Limits 1
 #[derive(Clone, Copy, PartialEq, Eq)]
 pub struct ShortBytes<const N: usize> {
     bytes: [u8; N],
@@ -37,7 +42,9 @@ impl<const N: usize> Model for ShortBytes<N> {
 }
 
 impl<const N: usize> ShortBytes<N> {
-    /// Returns the string of these bytes. That they are at most `N` is the caller's condition.
+    /// Returns a string that holds `bytes`, which must be at most `N` bytes.
+    ///
+    /// Does not allocate.
     pub fn from_slice(bytes: &[u8]) -> ShortBytes<N>
         requires { length bytes.now ≤ N }
         ensures { result ≡ bytes.now }

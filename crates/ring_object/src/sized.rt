@@ -1,4 +1,5 @@
-//! Length-prefixed snapshots.
+//! Snapshots prefixed by their length, as parts of a larger snapshot.
+//!
 //! Formats: Snapshots
 
 ghost use Rattle.std.specs.Prelude.{◌≡◌, ◌++◌, IfErr, OnOk, OnErr};
@@ -9,9 +10,12 @@ use crate::object::Object;
 use byteorder::{BigEndian, ByteOrder};
 use ring_base::Fault;
 
-/// Appends the length of the object's snapshot to `out`, in 8 bytes, big-endian, then the snapshot.
-/// The bytes before it stay.
-/// Errors: `Memory`; `out` is then unchanged.
+/// Appends the object's snapshot to `out`, preceded by its length in bytes as a big-endian `u64`.
+///
+/// The bytes that `out` already has are unchanged.
+///
+/// Errors: `Memory` if an allocation fails; the bytes of `out` are then unchanged.
+///
 /// Formats: Snapshots
 pub fn append_sized<O: Object>(object: &O, out: &mut Vec<u8, O::Alloc>) -> Result<(), Fault>
     ensures content { OnOk result (O.is_content object.now) }

@@ -18,7 +18,7 @@ MayCome {A} w i (FrameInput frame) = (k : ℕ) × (f : Transmission A) × (frame
 MayCome w i (TimeInput kind) = Unit {0}
 MayCome w i (SendInput payload) = ⊥
 
--- the node after its core's step, with its life extended by the core's outputs
+-- the node after its core's step, with its epochs extended by the core's outputs
 abbrev pub stepped_node : {A : Type 0} → Node A → Input A → Node A
 stepped_node n input = record n { core = (ring_step n.core input).core; epochs = epochs_after n.epochs (ring_step n.core input).outs }
 

@@ -1,6 +1,6 @@
--- The claims about the lives of a run.
--- Safe logs persist; no base lacks committed places; only issued calls are handed over; and each node's snapshot and the places
--- that it keeps follow the one order.
+-- The claims about the epochs of a run's nodes.
+-- Safe logs persist; no base lacks committed places; only issued calls are handed over; and each node's snapshot and the
+-- places that it keeps follow the one order.
 -- Rules: The replicated log 2, 8, 16, 17 and 20
 use Rattle.std.specs.Prelude.{◌≡◌, ℕ, ◌≤◌, true, List, ◌++◌, length, take, drop, Some}
 use Rattle.std.specs.List.{AllByRecursion as Each}
@@ -29,7 +29,8 @@ use Rattle.ring_log_proof.specs.RingFacts.{HasEpoch, IsReceivedByAll}
 use Rattle.ring_log_proof.specs.Time.{IsKnownCall}
 use Rattle.ring_order_proof.specs.RunEpochs.{whole_epochs_in}
 
--- an issued call keeps the limits, as each one from `Call::new` or decoding does; so a snapshot can encode it
+-- an issued call is within the limits of a call, as each one from `Call::new` or decoding is; so a snapshot can encode
+-- it
 abbrev pub EventKeeps : {A : Type 0} → Event A → Type 0
 EventKeeps (Issue i c) = KeepsLimits c
 EventKeeps (Deliver i k) = Unit {0}
@@ -53,7 +54,7 @@ ReachedLogPersists {A} group w members text =
     ring_log group (whole_epochs_in w) earlier (members earlier) (upto n (text earlier)) ≡ Some log → IsListPrefix heard (text later) →
     complete_exchange group (members later) heard ≡ Some whole → IsListPrefix log (base_of group (whole_epochs_in w) later whole.exchange)
 
--- each base that a life adopted begins with the places that the life had committed before
+-- each base that a node adopted begins with the places that it had committed before
 abbrev pub BasesKeepCommitted : {A : Type 0} → Group → List (Epoch A) → Type 0
 BasesKeepCommitted {A} group epochs =
     (s : Epoch A) (older : List (Epoch A)) → HasEpoch epochs s older →

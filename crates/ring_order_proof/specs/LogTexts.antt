@@ -44,7 +44,7 @@ module _ {A : Type 0} (group : Group) (w : World A) (i : ℕ) where
   abbrev pub IsLogText : List (Call A) → Type 0
   IsLogText log = IsNewestLog log ⊎ (((other : RingId) (its : List (Call A)) → HasFrontLog other its → ⊥) × (log ≡ []))
 
-  -- The node has adopted the ring, and a snapshot was sent there; it stands for the first places of the log that its sender had
+  -- The node has adopted the ring, and a snapshot was sent there; it replaces the first places of its sender's log
   -- before.
   pub record HasRestored (ring : RingId) (calls : List (Call A)) : Type 0 where
     pub at : EpochIn (whole_epochs_in w i) ring

@@ -1,5 +1,5 @@
--- A node that keeps the limits of frames: each frame that it sends has an encoding, if the frames that it receives keep the
--- limits.
+-- A node that is within the limits of frames: each frame that it sends has an encoding, if the frames that it receives
+-- are within the limits.
 -- Rules: Limits 1
 use Rattle.std.specs.Prelude.{◌≡◌, ℕ, ◌≤◌, false, List, [], ◌∷◌}
 use Rattle.std.specs.List.{AllByRecursion as Each}
@@ -18,18 +18,18 @@ use Rattle.ring_node_spec.specs.Nodes.{Node}
 use Rattle.ring_core_proof.specs.Limits.{CoreFits}
 use Rattle.ring_log_proof.specs.Discipline.{DropsOnlyCommitted}
 
--- a message received in a ring of this number keeps the limits; only in a ring of number 1 or more is any received
+-- a message received in a ring of this number is within the limits; only in a ring of number 1 or more is any received
 pub record HeardFits {A : Type 0} (n : ℕ) (x : Message A) : Type 0 where
   pub message : MessageFits x
   pub counted : 1 ≤ n
 
--- an epoch keeps the limits: its ring, the messages received, and the payloads handed over
+-- an epoch is within the limits: its ring, the messages received, and the payloads handed over
 pub record EpochFits {A : Type 0} (s : Epoch A) : Type 0 where
   pub ring : RingFits s.ring
   pub heard : Each (HeardFits s.ring.seq) s.heard
   pub sent : Each PayloadFits s.sent
 
--- a life keeps the limits, and its newest ring has this number
+-- epochs are within the limits, and the newest ring has this number
 abbrev pub EpochsFit : {A : Type 0} → ℕ → List (Epoch A) → Type 0
 EpochsFit n [] = Unit {0}
 EpochsFit n (s ∷ older) = EpochFits s × (s.ring.seq ≡ n) × Each EpochFits older
@@ -39,11 +39,11 @@ abbrev pub IsMarkedUpTo : {A : Type 0} → ℕ → List (Epoch A) → Type 0
 IsMarkedUpTo n [] = Unit {0}
 IsMarkedUpTo n (s ∷ older) = s.mark ≤ n
 
--- the calls of tickets keep the limits
+-- the calls of tickets are within the limits
 abbrev pub TicketsFit : {A : Type 0} → List (TicketCall A) → Type 0
 TicketsFit {A} tickets = Each (λ (t : TicketCall A). CallFits t.call) tickets
 
--- a node keeps the limits of frames: its core, its epochs' messages and payloads, and the calls of its tickets do
+-- a node is within the limits of frames: its core, its epochs' messages and payloads, and the calls of its tickets are
 pub record NodeFits {A : Type 0} (n : Node A) : Type 0 where
   pub core : CoreFits n.core
   -- no installation is due in its core
@@ -55,6 +55,6 @@ pub record NodeFits {A : Type 0} (n : Node A) : Type 0 where
   pub drops : DropsOnlyCommitted n.group n.epochs
   pub tickets : TicketsFit n.tickets
 
--- all frames sent keep the limits
+-- all frames sent are within the limits
 abbrev pub SendsFit : {A : Type 0} → List (OutgoingFrame A) → Type 0
 SendsFit {A} sends = Each (λ (s : OutgoingFrame A). FrameFits s.frame) sends

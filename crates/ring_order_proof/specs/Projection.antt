@@ -35,11 +35,12 @@ ring_part w outs = record { total = w.group.count; cores = λ i. (w.nodes i).cor
 abbrev pub epoch_as_received : {A : Type 0} → Epoch A → Epoch A
 epoch_as_received s = record s { sent = []; trimmed = 0 }
 
--- a life without these: the messages that its node received, and the safe marks
+-- the epochs without these: the messages that the node received, and the safe marks
 abbrev pub epochs_as_received : {A : Type 0} → List (Epoch A) → List (Epoch A)
 epochs_as_received {A} epochs = map (λ (s : Epoch A). epoch_as_received s) epochs
 
--- the nodes' cores are those of a run of ring cores, with these outputs; and each node's life consists of its core's outputs
+-- the nodes' cores are those of a run of ring cores, with these outputs; and each node's epochs consist of its core's
+-- outputs
 pub record IsRingRun {A : Type 0} (group : Group) (w : World A) : Type 0 where
   pub events : List (RingEvent A)
   pub outs : List (ℕ × Out A)

@@ -12,13 +12,13 @@ use Rattle.ring_order_proof.specs.RunEpochs.{epochs_in, whole_epochs_in}
 use Rattle.ring_order_proof.specs.SentPayloads.{sent_payloads}
 use Rattle.ring_order_proof.specs.Texts.{IsText}
 
--- the facts of the nodes' lives, with the members and the text of each ring
+-- the facts about the nodes' epochs, with the members and the text of each ring
 pub record HasFacts {A : Type 0} (w : World A) : Type 0 where
   pub members : RingId → ℕ
   pub text : RingId → List (Message A)
   -- the user messages that were numbered in the ring, in the order of their numbers
   pub is : (ring : RingId) → IsText (λ q. (w.nodes q).core) ring (text ring)
-  -- the facts hold of the lives as the nodes know them, and of the filled lives
+  -- the facts hold for the epochs as the nodes know them, and for the filled epochs
   pub own : RingFacts (epochs_in w) members text
   pub facts : RingFacts (whole_epochs_in w) members text
   -- the payloads that a processor sent in a text are those that its core sent in its own visits of the ring's token

@@ -1,4 +1,4 @@
--- A node that no order explains: it has dropped the place of a call, and its snapshot is the opening one.
+-- A node that follows no order: it has dropped the place of a call, and its snapshot is the opening one.
 use Rattle.std.specs.Prelude.{[], ◌∷◌}
 use Rattle.ring_base.specs.Group.{Group}
 use Rattle.ring_payload.specs.declared.call.Call.{Call}

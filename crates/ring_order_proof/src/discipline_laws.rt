@@ -1,6 +1,10 @@
-//! Laws of every run of nodes: their discipline, how their lives are extended, and when they drop places.
-//! They hold for the lives as nodes know them, and of the lives filled with the places that snapshots stand for. Each snapshot
-//! stands for the first places of the log that its sender had, and these are settled once its exchange is complete.
+//! Laws of every run of nodes about what nodes hand to their cores, how their epochs are extended, and when they drop
+//! places.
+//!
+//! They hold for the epochs as nodes know them, and for the epochs filled with the places that snapshots replace. A
+//! snapshot replaces the first places of its sender's log. Which places these are is settled once the exchange is
+//! complete.
+//!
 //! Rules: The replicated log 2, 10 and 20
 
 ghost use Rattle.std.specs.Prelude.{◌≡◌, ℕ, ◌≤◌, List, true, false};
@@ -20,11 +24,16 @@ ghost use Rattle.ring_order_proof.specs.RunEpochs.{epochs_in, whole_epochs_in};
 
 use ring_object::Object;
 
-/// States that all nodes keep their discipline, and that events only extend lives, for every list of events.
-/// In each ring, a node that hands over anything first hands over the Head of its life before that ring, and then only Snaps,
-/// Parts of its log and calls. The ring is then primary. A node has dropped only committed places.
-/// All that belongs to rings that a node left is unchanged. The messages, safe mark, payloads and trimmed length of its newest
-/// ring only grow. This also holds whenever a core has stepped and nothing has been handed over yet.
+/// States what nodes hand to their cores in a ring, and that events only extend epochs, for every list of events.
+///
+/// - A node that hands over anything in a ring first hands over the Head of its log from before that ring, and then
+///   only Snaps, Parts of its log and calls. The ring is then primary.
+/// - A node has dropped only committed places.
+/// - What belongs to rings that a node has left never changes. The messages, safe mark, payloads and trimmed length of
+///   its newest ring only grow.
+///
+/// This also holds when a core has run its step and nothing has been handed over yet.
+///
 /// Rules: The replicated log 2, 10 and 20
 pub fn discipline_law<O: Object>()
     ensures discipline { (group : Group) (events : List (Event O.Alloc)) → KeepsDiscipline group (epochs_in (run O.sequential (world_opening group) events)) }
@@ -41,10 +50,13 @@ pub fn discipline_law<O: Object>()
         MayCome w node input → KeepsRules group (whole_epochs_in (between w node input)) × ((i : ℕ) → IsEpochsExtended (whole_epochs_in w i) (whole_epochs_in (between w node input) i)) }
 {}
 
-/// States that nodes drop their committed places as soon as these are due, in every run whose issued calls keep the limits.
-/// Places are due if enough of them are kept and their snapshot isn't too long. After each event no node has any that are due,
-/// even with an exchange open. So a step that changes nothing would drop nothing, as noise and a stop drop nothing.
-/// Where a step ends with an exchange open, nothing is due either. So the test for an open exchange never decides.
+/// States that nodes drop their committed places as soon as these are due, in every run with issued calls of valid
+/// sizes.
+///
+/// Places are due if enough of them are kept and their snapshot isn't too long. After each event no node has any that
+/// are due, even if an exchange is open. So a step that changes nothing has nothing to drop. Nor is anything due if a
+/// step ends with an exchange open, so the test for an open exchange never decides.
+///
 /// Rules: The replicated log 20
 pub fn trim_law<O: Object>()
     ensures after { (group : Group) (events : List (Event O.Alloc)) (node : ℕ) → group.count ≤ 16 →

@@ -1,4 +1,5 @@
-//! The number of places that the nodes of every run have committed, and of the calls of these that took effect.
+//! How many places the nodes of a run have committed, and how many of their calls took effect.
+//!
 //! Rules: The replicated log 1, 18 and 20
 
 ghost use Rattle.std.specs.Prelude.{◌≡◌, ℕ, ◌≤◌, List, length};
@@ -14,10 +15,13 @@ ghost use Rattle.ring_order_proof.specs.Linear.{EventKeeps};
 
 use ring_object::Object;
 
-/// States that a node's dropped and kept committed places together are all that it has committed, for every list of events. They
-/// are at most 2^62.
-/// If each issued call keeps the limits, the effects that the node's sessions count are exactly the calls that take effect in all
-/// its committed places, from the log's beginning, whatever snapshot it restored.
+/// States that a node has committed exactly the places that it has dropped and those that it keeps, at most 2^62 in
+/// all.
+///
+/// This holds for every list of events. If each issued call is within the limits of a call, the number of effects that
+/// the node's sessions count is exact: the calls that take effect at all its committed places, from the log's
+/// beginning, whatever snapshot it restored.
+///
 /// Rules: The replicated log 1, 18 and 20; Sessions 6
 pub fn effects_law<O: Object>()
     ensures places { (group : Group) (events : List (Event O.Alloc)) (node : ℕ) → group.count ≤ 16 → 1 ≤ node → node ≤ group.count →

@@ -1,4 +1,5 @@
-//! A wrong node: its snapshot is not of the places that it dropped.
+//! An example of a wrong node, whose snapshot isn't of the places that it dropped.
+//!
 //! Rules: The replicated log 20
 
 ghost use Rattle.std.specs.Prelude.{◌≡◌, List, [], ◌∷◌};
@@ -10,9 +11,11 @@ ghost use Rattle.ring_order_proof.specs.WrongSnapshots.{first_call, dropped_one}
 
 use ring_object::Object;
 
-/// States an example of a wrong node: it has dropped the place of a call, its snapshot is the opening one, and the order is
-/// empty. The snapshot is that of an empty prefix of the order, but not of the call that was dropped. So the node doesn't follow
-/// the order.
+/// States an example of a wrong node: it has dropped a call's place, but its snapshot is that of the opening.
+///
+/// That snapshot is of an empty prefix of the order, and lacks the dropped call. So the node doesn't follow the order
+/// (`FollowsOrder`).
+///
 /// Rules: The replicated log 20
 pub fn a_dropped_call_is_forgotten<O: Object>()
     ensures dropped { node_trimmed (dropped_one {A = O.Alloc}) ≡ 1 }

@@ -1,6 +1,8 @@
-//! The law that every run of nodes has the facts of ring cores from which the one order follows.
-//! The facts hold for the lives as nodes know them, and of the lives filled with the places that snapshots stand for. They also
-//! hold whenever a core has stepped and nothing has been handed over yet.
+//! The law that every run of nodes has the facts about ring cores from which the one order follows.
+//!
+//! The facts hold for the epochs as nodes know them, and for the epochs filled with the places that snapshots replace.
+//! They also hold when a core has run its step and nothing has been handed over yet.
+//!
 //! Rules: Outputs 3, 8, 9 and 11; Rings and states 2 and 7; Token and window 13
 
 ghost use Rattle.std.specs.Prelude.{ℕ, ◌≤◌, List};
@@ -13,14 +15,16 @@ ghost use Rattle.ring_order_proof.specs.Between.{MayCome, between};
 
 use ring_object::Object;
 
-/// States the facts of the nodes' lives from which the one order follows, for every object, every group of at most 16 processors
-/// and every list of events.
-/// - Ring numbers rise. A ring's name fixes its members, and each node that installs the ring is one of them.
-/// - The messages that a node received in a ring are a prefix of the ring's text: its user messages, in the order of their
-///   numbers.
-/// - The payloads that a core sent in its visits there are a prefix of those that its node handed to it during its epoch there.
-/// - Each member received there, before all else, the messages that are safe by a node's safe mark or since every member's front
-///   has reached them.
+/// States the facts about the nodes' epochs from which the one order follows.
+///
+/// They hold for every object, every group of at most 16 processors and every list of events:
+/// - Ring numbers rise. A ring's name determines its members, and each node that installs the ring is one of them.
+/// - The messages that a node received in a ring are a prefix of the ring's text: its user messages, in the order of
+///   their numbers.
+/// - The payloads that a core sent in its visits there are a prefix of those that its node handed to it in its epoch
+///   there.
+/// - Each member received there, before all else, the messages that are safe by any node's safe mark, or that every
+///   member's front has reached.
 ///
 /// Rules: Outputs 3, 8, 9 and 11; Rings and states 2 and 7; Token and window 13
 pub fn facts_law<O: Object>()

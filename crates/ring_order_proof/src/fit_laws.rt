@@ -1,4 +1,5 @@
-//! A node's guarantees about the limits of frames, for user-defined code that drives a node.
+//! Laws that a node's frames and calls are within their limits, for code of users that drives a node.
+//!
 //! Rules: Limits 1
 
 ghost use Rattle.std.specs.Prelude.{ℕ, ◌≤◌};
@@ -18,11 +19,15 @@ use ring_object::Object;
 use ring_payload::Call as OneCall;
 use std::alloc::Allocator;
 
-/// States that a node keeps the limits of frames: sizes of operations, Parts, Packs, snapshot pieces and requests, numbers up to
-/// 2^62, and processors up to N.
-/// It does so at its opening, after each step with an input that keeps them, after each submit of a call that keeps them, and
-/// after a stop. Each frame that it sends keeps them, so it has an encoding and may be received by a node. Each call of its known
-/// log, the places that it hasn't dropped, keeps them too.
+/// States that a node stays within the limits of frames, and that each frame that it sends has an encoding.
+///
+/// It is within them at its opening, and remains so after each step with a valid input, each submit of a valid call,
+/// and a stop. So a node may receive each frame that another sends. The calls at the places that it hasn't dropped are
+/// within their limits too.
+///
+/// The limits are those of operations, Parts, Packs, pieces of snapshots and requests, numbers up to 2^62, and
+/// processors up to N.
+///
 /// Rules: Limits 1
 pub fn node_fits_law<O: Object>()
     ensures opening { (group : Group) (me : ℕ) → 1 ≤ me → me ≤ group.count → group.count ≤ 16 → NodeFits {A = O.Alloc} (node_opening group me) }
@@ -33,9 +38,10 @@ pub fn node_fits_law<O: Object>()
     ensures log { (n : Node O.Alloc) → NodeFits n → AllByRecursion CallFits (node_known_log n).calls }
 {}
 
-/// States that a call that keeps the limits of frames keeps the limits of snapshots, too. Its operation consists of bytes, as the
-/// operation of each call in code does.
-/// Rules: Limits 1
+/// States that a call that is within the limits of frames can be encoded in a snapshot: its operation consists of
+/// bytes.
+///
+/// Rules: Limits 1; Sessions 12
 pub fn call_keeps_law<A: Allocator + Copy>(call: &OneCall<A>)
     ensures { CallFits call.now → KeepsLimits call.now }
 {
@@ -43,7 +49,7 @@ pub fn call_keeps_law<A: Allocator + Copy>(call: &OneCall<A>)
     bytes_law(call.op.as_slice());
 }
 
-/// Bytes in code are numbers below 256.
+/// States that bytes in code are numbers below 256.
 fn bytes_law(bytes: &[u8])
     ensures { AreBytes bytes.now }
 {}

@@ -1,4 +1,6 @@
-//! Laws of one step of a node, and of every run of nodes: the size and the number of outputs, and the limits of frames.
+//! Laws of a node's step, and of every run of nodes: how many outputs a step has, and that frames are within their
+//! limits.
+//!
 //! Rules: Limits 1; The replicated log 13 to 15
 
 ghost use Rattle.std.specs.Prelude.{◌≡◌, ℕ, ◌+◌, ◌≤◌, List, Some, filter_map, length};
@@ -27,8 +29,11 @@ ghost use Rattle.ring_order_proof.specs.Linear.{EventKeeps};
 
 use ring_object::Object;
 
-/// States how much one step puts out, for every core and every node, in any state.
-/// With an input that keeps the limits of frames it sends at most 64 frames. It answers at most the tickets that are unanswered.
+/// States that one step sends at most 64 frames and answers at most the unanswered tickets.
+///
+/// This holds for every core and every node in any state. The bound on frames requires that the input is within the
+/// limits of its format.
+///
 /// Rules: Limits 1; The replicated log 14
 pub fn step_counts_law<O: Object>()
     ensures frames { (c : Core O.Alloc) (input : Input O.Alloc) → InputFits input → length (filter_map send_of (ring_step c input).outs) ≤ 64 }
@@ -36,7 +41,8 @@ pub fn step_counts_law<O: Object>()
     ensures answers { (n : Node O.Alloc) (input : NodeInput O.Alloc) → length (node_step O.sequential n input).answers ≤ length (node_pending n) }
 {}
 
-/// States that a node has at most 64 unanswered tickets, in every run, so no step gives more answers.
+/// States that a node of a run has at most 64 unanswered tickets, so that no step gives more than 64 answers.
+///
 /// Rules: The replicated log 13 and 14
 pub fn pending_law<O: Object>()
     ensures pending { (group : Group) (events : List (Event O.Alloc)) (node : ℕ) →
@@ -47,10 +53,12 @@ pub fn pending_law<O: Object>()
         length (node_step O.sequential (w.nodes node) input).answers ≤ 64 }
 {}
 
-/// States that a node has done exactly the calls that it has committed, except those of restored snapshots, in every run whose
-/// issued calls keep the limits.
-/// The node's tickets count the calls done. Each answer that it ever gave is that of the session table after all places before
-/// the call's in the log, restored ones included.
+/// States that a node has done exactly the calls that it has committed, except those that restored snapshots replace.
+///
+/// The node's tickets count the calls done. Each answer that it ever gave is that of the session table after all places
+/// before the call's in the log, including restored ones. This holds for every run whose issued calls are within the
+/// limits of a call.
+///
 /// Rules: The replicated log 14; Sessions 8
 pub fn done_law<O: Object>()
     ensures { (group : Group) (events : List (Event O.Alloc)) (node : ℕ) → group.count ≤ 16 → AllByRecursion EventKeeps events → 1 ≤ node →
@@ -59,11 +67,14 @@ pub fn done_law<O: Object>()
         HasDone O.sequential (w.nodes node) (committed_of group (whole_epochs_in w node)) }
 {}
 
-/// States that each frame ever sent keeps the limits of frames, and so does each node's core, in every run of at most 16 nodes
-/// whose issued calls keep them.
-/// This holds whatever is delivered, lost, repeated, reordered or delayed, and whatever times out or stops.
-/// The outputs of the next step of a node and of its core keep the limits, too. So does each payload that a node ever handed to
-/// its core: its Heads, the pieces of its snapshots, its Parts and its calls. So does each call of its known log.
+/// States that each frame ever sent, and each node's core, is within the limits of frames.
+///
+/// This holds for every run of at most 16 nodes whose issued calls are within the limits of a call, whatever is
+/// delivered, lost, repeated, reordered or delayed, and whatever times out or stops. Within the limits are also:
+/// - the outputs of the next step of a node and of its core,
+/// - each payload that a node ever handed to its core: its Heads, the pieces of its snapshots, its Parts and its calls,
+/// - each call of its known log.
+///
 /// Rules: Limits 1
 pub fn frames_law<O: Object>()
     ensures frames { (group : Group) (events : List (Event O.Alloc)) → group.count ≤ 16 → AllByRecursion EventFits events →
@@ -95,9 +106,10 @@ pub fn frames_law<O: Object>()
         AllByRecursion CallFits (node_known_log (w.nodes node)).calls }
 {}
 
-/// States that one more event adds at most 64 frames to a world, 64 items to its history, and 64 reports of answers and refused
-/// submits.
-/// It holds for every run of at most 16 nodes whose issued calls keep the limits.
+/// States that an event adds at most 64 frames to a world, 64 items to its history, and 64 reports to clients.
+///
+/// This holds for every run of at most 16 nodes whose issued calls are within the limits of a call.
+///
 /// Rules: Limits 1; The replicated log 13 and 14
 pub fn growth_law<O: Object>()
     ensures frames { (group : Group) (events : List (Event O.Alloc)) (e : Event O.Alloc) → group.count ≤ 16 → AllByRecursion EventFits events →
@@ -111,7 +123,8 @@ pub fn growth_law<O: Object>()
         length (happens O.sequential w e).told ≤ length w.told + 64 }
 {}
 
-/// States that every frame that keeps the limits of frames is encoded in at most 7,321 bytes.
+/// States that the encoding of a frame that is within its limits has at most 7,321 bytes.
+///
 /// Rules: Limits 1
 /// Formats: Frames
 pub fn frame_size_law<O: Object>()

@@ -1,5 +1,8 @@
-//! The one order of every run of nodes, whatever events happen: any calls may be issued; frames may be delivered, lost, repeated,
-//! reordered and delayed; nodes may time out and stop.
+//! The one order of every run of nodes.
+//!
+//! It exists whatever events happen: any calls may be issued; frames may be delivered, lost, repeated, reordered and
+//! delayed; nodes may time out and stop.
+//!
 //! Rules: Sessions 10 and 11; The replicated log 8, 16 and 17
 
 ghost use Rattle.std.specs.Prelude.{◌≡◌, ℕ, ◌≤◌, List, true};
@@ -21,16 +24,19 @@ ghost use Rattle.ring_order_proof.specs.Linear.{EventKeeps, SafeLogPersists, Rea
 
 use ring_object::Object;
 
-/// States that every run of nodes has one order of the calls that take effect, for every object, every group of at most 16
-/// processors and every list of events.
-/// - The order only grows. Each node's committed calls, from the log's beginning and with repeats removed, are a prefix of it.
-/// - If each issued call keeps the limits, the order explains the history. The places that a node dropped, with repeats removed,
-///   are then a prefix of the order. The node's snapshot is the object's state after it, and its committed log, with repeats
-///   removed, comes next in the order.
-/// - A part of a primary ring's log begins the base of every later primary ring if each member received it or every member's
-///   front has reached it.
-/// - Whatever input a node gets next, each base that it adopts begins with its committed places, in the whole log and in its
-///   known log. If issued calls keep the limits, the bytes that it restores are a snapshot. So neither ever stops a node.
+/// States that every run of nodes has one order of the calls that take effect, and what this order guarantees.
+///
+/// This holds for every object, every group of at most 16 processors and every list of events:
+/// - The order only grows. Each node's committed calls, from the log's beginning and with repeats removed, are a prefix
+///   of it.
+/// - If each issued call is within the limits of a call, the order is a linearization of the history. The calls at the
+///   places that a node dropped, with repeats removed, are then a prefix of the order. The node's snapshot is the
+///   object's state after it, and its committed log, with repeats removed, comes next in the order.
+/// - A primary ring's log, up to a message that every member received or that every member's front has reached, is a
+///   prefix of the base of every later primary ring.
+/// - Whatever input a node gets next, each base that it adopts begins with its committed places, in the whole log and
+///   in its known log. If issued calls are within their limits, the bytes that it restores are a snapshot. So neither
+///   test ever stops a node.
 /// - Each ticket's call was issued, and so was each call that a node hands over.
 ///
 /// Rules: Sessions 10 and 11; The replicated log 8, 16 and 17

@@ -1,7 +1,9 @@
 //! The proof of the one order of every run of nodes.
-//! The ring part of a world of nodes is a run of ring cores. Nodes keep their discipline, and each ring has one text. So all that
-//! logs need of ring cores holds in every run, and each event is a step by the rules of the one order. Besides, each frame that a
-//! node of a run sends keeps the limits.
+//!
+//! The ring part of a world of nodes is a run of ring cores, nodes hand over payloads by their rules, and each ring has
+//! one text. So all that logs require of ring cores holds in every run, and each event satisfies `IsOrderStep`. Also,
+//! each frame that a node of a run sends is within its limits.
+//!
 //! Rules: Sessions 10 and 11; The replicated log 8, 16 and 17
 #![tactic(auto)]
 

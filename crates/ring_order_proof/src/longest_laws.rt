@@ -1,4 +1,5 @@
-//! The longest of the nodes' committed logs, in every run of nodes.
+//! The law of the longest of the nodes' committed logs, in every run of nodes.
+//!
 //! Rules: Sessions 10 and 11
 
 ghost use Rattle.std.specs.Prelude.{◌≡◌, ℕ, ◌≤◌, ◌⊎◌, List, [], take};
@@ -11,10 +12,13 @@ ghost use Rattle.ring_node_spec.specs.Worlds.{world_opening, run, whole_epochs_i
 
 use ring_object::Object;
 
-/// States that the calls that steps newly commit, each place taken once, are the longest of the nodes' committed logs, for every
-/// list of events.
-/// Each node's committed places, from the log's beginning, are the first of that list, as many as the node's committed length.
-/// The list is some node's committed log, or empty. Its calls that take effect are the order.
+/// States that the calls newly committed by steps, with each place taken once, are the longest of the nodes' committed
+/// logs.
+///
+/// This holds for every list of events. Each node's committed places, from the log's beginning, are a prefix of that
+/// list, as long as the node's committed length. The list is some node's committed log, or empty. Its calls that take
+/// effect are the order.
+///
 /// Rules: Sessions 10 and 11; The replicated log 12
 pub fn longest_law<O: Object>()
     ensures takes { (group : Group) (events : List (Event O.Alloc)) (node : ℕ) → group.count ≤ 16 → 1 ≤ node → node ≤ group.count →

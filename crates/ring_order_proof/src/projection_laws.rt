@@ -1,4 +1,5 @@
 //! The law that the ring part of every run of nodes is a run of ring cores.
+//!
 //! Rules: Rings and states 14; The replicated log 1
 
 ghost use Rattle.std.specs.Prelude.{ℕ, List, ◌++◌};
@@ -10,12 +11,13 @@ ghost use Rattle.ring_order_proof.specs.Projection.{IsProjected, core_events_of_
 
 use ring_object::Object;
 
-/// States that the nodes' cores and all frames sent are those of a run of ring cores from their opening, for every list of
-/// events.
-/// In that run, handing a payload to a core is an event of its own. Each node's life, without its payloads and trimmed lengths,
-/// consists of its core's outputs. If a node's log stops the node, its core stops.
-/// The events of ring cores and the outputs of the cores are determined by the nodes' events, one after another, so a longer run
-/// extends a shorter one.
+/// States that the nodes' cores and the frames sent are those of a run of ring cores from their opening.
+///
+/// This holds for every list of events. In the run of cores, handing a payload to a core is an event of its own. Each
+/// node's epochs, without their payloads and trimmed lengths, consist of its core's outputs. If a node's log stops the
+/// node, its core stops. The cores' events and outputs are determined by the nodes' events, one after another, so a
+/// longer run extends a shorter one.
+///
 /// Rules: Rings and states 14; The replicated log 1
 pub fn projection_law<O: Object>()
     ensures ring { (group : Group) (events : List (Event O.Alloc)) → IsProjected O.sequential group events }

@@ -13,11 +13,11 @@ use Rattle.ring_payload.specs.declared.call.Call.{Call}
 use Rattle.ring_payload.specs.Limits.{max_operation}
 use Rattle.ring_payload.specs.Operations.{op, op_encoding, OpFits}
 
--- the call of this client with this number and operation
+-- the call with this client, number and operation
 abbrev pub call_of : {A : Type 0} → ℕ → ℕ → List ℕ → Call A
 call_of client number bytes = record { client = client; number = number; op = bytes }
 
--- the result of making a call: `OpTooLong` first, then `NumberGap`, then `Memory`; else the call
+-- the result of making a call: `OpTooLong` first, then `NumberGap`, then `Memory`; otherwise the call
 abbrev pub IsNewCall : {A : Type 0} → ℕ → ℕ → List ℕ → Result (Call A) Fault → Type 0
 IsNewCall client number bytes (Ok c) = (length bytes ≤ max_operation) × (1 ≤ number) × (c ≡ call_of client number bytes)
 IsNewCall client number bytes (Err OpTooLong) = max_operation < length bytes
@@ -25,7 +25,7 @@ IsNewCall client number bytes (Err NumberGap) = (length bytes ≤ max_operation)
 IsNewCall client number bytes (Err Memory) = (length bytes ≤ max_operation) × (1 ≤ number)
 IsNewCall client number bytes (Err _) = ⊥
 
--- the length of a call's encoding: its client, its number, its operation's length and its operation
+-- the length of a call's encoding: 14 bytes for client, number and length, plus the operation
 abbrev pub call_bytes : {A : Type 0} → Call A → ℕ
 call_bytes c = 14 + length c.op
 

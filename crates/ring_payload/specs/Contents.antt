@@ -1,4 +1,4 @@
--- How a Wrapped, a message of an old ring, is encoded, and the contents that it may have: a tag and the body after
+-- How a Wrapped, a message of an old ring, is encoded, and the contents that it may have: each a tag and the body after
 -- it.
 -- Formats: Payloads
 use Rattle.std.proofs.Common.{◌≡◌, ℕ, ◌≤◌, Bool, List, [], ◌∷◌, Option, refl, arith, inl, inr}
@@ -23,7 +23,7 @@ use Rattle.ring_payload.specs.Snaps.{snap, snap_encoding, SnapFits}
 
 -- ---- contents: a tag and the body after it
 
--- the tag of a content; a head has one of two
+-- the tag of a content; a head has one of two tags
 abbrev pub content_tag : {A : Type 0} → Content A → ℕ
 content_tag (contents.Call x) = call_tag
 content_tag (contents.Head x) = tag_of_head x
@@ -99,8 +99,7 @@ content = record { encoding = content_encoding; Fits = ContentFits; at = content
 abbrev pub wrapped_encoding : {A : Type 0} → Wrapped A → List ℕ
 wrapped_encoding w = ring_encoding w.ring ⊕ big_bytes 8 w.number ⊕ proc_encoding w.sender ⊕ content_encoding w.payload
 
--- the limits of a Wrapped alone; that its old ring's number is below that of its message's ring is a limit of the
--- message
+-- the limits of a Wrapped; that its old ring's number is below that of the message's ring is a limit of the message
 pub record WrappedFits {A : Type 0} (w : Wrapped A) : Type 0 where
   pub ring : RingFits w.ring
   pub ring_counted : 1 ≤ w.ring.seq
@@ -109,7 +108,7 @@ pub record WrappedFits {A : Type 0} (w : Wrapped A) : Type 0 where
   pub sender : IsProc w.sender
   pub payload : ContentFits w.payload
 
--- whether the fields together keep their limits
+-- whether the fields are within their limits, as a test
 abbrev pub wrapped_test : {A : Type 0} → Wrapped A → Bool
 wrapped_test w = nat_le 1 w.ring.seq && (nat_le 1 w.number && nat_le w.number max_number)
 

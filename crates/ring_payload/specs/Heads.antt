@@ -13,11 +13,11 @@ use Rattle.ring_codec.specs.Rings.{some_ring, some_ring_encoding, SomeRingFits}
 use Rattle.ring_payload.specs.declared.head.Head.{Head}
 use Rattle.ring_payload.specs.Limits.{head_tag, trimmed_tag}
 
--- the tag of a head: one if nothing is trimmed, another if something is
+-- the tag of a head: `head_tag` if nothing is trimmed, otherwise `trimmed_tag`
 abbrev pub tag_of_head : Head → ℕ
 tag_of_head h = if h.trimmed == 0 then head_tag else trimmed_tag
 
--- the encoding of the trimmed length: 8 bytes, or none if it is 0
+-- the encoding of the trimmed length: 8 bytes, or no bytes if it is 0
 abbrev pub trimmed_length_encoding : ℕ → List ℕ
 trimmed_length_encoding n = if n == 0 then [] else big_bytes 8 n
 
@@ -37,7 +37,7 @@ pub record HeadFits (h : Head) : Type 0 where
   pub trimmed : h.trimmed ≤ h.committed
   pub empty : h.last ≡ None → h.length ≡ 0
 
--- whether the fields together keep their limits
+-- whether the fields are within their limits, as a test
 abbrev pub head_test : Head → Bool
 head_test h = nat_le h.trimmed h.committed && (nat_le h.committed h.length && (nat_le h.length max_number && (is_some h.last || (h.length == 0))))
 
@@ -113,7 +113,7 @@ trimmed_head_encoding h = some_ring_encoding h.last ⊕ big_bytes 8 h.length ⊕
 abbrev TrimmedFits : Head → Type 0
 TrimmedFits h = HeadFits h × (1 ≤ h.trimmed)
 
--- whether the fields together keep their limits, if something is trimmed
+-- whether the fields are within their limits and something is trimmed, as a test
 abbrev pub trimmed_test : Head → Bool
 trimmed_test h = nat_le 1 h.trimmed && head_test h
 

@@ -1,5 +1,5 @@
--- The view of payloads that rings and logs use: which payloads are users', which are Ends, which can be wrapped, the
--- messages in a pack, and the calls that a payload appends to a log.
+-- How rings and logs see payloads: which are user payloads, which are Ends, which can be wrapped, the messages in a
+-- pack, and the calls that a payload appends to a log.
 -- Rules: Recovery 4 to 6
 use Rattle.std.specs.Prelude.{Bool, true, false, List, [], ◌∷◌, map, Option, Some, None}
 use Rattle.ring_payload.specs.declared.call.Call.{Call as OneCall}
@@ -10,7 +10,7 @@ use Rattle.ring_payload.specs.declared.content.Content.TheVariants.{Snap as Snap
 use Rattle.ring_payload.specs.declared.content.Payload.{Payload}
 use Rattle.ring_payload.specs.declared.content.Payload.TheVariants.{Call, Wrapped, End, Head, Part, Pack, Snap}
 
--- whether it is a user payload: one that clients or the log send, or a pack; Wrapped and End serve recovery alone
+-- whether it is a user payload, which clients or the log send; only Wrapped and End, which serve recovery, are not
 abbrev pub is_user : {A : Type 0} → Payload A → Bool
 is_user (Call call) = true
 is_user (Wrapped old) = false
@@ -20,7 +20,7 @@ is_user (Part part) = true
 is_user (Pack pack) = true
 is_user (Snap snap) = true
 
--- whether it is an End, by which a member says that it has wrapped all
+-- whether it is an End, by which a member says that it has wrapped all its messages
 abbrev pub is_end : {A : Type 0} → Payload A → Bool
 is_end End = true
 is_end (Call call) = false
@@ -48,7 +48,7 @@ content_of (Part part) = Some (PartContent part)
 content_of (Pack pack) = Some (PackContent pack)
 content_of (Snap snap) = Some (SnapContent snap)
 
--- the payloads that one stands for, in order: a Call for each call of a pack, else the payload alone
+-- the payloads that a payload packs, in order: a Call for each call of a pack; of any other only the payload itself
 abbrev pub unpacked_payloads : {A : Type 0} → Payload A → List (Payload A)
 unpacked_payloads (Pack pack) = map (λ (c : OneCall _). Call c) pack.calls
 unpacked_payloads (Call call) = Call call ∷ []
@@ -58,7 +58,7 @@ unpacked_payloads (Head head) = Head head ∷ []
 unpacked_payloads (Part part) = Part part ∷ []
 unpacked_payloads (Snap snap) = Snap snap ∷ []
 
--- the calls that a payload appends to a log, in order; the parts of an exchange make up a log in another way
+-- the calls that a payload appends to a log, in order: those of a Call or a Pack
 abbrev pub calls_of : {A : Type 0} → Payload A → List (OneCall A)
 calls_of (Call call) = call ∷ []
 calls_of (Pack pack) = pack.calls

@@ -1,4 +1,4 @@
--- The numbers of the grammar: tags, kinds, versions, limits.
+-- The numbers of the format: tags, kinds, versions and limits.
 -- Formats: Payloads; Frames
 use Rattle.std.specs.Prelude.{ℕ}
 
@@ -12,7 +12,7 @@ call_tag = 1
 abbrev pub wrapped_tag : ℕ
 wrapped_tag = 2
 
--- an End: its sender has wrapped all
+-- an End: its sender has wrapped all its messages
 abbrev pub end_tag : ℕ
 end_tag = 3
 
@@ -20,7 +20,7 @@ end_tag = 3
 abbrev pub head_tag : ℕ
 head_tag = 4
 
--- a part: calls from a place of a log on
+-- a part of a log: calls at consecutive places
 abbrev pub part_tag : ℕ
 part_tag = 5
 
@@ -56,7 +56,7 @@ commit_kind = 4
 
 -- ---- the versions of frames
 
--- the version of every frame that needs no later one
+-- the version of every frame that needs no later version
 abbrev pub first_version : ℕ
 first_version = 1
 
@@ -70,34 +70,34 @@ trim_version = 3
 
 -- ---- limits
 
--- the most bytes of an operation
+-- the maximum length of an operation, in bytes
 abbrev pub max_operation : ℕ
 max_operation = 1024
 
--- the most calls of a part
+-- the maximum number of calls of a part
 abbrev pub max_part_calls : ℕ
 max_part_calls = 7
 
--- the fewest calls of a pack
+-- the minimum number of calls of a pack
 abbrev pub min_pack_calls : ℕ
 min_pack_calls = 2
 
--- the most calls of a pack
+-- the maximum number of calls of a pack
 abbrev pub max_pack_calls : ℕ
 max_pack_calls = 16
 
--- the most bytes of a pack as a whole payload, its tag and count included
+-- the maximum length of a pack as a whole payload, in bytes, including its tag and count
 abbrev pub max_pack_bytes : ℕ
 max_pack_bytes = 7276
 
--- the most bytes of a snapshot
+-- the maximum length of a snapshot, in bytes
 abbrev pub max_snapshot : ℕ
 max_snapshot = 16777216
 
--- the bytes of each piece of a snapshot but the last
+-- the length of each piece of a snapshot except the last, in bytes
 abbrev pub max_piece_bytes : ℕ
 max_piece_bytes = 7000
 
--- the most numbers that a token asks for
+-- the maximum number of requests of a token
 abbrev pub max_requests : ℕ
 max_requests = 32

@@ -14,12 +14,12 @@ use Rattle.ring_payload.specs.declared.calls.Pack.{Pack}
 use Rattle.ring_payload.specs.Calls.{call, call_bytes, call_encoding, CallFits}
 use Rattle.ring_payload.specs.Limits.{min_pack_calls, max_pack_calls, max_pack_bytes}
 
--- the length of the calls' encodings, one after the other
+-- the total length of the calls' encodings, in bytes
 abbrev pub calls_bytes : {A : Type 0} → List (Call A) → ℕ
 calls_bytes [] = 0
 calls_bytes (c ∷ cs) = call_bytes c + calls_bytes cs
 
--- the length of the calls' encoding as a pack: the tag, the count, and the calls
+-- the length of the calls as a pack, in bytes: the tag, the count, and the calls
 abbrev pub pack_bytes : {A : Type 0} → List (Call A) → ℕ
 pack_bytes cs = 2 + calls_bytes cs
 
@@ -34,7 +34,7 @@ pub record PackFits {A : Type 0} (p : Pack A) : Type 0 where
   pub each : AllByRecursion CallFits p.calls
   pub short : pack_bytes p.calls ≤ max_pack_bytes
 
--- the calls' encodings have the length that `calls_bytes` gives
+-- the calls' encodings together have the length `calls_bytes`
 pub length-calls : {A : Type 0} (cs : List (Call A)) → length (flat_map call_encoding cs) ≡ calls_bytes cs
 length-calls [] = refl
 length-calls (c ∷ cs) =
@@ -42,11 +42,11 @@ length-calls (c ∷ cs) =
     let l = length-append (call_encoding c) (flat_map call_encoding cs) in
     omega (arith, e, l, length-calls cs)
 
--- whether the number of calls of a pack is allowed, as a test
+-- whether a pack may have this number of calls, as a test
 abbrev is_count : ℕ → Bool
 is_count n = nat_le min_pack_calls n && nat_le n max_pack_calls
 
--- the number of calls of a pack is allowed: 2 to 16
+-- a pack may have this number of calls: 2 to 16
 abbrev IsCount : ℕ → Type 0
 IsCount n = (min_pack_calls ≤ n) × (n ≤ max_pack_calls)
 
@@ -56,7 +56,7 @@ is_count-true n h = grind (arith, nat_tests)
 true-is_count : (n : ℕ) → IsCount n → is_count n ≡ true
 true-is_count n h = grind (arith, nat_tests)
 
--- whether a pack keeps the limit of bytes
+-- whether a pack of these calls is within the limit of bytes, as a test
 abbrev pub fits_pack_limit : {A : Type 0} → List (Call A) → Bool
 fits_pack_limit cs = nat_le (pack_bytes cs) max_pack_bytes
 

@@ -28,11 +28,11 @@ pub record PartFits {A : Type 0} (p : Part A) : Type 0 where
   pub few : length p.calls ≤ max_part_calls
   pub each : AllByRecursion CallFits p.calls
 
--- whether the number of calls of a part is allowed, as a test
+-- whether a part may have this number of calls, as a test
 abbrev is_count : ℕ → Bool
 is_count n = nat_le 1 n && nat_le n max_part_calls
 
--- the number of calls of a part is allowed: 1 to 7
+-- a part may have this number of calls: 1 to 7
 abbrev IsCount : ℕ → Type 0
 IsCount n = (1 ≤ n) × (n ≤ max_part_calls)
 
@@ -80,7 +80,7 @@ part_format {A} = fields_format (part_fields {A = A}) from_fields part_encoding 
 abbrev pub part : {A : Type 0} → Format (Part A)
 part = record { encoding = part_encoding; Fits = PartFits; at = part_at; exact = part_format }
 
--- calls have at most 1,038 bytes each
+-- n calls have at most 1,038 * n bytes
 length-calls : {A : Type 0} (cs : List (Call A)) → AllByRecursion CallFits cs → length (flat_map call_encoding cs) ≤ 1038 * length cs
 length-calls [] f = omega arith
 length-calls (c ∷ cs) f =

@@ -16,7 +16,7 @@ use Rattle.ring_payload.specs.Parts.{part, part_encoding, PartFits}
 use Rattle.ring_payload.specs.Snaps.{snap, snap_encoding, SnapFits}
 use Rattle.ring_payload.specs.Contents.{wrapped, wrapped_encoding, WrappedFits}
 
--- the tag of a payload; a head has one of two
+-- the tag of a payload; a head has one of two tags
 abbrev pub payload_tag : {A : Type 0} → Payload A → ℕ
 payload_tag (payloads.Call x) = call_tag
 payload_tag (payloads.Wrapped x) = wrapped_tag
@@ -40,7 +40,7 @@ payload_body (payloads.Snap x) = snap_encoding x
 abbrev pub payload_encoding : {A : Type 0} → Payload A → List ℕ
 payload_encoding p = payload_tag p ∷ payload_body p
 
--- the limits of a payload alone; that a Wrapped is of an older ring than its message is a limit of the message
+-- the limits of a payload; that the ring of a Wrapped is older than the message's ring is a limit of the message
 abbrev pub PayloadFits : {A : Type 0} → Payload A → Type 0
 PayloadFits (payloads.Call x) = CallFits x
 PayloadFits (payloads.Wrapped x) = WrappedFits x

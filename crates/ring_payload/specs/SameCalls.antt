@@ -5,11 +5,11 @@ use Rattle.std.proofs.lemmas.Bool.{eqb-true, eq-eqb, and_parts, and_from}
 use Rattle.std.proofs.lemmas.Slice.Eq.{bytes_eq-Decides}
 use Rattle.ring_payload.specs.declared.call.Call.{Call}
 
--- whether the two calls are equal: the same client, number and operation
+-- whether the two calls are equal: in client, number and operation
 abbrev pub is_same : {A : Type 0} → Call A → Call A → Bool
 is_same c d = (d.client == c.client) && (d.number == c.number) && bytes_eq d.op c.op
 
--- calls that pass the test are equal
+-- calls for which the test is true are equal
 pub is_same-true : {A : Type 0} (c d : Call A) → is_same c d ≡ true → d ≡ c
 is_same-true {A} c d same =
     let parts = and_parts ((d.client == c.client) && (d.number == c.number)) (bytes_eq d.op c.op) same in
@@ -22,7 +22,7 @@ is_same-true {A} c d same =
     let of_op : List ℕ → Call A = λ o. record { client = c.client; number = c.number; op = o } in
     ap of_client client ∙ ap of_number number ∙ ap of_op op
 
--- a call passes the test with itself
+-- the test is true of a call and itself
 pub is_same-self : {A : Type 0} (c : Call A) → is_same c c ≡ true
 is_same-self c =
     and_from ((c.client == c.client) && (c.number == c.number)) (bytes_eq c.op c.op)

@@ -1,5 +1,5 @@
--- How pieces of snapshots are encoded: the number of places that the snapshot stands for, its length, the offset of
--- the piece, the number of its bytes, and these.
+-- How pieces of snapshots are encoded: the number of places that the snapshot replaces, its length, the offset of the
+-- piece, the number of its bytes, and the bytes.
 -- Formats: Payloads
 use Rattle.std.proofs.Common.{◌≡◌, ℕ, ◌-◌, ◌%◌, ◌<◌, ◌≤◌, Bool, true, List, length, Option, refl, arith, eq-eqb}
 use Rattle.std.specs.Prelude.{nat_le, nat_lt, ◌&&◌, ◌==◌, min}
@@ -11,7 +11,7 @@ use Rattle.ring_codec.specs.Formats.{Format, u16_field, u32_field, u64_field, te
 use Rattle.ring_payload.specs.declared.snap.Snap.{Snap}
 use Rattle.ring_payload.specs.Limits.{max_snapshot, max_piece_bytes}
 
--- the length of the piece at this offset: all bytes that are left, at most a whole piece
+-- the length of the piece at an offset: all bytes that are left, but at most 7,000
 abbrev pub piece_length : ℕ → ℕ → ℕ
 piece_length total offset = min max_piece_bytes (total - offset)
 
@@ -20,7 +20,7 @@ piece_length total offset = min max_piece_bytes (total - offset)
 abbrev pub snap_encoding : {A : Type 0} → Snap A → List ℕ
 snap_encoding s = big_bytes 8 s.at ⊕ big_bytes 4 s.total ⊕ big_bytes 4 s.offset ⊕ big_bytes 2 (length s.bytes) ⊕ s.bytes
 
--- the limits of a piece: it begins at a multiple of 7,000 within the snapshot, and has the length of a piece there
+-- the limits of a piece: its offset is a multiple of 7,000 within the snapshot, and it has the length of a piece there
 pub record SnapFits {A : Type 0} (s : Snap A) : Type 0 where
   pub at_counted : 1 ≤ s.at
   pub at : s.at ≤ max_number
@@ -30,7 +30,7 @@ pub record SnapFits {A : Type 0} (s : Snap A) : Type 0 where
   pub whole : s.offset % max_piece_bytes ≡ 0
   pub bytes : length s.bytes ≡ piece_length s.total s.offset
 
--- whether the four numbers before the bytes keep the limits
+-- whether the four numbers before the bytes are within the limits, as a test
 abbrev pub is_piece : ℕ → ℕ → ℕ → ℕ → Bool
 is_piece at total offset count =
     nat_le 1 at && (nat_le at max_number && (nat_le 1 total && (nat_le total max_snapshot &&
@@ -79,7 +79,7 @@ is_piece_fits s f =
     let count = eq-eqb (length s.bytes) (piece_length s.total s.offset) f.bytes in
     rw (le-leb _ _ f.at_counted, le-leb _ _ f.at, le-leb _ _ f.total_counted, le-leb _ _ f.total, lt-ltb _ _ f.offset, eq-eqb _ _ f.whole, count) refl
 
--- no piece has more bytes than a whole piece
+-- a piece has at most 7,000 bytes
 pub snap_short : {A : Type 0} (s : Snap A) → SnapFits s → length s.bytes ≤ max_piece_bytes
 snap_short s f = omega (arith, f.bytes)
 

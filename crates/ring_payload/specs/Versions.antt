@@ -1,5 +1,5 @@
--- The version of a frame by its payload: 2 for a pack of calls, 3 for a piece of a snapshot or the head of a trimmed
--- log, else 1.
+-- The version of a frame, by its payload: 2 for a pack of calls, 3 for a piece of a snapshot or the head of a trimmed
+-- log, otherwise 1.
 -- Formats: Frames
 use Rattle.std.specs.Prelude.{ℕ, ◌==◌, if◌then◌else◌}
 use Rattle.ring_payload.specs.declared.content.Content.{Content}
@@ -9,7 +9,7 @@ use Rattle.ring_payload.specs.declared.content.Payload.TheVariants as payloads
 use Rattle.ring_payload.specs.declared.head.Head.{Head}
 use Rattle.ring_payload.specs.Limits.{first_version, pack_version, trim_version}
 
--- the version for a head: that of a trimmed log if its trimmed length is above 0, else the first
+-- the version for a head: 3 if its trimmed length is above 0, otherwise 1
 abbrev pub head_version : Head → ℕ
 head_version h = if h.trimmed == 0 then first_version else trim_version
 

@@ -1,4 +1,5 @@
 //! Clients' calls.
+//!
 //! Formats: Numbers and parts
 
 ghost use Rattle.std.specs.Prelude.{◌≡◌, ℕ, ◌+◌, ◌^◌, ◌<◌, ◌≤◌, List, [], ◌∷◌, ◌++◌, length};
@@ -10,26 +11,29 @@ use ring_codec::{Decode, Encode, Fault, Reader};
 use std::alloc::{Allocator, Global};
 
 /// `Call`: a client's request: the client, the call's number and the operation.
+///
 /// Rules: Sessions 1
 /// Formats: Numbers and parts
 #[derive(Clone, Drop)]
 pub struct Call<A: Allocator + Copy = Global> {
     /// The client's number, 0 to 2^32 - 1.
     pub client: u32,
-    /// The call's number among the calls of this client, counted from 1.
+    /// The call's number among the calls of this client, which are numbered from 1.
     pub number: u64,
-    /// The operation for the replicated object, 0 to 1,024 bytes.
+    /// The operation on the replicated object, 0 to 1,024 bytes.
     pub op: CallOperation<A>,
 }
 
 impl<A: Allocator + Copy> Call<A> {
     ghost use Rattle.ring_payload.specs.Calls.{call_bytes, IsNewCall};
 
-    /// Returns the call with these fields. `number` is at least 1, and `op`, of which the call has a copy, has at most
-    /// 1,024 bytes.
-    /// Errors, the first that holds: `OpTooLong` if `op` has more than 1,024 bytes; `NumberGap` if `number` is 0;
-    /// `Memory`.
+    /// Returns the call with these fields and a copy of the operation `op`.
+    ///
+    /// Errors: the first that applies of `OpTooLong` if `op` has more than 1,024 bytes, `NumberGap` if `number` is 0,
+    /// and `Memory` if an allocation fails.
+    ///
     /// Rules: Sessions 1; Refusals 4
+    /// Formats: Numbers and parts
     pub fn new(alloc: A, client: u32, number: u64, op: &[u8]) -> Result<Call<A>, Fault>
         ensures { IsNewCall client number op.now result }
     {
@@ -46,7 +50,10 @@ impl<A: Allocator + Copy> Call<A> {
         })
     }
 
-    /// Returns the length of the call's encoding in bytes: 14 and the length of its operation, so 14 to 1,038.
+    /// Returns the length of the call's encoding in bytes: 14 plus the length of its operation.
+    ///
+    /// That is 14 to 1,038 for a call within the limits of its format.
+    ///
     /// Formats: Numbers and parts
     pub fn bytes(&self) -> usize
         ensures { result ≡ call_bytes self.now }

@@ -1,5 +1,6 @@
 //! Lists of calls, parts of a log, and packs of calls.
-//! Rules: Token and window 9
+//!
+//! Rules: Token and window 9; The replicated log 2
 //! Formats: Payloads
 
 ghost use Rattle.std.specs.Prelude.{◌≡◌, ℕ, ◌+◌, ◌^◌, ◌<◌, ◌≤◌, List, [], ◌∷◌, ◌++◌, length};
@@ -12,7 +13,10 @@ use ring_codec::{Decode, Encode, Fault, MAX, Reader, read_many, size_many, write
 use std::alloc::{AllocError, Allocator, Global};
 use std::marker::Model;
 
-/// A list of calls, owned. Contracts see the list.
+/// An owned list of calls.
+///
+/// Contracts see the list.
+///
 /// Formats: Payloads
 #[derive(Drop)]
 pub struct Calls<A: Allocator + Copy = Global> {
@@ -29,7 +33,9 @@ impl<A: Allocator + Copy> Model for Calls<A> {
 }
 
 impl<A: Allocator + Copy> Calls<A> {
-    /// Returns the list of these calls, in their order. It takes the vector over, so it takes no memory.
+    /// Returns the list of `calls`, in their order.
+    ///
+    /// It takes ownership of the vector. Does not allocate.
     pub fn from_vec(calls: Vec<Call<A>, A>) -> Calls<A>
         ensures { result ≡ calls.items }
     {
@@ -37,6 +43,8 @@ impl<A: Allocator + Copy> Calls<A> {
     }
 
     /// Returns the calls as an owned vector, in their order.
+    ///
+    /// Does not allocate.
     pub fn into_vec(self) -> Vec<Call<A>, A>
         ensures { result.items ≡ self }
     {
@@ -61,16 +69,20 @@ impl<A: Allocator + Copy> Clone for Calls<A> {
     }
 }
 
-/// The most calls of a [`Part`]. The least is 1.
+/// The maximum number of calls of a [`Part`].
+///
+/// The minimum is 1.
+///
 /// Rules: Limits 1
 pub const MAX_PART_CALLS: u8 = 7;
 
 /// `Part`: a part of a log: one to seven calls at consecutive places.
+///
 /// Rules: The replicated log 2
 /// Formats: Payloads
 #[derive(Clone, Drop)]
 pub struct Part<A: Allocator + Copy = Global> {
-    /// The place of the first call in the log, counted from 0, at most `MAX`.
+    /// The place of the first call in the log, counted from 0 and at most `MAX`.
     pub first: u64,
     /// The calls, 1 to 7, in the order of their places.
     pub calls: Calls<A>,
@@ -120,7 +132,8 @@ impl<A: Allocator + Copy> Decode<A> for Part<A> {
     }
 }
 
-/// `Pack`: a batch of calls in one message: 2 to 16 calls, at most 7,276 bytes as a whole payload.
+/// `Pack`: a batch of calls in one message: 2 to 16 calls, in at most 7,276 bytes of payload.
+///
 /// Rules: Token and window 9
 /// Formats: Payloads
 #[derive(Clone, Drop)]
@@ -129,15 +142,19 @@ pub struct Pack<A: Allocator + Copy = Global> {
     pub calls: Calls<A>,
 }
 
-/// The most calls of a [`Pack`]. The least is 2.
+/// The maximum number of calls of a [`Pack`].
+///
+/// The minimum is 2.
+///
 /// Rules: Token and window 9
 pub const MAX_PACK_CALLS: u8 = 16;
 
-/// The most bytes of a [`Pack`] as a whole payload, its tag and count included.
+/// The maximum length in bytes of a [`Pack`] as a whole payload, including its tag and count.
+///
 /// Rules: Token and window 9
 pub const MAX_PACK_BYTES: usize = 7276;
 
-/// Returns whether a pack of these calls has at most `MAX_PACK_BYTES` bytes.
+/// Returns whether a pack of `calls` is at most `MAX_PACK_BYTES` long.
 fn fits_pack_limit<A: Allocator + Copy>(calls: &[Call<A>]) -> bool
     ensures { result ≡ is_short_pack calls.now }
 {

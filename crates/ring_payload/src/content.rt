@@ -1,4 +1,5 @@
-//! Payloads, and the payloads that may be sent again on a later ring.
+//! The payloads of messages, and the contents that a Wrapped may have.
+//!
 //! Rules: Recovery 4
 //! Formats: Payloads; Frames
 
@@ -15,7 +16,8 @@ use bytes::BytesMut;
 use ring_codec::{Decode, Encode, Fault, MAX, Proc, Reader, RingId};
 use std::alloc::{Allocator, Global};
 
-/// The payload inside a Wrapped: any user payload, that is, any payload but a Wrapped and an End.
+/// The payload inside a Wrapped, which is any user payload: any payload except a Wrapped and an End.
+///
 /// Rules: Recovery 4
 /// Formats: Payloads
 #[derive(Clone, Drop)]
@@ -28,26 +30,28 @@ pub enum Content<A: Allocator + Copy = Global> {
     Part(Part<A>),
     /// A batch of calls.
     Pack(Pack<A>),
-    /// A chunk of a snapshot.
+    /// A piece of a snapshot.
     Snap(Snap<A>),
 }
 
-/// `Wrapped`: a message of an old ring that recovery sends again on the new ring.
+/// `Wrapped`: a message of an old ring that a member sends again on the new ring, during recovery.
+///
 /// Rules: Recovery 4
 /// Formats: Payloads
 #[derive(Clone, Drop)]
 pub struct Wrapped<A: Allocator + Copy = Global> {
-    /// The old ring, of number at least 1. In a message it is below the number of the message's ring.
+    /// The old ring, whose number is at least 1 and, in a message, below that of the message's ring.
     pub ring: RingId,
     /// The message's number in the old ring, 1 to `MAX`.
     pub number: u64,
     /// The member of the old ring that sent the message there.
     pub sender: Proc,
-    /// The payload that the message has in the old ring.
+    /// The payload that the message had in the old ring.
     pub payload: Content<A>,
 }
 
-/// The payload of a message.
+/// The payload of a message: calls for the log, or what recovery and the exchange send.
+///
 /// Formats: Payloads
 #[derive(Clone, Drop)]
 pub enum Payload<A: Allocator + Copy = Global> {
@@ -63,7 +67,7 @@ pub enum Payload<A: Allocator + Copy = Global> {
     Part(Part<A>),
     /// A batch of calls, to be appended to the log in order.
     Pack(Pack<A>),
-    /// A chunk of the owner's snapshot, sent in an exchange.
+    /// A piece of the owner's snapshot, sent in an exchange.
     Snap(Snap<A>),
 }
 
@@ -132,7 +136,7 @@ impl<A: Allocator + Copy> Decode<A> for Content<A> {
 impl<A: Allocator + Copy> Content<A> {
     ghost use Rattle.ring_payload.specs.Versions.{content_version};
 
-    /// Returns the version of a frame that carries it in a Wrapped.
+    /// Returns the version of a frame that carries this content in a Wrapped.
     fn version(&self) -> u8
         ensures { result ≡ content_version self.now }
     {
@@ -149,8 +153,10 @@ impl<A: Allocator + Copy> Payload<A> {
     ghost use Rattle.ring_payload.specs.Versions.{payload_version};
 
     /// Returns the version of a frame that carries this payload, 1 to 3.
-    /// It is 2 for a Pack, 3 for a Snap or for a Head with a trimmed length above 0, and else 1. A Wrapped has the
-    /// version of its content.
+    ///
+    /// It is 2 for a Pack, 3 for a Snap and for a Head with a trimmed length above 0, and 1 otherwise. A Wrapped has
+    /// the version of its content.
+    ///
     /// Formats: Frames
     pub fn version(&self) -> u8
         ensures { result ≡ payload_version self.now }
@@ -168,7 +174,8 @@ impl<A: Allocator + Copy> Payload<A> {
 impl<A: Allocator + Copy> Wrapped<A> {
     ghost use Rattle.ring_payload.specs.Contents.{wrapped_test};
 
-    /// Returns whether the fields keep the limits of their format.
+    /// Returns whether the fields are within the limits of a Wrapped, except for the limit that the message's ring
+    /// sets.
     fn is_valid(&self) -> bool
         ensures { result ≡ wrapped_test self.now }
     {

@@ -1,4 +1,6 @@
-//! Heads of logs: a member's summary of its log, with which an exchange begins.
+//! Heads of logs: a member's summary of its log, which it sends at the beginning of an exchange.
+//!
+//! Rules: The replicated log 2
 //! Formats: Payloads
 
 ghost use Rattle.std.specs.Prelude.{◌≡◌, ℕ, ◌+◌, ◌^◌, ◌<◌, ◌≤◌, List, [], ◌∷◌, ◌++◌, length};
@@ -10,19 +12,22 @@ use bytes::BytesMut;
 use ring_codec::{Decode, Encode, Fault, MAX, Reader, RingId};
 use std::alloc::Allocator;
 
-/// `Head`: a member's summary of its log. `trimmed` <= `committed` <= `length` <= `MAX`. All three are 0 for a member
-/// without a last primary. They count places from the beginning of the log, dropped places included.
+/// `Head`: a member's summary of its log, where `trimmed` <= `committed` <= `length` <= `MAX`.
+///
+/// All three are 0 for a member without a last primary. They count places from the beginning of the log, including
+/// dropped places.
+///
 /// Rules: The replicated log 1 and 2
 /// Formats: Payloads
 #[derive(Clone, Copy, Debug, PartialEq, Eq)]
 pub struct Head {
-    /// The member's last primary: the newest primary ring that it has adopted, `None` if it never adopted one.
+    /// The member's last primary: the newest primary ring that it has adopted, or `None` if it has adopted none.
     pub last: Option<RingId>,
-    /// The length of the log in places, dropped places included.
+    /// The length of the log in places, including dropped places.
     pub length: u64,
-    /// The number of committed places, which are always the first ones.
+    /// The number of committed places, which are always the first places of the log.
     pub committed: u64,
-    /// The number of first places that the member has dropped, 0 if none.
+    /// The number of places that the member has dropped from the beginning of the log.
     pub trimmed: u64,
 }
 
@@ -30,6 +35,7 @@ impl Head {
     ghost use Rattle.ring_payload.specs.Heads.{tag_of_head, head_test, whole_at, trimmed_at};
     ghost use Rattle.ring_payload.specs.Versions.{head_version};
 
+    /// Returns the tag of this Head: 4 if its trimmed length is 0, otherwise 7.
     fn tag(&self) -> u8
         ensures { result ≡ tag_of_head self.now }
     {
@@ -40,7 +46,8 @@ impl Head {
         }
     }
 
-    /// Returns the version of a frame that carries this Head: 1, or 3 with a trimmed length above 0.
+    /// Returns the version of a frame that carries this Head: 1 if its trimmed length is 0, otherwise 3.
+    ///
     /// Formats: Frames
     pub(crate) fn version(&self) -> u8
         ensures { result ≡ head_version self.now }
@@ -52,7 +59,7 @@ impl Head {
         }
     }
 
-    /// Returns whether the fields keep the limits of their format.
+    /// Returns whether the fields are within the limits of their format, for either tag.
     fn is_valid(&self) -> bool
         ensures { result ≡ head_test self.now }
     {
@@ -63,7 +70,9 @@ impl Head {
     }
 
     /// Decodes the body of the Head of a log without dropped places, after its tag 4, and moves `from` past it.
-    /// Errors: `BadFrame` if no such body is there. How much is then left to read is unspecified.
+    ///
+    /// Errors: `BadFrame` if `from` doesn't begin with such a body. What is then left to read is unspecified.
+    ///
     /// Formats: Payloads
     #[tactic(auto, unfolding(crate::specs::Heads::whole_at))]
     pub(crate) fn read_whole<A: Allocator + Copy>(
@@ -85,7 +94,9 @@ impl Head {
     }
 
     /// Decodes the body of the Head of a log with dropped places, after its tag 7, and moves `from` past it.
-    /// Errors: `BadFrame` if no such body is there. How much is then left to read is unspecified.
+    ///
+    /// Errors: `BadFrame` if `from` doesn't begin with such a body. What is then left to read is unspecified.
+    ///
     /// Formats: Payloads
     #[tactic(auto, unfolding(crate::specs::Heads::trimmed_at))]
     pub(crate) fn read_trimmed<A: Allocator + Copy>(
@@ -108,6 +119,8 @@ impl Head {
 }
 
 /// Encoded with its tag, which says whether a trimmed length follows.
+///
+/// Formats: Payloads
 impl Encode for Head {
     ghost use Rattle.ring_payload.specs.Heads.{head_encoding, HeadFits, head_at, head_format};
 

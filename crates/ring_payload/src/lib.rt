@@ -1,6 +1,8 @@
-//! The payloads of messages: calls, alone or in packs, heads and parts of logs, pieces of snapshots, and messages of
-//! an old ring that are sent again.
+//! The payloads of messages: calls, one by one or in packs, heads and parts of logs, pieces of snapshots, and messages
+//! of an old ring that are sent again.
+//!
 //! A type has a public field for each entry of its layout, except counts and lengths.
+//!
 //! Formats: Payloads
 #![tactic(auto)]
 

@@ -1,4 +1,6 @@
 //! Operations: the bytes that a call passes to the replicated object.
+//!
+//! Rules: Sessions 1
 //! Formats: Numbers and parts
 
 ghost use Rattle.std.specs.Prelude.{◌≡◌, ℕ, ◌+◌, ◌^◌, ◌<◌, ◌≤◌, List, [], ◌∷◌, ◌++◌, length, IfOk, IfErr};
@@ -11,12 +13,17 @@ use std::alloc::{AllocError, Allocator, Global};
 use std::marker::Model;
 use std::sync::ArcSlice;
 
-/// The most bytes of an operation. An operation may have none.
+/// The maximum length of an operation in bytes.
+///
+/// An operation may be empty.
+///
 /// Rules: Limits 1
 pub const MAX_OPERATION: usize = 1024;
 
-/// An operation of a call, on the heap. Its copies share its bytes, so copying takes no memory. Contracts see the
-/// bytes.
+/// The operation of a call, on the heap.
+///
+/// Its copies share its bytes, so copying does not allocate. Contracts see the bytes.
+///
 /// Rules: Sessions 1
 #[derive(Drop)]
 pub struct CallOperation<A: Allocator + Copy = Global> {
@@ -33,8 +40,13 @@ impl<A: Allocator + Copy> Model for CallOperation<A> {
 }
 
 impl<A: Allocator + Copy> CallOperation<A> {
-    /// Returns an operation with a copy of these bytes. An operation that is to be encoded has at most 1,024 bytes.
-    /// Errors: `Memory`.
+    /// Returns an operation with a copy of `bytes`, of any length.
+    ///
+    /// To be encoded, an operation must have at most 1,024 bytes.
+    ///
+    /// Errors: `Memory` if an allocation fails.
+    ///
+    /// Rules: Sessions 1
     pub fn from_slice(alloc: A, bytes: &[u8]) -> Result<CallOperation<A>, Fault>
         ensures ok { IfOk result (λ op. op ≡ bytes.now) }
         ensures refused { IfErr result (λ fault. fault ≡ Memory) }

@@ -1,4 +1,5 @@
 //! The bytes of a piece of a snapshot.
+//!
 //! Formats: Payloads
 
 ghost use Rattle.std.specs.Prelude.{◌≡◌, ℕ, ◌≤◌, List, length, IfOk, IfErr};
@@ -10,7 +11,10 @@ use ring_codec::Fault;
 use std::alloc::{AllocError, Allocator, Global};
 use std::marker::Model;
 
-/// The bytes of a [`Snap`](crate::Snap), on the heap. Contracts see the bytes.
+/// The bytes of a [`Snap`](crate::Snap), on the heap.
+///
+/// Contracts see the bytes.
+///
 /// Formats: Payloads
 #[derive(Drop)]
 pub struct Piece<A: Allocator + Copy = Global> {
@@ -24,8 +28,13 @@ impl<A: Allocator + Copy> Model for Piece<A> {
 }
 
 impl<A: Allocator + Copy> Piece<A> {
-    /// Returns a piece with a copy of these bytes. A piece that is to be encoded has 1 to 7,000 bytes.
-    /// Errors: `Memory`.
+    /// Returns a piece with a copy of `bytes`, of any length.
+    ///
+    /// To be encoded, a piece must have 1 to 7,000 bytes.
+    ///
+    /// Errors: `Memory` if an allocation fails.
+    ///
+    /// Formats: Payloads
     pub fn from_slice(alloc: A, bytes: &[u8]) -> Result<Piece<A>, Fault>
         ensures ok { IfOk result (λ piece. piece ≡ bytes.now) }
         ensures refused { IfErr result (λ fault. fault ≡ Memory) }
@@ -43,7 +52,9 @@ impl<A: Allocator + Copy> Piece<A> {
     }
 
     /// Appends the bytes of the piece to `out`, without their number.
-    /// That `out` has room for them is the caller's condition.
+    ///
+    /// `out` must have room for them. Does not allocate.
+    ///
     /// Formats: Payloads
     pub(crate) fn write<B: Allocator + Copy>(&self, out: &mut BytesMut<B>)
         requires { length self.now ≤ out.old.spare }

@@ -11,7 +11,10 @@ use ring_codec::RingId;
 use std::alloc::Allocator;
 
 impl<A: Allocator + Copy> Payload<A> {
-    /// Returns whether the two payloads are of one kind and equal in every field. So they have the same encoding.
+    /// Returns whether the two payloads are of the same kind and equal in every field.
+    ///
+    /// Equal payloads have the same encoding.
+    ///
     /// Formats: Payloads
     pub fn is_same(&self, other: &Payload<A>) -> bool
         ensures { IsTrue result ↔ (self.now ≡ other.now) }

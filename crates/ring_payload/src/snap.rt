@@ -1,4 +1,6 @@
-//! Snapshots of the sessions, in pieces.
+//! Pieces of a snapshot of the sessions.
+//!
+//! Rules: The replicated log 2
 //! Formats: Payloads
 
 ghost use Rattle.std.specs.Prelude.{◌≡◌, ℕ, ◌+◌, ◌^◌, ◌<◌, ◌≤◌, List, [], ◌∷◌, ◌++◌, length};
@@ -10,26 +12,32 @@ use bytes::BytesMut;
 use ring_codec::{Decode, Encode, Fault, MAX, Reader};
 use std::alloc::{Allocator, Global};
 
-/// The most bytes of a snapshot that is sent in Snaps.
-/// Rules: Limits 1
+/// The maximum length in bytes of a whole snapshot (16 MiB).
+///
+/// A node whose snapshot would be longer doesn't drop its places.
+///
+/// Rules: Limits 1 and 2; The replicated log 20
 pub const MAX_SNAPSHOT: u32 = 16_777_216;
 
-/// The length in bytes of each piece of a snapshot but the last, which may be shorter.
+/// The length in bytes of every piece of a snapshot except the last, which may be shorter.
+///
 /// Rules: Limits 1
+/// Formats: Payloads
 pub const MAX_PIECE_BYTES: u32 = 7000;
 
-/// `Snap`: a chunk of a snapshot of the sessions.
+/// `Snap`: a piece of a snapshot of the sessions.
+///
 /// Rules: The replicated log 2
 /// Formats: Payloads
 #[derive(Clone, Drop)]
 pub struct Snap<A: Allocator + Copy = Global> {
-    /// The number of first places of the log that the snapshot replaces, 1 to `MAX`.
+    /// The number of places at the beginning of the log that the snapshot replaces, 1 to `MAX`.
     pub at: u64,
     /// The length of the whole snapshot in bytes, 1 to 16,777,216.
     pub total: u32,
-    /// The number of the snapshot's bytes before this piece: a multiple of 7,000, below `total`.
+    /// The number of the snapshot's bytes before this piece, a multiple of 7,000 below `total`.
     pub offset: u32,
-    /// The bytes of the piece: 7,000, or the rest of the snapshot where fewer are left.
+    /// The bytes of the piece: 7,000, or all that are left of the snapshot if fewer are.
     pub bytes: Piece<A>,
 }
 

@@ -34,7 +34,7 @@ answer_record ticket (Refused number) = record_of 82 (big_bytes 8 ticket ++ numb
 abbrev pub committed_record : {A : Type 0} → Call A → List ℕ
 committed_record c = record_of 67 (big_bytes 4 c.client ++ big_bytes 8 c.number ++ c.op)
 
--- The record of a restored snapshot, with the number of the log's first places that it covers; nothing if none was restored.
+-- The record of a restored snapshot, with the number of places that it replaces; nothing if none was restored.
 abbrev pub restored_text : Option ℕ → List ℕ
 restored_text None = []
 restored_text (Some places) = record_of 71 (big_bytes 8 places)
@@ -72,7 +72,7 @@ flag false = 0
 abbrev pub membership_bytes : Membership → List ℕ
 membership_bytes m = big_bytes 2 m.members ++ flag m.is_primary ∷ []
 
--- The same, and nothing where they are not told.
+-- The same, or nothing if they are not given.
 abbrev pub membership_text : Option Membership → List ℕ
 membership_text None = []
 membership_text (Some m) = membership_bytes m
@@ -83,7 +83,7 @@ abbrev pub status_bytes : State → RingId → ℕ → ℕ → ℕ → List ℕ
 status_bytes state ring committed log trimmed =
     state_number state ∷ [] ++ big_bytes 8 ring.seq ++ ring.rep ∷ [] ++ big_bytes 8 committed ++ big_bytes 8 log ++ big_bytes 8 trimmed
 
--- The record of a node's status, with the members of its ring where these are told.
+-- The record of a node's status, with the members of its ring if they are given.
 abbrev pub status_record : State → RingId → ℕ → ℕ → ℕ → Option Membership → List ℕ
 status_record state ring committed log trimmed members = record_of 81 (status_bytes state ring committed log trimmed ++ membership_text members)
 
@@ -111,11 +111,12 @@ token_outcome_number Ignored = 2
 abbrev pub timed_end_bytes : TimedEnd → List ℕ
 timed_end_bytes t = flag t.has_brought ∷ big_bytes 8 t.next_time
 
--- The same, and nothing for a node without a clock.
+-- The same, or nothing for a node without a clock.
 abbrev pub timed_end_text : Option TimedEnd → List ℕ
 timed_end_text None = []
 timed_end_text (Some t) = timed_end_bytes t
 
--- The record that ends an input's outputs: the node's state, the outcome of a token, and what a node with a clock adds.
+-- The record that ends an input's outputs: the node's state, the outcome of a token, and what a node with a clock
+-- appends.
 abbrev pub end_record : State → TokenOutcome → Option TimedEnd → List ℕ
 end_record state token timed = record_of 69 ((state_number state ∷ token_outcome_number token ∷ []) ++ timed_end_text timed)

@@ -1,4 +1,5 @@
 //! The record of a sent frame with its receivers.
+//!
 //! Rules: Nodes that records drive 3
 //! Formats: Records
 
@@ -14,11 +15,12 @@ use ring_base::{Fault, ProcSet};
 use ring_wire::{Frame, Wire};
 use std::alloc::Allocator;
 
-/// Appends the record of a frame with its receivers `to` to `out`.
-/// `encoded` is a buffer for the frame's bytes, and its content is replaced. That the frame keeps its limits is the
-/// caller's condition.
+/// Appends the record of `frame`, with its receivers `to`, to `out`.
 ///
-/// Errors: `Memory`; `out` and `encoded` are then unspecified.
+/// `frame` must be within the limits of its format. `encoded` is a scratch buffer: its contents are replaced.
+///
+/// Errors: `Memory` if an allocation fails; the contents of `out` and `encoded` are then unspecified.
+///
 /// Rules: Nodes that records drive 3
 /// Formats: Records
 pub fn encode_frame_record<A: Allocator + Copy + Drop>(

@@ -1,5 +1,6 @@
-//! Records, by which another program drives a node: a kind, a length and bytes. This crate reads a record, decodes the
-//! request in it, and writes the records of a node's outputs.
+//! Records, by which another program drives a node: a kind, a length and bytes.
+//!
+//! This crate reads a record, decodes the request in it, and writes the records of a node's outputs.
 //!
 //! Rules: Nodes that records drive 1 to 3 and 7
 //! Formats: Records

@@ -1,4 +1,5 @@
 //! The members of a ring, as records report them.
+//!
 //! Rules: Nodes that records drive 3 and 7
 //! Formats: Records
 
@@ -9,7 +10,8 @@ use byteorder::{BigEndian, ByteOrder};
 use ring_base::ProcSet;
 
 /// The members of a ring, and whether they are primary.
-/// Rules: Nodes that records drive 7
+///
+/// Rules: Nodes that records drive 7; Processors and sets 3 and 4
 /// Formats: Records
 #[derive(Clone, Copy, Debug, PartialEq, Eq)]
 pub struct Membership {
@@ -18,7 +20,9 @@ pub struct Membership {
 }
 
 impl Membership {
-    /// Returns the bytes that encode the members in a record: the set in two, and 1 where they are primary, else 0.
+    /// Returns the encoding in a record: the set in 2 bytes, big-endian, then 1 if the members are primary, otherwise
+    /// 0.
+    ///
     /// Formats: Records
     pub(crate) fn bytes(self) -> [u8; 3]
         ensures { result ≡ membership_bytes self }
@@ -30,7 +34,7 @@ impl Membership {
     }
 }
 
-/// Returns the byte of a flag: 1 where it is set, else 0.
+/// Returns 1 if the flag is set, otherwise 0.
 pub(crate) fn flag_byte(is_set: bool) -> u8
     ensures { result ≡ flag is_set }
 {

@@ -1,4 +1,5 @@
 //! Writing the records of a node's outputs other than frames.
+//!
 //! Rules: Nodes that records drive 3 and 4
 //! Formats: Records
 
@@ -19,10 +20,12 @@ use ring_session::{Answer, Ticket, TicketAnswer};
 use std::alloc::Allocator;
 use std::io::{self, Write};
 
-/// Writes a record `D`, `K` or `R` for each answer, in order: the ticket in 8 bytes, then the reply, or the number of
-/// the refusal.
+/// Writes a record `D`, `K` or `R` for each answer, in order.
 ///
-/// Errors: the writer's; its content is then unspecified.
+/// Each has the ticket in 8 bytes, then the reply (`D`, `K`) or the number of the fault (`R`), 4 to 7.
+///
+/// Errors: any error of `out`. How much has been written is then unspecified.
+///
 /// Rules: Nodes that records drive 3
 /// Formats: Records
 pub fn write_answers<A: Allocator + Copy + Drop, W: Write>(
@@ -50,10 +53,13 @@ fn write_answer<W: Write>(ticket: Ticket, answer: &Answer, out: &mut W) -> io::R
     }
 }
 
-/// Writes a record `C` for each newly committed call, in order: the client in 4 bytes, the number in 8, and the
-/// operation.
+/// Writes a record `C` for each newly committed call, in order.
 ///
-/// Errors: the writer's; its content is then unspecified. An operation of more than 65,523 bytes is an error too.
+/// Each has the client in 4 bytes, the number in 8, and the operation.
+///
+/// Errors: any error of `out`, and `InvalidInput` for an operation of more than 65,523 bytes. How much has been written
+/// is then unspecified.
+///
 /// Rules: Nodes that records drive 3
 /// Formats: Records
 pub fn write_all_committed<A: Allocator + Copy + Drop, W: Write>(
@@ -81,10 +87,12 @@ fn write_committed<A: Allocator + Copy + Drop, W: Write>(
     write_record(out, kinds::CALL, &words, call.op.as_slice())
 }
 
-/// Writes a record `G` with the number, in 8 bytes, of first places of the log that a restored snapshot replaces.
-/// Writes nothing for `None`, which means that the step restored nothing.
+/// Writes a record `G` if the step restored a snapshot: the number of places that the snapshot replaces, in 8 bytes.
 ///
-/// Errors: the writer's; its content is then unspecified.
+/// Writes nothing if `restored` is `None`: the step restored nothing.
+///
+/// Errors: any error of `out`. How much has been written is then unspecified.
+///
 /// Rules: Nodes that records drive 3
 /// Formats: Records
 pub fn write_restored<W: Write>(restored: Option<u64>, out: &mut W) -> io::Result<()>
@@ -100,7 +108,8 @@ pub fn write_restored<W: Write>(restored: Option<u64>, out: &mut W) -> io::Resul
 
 /// Writes a record `T` with the ticket of a submitted call, in 8 bytes.
 ///
-/// Errors: the writer's; its content is then unspecified.
+/// Errors: any error of `out`. How much has been written is then unspecified.
+///
 /// Rules: Nodes that records drive 3
 /// Formats: Records
 pub fn write_ticket<W: Write>(ticket: Ticket, out: &mut W) -> io::Result<()>
@@ -111,9 +120,10 @@ pub fn write_ticket<W: Write>(ticket: Ticket, out: &mut W) -> io::Result<()>
     write_record(out, kinds::TICKET, &word, &[])
 }
 
-/// Writes a record `X` with the number, in one byte, of the fault with which an input was refused.
+/// Writes a record `X` with the number, in 1 byte, of the fault with which an input was refused.
 ///
-/// Errors: the writer's; its content is then unspecified.
+/// Errors: any error of `out`. How much has been written is then unspecified.
+///
 /// Rules: Nodes that records drive 4
 /// Formats: Records
 pub fn write_refusal<W: Write>(fault: Fault, out: &mut W) -> io::Result<()>
@@ -122,11 +132,13 @@ pub fn write_refusal<W: Write>(fault: Fault, out: &mut W) -> io::Result<()>
     write_record(out, kinds::REFUSED, &[fault.number()], &[])
 }
 
-/// Writes a record `Q` with the status of a node: its state, its last installed ring, and the committed length, the
-/// length and the trimmed length of its log. The three lengths count places from the beginning of the log, dropped
-/// places included. The members of the ring come last; `None` leaves them out.
+/// Writes a record `Q` with a node's status: its state, its last installed ring, and the three lengths of its log.
 ///
-/// Errors: the writer's; its content is then unspecified.
+/// `committed`, `log` and `trimmed` are the committed, the whole and the trimmed length, in places from the beginning
+/// of the log: dropped places count. The ring's members, if given, are appended; nodes without a clock give `None`.
+///
+/// Errors: any error of `out`. How much has been written is then unspecified.
+///
 /// Rules: Nodes that records drive 3 and 7
 /// Formats: Records
 pub fn write_status_record<W: Write>(
@@ -147,7 +159,7 @@ pub fn write_status_record<W: Write>(
     }
 }
 
-/// Encodes the status of a node.
+/// Encodes a node's status, without the members of its ring.
 fn bytes_of_status(state: State, ring: RingId, committed: u64, log: u64, trimmed: u64) -> [u8; 34]
     ensures { result ≡ status_bytes state ring committed log trimmed }
 {
@@ -176,7 +188,8 @@ pub fn write_counts<W: Write>(numbers: &[u64; 20], out: &mut W) -> io::Result<()
 
 /// Writes a record `M` with an installed ring and its members.
 ///
-/// Errors: the writer's; its content is then unspecified.
+/// Errors: any error of `out`. How much has been written is then unspecified.
+///
 /// Rules: Nodes that records drive 7
 /// Formats: Records
 pub fn write_members<W: Write>(ring: RingId, members: Membership, out: &mut W) -> io::Result<()>
@@ -187,10 +200,13 @@ pub fn write_members<W: Write>(ring: RingId, members: Membership, out: &mut W) -
     write_record(out, kinds::MEMBERS, &bytes, &members.bytes())
 }
 
-/// Writes a record `E`, which ends the records that an input gives: the node's state after the input, and the outcome
-/// of a token, in one byte each. What a node with a clock adds comes last; `None` leaves it out.
+/// Writes a record `E`, the last one that an input produces: the node's state and the outcome of a token, in 1 byte
+/// each.
 ///
-/// Errors: the writer's; its content is then unspecified.
+/// `timed`, if given, is appended; nodes without a clock give `None`.
+///
+/// Errors: any error of `out`. How much has been written is then unspecified.
+///
 /// Rules: Nodes that records drive 3 and 7
 /// Formats: Records
 pub fn write_end<W: Write>(

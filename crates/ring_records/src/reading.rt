@@ -1,4 +1,5 @@
 //! Reading records from an input.
+//!
 //! Formats: Records
 
 ghost use Rattle.std.specs.Prelude.{◌≡◌, ◌<◌, ◌⊎◌, true, false, OnOk, OnErr, IfOk, IfErr, length, take};
@@ -12,15 +13,20 @@ use ring_base::Fault;
 use std::alloc::Allocator;
 use std::io::{ErrorKind, Read};
 
-/// The most bytes of a record after its kind and its length.
+/// The maximum length in bytes of a record after its kind and its length.
+///
 /// Rules: Limits 1
 pub const MAX_RECORD_BYTES: usize = 65535;
 
-/// Takes the next record of the input. Returns its kind, or `None` at the end of the input. The bytes of the record
-/// replace the content of `bytes`. Whether the record asks for anything isn't checked.
+/// Reads the next record of the input into `bytes`, and returns its kind, or `None` at the end of the input.
 ///
-/// Errors: `BadFrame` if the input ends within a record, or fails; `Memory` for the record's bytes. Less than a record
-/// has then been taken. No contract says that `BadFrame` comes, since no contract covers a failing read.
+/// The record's bytes, without kind and length, replace the contents of `bytes`. Kind and bytes aren't checked:
+/// [`record_request`](crate::record_request) does that.
+///
+/// Errors: `BadFrame` if the input fails, or ends within a record. `Memory` if an allocation for the record's bytes
+/// fails. Less than a record has then been read. Contracts don't promise that `BadFrame` is returned, since none covers
+/// a failing read.
+///
 /// Formats: Records
 pub fn read_record<A: Allocator, R: Read>(
     input: &mut R,
@@ -38,7 +44,9 @@ pub fn read_record<A: Allocator, R: Read>(
     Ok(Some(kind))
 }
 
-/// Takes two bytes, a length. `BadFrame` if the input ends or fails before.
+/// Reads a length: 2 bytes, big-endian.
+///
+/// Errors: `BadFrame` if the input fails or ends before that.
 fn read_length<R: Read>(input: &mut R) -> Result<u16, Fault>
     ensures bytes { IfOk result (λ length. Consumes (R.remaining input.old) (R.remaining input.new) (big_bytes 2 length)) }
     ensures refused { IfErr result (λ fault. fault ≡ BadFrame) }
@@ -53,7 +61,9 @@ fn read_length<R: Read>(input: &mut R) -> Result<u16, Fault>
     Ok(256 * u16::from(high) + u16::from(low))
 }
 
-/// Takes `count` bytes, which replace the content of `bytes`. `BadFrame` if the input ends or fails before; else `Memory`.
+/// Reads `count` bytes, which replace the contents of `bytes`.
+///
+/// Errors: `BadFrame` if the input fails or ends before that. `Memory` if an allocation fails.
 fn read_bytes<A: Allocator, R: Read>(
     input: &mut R,
     count: u16,
@@ -73,7 +83,9 @@ fn read_bytes<A: Allocator, R: Read>(
     }
 }
 
-/// Fills `room` from the input. False if the input ends or fails before.
+/// Fills `room` from the input.
+///
+/// Returns false if the input fails or ends before that.
 fn fill<R: Read>(input: &mut R, room: &mut [u8]) -> bool
     ensures whole { result ≡ true → Consumes (R.remaining input.old) (R.remaining input.new) room.new }
     ensures part { result ≡ false → TakesFewer (length room.new) (R.remaining input.old) (R.remaining input.new) }
@@ -89,7 +101,9 @@ fn fill<R: Read>(input: &mut R, room: &mut [u8]) -> bool
     true
 }
 
-/// Takes one byte. `None` at the end of the input; `BadFrame` if it fails.
+/// Reads one byte, or returns `None` at the end of the input.
+///
+/// Errors: `BadFrame` if the input fails.
 fn next_byte<R: Read>(input: &mut R) -> Result<Option<u8>, Fault>
     ensures next { IfOk result (λ byte. IsNextByte (R.remaining input.old) (R.remaining input.new) byte) }
     ensures refused { IfErr result (λ fault. fault ≡ BadFrame) }
@@ -103,8 +117,11 @@ fn next_byte<R: Read>(input: &mut R) -> Result<Option<u8>, Fault>
     }
 }
 
-/// Takes some bytes into the beginning of `room`. Returns their number, 0 only at the end of the input or for an empty
-/// `room`. Tries an interrupted read again. `BadFrame` if the input fails.
+/// Reads some bytes into the beginning of `room`, and returns their number.
+///
+/// The number is 0 only at the end of the input or if `room` is empty. An interrupted read is tried again.
+///
+/// Errors: `BadFrame` if the input fails.
 fn read_some<R: Read>(input: &mut R, room: &mut [u8]) -> Result<usize, Fault>
     ensures bound { ReadsAtMost result room.new }
     ensures taken { IfOk result (λ count. Consumes (R.remaining input.old) (R.remaining input.new) (take count room.new)) }

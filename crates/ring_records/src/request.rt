@@ -1,4 +1,5 @@
 //! The request that a record makes of a node.
+//!
 //! Rules: Nodes that records drive 2
 //! Formats: Records
 
@@ -10,33 +11,44 @@ use crate::kinds;
 use byteorder::{BigEndian, ByteOrder};
 use ring_base::Kind;
 
-/// The length of a call's record before its operation: the client and the number.
+/// The length in bytes of a call's record before its operation: the client (4) and the number (8).
 const CALL_HEAD: usize = 12;
 
 /// The request that a record makes of a node.
+///
 /// Rules: Nodes that records drive 2
 /// Formats: Records
 #[derive(Clone, Copy, Debug, PartialEq, Eq)]
 pub enum RecordRequest {
-    /// The frame that the record's bytes encode arrived. Bytes that don't encode a frame are noise.
+    /// A frame was received: the one that the record's bytes encode.
+    ///
+    /// Bytes that don't encode a frame are noise.
     Frame,
-    /// The timeout of this kind came.
+    /// A timeout of this kind is due.
     Timeout(Kind),
-    /// Submit the call of this client with this number. The operation is the rest of the bytes: [`operation_in`].
+    /// A client submits its call of this number.
+    ///
+    /// The operation is the rest of the bytes: [`operation_in`].
     Call { client: u32, number: u64 },
-    /// Stop the node, for good.
+    /// The node stops for good.
     Stop,
-    /// Report the status of the node. Nothing changes.
+    /// The node reports its status.
+    ///
+    /// Nothing changes.
     Status,
-    /// Report the counts of the node. Nothing changes.
+    /// The node reports its counts.
+    ///
+    /// Nothing changes.
     Counts,
-    /// The time is now this number of milliseconds.
+    /// The time now, in milliseconds.
     Time(u64),
 }
 
-/// Decodes the request of a record of this kind with these bytes.
-/// Returns `None` if the kind is unknown, or if a record of this kind never has such bytes. A frame's bytes, the number
-/// of a call and the length of its operation aren't checked.
+/// Decodes the request in a record with this kind and these bytes.
+///
+/// Returns `None` if the kind is unknown, or no record of this kind has such bytes. A frame's encoding, a call's number
+/// and the length of its operation aren't checked.
+///
 /// Rules: Nodes that records drive 2
 /// Formats: Records
 pub fn record_request(kind: u8, bytes: &[u8]) -> Option<RecordRequest>
@@ -55,7 +67,9 @@ pub fn record_request(kind: u8, bytes: &[u8]) -> Option<RecordRequest>
     }
 }
 
-/// Decodes the number of a timeout, one byte.
+/// Decodes a timeout: one byte, the number of its kind.
+///
+/// `None` if there isn't exactly one byte, 0 to 3.
 fn timeout_of(bytes: &[u8]) -> Option<RecordRequest>
     ensures asks { IfSome result (λ asked. IsRequest 84 bytes.now asked) }
     ensures nothing { IfNone result ((asked : OneRequest) → ¬ IsRequest 84 bytes.now asked) }
@@ -73,6 +87,8 @@ fn timeout_of(bytes: &[u8]) -> Option<RecordRequest>
 }
 
 /// Decodes the client and the number of a call.
+///
+/// `None` if there are fewer than 12 bytes.
 fn call_of(bytes: &[u8]) -> Option<RecordRequest>
     ensures asks { IfSome result (λ asked. IsRequest 67 bytes.now asked) }
     ensures nothing { IfNone result ((asked : OneRequest) → ¬ IsRequest 67 bytes.now asked) }
@@ -85,8 +101,8 @@ fn call_of(bytes: &[u8]) -> Option<RecordRequest>
     Some(RecordRequest::Call { client, number })
 }
 
-/// Returns the operation in the bytes of a call's record: all bytes after the first 12.
-/// That there are at least 12 bytes is the caller's condition.
+/// Returns the operation in the bytes of a call's record: all after the first 12, which must exist.
+///
 /// Formats: Records
 pub fn operation_in(bytes: &[u8]) -> &[u8]
     requires { 12 ≤ length bytes.now }

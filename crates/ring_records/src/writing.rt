@@ -1,4 +1,5 @@
 //! Writing one record.
+//!
 //! Formats: Records
 
 ghost use Rattle.std.specs.Prelude.{◌++◌, OnOk};
@@ -8,10 +9,11 @@ ghost use Rattle.ring_records.specs.Records.{record_of};
 use byteorder::{BigEndian, ByteOrder};
 use std::io::{self, ErrorKind, Write};
 
-/// Writes a record: the kind, the length in 2 bytes, big-endian, then the bytes `first` and `rest`.
+/// Writes a record: the kind, the length in 2 bytes, big-endian, then the bytes of `first` and of `rest`.
 ///
-/// Errors: `InvalidInput` if `first` and `rest` have more than 65,535 bytes together; nothing is then written.
-/// Otherwise the writer's; its content is then unspecified.
+/// Errors: `InvalidInput` if `first` and `rest` have more than 65,535 bytes together; nothing has then been written.
+/// Otherwise any error of `out`; how much has been written is then unspecified.
+///
 /// Formats: Records
 pub(crate) fn write_record<W: Write>(
     out: &mut W,

@@ -3,24 +3,23 @@ use Rattle.std.specs.Prelude.{◌≡◌, ℕ, ◌+◌, ◌-◌, ◌^◌, ◌<◌
 use Rattle.ring_base.specs.Numbers.{window_size, numbers_from}
 use Rattle.ring_window.specs.Bits.{is_set}
 
--- the bit of n is set; there are four words of 64 bits, and the least bit of the first is that of the number after +
--- 1
+-- The bit of number n is set. There are four words of 64 bits; the lowest bit of the first word stands for `after` + 1.
 abbrev pub is_chosen : ℕ → List ℕ → ℕ → Bool
 is_chosen after words n = is_set words (n - (after + 1))
 
--- the numbers of the set from an offset on, ascending
+-- The numbers of the set from an offset on, ascending.
 abbrev pub chosen_from : ℕ → List ℕ → ℕ → List ℕ
 chosen_from after words offset = filter (is_chosen after words) (numbers_from (after + 1 + offset) (window_size - offset))
 
--- the numbers of the set, ascending
+-- The numbers of the set, ascending.
 abbrev pub chosen : ℕ → List ℕ → List ℕ
 chosen after words = filter (is_chosen after words) (numbers_from (after + 1) window_size)
 
--- each number of the set fits a word of 64 bits
+-- Each number of the set fits a word of 64 bits.
 abbrev pub AreWords : ℕ → List ℕ → Type 0
 AreWords after words = (j : ℕ) → is_set words j ≡ true → after + 1 + j < 2 ^ 64
 
--- k is the least offset from `from` on whose bit is set, 256 where there is none
+-- k is the least offset from `from` on whose bit is set, 256 if there is none.
 pub record IsFirstSet (words : List ℕ) (from k : ℕ) : Type 0 where
   pub later : from ≤ k
   pub inside : k ≤ window_size

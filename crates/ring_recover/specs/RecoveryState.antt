@@ -13,39 +13,39 @@ use Rattle.ring_recover.specs.Plans.{Plan, safe, least_mark, low, is_known}
 use Rattle.ring_recover.specs.Wrapping.{is_wrapped, left_to_wrap, has_own_end}
 use Rattle.ring_base.specs.Numbers.{window_size}
 
--- the node, its plan, and all messages of the new ring that it held, newest first
+-- The node, its plan, and all messages of the new ring that it held, newest first.
 pub record RecoveryState (A : Type 0) : Type 0 where
   pub me : ℕ
   pub plan : Plan
   pub seen : List (Message A)
 
--- the state before any message of the new ring
+-- The state before any message of the new ring.
 abbrev pub recovery_opening : {A : Type 0} → ℕ → Plan → RecoveryState A
 recovery_opening me p = record { me = me; plan = p; seen = [] }
 
--- the state with one more message held
+-- The state with one more message held.
 abbrev pub with_seen : {A : Type 0} → RecoveryState A → Message A → RecoveryState A
 with_seen r x = record r { seen = x ∷ r.seen }
 
--- the number of the first message, if there is one
+-- The number of the first message, if there is one.
 abbrev pub first_number : {A : Type 0} → List (Message A) → Option ℕ
 first_number [] = None
 first_number (x ∷ xs) = Some x.number
 
--- the number to wrap next: that of the first user message not yet seen wrapped
+-- The number to wrap next: that of the first user message not yet seen wrapped.
 abbrev pub next_to_wrap : {A : Type 0} → RecoveryState A → List (Message A) → Option ℕ
 next_to_wrap r held = first_number (filter (λ (x : Message _). is_user x.payload) (left_to_wrap r.plan r.seen held))
 
--- the old ring of a member, where each member has an entry
+-- The old ring of a member, if each member has an entry.
 abbrev pub old_of : ℕ → CommitToken → Option RingId
 old_of me k =
     if has k.members me && nat_le (size k.members) (length k.entries)
     then option_map (λ (e : CommitEntry). e.old) (slice_get k.entries (position_of k.members me))
     else None
 
--- What the code keeps: the old ring, the transitional members, three numbers of the plan, a bit for each of the 256
--- numbers after the greatest safe mark that says whether a transitional member holds it, another that says whether it
--- was seen wrapped, and whether the node's own End was seen
+-- What the code keeps: the old ring, the transitional members, three numbers of the plan, and two bits for each of the
+-- 256 numbers after the greatest safe mark: whether a transitional member reported it, and whether it was seen wrapped.
+-- Also, whether an End of the node itself was seen.
 pub record IsPlanKept {A : Type 0} (r : RecoveryState A) (old : RingId) (transitional_members least high front : ℕ) (known wrapped : List ℕ) (ended : Bool) : Type 0 where
   pub old_is : old ≡ r.plan.old
   pub transitional_members_is : transitional_members ≡ r.plan.transitional_members
@@ -57,14 +57,14 @@ pub record IsPlanKept {A : Type 0} (r : RecoveryState A) (old : RingId) (transit
   pub wrapped_is : (j : ℕ) → j < window_size → is_set wrapped j ≡ is_wrapped r.seen r.plan.old (high + 1 + j)
   pub ended_is : ended ≡ has_own_end r.me r.seen
 
--- What the code reads off the old ring's window
+-- What the code reads from the old ring's window
 
--- there is a message, and it is a user's
+-- There is a message, and it is a user message.
 abbrev pub is_users : {A : Type 0} → Option (Message A) → Bool
 is_users None = false
 is_users (Some x) = is_user x.payload
 
--- there is a message, and one of these sent it
+-- There is a message, and one of `senders` sent it.
 abbrev pub is_from : {A : Type 0} → ℕ → Option (Message A) → Bool
 is_from senders None = false
 is_from senders (Some x) = has senders x.sender

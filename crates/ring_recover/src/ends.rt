@@ -1,4 +1,5 @@
-//! Counts the Ends and the user messages of a new ring, from which a node decides whether the ring may be installed.
+//! Counts the Ends and the user messages of a new ring, from which a node decides whether it may install the ring.
+//!
 //! Rules: Recovery 7 and 11
 
 ghost use Rattle.std.specs.Prelude.{◌≡◌, ℕ, ◌+◌, ◌^◌, ◌<◌, ◌≤◌, ◌++◌, [], ◌∷◌, length};
@@ -14,18 +15,20 @@ use ring_window::{Message, Window};
 use std::alloc::{AllocError, Allocator, Global};
 use std::marker::Model;
 
-/// The Ends and user messages of a new ring in a node's front, counted so that the node can decide on installation.
-/// Contracts see the messages counted, ascending.
+/// Counts of the Ends and user messages of a new ring up to a node's front, for the decision on its installation.
+///
+/// Contracts see the counted messages, in ascending order of their numbers.
+///
 /// Rules: Recovery 7 and 11
 #[derive(Drop)]
 pub struct Ends<A: Allocator + Copy = Global> {
     /// The number of messages counted: those numbered 1 to `upto`.
     upto: u64,
-    /// The members whose End is among them.
+    /// The members whose End has been counted.
     ended: ProcSet,
-    /// The number of the last End, 0 where there is none.
+    /// The number of the last End counted, 0 if there is none.
     last: u64,
-    /// Whether a user message is among them.
+    /// Whether a user message has been counted.
     has_user: bool,
     history: Ghost<[Message<A>; 0]>,
 }
@@ -43,7 +46,8 @@ impl<A: Allocator + Copy> Model for Ends<A> {
 }
 
 impl<A: Allocator + Copy> Ends<A> {
-    /// Returns the counts for a new ring of which nothing is held: no End and no user message.
+    /// Creates the counts for a new ring of which nothing is held yet: no End and no user message.
+    ///
     /// Rules: Recovery 11
     pub fn new() -> Ends<A>
         ensures { result ≡ [] }
@@ -58,9 +62,11 @@ impl<A: Allocator + Copy> Ends<A> {
     }
 
     /// Counts the messages up to the window's front that haven't been counted yet.
-    /// The window's ring is the counted one. Its safe mark is at most the number already counted, so no message to be
-    /// counted has been forgotten.
-    /// Rules: Recovery 11
+    ///
+    /// `window` must be the window of the new ring, the same in all calls. Its safe mark must be at most the number of
+    /// messages counted so far: call this before the mark rises, since the window drops messages up to the mark.
+    ///
+    /// Rules: Recovery 7 and 11
     pub fn count_front(&mut self, window: &Window<A>)
         requires front { IsListPrefix self.old (in_front window.now.held window.now.ring) }
         requires mark { window.now.mark ≤ length self.old }
@@ -88,10 +94,11 @@ impl<A: Allocator + Copy> Ends<A> {
     }
 
     /// Returns whether the counted messages allow the new ring's installation.
-    /// Two things are needed. An End of each member is counted. Either the last End's number is at most `mark`, or a
-    /// user message is counted.
-    /// `members` are the new ring's members, `mark` is its safe mark at this node. Whether the node holds enough of the
-    /// old ring is for `Plan::finish` to decide.
+    ///
+    /// True if an End of each of `members` has been counted, and either the number of the last End is at most `mark` or
+    /// a user message has been counted. `members` must be the members of the new ring, and `mark` its safe mark at this
+    /// node. [`Plan::finish`] returns whether the node holds enough of the old ring.
+    ///
     /// Rules: Recovery 7 and 11
     pub fn is_ready(&self, members: ProcSet, mark: u64) -> bool
         ensures { result ≡ is_ready_by self.now members mark }

@@ -1,4 +1,4 @@
-//! The messages that a node saw, as a ghost list that only contracts read.
+//! The messages that a node saw, as ghost lists that only contracts read.
 
 ghost use Rattle.std.specs.Prelude.{◌≡◌, [], ◌∷◌, ◌++◌};
 
@@ -11,14 +11,14 @@ pub(crate) fn nothing_seen<M>() -> Ghost<[M; 0]>
     ghost_of(&())
 }
 
-/// Returns the list with a message added at its head.
+/// Returns the list with `message` added at its head.
 pub(crate) fn one_before<M>(history: &Ghost<[M; 0]>, message: &M) -> Ghost<[M; 0]>
     ensures { result.value ≡ message.now ∷ history.now.value }
 {
     ghost_of(&(history, message))
 }
 
-/// Returns the list with a message added at its end.
+/// Returns the list with `message` added at its end.
 pub(crate) fn one_after<M>(history: &Ghost<[M; 0]>, message: &M) -> Ghost<[M; 0]>
     ensures { result.value ≡ history.now.value ++ message.now ∷ [] }
 {

@@ -1,4 +1,5 @@
-//! Distinguishes the payloads of users from the payloads of recovery.
+//! Distinguishes user payloads from the payloads of recovery.
+//!
 //! Rules: Recovery 4
 
 ghost use Rattle.std.specs.Prelude.{◌≡◌};
@@ -7,8 +8,10 @@ ghost use Rattle.ring_window.specs.Payloads.{is_user, is_end};
 use ring_window::Payload;
 use std::alloc::Allocator;
 
-/// Returns whether the payload is a user's: a Call, a Pack, a Head, a Part or a Snap.
-/// Wrapped and End belong to recovery.
+/// Returns whether this is a user payload: a Call, a Pack, a Head, a Part or a Snap.
+///
+/// The other two, Wrapped and End, belong to recovery.
+///
 /// Rules: Recovery 4
 pub fn is_user<A: Allocator + Copy>(payload: &Payload<A>) -> bool
     ensures { result ≡ is_user payload.now }
@@ -23,7 +26,8 @@ pub fn is_user<A: Allocator + Copy>(payload: &Payload<A>) -> bool
     }
 }
 
-/// Returns whether the payload is an End, by which a member says that it has wrapped all that it had to wrap.
+/// Returns whether the payload is an End, by which a member announces that it has wrapped all that it had to wrap.
+///
 /// Rules: Recovery 4
 pub(crate) fn is_end<A: Allocator + Copy>(payload: &Payload<A>) -> bool
     ensures { result ≡ is_end payload.now }

@@ -1,5 +1,6 @@
-//! Laws of recovery: members that come from one old ring deliver the same messages of it.
-//! Rules: Recovery 1 and 8
+//! Laws of recovery: members that come from the same old ring deliver the same messages of it.
+//!
+//! Rules: Recovery 1, 8 and 9
 
 ghost use Rattle.std.specs.Prelude.{◌≡◌, ℕ, List, Option, Some, true};
 ghost use Rattle.ring_commit.specs.Tokens.{CommitToken};
@@ -9,17 +10,22 @@ ghost use Rattle.ring_recover.specs.Deliveries.{is_complete, finish, rests, Same
 
 use std::alloc::Allocator;
 
-/// States that two members that come from one old ring make the same plan of a commit token.
-/// It holds for every commit token and any two processors. Where each of the two gets a plan and both plans name the
-/// same old ring, the plans are equal.
+/// States that two members that come from the same old ring make the same plan from a commit token.
+///
+/// The law holds for every commit token and any two processors. If each of the two gets a plan, and both plans name the
+/// same old ring, then the plans are equal.
+///
 /// Rules: Recovery 1
 pub fn plan_law()
     ensures { (k : CommitToken) (i j : ℕ) (p q : Plan) → plan_from i k ≡ Some p → plan_from j k ≡ Some q → p.old ≡ q.old → p ≡ q }
 {}
 
 /// States that two members with the same plan deliver the same numbers and the same messages.
-/// It holds for every plan and any two lists of messages held. Each list must have every number that a transitional
-/// member reported. Where both have a number of the old ring, they must have the same message under it.
+///
+/// The law holds for every plan and any two lists of held messages. Each list must have every number that a
+/// transitional member reported. Under each number of the old ring that both lists have, they must have the same
+/// message.
+///
 /// Rules: Recovery 8 and 9
 pub fn finish_law<A: Allocator + Copy>()
     ensures parts { (p : Plan) (a b : List (Message A)) → SameText p.old a b → is_complete p a ≡ true → is_complete p b ≡ true → finish p a ≡ finish p b }

@@ -1,6 +1,8 @@
-//! Recovery: which messages of their old ring the transitional members pass on to each other, when the new ring may
-//! be installed, and what each of them delivers of the old one at installation.
-//! Transitional members are the members of a new ring that come from one old ring.
+//! Recovery: how the members that come from one old ring bring its messages together before a new ring is installed.
+//!
+//! These are the transitional members. The crate says which messages they pass on to each other, when the new ring may
+//! be installed, and what each of them then delivers of the old one.
+//!
 //! Rules: Recovery 1, 2, 4 to 9 and 11
 #![tactic(auto)]
 

@@ -1,4 +1,6 @@
-//! Sets of numbers of a window, stored as bits.
+//! Sets of message numbers of a window, stored as bits.
+//!
+//! Rules: Recovery 8
 
 ghost use Rattle.std.specs.Prelude.{◌≡◌, ℕ, ◌+◌, ◌-◌, ◌^◌, ◌<◌, ◌≤◌, true};
 ghost use Rattle.std.specs.Iterator.{YieldsFirst, item_count};
@@ -8,7 +10,10 @@ ghost use Rattle.ring_recover.specs.Chosen.{chosen, AreWords};
 use crate::offsets::{COUNT, Offsets};
 use std::marker::Model;
 
-/// A set of some of the 256 numbers after a given number, perhaps empty. Contracts see it as an ascending list.
+/// A set of message numbers, all among the 256 after some number.
+///
+/// Contracts see it as an ascending list.
+///
 /// Rules: Recovery 8
 #[derive(Drop)]
 pub struct Numbers {
@@ -28,7 +33,7 @@ impl Model for Numbers {
 }
 
 impl Numbers {
-    /// Creates the set of the numbers `after` + 1 + j, for the offsets j of `offsets`.
+    /// Creates the set of the numbers `after` + 1 + j, for each j of `offsets`. Each must fit a `u64`.
     pub(crate) fn new(after: u64, offsets: Offsets) -> Numbers
         requires { AreWords after offsets.words }
         ensures { result ≡ chosen after offsets.words }
@@ -37,6 +42,7 @@ impl Numbers {
     }
 
     /// Returns an iterator over the numbers of the set, in ascending order, each once.
+    ///
     /// Rules: Recovery 8
     pub fn iter(&self) -> NumberIterator
         ensures { result ≡ self.now }
@@ -49,8 +55,11 @@ impl Numbers {
     }
 }
 
-/// An iterator over the numbers of a `Numbers`, in ascending order. Contracts see the list of the numbers not yet
-/// yielded.
+/// An iterator over a [`Numbers`], in ascending order.
+///
+/// Contracts see the list of the numbers not yet yielded.
+///
+/// Rules: Recovery 8
 #[derive(Drop)]
 pub struct NumberIterator {
     after: u64,

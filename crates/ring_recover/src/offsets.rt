@@ -13,19 +13,19 @@ pub(crate) const COUNT: usize = WINDOW_SIZE as usize;
 /// A set of offsets from 0 to 255, stored as bits.
 #[derive(Clone, Copy)]
 pub(crate) struct Offsets {
-    /// The bits: offset j is in the set where bit j mod 64 of word j / 64 is 1.
+    /// The bits: offset j is in the set if bit j mod 64 of word j / 64 is 1.
     pub words: [u64; 4],
 }
 
 impl Offsets {
-    /// Returns the empty set.
+    /// Creates the empty set.
     pub(crate) fn new() -> Offsets
         ensures { (j : ℕ) → is_set result.words j ≡ false }
     {
         Offsets { words: [0; 4] }
     }
 
-    /// Returns the set of those offsets from 0 to 255 for which the test is true.
+    /// Creates the set of the offsets from 0 to 255 for which `test` returns true.
     pub(crate) fn from_test<F: Fn(usize) -> bool>(test: F) -> Offsets
         requires { F.IsAlwaysCallable test }
         ensures { (t : ℕ → Bool) → ((j : ℕ) (r : Bool) → j < window_size → F.post test j r → r ≡ t j) → (j : ℕ) → j < window_size → is_set result.words j ≡ t j }
@@ -39,7 +39,7 @@ impl Offsets {
         offsets
     }
 
-    /// Returns whether an offset is in the set; false for 256 and above.
+    /// Returns whether `offset` is in the set. It is false for 256 and above.
     pub(crate) fn has(&self, offset: usize) -> bool
         ensures { result ≡ is_set self.now.words offset }
     {
@@ -49,7 +49,7 @@ impl Offsets {
         }
     }
 
-    /// Adds an offset, which is below 256.
+    /// Adds `offset`, which must be below 256.
     pub(crate) fn insert(&mut self, offset: usize)
         requires { offset < window_size }
         ensures this { is_set self.new.words offset ≡ true }
@@ -58,7 +58,7 @@ impl Offsets {
         self.words[offset / 64] |= 1 << (offset % 64);
     }
 
-    /// Returns the least offset that isn't in the set, or 256 where all 256 are.
+    /// Returns the least offset that isn't in the set, or 256 if all 256 are.
     pub(crate) fn first_clear(&self) -> usize
         ensures first { IsFirstClear self.now.words 0 result }
         ensures inside { result ≤ window_size }
@@ -71,7 +71,8 @@ impl Offsets {
         COUNT
     }
 
-    /// Returns the least offset of the set that is at least `from`, or 256 where there is none. `from` is at most 256.
+    /// Returns the least offset of the set that is at least `from`, or 256 if there is none. `from` must be at most
+    /// 256.
     pub(crate) fn first_from(&self, from: usize) -> usize
         requires { from ≤ window_size }
         ensures { IsFirstSet self.now.words from result }

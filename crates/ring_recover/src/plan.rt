@@ -1,5 +1,6 @@
-//! A node's plan in Recovery: what the transitional members reported of their old ring, and which of these messages
-//! the node saw wrapped.
+//! A node's plan in Recovery: what the transitional members reported of their old ring, and which of its messages the
+//! node has seen wrapped.
+//!
 //! Rules: Recovery 1, 2, 4, 5, 8, 9 and 11
 
 ghost use Rattle.std.specs.Prelude.{◌≡◌, ℕ, ◌+◌, ◌≤◌, ◌<◌, true, ◌&&◌, ◌||◌, ◌==◌, nat_lt};
@@ -30,7 +31,10 @@ use ring_window::{Message, Payload, Window};
 use std::alloc::{AllocError, Allocator, Global};
 use std::marker::Model;
 
-/// The old ring, its transitional members and their reports, for contracts alone. No value of this type is made.
+/// A plan as contracts see it: the old ring, its transitional members, and their reports.
+///
+/// Code never creates a value of this type.
+///
 /// Rules: Recovery 1
 pub struct Plans {}
 
@@ -43,24 +47,26 @@ impl Model for Plans {
     ghost view = { λ _. record { old = record { seq = 0; rep = 0 }; transitional_members = 0; reports = [] } };
 }
 
-/// A node's plan in Recovery: the transitional members' reports out of a full commit token, and what the node saw of
-/// the new ring since.
-/// Contracts see a `RecoveryState`: the plan, and each message of the new ring that the node held.
+/// A node's plan in Recovery: the transitional members' reports, and what the node has seen of the new ring since.
+///
+/// The reports come from a commit token with an entry of each member. Contracts see a `RecoveryState`: the plan, and
+/// each message of the new ring that the node held.
+///
 /// Rules: Recovery 1, 4, 5 and 11
 #[derive(Drop)]
 pub struct Plan<A: Allocator + Copy = Global> {
     me: Proc,
     old_ring: RingId,
     transitional_members: ProcSet,
-    /// The least safe mark that a transitional member reported (`least`), the greatest (`safe`), and the least front
-    /// (`low`).
+    /// The least safe mark that a transitional member reported (`least`), the greatest one (`safe`), and the least
+    /// reported front (`low`).
     least: u64,
     safe: u64,
     low: u64,
-    /// Of the 256 numbers after `safe`: those that a transitional member holds, and those seen wrapped.
+    /// Of the 256 numbers after `safe`: those that a transitional member reported as held, and those seen wrapped.
     known: Offsets,
     wrapped: Offsets,
-    /// Whether the node's own End was seen.
+    /// Whether an End of this node has been seen.
     ended: bool,
     plan: Ghost<Plans>,
     seen: Ghost<[Message<A>; 0]>,
@@ -78,10 +84,12 @@ impl<A: Allocator + Copy> Model for Plan<A> {
 }
 
 impl<A: Allocator + Copy> Plan<A> {
-    /// Returns the plan that processor `me` makes of a full commit token, before it sees anything of the new ring.
-    /// The old ring is the one that the processor's own entry names.
-    /// Returns `None` where `me` isn't a member of the token's ring, where a member has no entry yet, or where a
-    /// transitional member reports a front below the greatest safe mark.
+    /// Returns the plan that processor `me` makes from a commit token, before it sees anything of the new ring.
+    ///
+    /// The old ring is the one that the entry of `me` names. Returns `None` if `me` isn't a member of the token's ring,
+    /// or if a member has no entry yet. Also returns `None` if a transitional member reports a front below the greatest
+    /// safe mark that one of them reports.
+    ///
     /// Rules: Recovery 1 and 2
     pub fn from_commit(me: Proc, token: &CommitToken) -> Option<Plan<A>>
         ensures { result ≡ option_map (recovery_opening me) (plan_from me token.now) }
@@ -111,6 +119,7 @@ impl<A: Allocator + Copy> Plan<A> {
     }
 
     /// Returns the old ring: the one that this node's own entry names as its last installed ring.
+    ///
     /// Rules: Recovery 1
     pub fn old_ring(&self) -> RingId
         ensures { result ≡ self.now.plan.old }
@@ -118,8 +127,11 @@ impl<A: Allocator + Copy> Plan<A> {
         self.old_ring
     }
 
-    /// Returns the transitional members: the members whose entries name the same old ring, this node included (T of the
-    /// rules).
+    /// Returns the transitional members, T of the rules: the members whose entries name the same old ring as this
+    /// node's.
+    ///
+    /// The node itself is one of them.
+    ///
     /// Rules: Recovery 1
     pub fn transitional_members(&self) -> ProcSet
         ensures { result ≡ self.now.plan.transitional_members }
@@ -127,8 +139,10 @@ impl<A: Allocator + Copy> Plan<A> {
         self.transitional_members
     }
 
-    /// Returns the greatest safe mark that a transitional member reported (S of the rules).
-    /// Each transitional member holds every number of the old ring up to it. It is at most `low`.
+    /// Returns the greatest safe mark that a transitional member reported, S of the rules.
+    ///
+    /// Each transitional member holds every number of the old ring up to it. It is at most [`low`](Plan::low).
+    ///
     /// Rules: Recovery 1
     pub fn safe(&self) -> u64
         ensures value { result ≡ safe self.now.plan }
@@ -137,8 +151,10 @@ impl<A: Allocator + Copy> Plan<A> {
         self.safe
     }
 
-    /// Returns the least front that a transitional member reported.
+    /// Returns the least front that a transitional member reported, `low` of the rules.
+    ///
     /// Each transitional member holds every number of the old ring up to it, so none of these is wrapped.
+    ///
     /// Rules: Recovery 1 and 4
     pub fn low(&self) -> u64
         ensures { result ≡ low self.now.plan }
@@ -147,8 +163,10 @@ impl<A: Allocator + Copy> Plan<A> {
     }
 
     /// Records a message of the new ring. Call it as soon as the node holds the message.
-    /// A number that the message wraps isn't wrapped again. After the node's own End no other End is sent.
-    /// Rules: Recovery 5 and 11
+    ///
+    /// A number that the message wraps is then treated as wrapped. An End of this node is recorded too.
+    ///
+    /// Rules: Recovery 4, 5 and 11
     pub fn observe_message(&mut self, message: &Message<A>)
         ensures { self.new ≡ with_seen self.old message.now }
     {
@@ -164,7 +182,8 @@ impl<A: Allocator + Copy> Plan<A> {
         self.seen = one_before(&self.seen, message);
     }
 
-    /// Returns whether a recorded message of the new ring is an End of this node's own. Such a node sends no other End.
+    /// Returns whether an End of this node was recorded. If so, it must not send another.
+    ///
     /// Rules: Recovery 4 and 11
     pub fn has_ended(&self) -> bool
         ensures { result ≡ has_own_end self.now.me self.now.seen }
@@ -172,9 +191,10 @@ impl<A: Allocator + Copy> Plan<A> {
         self.ended
     }
 
-    /// Returns whether a recorded message of the new ring wraps this number of the old ring. Such a number isn't
-    /// wrapped again.
-    /// The number is one of the 256 after the greatest reported safe mark.
+    /// Returns whether a recorded message wraps `number` of the old ring. If so, it must not be wrapped again.
+    ///
+    /// `number` must be one of the 256 after the greatest reported safe mark.
+    ///
     /// Rules: Recovery 5 and 11
     pub fn has_wrapped(&self, number: u64) -> bool
         requires low { safe self.now.plan < number }
@@ -184,12 +204,15 @@ impl<A: Allocator + Copy> Plan<A> {
         self.wrapped.has((number - self.safe - 1) as usize)
     }
 
-    /// Returns the number of the message to wrap next, or `None` where nothing is left to wrap.
-    /// It is the least number above the least reported front whose message is a user's, is held by the old ring's
-    /// window and hasn't been seen wrapped.
-    /// `window` is the window of the old ring. Its safe mark is at most the greatest reported one, and it holds no
-    /// number more than 256 above that.
-    /// The ring core wraps as many messages as a visit may send: `first_recovery_messages` of `ring_srp_state`.
+    /// Returns the number of the message to wrap next, or `None` if nothing is left to wrap.
+    ///
+    /// It is the least number above the least reported front that hasn't been seen wrapped and whose message is a user
+    /// message that the old ring's window holds.
+    ///
+    /// `window` must be the window of the old ring. Its safe mark must be at most the greatest reported one, and it
+    /// must hold no number more than 256 above that. The ring core wraps as many messages at once as a visit may send:
+    /// `first_recovery_messages` of `ring_srp_state`.
+    ///
     /// Rules: Recovery 4 and 11
     pub fn to_wrap(&self, window: &Window<A>) -> Option<u64>
         requires ring { window.now.ring ≡ self.now.plan.old }
@@ -206,12 +229,15 @@ impl<A: Allocator + Copy> Plan<A> {
         None
     }
 
-    /// Returns the numbers of the old ring that the node still delivers at installation.
+    /// Returns the numbers of the old ring's messages that the node delivers when it installs the new ring.
+    ///
     /// Returns `None` while the old ring's window lacks a number that a transitional member reported as held. Numbers
-    /// up to the window's safe mark count as held.
-    /// `window` is the window of the old ring. Its safe mark is at most the greatest one that a transitional member
-    /// reported.
-    /// Rules: Recovery 8 and 9
+    /// up to the window's safe mark are treated as held.
+    ///
+    /// `window` must be the window of the old ring. Its safe mark must be at most the greatest one that a transitional
+    /// member reported.
+    ///
+    /// Rules: Recovery 8, 9 and 11
     pub fn finish(&self, window: &Window<A>) -> Option<Delivery>
         requires ring { window.now.ring ≡ self.now.plan.old }
         requires mark { window.now.mark ≤ safe self.now.plan }
@@ -234,7 +260,8 @@ impl<A: Allocator + Copy> Plan<A> {
         self.safe <= window.front() && are_held(&self.known, self.safe, window)
     }
 
-    /// The numbers safe in the old regular configuration: above the least reported safe mark, up to the greatest.
+    /// Returns the numbers that are safe in the old regular configuration: above the least reported safe mark, up to
+    /// the greatest.
     fn regular(&self) -> Numbers
         ensures { result ≡ regular_part self.now.plan }
     {
@@ -242,7 +269,7 @@ impl<A: Allocator + Copy> Plan<A> {
         Numbers::new(self.least, Offsets::from_test(|j| (j as u64) < count))
     }
 
-    /// The numbers above these and below the gap.
+    /// Returns the reported numbers above the greatest reported safe mark and below the gap.
     fn transitional(&self, window: &Window<A>) -> Numbers
         requires ring { window.now.ring ≡ self.now.plan.old }
         requires complete { is_complete self.now.plan window.now.held ≡ true }
@@ -255,7 +282,7 @@ impl<A: Allocator + Copy> Plan<A> {
         Numbers::new(self.safe, below)
     }
 
-    /// The numbers past the gap whose messages a transitional member sent.
+    /// Returns the reported numbers past the gap whose messages a transitional member sent.
     fn past_gap(&self, window: &Window<A>) -> Numbers
         requires ring { window.now.ring ≡ self.now.plan.old }
         requires mark { window.now.mark ≤ safe self.now.plan }
@@ -299,7 +326,7 @@ impl<A: Allocator + Copy> Clone for Plan<A> {
     }
 }
 
-/// Returns the processor's old ring, where it is a member and each member has an entry.
+/// Returns the old ring of processor `me`, or `None` if it isn't a member or a member has no entry yet.
 fn old_of(me: Proc, token: &CommitToken) -> Option<RingId>
     ensures { result ≡ old_of me token.now }
 {
@@ -335,7 +362,7 @@ fn mark_wrapped<A: Allocator + Copy>(
     }
 }
 
-/// Adds the offset of a number to a set, where the number is one of the 256 after `after`.
+/// Adds the offset of `number` to the set if it is one of the 256 numbers after `after`.
 fn mark_offset(offsets: &mut Offsets, after: u64, number: u64)
     ensures { (j : ℕ) → j < window_size → is_set offsets.new.words j ≡ (is_set offsets.old.words j || (number == after + 1 + j)) }
 {
@@ -344,7 +371,7 @@ fn mark_offset(offsets: &mut Offsets, after: u64, number: u64)
     }
 }
 
-/// Returns whether the window still keeps the number's message and it is a user's.
+/// Returns whether the window still has message `number` and it is a user message.
 fn has_users<A: Allocator + Copy>(window: &Window<A>, number: u64) -> bool
     ensures { result ≡ is_users (kept window.now number) }
 {
@@ -354,7 +381,7 @@ fn has_users<A: Allocator + Copy>(window: &Window<A>, number: u64) -> bool
     }
 }
 
-/// Returns whether the window holds the number `after + 1 + offset` for each of these offsets.
+/// Returns whether the window holds the number `after + 1 + offset` for each of the offsets.
 fn are_held<A: Allocator + Copy>(offsets: &Offsets, after: u64, window: &Window<A>) -> bool
     ensures { result ≡ list_all (holds window.now.held window.now.ring) (chosen after offsets.now.words) }
 {
@@ -381,7 +408,7 @@ fn is_below(known: &Offsets, reach: u64, gap: usize, offset: usize) -> bool
     (offset as u64) < reach && offset < gap && known.has(offset)
 }
 
-/// Returns whether an offset is known, past the gap and below `reach`, and one of the senders sent its message.
+/// Returns whether an offset is known, past the gap and below `reach`, and one of `senders` sent its message.
 fn is_past<A: Allocator + Copy>(
     known: &Offsets,
     reach: u64,
@@ -400,7 +427,7 @@ fn is_past<A: Allocator + Copy>(
         && is_from(senders, window, after, offset)
 }
 
-/// Returns whether the window still keeps the message at an offset after a number, and one of the senders sent it.
+/// Returns whether the window still has message `after + 1 + offset`, and one of `senders` sent it.
 fn is_from<A: Allocator + Copy>(
     senders: ProcSet,
     window: &Window<A>,

@@ -1,4 +1,5 @@
-//! What the reports of the members of one old ring say together.
+//! What the reports of all members of one old ring say together.
+//!
 //! Rules: Recovery 1
 
 ghost use Rattle.std.specs.Prelude.{◌≡◌, ℕ, ◌+◌, ◌<◌, ◌≤◌, true, map, length};
@@ -14,7 +15,7 @@ use crate::offsets::Offsets;
 use ring_base::{ProcSet, RingId, WINDOW_SIZE};
 use ring_commit::{CommitEntry, Entries};
 
-/// Returns the entries that name the old ring, in the order of `entries`, which are at most 16.
+/// Returns the entries that name the ring `old`, in the order of `entries`, of which there must be at most 16.
 pub(crate) fn reports_of(old: &RingId, entries: &[CommitEntry]) -> Entries
     requires { length entries.now ≤ 16 }
     ensures { result ≡ reports_of old.now entries.now }
@@ -28,7 +29,7 @@ pub(crate) fn reports_of(old: &RingId, entries: &[CommitEntry]) -> Entries
     reports
 }
 
-/// Returns the greatest reported safe mark, 0 where there is no report.
+/// Returns the greatest reported safe mark, 0 if there is no report.
 pub(crate) fn greatest_mark(reports: &[CommitEntry]) -> u64
     ensures { result ≡ safe_of reports.now }
 {
@@ -39,14 +40,14 @@ pub(crate) fn greatest_mark(reports: &[CommitEntry]) -> u64
     greatest
 }
 
-/// Returns whether every reported front is at least `safe`; true where there is no report.
+/// Returns whether every reported front is at least `safe`. It is true if there is no report.
 pub(crate) fn none_behind(safe: u64, reports: &[CommitEntry]) -> bool
     ensures { result ≡ none_behind safe reports.now }
 {
     reports.iter().all(|report| safe <= report.front)
 }
 
-/// Returns the least reported safe mark, 0 where there is no report.
+/// Returns the least reported safe mark, 0 if there is no report.
 pub(crate) fn least_mark(reports: &[CommitEntry]) -> u64
     ensures { result ≡ least (map (λ (e : OneEntry). e.mark) reports.now) }
 {
@@ -62,7 +63,7 @@ pub(crate) fn least_mark(reports: &[CommitEntry]) -> u64
     }
 }
 
-/// Returns the least reported front, 0 where there is no report.
+/// Returns the least reported front, 0 if there is no report.
 pub(crate) fn least_front(reports: &[CommitEntry]) -> u64
     ensures { result ≡ least (map (λ (e : OneEntry). e.front) reports.now) }
 {
@@ -78,8 +79,10 @@ pub(crate) fn least_front(reports: &[CommitEntry]) -> u64
     }
 }
 
-/// Returns which of the 256 numbers after the greatest safe mark some member reported as held. Offset j is the number
-/// `safe` + 1 + j.
+/// Returns which of the 256 numbers after `safe` some member reported as held, as offsets: j is the number `safe` + 1 +
+/// j.
+///
+/// No reported front may be below `safe`.
 pub(crate) fn known_after(safe: u64, reports: &[CommitEntry]) -> Offsets
     requires { none_behind safe reports.now ≡ true }
     ensures { (j : ℕ) → j < window_size → is_set result.words j ≡ list_any (is_reported (safe + 1 + j)) reports.now }
@@ -87,7 +90,7 @@ pub(crate) fn known_after(safe: u64, reports: &[CommitEntry]) -> Offsets
     Offsets::from_test(|j| is_any_holding(safe, j, reports))
 }
 
-/// Returns whether some report holds the number `safe + 1 + offset`. No reported front is below `safe`.
+/// Returns whether some report holds the number `safe + 1 + offset`, provided that no reported front is below `safe`.
 fn is_any_holding(safe: u64, offset: usize, reports: &[CommitEntry]) -> bool
     ensures { none_behind safe reports.now ≡ true → result ≡ list_any (is_reported (safe + 1 + offset)) reports.now }
 {
@@ -99,7 +102,7 @@ fn is_any_holding(safe: u64, offset: usize, reports: &[CommitEntry]) -> bool
     false
 }
 
-/// Returns whether the report holds the number `safe + 1 + offset`. Its front is at least `safe`.
+/// Returns whether the report holds the number `safe + 1 + offset`, provided that its front is at least `safe`.
 fn is_holding(safe: u64, offset: usize, report: &CommitEntry) -> bool
     ensures { safe ≤ report.now.front → result ≡ is_reported (safe + 1 + offset) report.now }
 {
@@ -108,8 +111,9 @@ fn is_holding(safe: u64, offset: usize, report: &CommitEntry) -> bool
     offset < ahead || (offset - ahead < WINDOW_SIZE && report.is_held((offset - ahead) as usize))
 }
 
-/// Returns those of the members whose entry names the old ring. The entries are those of the first members, in
-/// ascending order.
+/// Returns the members whose entry names the ring `old`.
+///
+/// Entry k belongs to the member at position k of `members`. Members past the last entry are left out.
 pub(crate) fn transitional_members_among(
     old: &RingId,
     members: ProcSet,

@@ -1,4 +1,5 @@
 //! Adds the inner message of a Wrapped to the old ring's window.
+//!
 //! Rules: Recovery 6 and 11
 
 ghost use Rattle.std.specs.Prelude.{◌≡◌, ◌&&◌, ◌++◌, IfOk, IfErr, OnOk, OnErr};
@@ -12,10 +13,13 @@ use ring_base::Fault;
 use ring_window::{Content, Message, Payload, Window, Wrapped};
 use std::alloc::Allocator;
 
-/// Adds the inner message of a Wrapped to the old ring's window, if its ring is the window's and its number is new
+/// Adds the inner message of a Wrapped to the old ring's window, if it belongs to that ring and its number is new
 /// there.
-/// Returns whether it was added: false for another ring and for a number that isn't new, and then nothing has changed.
-/// Errors: `Memory` where a copy of the payload finds no memory; the window is unchanged.
+///
+/// Returns whether it was added. If it wasn't, nothing has changed.
+///
+/// Errors: `Memory` if an allocation fails; the window is unchanged.
+///
 /// Rules: Recovery 6 and 11
 pub fn unwrap<A: Allocator + Copy>(
     wrapped: &Wrapped<A>,
@@ -42,7 +46,9 @@ pub fn unwrap<A: Allocator + Copy>(
     Ok(window.take(message))
 }
 
-/// Returns a copy of the wrapped payload as an ordinary payload.
+/// Returns a copy of the wrapped content as a payload.
+///
+/// Errors: `Memory` if an allocation fails.
 fn payload_of<A: Allocator + Copy>(content: &Content<A>) -> Result<Payload<A>, Fault>
     ensures ok { IfOk result (λ payload. payload ≡ payload_of content.now) }
     ensures refused { IfErr result (λ fault. fault ≡ Memory) }

@@ -1,4 +1,5 @@
 //! Wraps a message of the old ring as a payload of the new one.
+//!
 //! Rules: Recovery 4 and 11
 
 ghost use Rattle.std.specs.Prelude.{◌≡◌, IfOk, IfErr};
@@ -10,9 +11,12 @@ use ring_base::Fault;
 use ring_window::{Content, Message, Payload, Wrapped};
 use std::alloc::Allocator;
 
-/// Returns the Wrapped that carries a user message of the old ring, with its ring, number, sender and payload. Returns
-/// `None` for an End or a Wrapped, which are never wrapped.
-/// Errors: `Memory` where a copy of the payload finds no memory.
+/// Returns a Wrapped with a copy of a user message of the old ring: its ring, number, sender and payload.
+///
+/// Returns `None` for an End or a Wrapped, which are never wrapped.
+///
+/// Errors: `Memory` if an allocation fails.
+///
 /// Rules: Recovery 4 and 11
 pub fn wrap<A: Allocator + Copy>(message: &Message<A>) -> Result<Option<Payload<A>>, Fault>
     ensures ok { IfOk result (λ wrapped. wrapped ≡ wrap message.now) }
@@ -29,7 +33,9 @@ pub fn wrap<A: Allocator + Copy>(message: &Message<A>) -> Result<Option<Payload<
     }
 }
 
-/// Returns a copy of a user payload in the form that a Wrapped holds, or `None` for any other payload.
+/// Returns a copy of a user payload as the content of a Wrapped, or `None` for any other payload.
+///
+/// Errors: `Memory` if an allocation fails.
 fn content_of<A: Allocator + Copy>(payload: &Payload<A>) -> Result<Option<Content<A>>, Fault>
     ensures ok { IfOk result (λ content. content ≡ content_of payload.now) }
     ensures refused { IfErr result (λ fault. fault ≡ Memory) }

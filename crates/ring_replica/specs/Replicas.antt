@@ -32,7 +32,7 @@ use Rattle.ring_replication.specs.NodeSpec.{send_of, handed_over, NodeStepResult
 pub record Replica (A : Type 0) : Type 0 where
   pub group : Group
   pub me : ℕ
-  -- its life up to the last finished step, and up to the unfinished step
+  -- its epochs up to the last finished step, and up to the unfinished step
   pub epochs : List (Epoch A)
   pub epochs_in_step : List (Epoch A)
   -- all tickets ever given, in order
@@ -119,7 +119,7 @@ is_running_some running (Some ring) = is_running running ring
 abbrev pub has_adopted_running : {A : Type 0} → Option RingId → Replica A → Bool
 has_adopted_running running r = is_running_some running (replica_known_log r).last
 
--- due at a submit: the call, if the running ring is adopted; else it stays pending
+-- due at a submit: the call, if the running ring is adopted; otherwise it stays pending
 abbrev pub due_by_call : {A : Type 0} → Option RingId → Replica A → OneCall A → List (Payload A)
 due_by_call running r c = handed_if (has_adopted_running running r) c
 
@@ -162,7 +162,7 @@ module _ {O : Type 0} (object : Sequential O) where
         snapshot = snapshot_kept object (replica_known_log r);
       }
 
-  -- a life at the end of a step: the committed places are dropped if they are due
+  -- the epochs at the end of a step: the committed places are dropped if they are due
   abbrev pub life_ended : {A : Type 0} → Bool → KnownLog A → List (Epoch A) → List (Epoch A)
   life_ended closed k epochs = if drops object closed k then epochs_with_trim k.committed epochs else epochs
 
@@ -170,7 +170,7 @@ module _ {O : Type 0} (object : Sequential O) where
   abbrev pub leaving_at : {A : Type 0} → Bool → KnownLog A → List (OneCall A)
   leaving_at closed k = if drops object closed k then committed_calls (retained_log k) else []
 
-  -- a replica with an unfinished step, which extends its life so, hands over the due payloads and does these calls
+  -- a replica with an unfinished step, which extends its epochs so, hands over the due payloads and does these calls
   abbrev pub replica_doing : {A : Type 0} → Replica A → List (Epoch A) → KnownLog A → List (Payload A) → List (OneCall A) → Replica A
   replica_doing r epochs k due more =
       let closed = is_closed r.group (epochs_with_sends due epochs) in
@@ -187,7 +187,7 @@ module _ {O : Type 0} (object : Sequential O) where
         restored = restored_since (replica_known_log r) k;
       }
 
-  -- the result of the step, if the known log after it is sound; else the replica is stopped, without outputs
+  -- the result of the step, if the known log after it is sound; otherwise the replica is stopped, without outputs
   abbrev pub replica_settled : {A : Type 0} → Bool → Replica A → List (Out A) → List (Epoch A) → List (Payload A) → KnownLog A → ReplicaStepResult A
   replica_settled false r outs epochs due k = record { replica = replica_stopped r; sends = []; due = []; answers = []; restored = None }
   replica_settled true r outs epochs due k = replica_moved r outs epochs due k
@@ -256,7 +256,7 @@ node_with_ticket n c r = record n { core = handed_over n.core (due_by_call (runn
 
 -- The values that the code stores
 
--- the life up to the unfinished step; of a stopped replica, up to the last finished one
+-- the epochs up to the unfinished step; of a stopped replica, up to the last finished one
 abbrev pub ahead_of : {A : Type 0} → Replication A → Bool → ReplicaGhostState A → List (Epoch A)
 ahead_of replication true ghost_state = ghost_state.epochs
 ahead_of replication false ghost_state = replication.epochs
@@ -277,7 +277,7 @@ newly_committed_calls first log = drop (max first log.trimmed - log.trimmed) (co
 abbrev pub is_table_held : {O A : Type 0} → Sequential O → HeldLog A → Bool
 is_table_held object held = is_none held.before || is_some (restored_table object.restored held.snapshot)
 
--- the session table: the one restored in this step, if any, else the one given
+-- the session table: the one restored in this step, if any, otherwise the one given
 abbrev pub table_held : {O A : Type 0} → Sequential O → HeldLog A → Table O → Table O
 table_held object held table = if is_some held.before then table_or object (restored_table object.restored held.snapshot) else table
 
@@ -319,8 +319,8 @@ replica_view replication leaving first stopped ghost_state =
       stopped = stopped;
     }
 
--- the facts of a running replica: its life is sound, the sessions are those after all committed places, the stored snapshot is
--- that of the dropped places, and the restored bytes are a snapshot
+-- the facts of a running replica: its epochs are sound, the sessions are those after all committed places, the stored
+-- snapshot is that of the dropped places, and the restored bytes are a snapshot
 pub record IsRunningReplica {O A : Type 0} (object : Sequential O) (replication : Replication A) (table : Table O) : Type 0 where
   pub consistent : replication.consistent ≡ true
   pub applied : table ≡ table_at object (known_log_of replication.group replication.epochs) (known_log_of replication.group replication.epochs).committed
@@ -332,7 +332,7 @@ pub record IsRunningReplica {O A : Type 0} (object : Sequential O) (replication 
 abbrev pub IsIdle : {A : Type 0} → KnownLog A → KnownLog A → HeldLog A → Option (Log A) → Type 0
 IsIdle k now held leaving = ((held.before ≡ None) × (leaving ≡ None)) ⊎ (k.trimmed < now.trimmed)
 
--- a replica reports its life, stopped or not: its log's length, committed length and trimmed length
+-- what a replica reports of its epochs, stopped or not: its log's length, committed length and trimmed length
 pub record IsReplica {O A : Type 0} (object : Sequential O) (replication : Replication A) (table : Table O)
     (tickets : Tickets A) (leaving : Option (Log A)) (places first gone : ℕ) (stopped : Bool) (ghost_state : ReplicaGhostState A) : Type 0 where
   pub logged : places ≡ known_log_length (known_log_of replication.group ghost_state.epochs)

@@ -10,8 +10,12 @@ use ring_session::TicketAnswer;
 use std::alloc::{Allocator, Global};
 use std::marker::{Model, PhantomData};
 
-/// The ghost state of a replica: its node's life up to the last finished step, its tickets, the calls that it did and its
-/// answers. No value of this type is ever made.
+/// The ghost state of a replica: its node's epochs up to the last finished step, its tickets, the calls done and its
+/// answers.
+///
+/// No value of this type exists at run time.
+///
+/// Rules: The replicated log 1
 pub struct ReplicaHistory<A: Allocator + Copy = Global> {
     allocator: PhantomData<A>,
 }
@@ -31,7 +35,7 @@ pub(crate) fn history_opening<A: Allocator + Copy>(me: Proc) -> Ghost<ReplicaHis
     ghost_of(&me)
 }
 
-/// Returns the history after a finished step, which did these calls and gave these answers.
+/// Returns the history after a finished step, in which the calls `committed` were done and `answers` were given.
 pub(crate) fn done<A: Allocator + Copy>(
     history: &Ghost<ReplicaHistory<A>>,
     epochs: &Ghost<EpochHistory<A>>,

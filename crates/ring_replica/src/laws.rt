@@ -1,4 +1,4 @@
-//! Laws of replicas.
+//! The law that a node is its core and its replica.
 
 ghost use Rattle.std.specs.Prelude.{◌≡◌, ℕ, false, true};
 ghost use Rattle.ring_base.specs.Group.{Group};
@@ -12,11 +12,13 @@ ghost use Rattle.ring_replication.specs.Replications.{rises, HasSoundEpochs};
 
 use ring_object::Object;
 
-/// States that a node is its core and its replica, for every node and every object. So facts proved of a node's step hold of its
-/// replica's.
-/// This is so at the opening, after a submit, and in the node's reports. It is so after a step of its core, if the due payloads
-/// of the replica are handed to the core. That step must lower no safe mark, and the life must be sound (`HasSoundEpochs`): no
-/// base lacked committed places, and only these were dropped.
+/// States that a node is its core and its replica, so that what holds of a node's step also holds of its replica's.
+///
+/// This is so for every node and every object: at the opening, after a submit, in the node's reports, and after a step
+/// of its core if the replica's due payloads are then handed to the core. Two things are required of that step. It must
+/// not lower a safe mark, and the node's epochs must be sound (`HasSoundEpochs`): no base lacked committed places, and
+/// only committed places were dropped.
+///
 /// Rules: The replicated log 1, 13 and 18
 pub fn replica_law<O: Object>()
     ensures opening { (group : Group) (me : ℕ) → replica_of (node_opening {A = O.Alloc} group me) ≡ replica_opening group me }

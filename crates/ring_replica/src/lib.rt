@@ -1,6 +1,8 @@
 //! The replica of a node: all of the node except its ring core.
-//! It lets its `Replication` follow the outputs of the core's step, applies the calls that become committed, keeps the calls of
-//! clients that wait for answers, and returns the payloads to be handed to the core next.
+//!
+//! Its `Replication` follows the outputs of the core's step. The replica applies the calls that become committed, keeps
+//! the clients' calls that wait for answers, and returns the payloads to be handed to the core next.
+//!
 //! Rules: The replicated log 8 to 15, 18 and 20
 #![tactic(auto)]
 

@@ -1,4 +1,5 @@
 //! Laws of safe marks.
+//!
 //! Rules: Outputs 4 and 9
 
 ghost use Rattle.std.specs.Prelude.{◌≡◌, ℕ, List, true, false};
@@ -14,11 +15,12 @@ ghost use Rattle.ring_replica.specs.Marks.{IsMarked};
 
 use std::alloc::Allocator;
 
-/// States that a core and its node's life stay in step: the newest epoch is in the installed ring, and its mark is at most the
-/// core's.
-/// This holds at the opening, after each step of the core, and after payloads are handed over. So no safe mark that a step
-/// reports is below the one before. A core's processor never changes, no step stops a core, and payloads handed over change
-/// neither its state nor its ring.
+/// States that a node's newest epoch always is in the core's installed ring, with a safe mark of at most the core's.
+///
+/// This holds at the opening, after each step of the core, and after payloads are handed over. So a step never reports
+/// a safe mark below the one before. Also: a core's processor never changes, no step stops a core, and payloads handed
+/// over change neither its state nor its ring.
+///
 /// Rules: Outputs 4 and 9; The replicated log 1
 pub fn marks_law<A: Allocator + Copy>()
     ensures opening { (total me : ℕ) → IsMarked {A = A} (opening total me) (epochs_opening me) }

@@ -1,4 +1,5 @@
 //! The replica: its step in two parts, and its reports.
+//!
 //! Rules: The replicated log 8 to 15, 18 and 20
 
 ghost use Rattle.std.specs.Prelude.{◌≡◌, ◌+◌, ◌-◌, ◌^◌, [], true, false, fold, min, is_some, option_map, if◌then◌else◌, length, not, IfOk, IfErr};
@@ -30,10 +31,13 @@ use std::marker::Model;
 use std::mem;
 
 /// All of a node except its core: its replicated log, its tickets, and its sessions with their object.
-/// Contracts see its life, its tickets, the calls that it did and the answers that it gave.
-/// A step has two parts. `step` takes the outputs of the core, and returns the payloads to be handed to it. Once these have been
-/// handed over, `finish` makes the step part of the node's life. Until then the replica reports its state from before the step.
-/// All memory is allocated in the first part, also for dropping committed places.
+///
+/// A step has two parts. `step` takes the outputs of the core and returns the payloads to be handed to the core. Once
+/// these have been handed over, `finish` ends the step. Until then the replica's reports show its state from before the
+/// step. All memory is allocated in the first part, even that for dropping committed places.
+///
+/// Contracts see the node's epochs, its tickets, the calls that it did and the answers that it gave.
+///
 /// Rules: The replicated log 1, 12, 14 and 20
 #[derive(Drop)]
 pub struct Replica<O: Object> {
@@ -41,13 +45,14 @@ pub struct Replica<O: Object> {
     replication: Replication<O::Alloc>,
     sessions: Sessions<O>,
     tickets: Tickets<O::Alloc>,
-    /// The log of the places that the unfinished step drops, if it drops some.
+    /// The log of the places that the unfinished step drops, or `None` if it drops none.
     leaving: Option<Log<O::Alloc>>,
     /// The log's length, committed length and trimmed length at the end of the last finished step.
     places: u64,
     committed: u64,
     trimmed: u64,
-    /// The number of committed calls that took effect: at the end of the last finished step, and after the unfinished one.
+    /// The number of committed calls that took effect: by the end of the last finished step, and by that of the
+    /// unfinished one.
     effects: u64,
     effects_in_step: u64,
     stopped: bool,
@@ -66,8 +71,11 @@ impl<O: Object> Model for Replica<O> {
 }
 
 impl<O: Object> Replica<O> {
-    /// Creates the replica of processor `me` at the opening: an empty log, no tickets, and the object at its start.
-    /// Errors: `Memory` where an allocation fails.
+    /// Creates the replica of processor `me` at the opening: an empty log, no tickets, and the object in its start
+    /// state.
+    ///
+    /// Errors: `Memory` if an allocation fails.
+    ///
     /// Rules: The replicated log 1
     pub fn new(alloc: O::Alloc, fixed: Fixed, me: Proc) -> Result<Replica<O>, Fault>
         ensures ok { IfOk result (λ replica. replica ≡ replica_opening fixed me) }
@@ -89,8 +97,12 @@ impl<O: Object> Replica<O> {
         })
     }
 
-    /// Returns a copy that is used independently of this replica. Its object is restored from a snapshot of this one's.
-    /// Errors: `Memory` where an allocation fails; this replica is unchanged.
+    /// Returns a copy that is independent of this replica.
+    ///
+    /// Its object is restored from a snapshot of this one's.
+    ///
+    /// Errors: `Memory` if an allocation fails; this replica is unchanged.
+    ///
     /// Rules: Objects 3; Sessions 12
     pub fn copy(&self) -> Result<Replica<O>, Fault>
         ensures ok { IfOk result (λ copy. copy ≡ self.now) }
@@ -115,8 +127,13 @@ impl<O: Object> Replica<O> {
         })
     }
 
-    /// Checks whether a ticket may be given now. It changes nothing and takes no memory.
-    /// Errors: `Stopped` once the replica has stopped; else `PendingFull` if 64 tickets are unanswered or 2^62 have been given.
+    /// Returns Ok if a ticket may be given now.
+    ///
+    /// Changes nothing, and does not allocate.
+    ///
+    /// Errors: `Stopped` if the replica has stopped. Otherwise `PendingFull` if 64 tickets are unanswered or 2^62 have
+    /// been given.
+    ///
     /// Rules: The replicated log 13
     pub fn check(&self) -> Result<(), Fault>
         ensures ok { OnOk result (submit_refusal self.now ≡ None) }
@@ -128,9 +145,11 @@ impl<O: Object> Replica<O> {
         self.tickets.check()
     }
 
-    /// Returns whether the node has adopted the running ring. If so, a submitted call is sent at once; otherwise it waits.
-    /// `running` is the ring in which the core is Operational, `None` in every other state. The replica runs and is between two
-    /// steps.
+    /// Returns whether the node has adopted the running ring, so that a submitted call is sent at once.
+    ///
+    /// Otherwise the call waits. `running` must be the ring in which the core is Operational, or `None` in every other
+    /// state. The replica must not have stopped, and must be between two steps.
+    ///
     /// Rules: The replicated log 10
     pub fn has_adopted(&self, running: &Option<RingId>) -> bool
         requires done { IsBetweenSteps self.now }
@@ -140,9 +159,14 @@ impl<O: Object> Replica<O> {
         is_running(running, self.replication.held().log().last_primary())
     }
 
-    /// Gives a submitted call the next ticket, and returns it. Tickets count from 0. It takes no memory.
-    /// `check` has allowed it. The call is to be handed to the core at once if the running ring is adopted; the replica records
-    /// that.
+    /// Gives a submitted call the next ticket and returns it.
+    ///
+    /// Tickets count from 0.
+    ///
+    /// `check` must have returned Ok, and the replica must be between two steps. `running` is as for
+    /// [`has_adopted`](Replica::has_adopted). If the running ring is adopted, the caller must hand the call to the
+    /// core; the replica records that it does. Does not allocate.
+    ///
     /// Rules: The replicated log 10 and 13
     pub fn give(&mut self, running: &Option<RingId>, call: Call<O::Alloc>) -> Ticket
         requires done { IsBetweenSteps self.old }
@@ -156,8 +180,12 @@ impl<O: Object> Replica<O> {
         self.tickets.give(call)
     }
 
-    /// Returns whether a core's step without outputs would change nothing here, so that the replica's step needn't be done.
-    /// It is false if committed places are due to be dropped. The replica runs and is between two steps.
+    /// Returns whether the replica's step may be skipped after a core's step without outputs, since it would change
+    /// nothing.
+    ///
+    /// It is false if committed places are due to be dropped. The replica must not have stopped, and must be between
+    /// two steps.
+    ///
     /// Rules: The replicated log 20
     pub fn is_step_idle(&self) -> bool
         requires done { IsBetweenSteps self.now }
@@ -169,10 +197,16 @@ impl<O: Object> Replica<O> {
         !self.replication.held().log().is_due_to_trim()
     }
 
-    /// Applies the outputs of a core's step, and returns the replica's output; `finish` ends the step.
-    /// `running` is the ring in which the core is Operational after its step. If a base may not be adopted, its bytes aren't a
-    /// snapshot, or the log is too long, the replica is stopped, and the output is empty.
-    /// Errors: `Memory` where an allocation fails; the replica is stopped, with its log from before the step.
+    /// Applies the outputs of a core's step and returns the replica's output.
+    ///
+    /// `finish` must follow and ends the step.
+    ///
+    /// `running` is the ring in which the core is Operational after its step. The replica must not have stopped, and
+    /// must be between two steps. The replica stops, with an empty output, if a base may not be adopted, its bytes
+    /// aren't a snapshot, or the log would be too long.
+    ///
+    /// Errors: `Memory` if an allocation fails; the replica has then stopped, with its log from before the step.
+    ///
     /// Rules: The replicated log 8, 9, 12, 14, 18 and 20
     pub fn step(
         &mut self,
@@ -219,7 +253,8 @@ impl<O: Object> Replica<O> {
         ensures err { OnErr result (self.new ≡ replica_stopped self.old) }
         ensures refused { IfErr result (λ fault. fault ≡ Memory) }
     {
-        // No effect at run time: the proof uses it to show that the replication is consistent, as `apply_outputs` requires.
+        // No effect at run time: the proof uses it to show that the replication is consistent, as `apply_outputs`
+        // requires.
         let is_consistent = self.replication.is_consistent();
         prove!(is_consistent);
         self.stopped = true;
@@ -260,8 +295,10 @@ impl<O: Object> Replica<O> {
         Ok(())
     }
 
-    /// Ends a step that gave these answers, and returns the calls of the places that it dropped, in order. It takes no memory.
-    /// A stopped replica is unchanged.
+    /// Ends a step in which `answers` were given, and returns the calls of the places that it dropped, in order.
+    ///
+    /// Does not allocate. If the replica has stopped, nothing changes and nothing is returned.
+    ///
     /// Rules: The replicated log 18 and 20
     pub fn finish(&mut self, answers: &[TicketAnswer<O::Alloc>]) -> Vec<Call<O::Alloc>, O::Alloc>
         ensures replica { self.new ≡ (if self.old.stopped then self.old else replica_done self.old answers.now) }
@@ -285,7 +322,12 @@ impl<O: Object> Replica<O> {
         take_leaving(self.alloc, &mut self.leaving)
     }
 
-    /// Stops the replica for good. Its log and its answers stay readable. It takes no memory.
+    /// Stops the replica for good.
+    ///
+    /// Its log and its answers stay readable.
+    ///
+    /// Does nothing if it has already stopped. Does not allocate.
+    ///
     /// Rules: Rings and states 12
     pub fn stop(&mut self)
         ensures { self.new ≡ replica_stopped self.old }
@@ -294,8 +336,10 @@ impl<O: Object> Replica<O> {
     }
 
     /// Returns whether the replica has stopped for good.
-    /// It stops by `stop`, by `Memory` in a step, and by a step whose base may not be adopted, whose snapshot isn't one, or whose
-    /// log is too long.
+    ///
+    /// It stops by `stop`, by `Memory` in a step, and by a step whose base may not be adopted, whose snapshot's bytes
+    /// aren't one, or whose log would be too long.
+    ///
     /// Rules: Rings and states 12; The replicated log 8 and 9; Refusals 6
     pub fn is_stopped(&self) -> bool
         ensures { result ≡ self.now.stopped }
@@ -303,7 +347,10 @@ impl<O: Object> Replica<O> {
         self.stopped
     }
 
-    /// Returns the answer to a ticket, if it is one of the last 64 answered here; otherwise `None`. It takes no memory.
+    /// Returns the answer to a ticket if it is one of the last 64 that were answered here, otherwise `None`.
+    ///
+    /// Does not allocate.
+    ///
     /// Rules: The replicated log 15
     pub fn reply(&self, ticket: Ticket) -> Option<Answer>
         ensures { result ≡ replica_reply self.now ticket }
@@ -311,7 +358,8 @@ impl<O: Object> Replica<O> {
         self.tickets.reply(ticket)
     }
 
-    /// Returns the calls of the committed places that haven't been dropped, in order, repeats included.
+    /// Returns the calls at the committed places that haven't been dropped, in order, including repeats.
+    ///
     /// Rules: The replicated log 18
     pub fn committed(&self) -> &[Call<O::Alloc>]
         ensures { result.now ≡ replica_committed self.now }
@@ -320,7 +368,10 @@ impl<O: Object> Replica<O> {
         &log.committed_calls()[..(self.committed - self.trimmed) as usize]
     }
 
-    /// Returns the number of committed places, dropped ones included. It never falls.
+    /// Returns the number of committed places, including dropped ones.
+    ///
+    /// It never falls.
+    ///
     /// Rules: The replicated log 12 and 18
     pub fn committed_len(&self) -> u64
         ensures { result ≡ (replica_known_log self.now).committed }
@@ -328,7 +379,8 @@ impl<O: Object> Replica<O> {
         self.committed
     }
 
-    /// Returns the number of committed places that have been dropped: those before the first of `committed`.
+    /// Returns the number of committed places that have been dropped, which are those before the first of `committed`.
+    ///
     /// Rules: The replicated log 18 and 20
     pub fn trimmed(&self) -> u64
         ensures { result ≡ replica_trimmed self.now }
@@ -336,7 +388,8 @@ impl<O: Object> Replica<O> {
         self.trimmed
     }
 
-    /// Returns the number of the log's places, committed or not, dropped ones included.
+    /// Returns the number of the log's places, committed or not, including dropped ones.
+    ///
     /// Rules: The replicated log 18
     pub fn log_len(&self) -> u64
         ensures { result ≡ replica_length self.now }
@@ -344,7 +397,8 @@ impl<O: Object> Replica<O> {
         self.places
     }
 
-    /// Returns the number of tickets that haven't been answered, at most 64.
+    /// Returns the number of unanswered tickets, at most 64.
+    ///
     /// Rules: The replicated log 13 and 18
     pub fn waiting(&self) -> usize
         ensures { result ≡ length (pending_from self.now.done 0 self.now.tickets) }
@@ -352,8 +406,12 @@ impl<O: Object> Replica<O> {
         self.tickets.pending().len()
     }
 
-    /// Returns the number of committed calls that took effect, at most 2^64 - 1.
+    /// Returns the number of committed calls that took effect.
+    ///
+    /// It saturates at `u64::MAX`.
+    ///
     /// For the places of a restored snapshot, this counts the sum of its clients' last numbers.
+    ///
     /// Rules: Sessions 6; The replicated log 18
     pub fn order_len(&self) -> u64
         ensures { result ≡ effects_at O.sequential (replica_known_log self.now) (replica_known_log self.now).committed }
@@ -362,7 +420,9 @@ impl<O: Object> Replica<O> {
     }
 }
 
-/// Returns whether `last` is the running ring; false if there is no such ring.
+/// Returns whether `last` is the running ring.
+///
+/// False if no ring runs.
 fn is_running(running: &Option<RingId>, last: Option<RingId>) -> bool
     ensures { result ≡ is_running_some running.now last }
 {
@@ -384,7 +444,8 @@ fn copy_tickets<A: Allocator + Copy>(
 }
 
 /// Copies the replication and the sessions.
-/// Errors: `Memory` where an allocation fails.
+///
+/// Errors: `Memory` if an allocation fails.
 fn copy_replication<O: Object>(
     replication: &Replication<O::Alloc>,
     sessions: &Sessions<O>,
@@ -396,7 +457,7 @@ fn copy_replication<O: Object>(
     pair_result(replication.clone()?, sessions.copy())
 }
 
-/// Takes out the calls of the places that a step drops, if it drops some.
+/// Takes out the calls of the places that a step drops; none if it drops no places.
 fn take_leaving<A: Allocator + Copy + Drop>(
     alloc: A,
     leaving: &mut Option<Log<A>>,
@@ -413,7 +474,7 @@ fn take_leaving<A: Allocator + Copy + Drop>(
     }
 }
 
-/// Returns the calls of a log's committed places after the first `first` and after the dropped ones.
+/// Returns the calls at a log's committed places that are neither dropped nor among the first `first` places.
 fn newly_committed_calls<A: Allocator + Copy>(log: &Log<A>, first: u64) -> &[Call<A>]
     ensures { result.now ≡ newly_committed_calls first log.now }
 {
@@ -422,7 +483,7 @@ fn newly_committed_calls<A: Allocator + Copy>(log: &Log<A>, first: u64) -> &[Cal
     &calls[calls.len().min(start as usize)..]
 }
 
-/// Returns the log that has the places committed now, those that the unfinished step drops included.
+/// Returns the log that has the places committed now, including those that the unfinished step drops.
 fn current_log<'a, A: Allocator + Copy + Drop>(
     held: &'a HeldLog<A>,
     leaving: &'a Option<Log<A>>,
@@ -448,10 +509,12 @@ fn log_before_step<'a, A: Allocator + Copy + Drop>(
     }
 }
 
-/// Restores the sessions if the step restored the log, then applies the calls of the places after the first `committed`.
-/// Their answers and these calls are stored in `given`. Returns the number of calls that took effect by then, or `None` if the
-/// restored bytes aren't a snapshot; `given` is then unchanged.
-/// Errors: `Memory` where an allocation fails.
+/// Restores the sessions if the step restored the log, then applies the calls after the first `committed` places.
+///
+/// Stores their answers and these calls in `given`. Returns the number of calls that took effect by then. Returns
+/// `None`, with `given` unchanged, if the restored bytes aren't a snapshot.
+///
+/// Errors: `Memory` if an allocation fails.
 fn apply_committed<O: Object>(
     alloc: O::Alloc,
     held: &HeldLog<O::Alloc>,
@@ -492,8 +555,9 @@ fn apply_committed<O: Object>(
     Ok(Some(effects_in_step))
 }
 
-/// Copies the calls of a log's committed places after the first `committed` and after the dropped ones.
-/// Errors: `Memory` where an allocation fails.
+/// Copies the calls at a log's committed places that are neither dropped nor among the first `committed` places.
+///
+/// Errors: `Memory` if an allocation fails.
 fn new_calls<A: Allocator + Copy + Drop>(
     alloc: A,
     log: &Log<A>,
@@ -505,8 +569,11 @@ fn new_calls<A: Allocator + Copy + Drop>(
     Ok(newly_committed_calls(log, committed).to_vec(alloc)?)
 }
 
-/// Restores the sessions if the step restored the log. Returns false if the bytes aren't a snapshot.
-/// Errors: `Memory` where an allocation fails.
+/// Restores the sessions if the step restored the log.
+///
+/// Returns false if the bytes aren't a snapshot.
+///
+/// Errors: `Memory` if an allocation fails.
 fn restore<O: Object>(
     alloc: O::Alloc,
     held: &HeldLog<O::Alloc>,
@@ -529,7 +596,7 @@ fn restore<O: Object>(
     }
 }
 
-/// Returns the number of calls that took effect: by the sessions if they were restored, else `effects`.
+/// Returns the number of calls that took effect: that of the sessions if they were restored, otherwise `effects`.
 fn effects_in<O: Object>(held: &HeldLog<O::Alloc>, sessions: &Sessions<O>, effects: u64) -> u64
     ensures { result ≡ (if is_some held.now.before then table_effects sessions.now else effects) }
 {
@@ -540,10 +607,11 @@ fn effects_in<O: Object>(held: &HeldLog<O::Alloc>, sessions: &Sessions<O>, effec
     }
 }
 
-/// Applies the calls of the places after the first `committed` to the sessions.
-/// Returns the answers that they give to the tickets, and the number of calls that took effect by then; `effects` is the number
-/// before.
-/// Errors: `Memory` where an allocation fails.
+/// Applies the calls at the committed places after the first `committed` to the sessions.
+///
+/// Returns the answers to tickets, and the number of calls that took effect by then. `effects` is the number before.
+///
+/// Errors: `Memory` if an allocation fails.
 fn new_answers<O: Object>(
     alloc: O::Alloc,
     sessions: &mut Sessions<O>,
@@ -562,8 +630,12 @@ fn new_answers<O: Object>(
     Ok((answers, effects.saturating_add(more)))
 }
 
-/// Drops the committed places if they are due; `leaving`, `None` before, is then their log.
-/// Errors: `Memory` where an allocation fails; nothing is dropped.
+/// Drops the committed places if they are due.
+///
+/// `leaving`, which must be `None`, is then their log.
+///
+/// Errors: `Memory` if an allocation fails; nothing is dropped.
+///
 /// Rules: The replicated log 20
 fn trim_if_due<O: Object>(
     alloc: O::Alloc,
@@ -590,9 +662,11 @@ fn trim_if_due<O: Object>(
     Ok(())
 }
 
-/// Returns the snapshot of the sessions if the committed places are due to be dropped.
-/// They are if no exchange is open, enough of them are kept, and the snapshot isn't too long.
-/// Errors: `Memory` where an allocation fails.
+/// Returns the snapshot of the sessions if the committed places are due to be dropped, otherwise `None`.
+///
+/// They are due if no exchange is open, enough of them are kept, and the snapshot isn't too long.
+///
+/// Errors: `Memory` if an allocation fails.
 fn snapshot_if_due<O: Object>(
     alloc: O::Alloc,
     closed: bool,

@@ -85,7 +85,8 @@ pub record HeldLog (A : Type 0) : Type 0 where
 abbrev pub held_log_opening : {A : Type 0} → HeldLog A
 held_log_opening = record { log = empty; before = None; snapshot = [] }
 
--- the log whose committed places are those at the end of the last step, if a snapshot was restored since; else the log
+-- the log whose committed places are those at the end of the last step, if a snapshot was restored since; otherwise the
+-- log
 abbrev pub reported_log : {A : Type 0} → HeldLog A → Log A
 reported_log h = unwrap_or h.before h.log
 
@@ -103,7 +104,7 @@ abbrev pub held_log_trimmed : {A : Type 0} → HeldLog A → Option (List ℕ) �
 held_log_trimmed h None = h
 held_log_trimmed h (Some bytes) = record h { log = trimmed_log h.log; snapshot = bytes }
 
--- A node's replication: its life, the stored log that the life results in, and whether that is sound
+-- A node's replication: its epochs, the stored log that results from them, and whether that is sound
 
 -- a replication, as contracts see it
 pub record Replication (A : Type 0) : Type 0 where
@@ -117,7 +118,7 @@ pub record Replication (A : Type 0) : Type 0 where
 abbrev pub replication_opening : {A : Type 0} → Group → ℕ → Replication A
 replication_opening group me = record { group = group; me = me; epochs = epochs_opening me; held = held_log_opening; consistent = true }
 
--- the replication after the committed places are dropped, in the life too, if their snapshot is given
+-- the replication after the committed places are dropped, in the epochs too, if their snapshot is given
 abbrev pub replication_trimmed : {A : Type 0} → Replication A → Option (List ℕ) → Replication A
 replication_trimmed c None = c
 replication_trimmed c (Some bytes) = record c { epochs = epochs_with_trim c.held.log.committed c.epochs; held = held_log_trimmed c.held (Some bytes) }
@@ -157,7 +158,7 @@ pub record IsHeldLogContinued {A : Type 0} (old new : HeldLog A) (k now : KnownL
   pub log : new.log.trimmed ≡ now.trimmed
   pub held : MayRestore old new k now
 
--- the stored values agree with a sound life
+-- the stored values agree with sound epochs
 pub record IsReplicationKept {A : Type 0} (group : Group) (epochs : List (Epoch A)) (held : HeldLog A) (ring : RingId) (stage : ExchangeStage A)
     (mark : ℕ) (watermarks : List LogWatermark) : Type 0 where
   pub epoch : Epoch A
@@ -175,8 +176,8 @@ pub record IsReplicationKept {A : Type 0} (group : Group) (epochs : List (Epoch 
   pub restored : IsRestoredSnapshotHeld (known_log_of group epochs) held.snapshot
   pub sound : is_known_log_sound group epochs ≡ true
 
--- a sound life in which committed places alone were dropped, none before adoption: the facts of `IsReplicationKept` on the life
--- alone
+-- sound epochs in which only committed places were dropped, none before adoption: the facts of `IsReplicationKept`
+-- that concern only the epochs
 pub record HasSoundEpochs {A : Type 0} (group : Group) (epochs : List (Epoch A)) : Type 0 where
   pub epoch : Epoch A
   pub older : List (Epoch A)
@@ -186,13 +187,13 @@ pub record HasSoundEpochs {A : Type 0} (group : Group) (epochs : List (Epoch A))
   pub frozen : is_closed group epochs ≡ false → epoch.trimmed ≡ 0
   pub sound : is_known_log_sound group epochs ≡ true
 
--- the stored values agree with the life while the replication is consistent; nothing is said of an inconsistent one
+-- the stored values agree with the epochs while the replication is consistent; nothing is said of an inconsistent one
 abbrev pub IsReplicationConsistent : {A : Type 0} → Group → List (Epoch A) → Bool → HeldLog A → RingId → ExchangeStage A → ℕ → List LogWatermark → Type 0
 IsReplicationConsistent group epochs consistent held ring stage mark watermarks = consistent ≡ true → IsReplicationKept group epochs held ring stage mark watermarks
 
 -- The effect of a message
 
--- the calls of the unanswered tickets that occur nowhere in these places
+-- the calls of the unanswered tickets that aren't at these places
 abbrev pub calls_to_resend : {A : Type 0} → List (Pending A) → List (OneCall A) → List (Payload A)
 calls_to_resend pending calls = map (λ (p : Pending _). Call p.call) (filter (λ (p : Pending _). not (contains_call calls p.call)) pending)
 
@@ -201,7 +202,7 @@ abbrev pub owner_asked : {A : Type 0} → ℕ → HeldLog A → Option Wanted �
 owner_asked me h None new = owner_due me h.snapshot h.log new
 owner_asked me h (Some w) new = []
 
--- the payloads, if the ring runs; else none
+-- the payloads, if the ring runs; otherwise none
 abbrev pub if_runs : {A : Type 0} → Bool → List (Payload A) → List (Payload A)
 if_runs runs due = if runs then due else []
 
@@ -267,7 +268,7 @@ watermark_at NotPrimary log = 0
 watermark_at (Exchanging e) log = 0
 watermark_at Adopted log = log_length log
 
--- the call, if the ring runs; else nothing
+-- the call, if the ring runs; otherwise nothing
 abbrev pub handed_if : {A : Type 0} → Bool → OneCall A → List (Payload A)
 handed_if runs c = if runs then Call c ∷ [] else []
 
@@ -293,7 +294,8 @@ pub record StepContext (A : Type 0) : Type 0 where
 abbrev pub bytes_at : {A : Type 0} → StepContext A → KnownLog A → List ℕ
 bytes_at m k = if nat_lt m.trimmed k.trimmed then k.snapshot else m.snapshot
 
--- due when the exchange completes: the calls of the unanswered tickets that occur nowhere in the base past the committed places
+-- due when the exchange completes: the calls of the unanswered tickets that aren't in the base after the committed
+-- places
 abbrev pub due_sends_when_complete : {A : Type 0} → StepContext A → List (Epoch A) → Exchange A → Exchange A → List (Payload A)
 due_sends_when_complete m epochs old new =
     if is_exchange_complete new && not (is_exchange_complete old) then calls_to_resend m.pending (places_past m.committed (retained_log (known_log_of m.group epochs))) else []
@@ -302,7 +304,8 @@ due_sends_when_complete m epochs old new =
 abbrev pub owner_due_sends : {A : Type 0} → StepContext A → KnownLog A → Exchange A → Exchange A → List (Payload A)
 owner_due_sends m k old new = due_when_heads_complete m.me (bytes_at m k) (retained_log k) old new
 
--- due at the message that turns the exchange `old` into `new`; `before` and `epochs` are the lives before and after it
+-- due at the message that turns the exchange `old` into `new`; `before` and `epochs` are the node's epochs before and
+-- after it
 abbrev pub due_sends_between : {A : Type 0} → StepContext A → List (Epoch A) → List (Epoch A) → Exchange A → Exchange A → List (Payload A)
 due_sends_between m before epochs old new = owner_due_sends m (known_log_of m.group before) old new ++ due_sends_when_complete m epochs old new
 
@@ -318,7 +321,7 @@ abbrev pub due_sends_on_message : {A : Type 0} → StepContext A → Bool → Li
 due_sends_on_message m runs [] x epochs = []
 due_sends_on_message m runs (s ∷ older) x epochs = if runs then due_sends_in_epoch m s (s ∷ older) x epochs else []
 
--- due at an output, given the life before it
+-- due at an output, given the epochs before it
 abbrev pub due_sends_at : {A : Type 0} → StepContext A → List (Epoch A) → Out A → List (Payload A)
 due_sends_at m epochs (Agreed ring k x) = due_sends_on_message m (is_running m.running ring) epochs x (epochs_after_event epochs (Agreed ring k x))
 due_sends_at m epochs (Regular ring set) = due_at_regular m.group set epochs

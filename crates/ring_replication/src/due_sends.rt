@@ -1,4 +1,5 @@
 //! The payloads that a delivered message makes due: the owner's snapshot and Parts, and the pending calls.
+//!
 //! Rules: The replicated log 2 and 10
 
 ghost use Rattle.std.specs.Prelude.{◌≡◌, ◌≤◌, ◌++◌, length, IfErr, OnOk};
@@ -15,10 +16,13 @@ use ring_payload::{Call, MAX_SNAPSHOT, Payload};
 use ring_session::{Pending, contains_call, copy_of};
 use std::alloc::Allocator;
 
-/// Adds the owner's payloads to `due`, if this message was the last Head, the ring runs and this node is the owner.
-/// They are the Snaps of the snapshot that it keeps, if one is wanted, and the Parts of its log. `before` and `after` are what
+/// Appends the owner's payloads to `due`, if the message was the last Head, the ring runs and this node is the owner.
+///
+/// They are the Snaps of the node's snapshot, if one is wanted, and the Parts of its log. `before` and `after` are what
 /// the exchange wanted before and after the message.
-/// Errors: `Memory` where an allocation fails; the contents of `due` are then unspecified.
+///
+/// Errors: `Memory` if an allocation fails; the contents of `due` are then unspecified.
+///
 /// Rules: The replicated log 2
 pub(crate) fn add_owner_sends<A: Allocator + Copy + Drop>(
     alloc: A,
@@ -43,8 +47,10 @@ pub(crate) fn add_owner_sends<A: Allocator + Copy + Drop>(
     }
 }
 
-/// Adds the wanted snapshot and places, if the node has them.
-/// The wanted snapshot must be the one that it keeps; without one, no wanted place may be dropped.
+/// Appends the wanted snapshot and places, as far as the node has them.
+///
+/// A wanted snapshot is sent only if it is the one that the node keeps. If none is wanted, no wanted place may be
+/// dropped.
 fn add_wanted<A: Allocator + Copy + Drop>(
     alloc: A,
     held: &HeldLog<A>,
@@ -75,7 +81,7 @@ fn add_wanted<A: Allocator + Copy + Drop>(
     }
 }
 
-/// Adds the pieces of the snapshot of the first `at` places.
+/// Appends the pieces of the snapshot of the first `at` places.
 fn add_snaps<A: Allocator + Copy>(
     alloc: A,
     at: u64,
@@ -92,7 +98,7 @@ fn add_snaps<A: Allocator + Copy>(
     Ok(())
 }
 
-/// Adds the Parts of the wanted places.
+/// Appends the Parts of the wanted places.
 fn add_parts<A: Allocator + Copy>(
     alloc: A,
     log: &Log<A>,
@@ -108,8 +114,10 @@ fn add_parts<A: Allocator + Copy>(
     Ok(())
 }
 
-/// Adds to `due`, in the order of the tickets, the call of each unanswered ticket that occurs nowhere in these places.
-/// Errors: `Memory` where an allocation fails; the contents of `due` are then unspecified.
+/// Appends to `due`, in the order of tickets, the call of each unanswered ticket that isn't in `places`.
+///
+/// Errors: `Memory` if an allocation fails; the contents of `due` are then unspecified.
+///
 /// Rules: The replicated log 10
 pub(crate) fn add_calls<A: Allocator + Copy + Drop>(
     pending: &[Pending<A>],

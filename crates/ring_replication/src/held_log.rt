@@ -1,4 +1,5 @@
-//! The log as a node stores it, with its snapshot and with the log from before a restore.
+//! The log as a node stores it, with its snapshot, and with the log from before a restore.
+//!
 //! Rules: The replicated log 1, 2, 6, 11, 12 and 20
 
 ghost use Rattle.std.specs.Prelude.{◌≡◌, ◌+◌, ◌∷◌, [], true, is_some, option_map, unwrap_or, length, Some, None, if◌then◌else◌, IfOk, IfErr, OnOk, OnErr};
@@ -13,9 +14,11 @@ use ring_payload::Call;
 use std::alloc::{AllocError, Allocator, Global};
 use std::marker::Model;
 
-/// A node's log as the node stores it, with the snapshot of its dropped places. Contracts see three things.
-/// They are the log; the log as it was at the end of the last step, if the present step has restored a snapshot; and the bytes of
-/// the snapshot of the dropped places. The node sends these bytes if they are wanted.
+/// A node's log as the node stores it, with the snapshot of its dropped places.
+///
+/// Contracts see the log, the snapshot's bytes, and, if the present step has restored a snapshot, the log as it was at
+/// the end of the last step. The node sends the snapshot's bytes if they are wanted.
+///
 /// Rules: The replicated log 1, 6 and 20
 #[derive(Drop)]
 pub struct HeldLog<A: Allocator + Copy = Global> {
@@ -46,6 +49,10 @@ impl<A: Allocator + Copy> Clone for HeldLog<A> {
 
 impl<A: Allocator + Copy + Drop> HeldLog<A> {
     /// Creates the stored log of the opening: an empty log and no snapshot.
+    ///
+    /// Does not allocate.
+    ///
+    /// Rules: The replicated log 1
     pub(crate) fn new(alloc: A) -> HeldLog<A>
         ensures { result ≡ held_log_opening }
     {
@@ -56,7 +63,8 @@ impl<A: Allocator + Copy + Drop> HeldLog<A> {
         }
     }
 
-    /// Returns the log as the present step has left it so far.
+    /// Returns the log as it is now, which may be in the middle of a step.
+    ///
     /// Rules: The replicated log 1
     pub fn log(&self) -> &Log<A>
         ensures { result.now ≡ self.now.log }
@@ -64,7 +72,8 @@ impl<A: Allocator + Copy + Drop> HeldLog<A> {
         &self.log
     }
 
-    /// Returns the log as it was at the end of the last step, if the present step has restored a snapshot; else `None`.
+    /// Returns the log as it was at the end of the last step, or `None` if the present step has restored no snapshot.
+    ///
     /// Rules: The replicated log 6
     pub fn before(&self) -> Option<&Log<A>>
         ensures { option_map (λ log. log.now) result ≡ self.now.before }
@@ -72,7 +81,10 @@ impl<A: Allocator + Copy + Drop> HeldLog<A> {
         self.before.as_ref()
     }
 
-    /// Returns whether the present step has restored a snapshot. Between steps it is false.
+    /// Returns whether the present step has restored a snapshot.
+    ///
+    /// It is false between steps.
+    ///
     /// Rules: The replicated log 6
     pub fn is_restored(&self) -> bool
         ensures { result ≡ is_some self.now.before }
@@ -80,7 +92,9 @@ impl<A: Allocator + Copy + Drop> HeldLog<A> {
         self.before.is_some()
     }
 
-    /// Returns the number of places of the snapshot that the present step has restored; `None` if it has restored none.
+    /// Returns how many places the snapshot covers that the present step has restored, or `None` if it has restored
+    /// none.
+    ///
     /// Rules: The replicated log 6 and 18
     pub fn restored_places(&self) -> Option<u64>
         ensures { result ≡ (if is_some self.now.before then Some self.now.log.trimmed else None) }
@@ -92,7 +106,10 @@ impl<A: Allocator + Copy + Drop> HeldLog<A> {
         }
     }
 
-    /// Returns the bytes of the snapshot of the dropped places; no bytes while none have been dropped.
+    /// Returns the bytes of the snapshot of the dropped places.
+    ///
+    /// They are empty while no places have been dropped.
+    ///
     /// Rules: The replicated log 2 and 20
     pub fn snapshot(&self) -> &[u8]
         ensures { result.now ≡ self.now.snapshot }
@@ -100,9 +117,12 @@ impl<A: Allocator + Copy + Drop> HeldLog<A> {
         self.snapshot.as_slice()
     }
 
-    /// Adopts a ring's base and returns true, if it may be adopted. Otherwise returns false and changes nothing.
-    /// If the base restores the log, its snapshot is kept in place of the one before.
-    /// Errors: `Memory` where an allocation fails; nothing has changed then.
+    /// Adopts a ring's base if it may be adopted, and returns whether it may.
+    ///
+    /// If it may not, nothing changes. A base that restores the log brings a snapshot, which replaces the one before.
+    ///
+    /// Errors: `Memory` if an allocation fails; nothing has then changed.
+    ///
     /// Rules: The replicated log 6 and 8
     pub(crate) fn adopt(&mut self, ring: RingId, base: Base<A>) -> Result<bool, Fault>
         ensures fits { IfOk result (λ fits. fits ≡ is_adoptable self.old.log base) }
@@ -120,7 +140,7 @@ impl<A: Allocator + Copy + Drop> HeldLog<A> {
         }
     }
 
-    /// Records that a snapshot was restored, and the log as it was before.
+    /// Records that `snapshot` was restored, and keeps `before`, the log as it was before.
     fn restored(&mut self, snapshot: Snapshot<A>, before: Log<A>)
         ensures log { self.new.log ≡ self.old.log }
         ensures before { self.new.before ≡ Some (unwrap_or self.old.before before) }
@@ -132,8 +152,14 @@ impl<A: Allocator + Copy + Drop> HeldLog<A> {
         }
     }
 
-    /// Appends a call and returns true. If the log would then have more than 2^62 places, returns false and changes nothing.
-    /// Errors: `Memory` where an allocation fails; nothing has changed then.
+    /// Appends a call, unless the log would then have more than 2^62 places.
+    ///
+    /// Returns whether it was appended.
+    ///
+    /// If not, nothing changes.
+    ///
+    /// Errors: `Memory` if an allocation fails; nothing has then changed.
+    ///
     /// Rules: The replicated log 9 and 11
     pub(crate) fn append(&mut self, call: Call<A>) -> Result<bool, Fault>
         ensures fits { IfOk result (λ fits. fits ≡ is_log_length (log_length self.old.log + 1)) }
@@ -145,9 +171,14 @@ impl<A: Allocator + Copy + Drop> HeldLog<A> {
         self.log.append(call)
     }
 
-    /// Appends calls, in their order, and returns true. If the log would then have more than 2^62 places, returns false and
-    /// changes nothing.
-    /// Errors: `Memory` where an allocation fails; nothing has changed then.
+    /// Appends calls, in order, unless the log would then have more than 2^62 places.
+    ///
+    /// Returns whether they were appended.
+    ///
+    /// If not, nothing changes.
+    ///
+    /// Errors: `Memory` if an allocation fails; nothing has then changed.
+    ///
     /// Rules: The replicated log 9 and 11
     pub(crate) fn append_all(&mut self, calls: &[Call<A>]) -> Result<bool, Fault>
         ensures fits { IfOk result (λ fits. fits ≡ is_log_length (log_length self.old.log + length calls.now)) }
@@ -159,7 +190,10 @@ impl<A: Allocator + Copy + Drop> HeldLog<A> {
         self.log.append_all(calls)
     }
 
-    /// Raises the log's committed length to `n`, or to its length if that is less. It never falls: a smaller `n` changes nothing.
+    /// Raises the log's committed length to `n`, or to its length if that is less.
+    ///
+    /// A smaller `n` changes nothing: the committed length never falls.
+    ///
     /// Rules: The replicated log 12
     pub(crate) fn commit_upto(&mut self, n: u64)
         ensures held { self.new ≡ record self.old { log = committed_upto self.old.log n } }
@@ -168,8 +202,10 @@ impl<A: Allocator + Copy + Drop> HeldLog<A> {
         self.log.commit_upto(n);
     }
 
-    /// Drops the committed places, keeps this snapshot of them, and returns the log of these places alone.
-    /// Errors: `Memory` where an allocation fails; nothing has changed then.
+    /// Drops the committed places, keeps `snapshot` for them, and returns a log of only the dropped places.
+    ///
+    /// Errors: `Memory` if an allocation fails; nothing has then changed.
+    ///
     /// Rules: The replicated log 20
     pub(crate) fn trim(&mut self, snapshot: Snapshot<A>) -> Result<Log<A>, Fault>
         ensures dropped { IfOk result (λ log. log ≡ committed_log self.old.log) }
@@ -182,7 +218,11 @@ impl<A: Allocator + Copy + Drop> HeldLog<A> {
         Ok(dropped)
     }
 
-    /// Ends a step: drops the log from before a restore. It takes no memory.
+    /// Ends a step: drops the log from before a restore.
+    ///
+    /// Does not allocate.
+    ///
+    /// Rules: The replicated log 6
     pub(crate) fn end_step(&mut self)
         ensures { self.new ≡ record self.old { before = None } }
     {

@@ -1,4 +1,4 @@
-//! The life of a node as ghost values, for contracts only.
+//! The history of a node as ghost values, for contracts only.
 
 ghost use Rattle.std.specs.Prelude.{◌≡◌, List, [], ◌∷◌, ◌++◌};
 ghost use Rattle.ring_log.specs.Epochs.{epochs_opening, epochs_with_message, epochs_with_mark, epochs_with_sends, epochs_with_trim, epoch_opening};
@@ -10,9 +10,11 @@ use ring_wire::Message;
 use std::alloc::{Allocator, Global};
 use std::marker::{Model, PhantomData};
 
-/// The life of a node, as contracts see it: its epochs, the newest first. An epoch is the time in one installed ring.
-/// Each epoch has the messages received, the payloads handed over, the trimmed length and the safe mark. No value of this type is
-/// ever made.
+/// The history of a node as contracts see it: its epochs, the newest first.
+///
+/// An epoch is the time in one installed ring. Each epoch has the messages received, the payloads handed to the core,
+/// the trimmed length and the safe mark. No value of this type exists at run time.
+///
 /// Rules: Outputs 9
 pub struct EpochHistory<A: Allocator + Copy = Global> {
     allocator: PhantomData<A>,
@@ -27,14 +29,14 @@ impl<A: Allocator + Copy> Model for EpochHistory<A> {
     ghost view = { λ _. [] };
 }
 
-/// Returns the life of processor `me` at the opening: one epoch, in the ring (0, `me`).
+/// Returns the history of processor `me` at the opening: one epoch, in the ring (0, `me`).
 pub(crate) fn epochs_opening<A: Allocator + Copy>(me: Proc) -> Ghost<EpochHistory<A>>
     ensures { result.value ≡ epochs_opening me }
 {
     ghost_of(&me)
 }
 
-/// Returns the life with one message more in its newest epoch.
+/// Returns the history with one more message received in its newest epoch.
 pub(crate) fn heard<A: Allocator + Copy>(
     epochs: &Ghost<EpochHistory<A>>,
     message: &Message<A>,
@@ -44,7 +46,7 @@ pub(crate) fn heard<A: Allocator + Copy>(
     ghost_step(epochs, &message)
 }
 
-/// Returns the life with this safe mark in its newest epoch.
+/// Returns the history with the safe mark `upto` in its newest epoch.
 pub(crate) fn history_with_mark<A: Allocator + Copy>(
     epochs: &Ghost<EpochHistory<A>>,
     upto: u64,
@@ -54,7 +56,7 @@ pub(crate) fn history_with_mark<A: Allocator + Copy>(
     ghost_step(epochs, &upto)
 }
 
-/// Returns the life with a new epoch, in a ring of these members.
+/// Returns the history with a new epoch, in `ring` of these members.
 pub(crate) fn history_with_epoch<A: Allocator + Copy>(
     epochs: &Ghost<EpochHistory<A>>,
     ring: RingId,
@@ -65,7 +67,7 @@ pub(crate) fn history_with_epoch<A: Allocator + Copy>(
     ghost_step(epochs, &(ring, members))
 }
 
-/// Returns the life with these payloads handed to the core in its newest epoch.
+/// Returns the history with the payloads `due` handed to the core in its newest epoch.
 pub(crate) fn history_with_sends<A: Allocator + Copy>(
     epochs: &Ghost<EpochHistory<A>>,
     due: &Vec<Payload<A>, A>,
@@ -75,7 +77,7 @@ pub(crate) fn history_with_sends<A: Allocator + Copy>(
     ghost_step(epochs, &due)
 }
 
-/// Returns the life with this call handed to the core in its newest epoch, if `runs`; otherwise the life itself.
+/// Returns the history with the call handed to the core in its newest epoch if `runs`, otherwise unchanged.
 pub(crate) fn history_with_call<A: Allocator + Copy>(
     epochs: &Ghost<EpochHistory<A>>,
     call: &Call<A>,
@@ -86,7 +88,7 @@ pub(crate) fn history_with_call<A: Allocator + Copy>(
     ghost_step(epochs, &(call, runs))
 }
 
-/// Returns the life with this trimmed length in its newest epoch.
+/// Returns the history with the trimmed length `places` in its newest epoch.
 pub(crate) fn dropped<A: Allocator + Copy>(
     epochs: &Ghost<EpochHistory<A>>,
     places: u64,

@@ -1,6 +1,9 @@
-//! How a node's log follows the outputs of its core.
-//! An output is a message of the newest ring, which advances the exchange and the log; a safe mark, which commits; or a new ring.
-//! The owner of a `Replication` applies the committed calls to its sessions, and hands the due payloads to the core.
+//! A node's log and how it follows the outputs of the node's core.
+//!
+//! An output is a message of the newest ring, which advances the exchange and the log; a safe mark, which commits; or a
+//! new ring. The owner of a `Replication` applies the committed calls to its sessions, and hands the due payloads to
+//! the core.
+//!
 //! Rules: The replicated log 1 to 12 and 20
 #![tactic(auto)]
 

@@ -1,4 +1,5 @@
 //! The log's length after each message that isn't safe yet, from which a safe mark determines the committed length.
+//!
 //! Rules: The replicated log 12
 
 ghost use Rattle.std.specs.Prelude.{◌≡◌, IfOk};
@@ -7,19 +8,22 @@ ghost use Rattle.ring_replication.specs.Replications.{covered_places, left};
 use std::alloc::{AllocError, Allocator};
 use std::collections::VecDeque;
 
-/// A message that isn't safe yet, with the length of the ring's log after it. Once the message is safe, the committed length is
-/// at least that.
+/// A message that isn't safe yet, with the log's length after it.
+///
+/// Once the message is safe, the committed length is at least that length.
+///
 /// Rules: The replicated log 12
 #[derive(Clone, Copy)]
 pub struct LogWatermark {
     /// The message's number in the ring.
     pub number: u64,
-    /// The length of the ring's log after the message, dropped places included; 0 before the exchange is complete.
+    /// The log's length after the message, including dropped places, or 0 before the exchange is complete.
     pub places: u64,
 }
 
-/// Removes the watermarks whose numbers are at most `mark`, the oldest first. Returns the last one's `places`, or 0 if none is
-/// covered.
+/// Removes the watermarks of messages numbered at most `mark`, and returns the last one's `places`, or 0 if there is
+/// none.
+///
 /// Rules: The replicated log 12
 pub(crate) fn pop_covered<A: Allocator + Copy>(
     watermarks: &mut VecDeque<LogWatermark, A>,
@@ -40,8 +44,9 @@ pub(crate) fn pop_covered<A: Allocator + Copy>(
     places
 }
 
-/// Returns a copy of the watermarks, in their order.
-/// Errors: `AllocError` where an allocation fails.
+/// Returns a copy of the watermarks, in order.
+///
+/// Errors: `AllocError` if an allocation fails.
 pub(crate) fn copy_watermarks<A: Allocator + Copy>(
     watermarks: &VecDeque<LogWatermark, A>,
 ) -> Result<VecDeque<LogWatermark, A>, AllocError>

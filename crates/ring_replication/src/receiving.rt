@@ -1,4 +1,5 @@
 //! How a message of the newest ring changes the stored log and its exchange.
+//!
 //! Rules: The replicated log 2 to 11
 
 ghost use Rattle.std.specs.Prelude.{◌≡◌, ◌+◌, ◌++◌, true, length, unwrap_or, option_map, IfOk, IfErr, OnOk};
@@ -21,10 +22,13 @@ use ring_session::Pending;
 use ring_wire::Message;
 use std::alloc::Allocator;
 
-/// Applies a message to the stored log and to the stage of its exchange. Returns whether the log stays valid.
-/// If it doesn't, the base couldn't be adopted or the log is too long: the committed places are unchanged, and nothing else of
-/// the log is specified. The payloads to be handed to the core are appended to `due`.
-/// Errors: `Memory` where an allocation fails; only the committed places are then specified, unchanged.
+/// Applies a message to the stored log and to its exchange, and appends to `due` the payloads to be handed to the core.
+///
+/// Returns whether the log stays valid. It doesn't if the ring's base can't be adopted or the log would be too long.
+/// The committed places are then unchanged, and the rest of the log is unspecified.
+///
+/// Errors: `Memory` if an allocation fails; the committed places are then unchanged, and all else is unspecified.
+///
 /// Rules: The replicated log 2 to 11
 pub(crate) fn hear<A: Allocator + Copy + Drop>(
     alloc: A,
@@ -69,7 +73,8 @@ pub(crate) fn hear<A: Allocator + Copy + Drop>(
 }
 
 /// Applies a message to an exchange that isn't complete.
-/// Returns `None` if it still isn't, else whether the base could be adopted.
+///
+/// Returns `None` if it still isn't, otherwise whether the base could be adopted.
 fn continue_exchange<A: Allocator + Copy + Drop>(
     alloc: A,
     delivery_context: &DeliveryContext,
@@ -102,7 +107,7 @@ fn continue_exchange<A: Allocator + Copy + Drop>(
     adopt_if_complete(delivery_context, pending, base, held, due)
 }
 
-/// Adopts the ring if there is a base, and returns then whether the base could be adopted.
+/// Adopts the ring if its base is known, and returns whether the base could be adopted; `None` without a base.
 fn adopt_if_complete<A: Allocator + Copy + Drop>(
     delivery_context: &DeliveryContext,
     pending: &[Pending<A>],
@@ -122,7 +127,9 @@ fn adopt_if_complete<A: Allocator + Copy + Drop>(
     }
 }
 
-/// Adopts the ring with this base, if it may be adopted, and adds the pending calls if the ring runs. Returns whether it may.
+/// Adopts the ring with this base if it may be adopted, and returns whether it may.
+///
+/// If the ring runs, appends the pending calls that the base lacks to `due`.
 fn adopt<A: Allocator + Copy + Drop>(
     delivery_context: &DeliveryContext,
     pending: &[Pending<A>],
@@ -151,7 +158,7 @@ fn adopt<A: Allocator + Copy + Drop>(
     Ok(true)
 }
 
-/// Returns the places of a log after the first `committed` and after the dropped ones.
+/// Returns the places of a log that are neither dropped nor among the first `committed` places.
 fn places_past<A: Allocator + Copy>(log: &Log<A>, committed: u64) -> &[Call<A>]
     ensures { result.now ≡ places_past committed log.now }
 {
@@ -160,7 +167,9 @@ fn places_past<A: Allocator + Copy>(log: &Log<A>, committed: u64) -> &[Call<A>]
     &calls[calls.len().min(first as usize)..]
 }
 
-/// Appends the calls that a payload brings, if the log has room for them. Returns whether it has.
+/// Appends the calls in a payload, unless the log would be too long.
+///
+/// Returns whether they were appended.
 fn append_calls<A: Allocator + Copy + Drop>(
     payload: &Payload<A>,
     held: &mut HeldLog<A>,
@@ -183,7 +192,7 @@ fn append_calls<A: Allocator + Copy + Drop>(
     }
 }
 
-/// Returns the log's length once the ring is adopted, and 0 before.
+/// Returns the log's length if the ring has been adopted, otherwise 0.
 pub(crate) fn watermark_at<A: Allocator + Copy>(stage: &ExchangeStage<A>, log: &Log<A>) -> u64
     ensures { result ≡ watermark_at stage.now log.now }
 {

@@ -1,5 +1,7 @@
 //! A node's log, driven by the outputs of its core.
+//!
 //! `hear` and `install_ring` are functions of their own to keep their large stack slots out of their caller.
+//!
 //! Rules: The replicated log 1, 2, 7 to 12 and 20
 
 ghost use Rattle.std.specs.Prelude.{◌≡◌, ◌++◌, ◌&&◌, [], ◌∷◌, true, length, is_some, option_map, None, IfOk, IfErr, OnOk, OnErr};
@@ -33,11 +35,15 @@ use std::alloc::{AllocError, Allocator, Global};
 use std::collections::VecDeque;
 use std::marker::Model;
 
-/// A node's replicated log, as it follows the outputs of the core.
-/// It has the stored log, the stage of the newest ring's exchange, that ring's safe mark, and the log's length after each message
-/// that isn't safe yet. Contracts see the life that made it, the stored log, and whether it is consistent.
-/// It is inconsistent after a base that lacks committed places, and after a log that is too long. Then, and after `Memory`, only
-/// the places committed before the step are specified.
+/// A node's replicated log, which follows the outputs of the node's core.
+///
+/// It has the stored log, the stage of the newest ring's exchange, that ring's safe mark, and the log's length after
+/// each message that isn't safe yet. Contracts see the node's history, the stored log, and whether the log is
+/// consistent.
+///
+/// The log becomes inconsistent if a base lacks committed places, or if the log would be too long. Then, and after
+/// `Memory`, only the places committed before the step are specified.
+///
 /// Rules: The replicated log 1, 8, 9 and 12
 #[derive(Drop)]
 pub struct Replication<A: Allocator + Copy + Drop = Global> {
@@ -83,7 +89,10 @@ impl<A: Allocator + Copy + Drop> Clone for Replication<A> {
 }
 
 impl<A: Allocator + Copy + Drop> Replication<A> {
-    /// Creates the replication of processor `me` at the opening: an empty log, and no exchange. It takes no memory.
+    /// Creates the replication of processor `me` at the opening, with an empty log and no exchange.
+    ///
+    /// Does not allocate.
+    ///
     /// Rules: The replicated log 1
     pub fn new(alloc: A, fixed: Fixed, me: Proc) -> Replication<A>
         ensures { result ≡ replication_opening fixed me }
@@ -102,8 +111,11 @@ impl<A: Allocator + Copy + Drop> Replication<A> {
         }
     }
 
-    /// Returns whether the log is valid: false once a base that may not be adopted has come, or the log would have been too long.
-    /// After `Memory` it is unspecified.
+    /// Returns whether the log is valid.
+    ///
+    /// It is false once a base came that may not be adopted, or the log would have been too long. After `Memory` it is
+    /// unspecified.
+    ///
     /// Rules: The replicated log 8 and 9
     pub fn is_consistent(&self) -> bool
         ensures value { result ≡ self.now.consistent }
@@ -115,6 +127,7 @@ impl<A: Allocator + Copy + Drop> Replication<A> {
     }
 
     /// Returns the stored log, with the snapshot of its dropped places.
+    ///
     /// Rules: The replicated log 1
     pub fn held(&self) -> &HeldLog<A>
         ensures held { result.now ≡ self.now.held }
@@ -126,8 +139,10 @@ impl<A: Allocator + Copy + Drop> Replication<A> {
         &self.held
     }
 
-    /// Returns whether no exchange is open: the newest ring's is complete, or that ring isn't primary. Only then may places be
-    /// dropped.
+    /// Returns whether no exchange is open, because that of the newest ring is complete or the ring isn't primary.
+    ///
+    /// Places may be dropped only then.
+    ///
     /// Rules: The replicated log 4 and 20
     pub fn is_closed(&self) -> bool
         ensures { self.now.consistent ≡ true → result ≡ is_closed self.now.group self.now.epochs }
@@ -138,8 +153,10 @@ impl<A: Allocator + Copy + Drop> Replication<A> {
         }
     }
 
-    /// Returns the node's epochs, one for each ring that it installed, the newest first. A ghost value: only contracts can
-    /// use it.
+    /// Returns the node's epochs, one for each ring that it installed, the newest first.
+    ///
+    /// It is a ghost value, which only contracts can use.
+    ///
     /// Rules: Outputs 9
     pub fn epochs(&self) -> &Ghost<EpochHistory<A>>
         ensures { result.now.value ≡ self.now.epochs }
@@ -147,11 +164,15 @@ impl<A: Allocator + Copy + Drop> Replication<A> {
         &self.epochs
     }
 
-    /// Applies the outputs of a core's step, in their order, and appends to `due` the payloads to be handed to the core.
-    /// `running` is the ring in which the core is Operational after the step, `committed` the number of places committed before
-    /// it. The log is consistent at the call. If an output makes the log invalid, `is_consistent` is false afterwards, and the
-    /// rest is ignored.
-    /// Errors: `Memory` where an allocation fails; then only the places committed before the step are specified, unchanged.
+    /// Applies the outputs of a core's step, in order, and appends to `due` the payloads to be handed to the core.
+    ///
+    /// `running` is the ring in which the core is Operational after the step, and `committed` the number of places that
+    /// were committed before it. The log must be consistent. If an output makes it inconsistent, `is_consistent` is
+    /// false afterwards, and the later outputs are ignored.
+    ///
+    /// Errors: `Memory` if an allocation fails; the places committed before the step are then unchanged, and all else
+    /// is unspecified.
+    ///
     /// Rules: The replicated log 1, 2, 7 and 10 to 12
     pub fn apply_outputs(
         &mut self,
@@ -190,7 +211,7 @@ impl<A: Allocator + Copy + Drop> Replication<A> {
         Ok(())
     }
 
-    /// Applies one output, unless the replication is inconsistent already.
+    /// Applies one output, unless the log is already inconsistent.
     fn go(
         &mut self,
         running: &Option<RingId>,
@@ -271,7 +292,8 @@ impl<A: Allocator + Copy + Drop> Replication<A> {
             Out::Regular(ring, members) => self.install_ring(*ring, *members, due),
             Out::Trans(_, _, _) => Ok(()),
             Out::Rest(_, _, _) => Ok(()),
-            // A frame changes nothing of the log. A node's frames are in a list of their own, so none occurs among these outputs.
+            // A frame changes nothing of the log. A node's frames are in a list of their own, so none occurs among
+            // these outputs.
             Out::Send(_, _) => Ok(()),
         }
     }
@@ -349,7 +371,9 @@ impl<A: Allocator + Copy + Drop> Replication<A> {
         self.epochs = epochs;
     }
 
-    /// Installs a ring of these members: its exchange begins, and a Head becomes due if it is primary.
+    /// Installs a ring of these members.
+    ///
+    /// If they are primary, its exchange begins, and a Head becomes due.
     #[inline(never)]
     fn install_ring(
         &mut self,
@@ -379,7 +403,10 @@ impl<A: Allocator + Copy + Drop> Replication<A> {
         Ok(())
     }
 
-    /// Records in the life that these payloads are handed to the core, in this order. Nothing else changes. It takes no memory.
+    /// Records in the history that the payloads `due` are handed to the core, in this order.
+    ///
+    /// Nothing else changes. Does not allocate.
+    ///
     /// Rules: The replicated log 1 and 2
     pub fn record_sends(&mut self, due: &Vec<Payload<A>, A>)
         ensures { self.new ≡ record self.old { epochs = epochs_with_sends due.now.items self.old.epochs } }
@@ -387,8 +414,11 @@ impl<A: Allocator + Copy + Drop> Replication<A> {
         self.epochs = history_with_sends(&self.epochs, due);
     }
 
-    /// Records in the life that this call is handed to the core, if `runs`: if the core is Operational in an adopted ring.
-    /// Nothing else changes. It takes no memory.
+    /// Records in the history, if `runs`, that the call is handed to the core.
+    ///
+    /// `runs` says whether the core is Operational in a ring that the node has adopted. Nothing else changes. Does not
+    /// allocate.
+    ///
     /// Rules: The replicated log 10
     pub fn record_call(&mut self, call: &Call<A>, runs: bool)
         ensures { self.new ≡ record self.old { epochs = epochs_with_sends (handed_if runs call.now) self.old.epochs } }
@@ -396,10 +426,13 @@ impl<A: Allocator + Copy + Drop> Replication<A> {
         self.epochs = history_with_call(&self.epochs, call, runs);
     }
 
-    /// Drops the committed places, keeps their snapshot, and returns the log of these places alone. Does nothing and returns
-    /// `None` if no snapshot is given.
-    /// A snapshot may be given only if no exchange is open and the log is due to be trimmed.
-    /// Errors: `Memory` where an allocation fails; nothing has changed then.
+    /// Drops the committed places, keeps `snapshot` for them, and returns a log of only the dropped places.
+    ///
+    /// Does nothing and returns `None` if `snapshot` is `None`. Otherwise no exchange may be open, and the log must be
+    /// due to be trimmed.
+    ///
+    /// Errors: `Memory` if an allocation fails; nothing has then changed.
+    ///
     /// Rules: The replicated log 20
     pub fn trim(&mut self, snapshot: Option<Snapshot<A>>) -> Result<Option<Log<A>>, Fault>
         requires consistent { self.old.consistent ≡ true }
@@ -418,7 +451,10 @@ impl<A: Allocator + Copy + Drop> Replication<A> {
         Ok(Some(log))
     }
 
-    /// Ends a step: afterwards no snapshot counts as restored by the present step. Nothing else changes. It takes no memory.
+    /// Ends a step, so that no snapshot is any longer one that the present step has restored.
+    ///
+    /// Nothing else changes. Does not allocate.
+    ///
     /// Rules: The replicated log 6
     pub fn end_step(&mut self)
         ensures { self.new ≡ record self.old { held = record self.old.held { before = None } } }
@@ -427,7 +463,7 @@ impl<A: Allocator + Copy + Drop> Replication<A> {
     }
 }
 
-/// Commits the places that the mark covers.
+/// Commits the places that the safe mark covers.
 fn commit_covered<A: Allocator + Copy + Drop>(
     watermarks: &mut VecDeque<LogWatermark, A>,
     mark: u64,

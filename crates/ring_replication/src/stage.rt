@@ -7,17 +7,21 @@ use ring_base::{Fixed, ProcSet};
 use ring_log::{Exchange, Log};
 use std::alloc::{AllocError, Allocator, Global};
 
-/// How far the exchange of the newest installed ring is.
+/// The stage of the exchange in the newest installed ring.
+///
 /// Rules: The replicated log 2 to 4 and 6
 #[derive(Drop)]
 pub enum ExchangeStage<A: Allocator + Copy = Global> {
     /// The ring isn't primary, so it has no exchange.
+    ///
     /// Rules: The replicated log 2
     NotPrimary,
-    /// The exchange isn't complete yet: Heads, bytes of a snapshot or places are missing.
+    /// The exchange isn't complete: Heads, pieces of a snapshot or places are missing.
+    ///
     /// Rules: The replicated log 4
     Exchanging(Exchange<A>),
     /// The exchange is complete, and the ring has been adopted.
+    ///
     /// Rules: The replicated log 6
     Adopted,
 }
@@ -34,7 +38,10 @@ impl<A: Allocator + Copy> Clone for ExchangeStage<A> {
     }
 }
 
-/// Returns the stage of a ring of these members at its installation: an exchange with nothing received if they are primary.
+/// Returns the stage of a ring of these members at its installation.
+///
+/// If they are primary, it is an exchange with nothing received; otherwise there is none.
+///
 /// Rules: The replicated log 2 and 3
 pub(crate) fn opening_stage<A: Allocator + Copy>(
     alloc: A,

@@ -13,12 +13,12 @@ use Rattle.ring_script.specs.Reading.{◌>>=◌}
 use Rattle.ring_script.specs.Scripts.{unless_skipped, then_request, requests_in, numbered_by, AreAmong}
 use Rattle.ring_script.specs.Words.{words_of, whole}
 
--- ---- the forms of lines
+-- ---- the forms of lines.
 
 node_low : (nodes : Group) (words : List (List ℕ)) → IfSome (node_at nodes words) (λ node. node.0 ≤ nodes.count)
 node_low nodes words = grind (arith, common_steps)
 
--- what a form parses, and the words after it: the request concerns one of `count` nodes, or none
+-- What a form parses, and the words after it: the request concerns one of `count` nodes, or none.
 abbrev ReadAmong : ℕ → Option (LineRequest × List (List ℕ)) → Type 0
 ReadAmong count read = IfSome read (λ asked. IsAmong count asked.0)
 
@@ -54,7 +54,7 @@ form_among : (forms : List OperationForm) (nodes : Group) (word : List ℕ) (wor
 unfolding form_at
 form_among forms nodes word words = grind (arith, call_among, deliver_among, timeout_among, noise_among, stop_among, cut_among, pump_among)
 
--- ---- one line
+-- ---- one line.
 
 whole_among : (count : ℕ) (read : Option (LineRequest × List (List ℕ))) → ReadAmong count read → IfSome (read >>= whole) (IsAmong count)
 whole_among count read among = grind arith
@@ -68,9 +68,9 @@ asked_among : (forms : List OperationForm) (nodes : Group) (line : List ℕ) →
 unfolding request_in
 asked_among forms nodes line = words_among forms nodes (words_of line)
 
--- ---- all lines
+-- ---- all lines.
 
--- the requests with their numbers: each concerns one of `count` nodes, or none
+-- The requests with their numbers: each concerns one of `count` nodes, or none.
 abbrev AllAmong : ℕ → List (ℕ × LineRequest) → Type 0
 AllAmong count asked = AllByRecursion (λ (a : ℕ × LineRequest). IsAmong count a.1) asked
 
@@ -90,12 +90,12 @@ all_among forms nodes before (line ∷ lines) =
     then_among nodes.count (before + 1) (unless_skipped (request_in forms nodes) line)
     (requests_in forms nodes (before + 1) lines) (told_among forms nodes line) (all_among forms nodes (before + 1) lines)
 
--- the same of the program's lines
+-- The same for the program's lines.
 AreAmong-numbered : {A : Type 0} (count : ℕ) (lines : List (NumberedLine A)) → AllAmong count (map numbered_by lines) → AreAmong count lines
 AreAmong-numbered count [] among = tt
 AreAmong-numbered count (line ∷ lines) among = (among.0, AreAmong-numbered count lines among.1)
 
--- the parsed lines of a text
+-- The parsed lines of a text.
 pub lines_among : {A : Type 0} (forms : List OperationForm) (nodes : Group) (before : ℕ) (text : List (List ℕ))
     (lines : List (NumberedLine A)) → requests_in forms nodes before text ≡ Ok (map numbered_by lines)
     → AreAmong nodes.count lines

@@ -25,7 +25,7 @@ pub ascii_told : (told : Bool) (line : List ℕ) → MatchBool told (IsAscii lin
 ascii_told true line h = sym (all_below line h)
 ascii_told false line h = sym (one_above line h.0 h.1)
 
--- ---- the lines of a text
+-- ---- the lines of a text.
 
 first_ascii : (b : ℕ) (lines : List (List ℕ)) → list_all are_ascii (with_first b lines) ≡ (is_ascii b && list_all are_ascii lines)
 first_ascii b lines =
@@ -42,7 +42,7 @@ first_ascii b lines =
     by_above [] above = rw above refl
     by_above (line ∷ lines) above = rw above refl
 
--- they are ASCII where the text is
+-- They are ASCII if the text is.
 pub lines_ascii : (text : List ℕ) → list_all are_ascii (lines_of text) ≡ list_all is_ascii text
 unfolding lines_of
 lines_ascii [] = refl
@@ -52,7 +52,7 @@ lines_ascii (b ∷ text) =
       | inr later ↦ rw (later, first_ascii b (lines_of text), lines_ascii text) refl
     ]
 
--- the first of them, and the others
+-- The first of them, and the others.
 pub line_ascii : (line : List ℕ) (lines all : List (List ℕ)) → all ≡ line ∷ lines → list_all are_ascii all ≡ true
     → (are_ascii line ≡ true) × (list_all are_ascii lines ≡ true)
 line_ascii line lines all e h = and_parts (are_ascii line) (list_all are_ascii lines) (let told = rw e at h in told)

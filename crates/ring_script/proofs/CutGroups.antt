@@ -15,7 +15,7 @@ use Rattle.ring_script.specs.Numbers.{node_of}
 use Rattle.ring_script.specs.Reading.{◌>>=◌}
 use Rattle.ring_script.specs.Words.{pieces}
 
--- ---- the elements of a list
+-- ---- the elements of a list.
 
 Contains-cons : {X : Type 0} (first : X) (others : List X) (x : X) → Contains others x → Contains (first ∷ others) x
 Contains-cons first others x found = (suc found.0, omega (arith, found.1), found.2)
@@ -27,9 +27,9 @@ Contains-cons_cases {X} first others x found = at_place found.0 found.1 found.2
     at_place zero inside is = inl is
     at_place (suc k) inside is = inr (k, omega arith, is)
 
--- ---- the nodes of some groups
+-- ---- the nodes of some groups.
 
--- a node of the groups is in one of them
+-- A node of the groups is in one of them.
 in_one : (groups : List ℕ) (a : ℕ) → IsMember (union_of_groups groups) a → AreConnected groups a a
 unfolding union_of_groups
 in_one [] a m = absurd (nobody_member a m)
@@ -39,7 +39,7 @@ in_one (group ∷ groups) a m =
       | inr later ↦ let one = in_one groups a later in (one.0, Contains-cons group groups one.0 one.1, one.2, one.3)
     ]
 
--- a node of one of the groups is one of theirs
+-- A node of one of the groups is one of theirs.
 in_all : (groups : List ℕ) (a group : ℕ) → Contains groups group → IsMember group a → IsMember (union_of_groups groups) a
 unfolding union_of_groups
 in_all [] a group found m = absurd (omega (arith, found.1))
@@ -49,13 +49,13 @@ in_all (first ∷ groups) a group found m =
       | inr later ↦ (union_members first (union_of_groups groups) a).1 (inr (in_all groups a group later m))
     ]
 
--- where a first group shares no node with the others, its nodes are in none of them
+-- If a first group shares no node with the others, its nodes are in none of them.
 in_no_other : (group : ℕ) (groups : List ℕ) (a : ℕ) → (intersection group (union_of_groups groups) == nobody) ≡ true → IsMember group a → IsMember (union_of_groups groups) a → ⊥
 in_no_other group groups a isolation m n =
     let none : intersection group (union_of_groups groups) ≡ nobody = eqb-true _ _ isolation in
     nobody_member a (rw none at ((intersection_members group (union_of_groups groups) a).1 (m, n)))
 
--- no two of the groups have one node
+-- No two of the groups have one node.
 in_just_one : (groups : List ℕ) (a one other : ℕ) → are_apart groups ≡ true → Contains groups one
     → Contains groups other → IsMember one a → IsMember other a → one ≡ other
 unfolding are_apart
@@ -73,7 +73,7 @@ in_just_one (group ∷ groups) a one other isolation found there m n =
       ]
     ]
 
--- ---- the group of a processor, once some were placed one after the other
+-- ---- the group of a processor, once some were placed one after the other.
 
 length-placed_from : (group i : ℕ) (kept : List ℕ) → length (placed_from i group kept) ≡ length kept
 unfolding placed_from
@@ -88,7 +88,7 @@ get_or-placed_from group i zero (x ∷ kept) lt = let here : i + 0 ≡ i = omega
 get_or-placed_from group i (suc k) (x ∷ kept) lt = let later : i + suc k ≡ i + 1 + k = omega arith in rw later
     (get_or-placed_from group (i + 1) k kept (omega arith))
 
--- a group becomes that of a processor of its own, and of no other
+-- A group becomes that of a processor of its own, and of no other.
 placed_own : (group : ℕ) (table : List ℕ) (a : ℕ) → a ≤ length table → IsMember group a → get_or (placed_from 1 group table) (a - 1) 0 ≡ group
 placed_own group table a le m =
     let place : 1 + (a - 1) ≡ a = omega (arith, m.0) in
@@ -104,7 +104,7 @@ placed_other group table a low le out =
       | inr other ↦ get_or-placed_from group 1 (a - 1) table (omega arith) ∙ rw other refl
     ]
 
--- the group of a processor that is in none of those placed stays
+-- The group of a processor that is in none of those placed stays.
 table_after-other : (groups table : List ℕ) (a : ℕ) → 1 ≤ a → a ≤ length table → (IsMember (union_of_groups groups) a → ⊥)
     → get_or (table_after table groups) (a - 1) 0 ≡ get_or table (a - 1) 0
 unfolding union_of_groups table_after
@@ -113,7 +113,7 @@ table_after-other (group ∷ groups) table a low le out =
     table_after-other groups (placed_from 1 group table) a low (rw length-placed_from le) (λ m. out ((union_members group (union_of_groups groups) a).1 (inr m))) ∙
     placed_other group table a low le (λ m. out ((union_members group (union_of_groups groups) a).1 (inl m)))
 
--- the group of a processor is the one placed that it is in
+-- The group of a processor is the one placed that it is in.
 table_after-own : (groups table : List ℕ) (a group : ℕ) → a ≤ length table → are_apart groups ≡ true
     → Contains groups group → IsMember group a → get_or (table_after table groups) (a - 1) 0 ≡ group
 unfolding are_apart table_after
@@ -128,9 +128,9 @@ table_after-own (first ∷ groups) table a group le isolation found m =
       | inr later ↦ table_after-own groups (placed_from 1 first table) a group long parts.1 later m
     ]
 
--- ---- under a cut
+-- ---- under a cut.
 
--- the facts that the test of a cut gives
+-- The facts that the test of a cut gives.
 apart_by : (nodes : Group) (groups : List ℕ) → is_cut nodes groups ≡ true → are_apart groups ≡ true
 apart_by nodes groups cut = (and_parts (nat_le 2 (length groups)) (are_apart groups)
     (and_parts (nat_le 2 (length groups) && are_apart groups) (union_of_groups groups == everybody nodes.count) cut).0).1
@@ -138,18 +138,18 @@ apart_by nodes groups cut = (and_parts (nat_le 2 (length groups)) (are_apart gro
 together_by : (nodes : Group) (groups : List ℕ) → is_cut nodes groups ≡ true → union_of_groups groups ≡ everybody nodes.count
 together_by nodes groups cut = eqb-true _ _ (and_parts (nat_le 2 (length groups) && are_apart groups) (union_of_groups groups == everybody nodes.count) cut).1
 
--- the group kept for a processor is the one that it is in
+-- The group kept for a processor is the one that it is in.
 table_of-own : (nodes : Group) (groups : List ℕ) (a group : ℕ) → is_cut nodes groups ≡ true → IsProc a
     → Contains groups group → IsMember group a → slice_index (table_of groups) (a - 1) ≡ group
 table_of-own nodes groups a group cut proc = table_after-own groups (replicate max_processors nobody) a group proc.1 (apart_by nodes groups cut)
 
--- nobody, where it is in none
+-- Nobody, if it is in none.
 table_of-other : (groups : List ℕ) (a : ℕ) → IsProc a → (IsMember (union_of_groups groups) a → ⊥) → slice_index (table_of groups) (a - 1) ≡ nobody
 table_of-other groups a proc out =
     table_after-other groups (replicate max_processors nobody) a proc.0 proc.1 out ∙
     get_or-replicate max_processors (a - 1) nobody 0 (omega (arith, proc.0, proc.1))
 
--- two nodes are together where one of the groups has both
+-- Two nodes are together if one of the groups has both.
 pub are_connected : (nodes : Group) (groups : List ℕ) (a b : ℕ) → is_cut nodes groups ≡ true → IsProc a → IsProc b
     → (has (slice_index (table_of groups) (a - 1)) b ≡ true) ↔ AreConnected groups a b
 are_connected nodes groups a b cut proc also = (
@@ -165,22 +165,22 @@ are_connected nodes groups a b cut proc also = (
   λ t. rw (table_of-own nodes groups a t.0 cut proc t.1 t.2) (has_member t.0 b t.3),
 )
 
--- each node is in one of the groups
+-- Each node is in one of the groups.
 pub cut_everyone : (nodes : Group) (groups : List ℕ) (a : ℕ) → is_cut nodes groups ≡ true → 1 ≤ a → a ≤ nodes.count → AreConnected groups a a
 cut_everyone nodes groups a cut low high = in_one groups a (rw (together_by nodes groups cut) ((everybody_members nodes.count a).1 (low, high)))
 
--- and in no other
+-- And in no other.
 pub cut_once : (nodes : Group) (groups : List ℕ) (a one other : ℕ) → is_cut nodes groups ≡ true → Contains groups one
     → Contains groups other → IsMember one a → IsMember other a → one ≡ other
 cut_once nodes groups a one other cut = in_just_one groups a one other (apart_by nodes groups cut)
 
--- ---- the groups that words denote
+-- ---- the groups that words denote.
 
--- nodes count from 1
+-- Nodes count from 1.
 node_low : (nodes : Group) (number : List ℕ) → IfSome (node_of nodes number) (λ node. 1 ≤ node)
 node_low nodes number = grind (arith, common_steps)
 
--- a node of the first number, or one of the others'
+-- A node of the first number, or one of the others'.
 numbered_more : (nodes : Group) (number : List ℕ) (numbers : List (List ℕ)) (node set group a : ℕ) → node_of nodes number ≡ Some node → 1 ≤ node →
     (IsMember group a ↔ (IsMember (union set (only node)) a ⊎ HasNumber nodes numbers a))
     → IsMember group a ↔ (IsMember set a ⊎ HasNumber nodes (number ∷ numbers) a)
@@ -218,14 +218,14 @@ gathered_members nodes set (number ∷ numbers) group a read =
       | inr new ↦ numbered_more nodes number numbers node set group a is low (gathered_members nodes (union set (only node)) numbers group a (rw new at rest))
     ])
 
--- the nodes of the group that a word denotes are those that it names
+-- The nodes of the group that a word denotes are those that it names.
 group_of-members : (nodes : Group) (word : List ℕ) (group a : ℕ) → group_of nodes word ≡ Some group → IsMember group a ↔ Names nodes word a
 unfolding group_of
 group_of-members nodes word group a read =
     let members = gathered_members nodes nobody (pieces 44 word) group a read in
     (λ m. elim (members.0 m) [ inl none ↦ absurd (nobody_member a none) | inr named ↦ named ], λ named. members.1 (inr named))
 
--- each group is denoted by a word
+-- Each group is denoted by a word.
 by_a_word : (nodes : Group) (words : List (List ℕ)) (groups : List ℕ) (group : ℕ)
     → groups_of nodes words ≡ Some groups → Contains groups group → (word : List ℕ) × Contains words word
     × (group_of nodes word ≡ Some group)
@@ -240,7 +240,7 @@ by_a_word nodes (word ∷ words) groups group read found =
       | inr later ↦ let one = by_a_word nodes words others group more later in (one.0, Contains-cons word words one.0 one.1, one.2)
     ]))
 
--- each word denotes one of the groups
+-- Each word denotes one of the groups.
 of_a_word : (nodes : Group) (words : List (List ℕ)) (groups : List ℕ) (word : List ℕ)
     → groups_of nodes words ≡ Some groups → Contains words word → (group : ℕ) × Contains groups group
     × (group_of nodes word ≡ Some group)
@@ -255,7 +255,7 @@ of_a_word nodes (first ∷ words) groups word read found =
       | inr later ↦ let one = of_a_word nodes words others word more later in (one.0, rw same (Contains-cons group others one.0 one.1), one.2)
     ]))
 
--- two nodes are in one of the groups where one word names both
+-- Two nodes are in one of the groups if one word names both.
 named_together : (nodes : Group) (words : List (List ℕ)) (groups : List ℕ) (a b : ℕ)
     → groups_of nodes words ≡ Some groups → AreConnected groups a b ↔ ((word : List ℕ) × Contains words word
     × Names nodes word a × Names nodes word b)
@@ -268,7 +268,7 @@ named_together nodes words groups a b read = (
       (one.0, one.1, (group_of-members nodes n.0 one.0 a one.2).1 n.2, (group_of-members nodes n.0 one.0 b one.2).1 n.3),
 )
 
--- under the cut that words denote, two nodes are connected where one word names both
+-- Under the cut that words denote, two nodes are connected if one word names both.
 pub cut_at-union_of_groups : (nodes : Group) (words rest : List (List ℕ)) (cut : List ℕ) (a b : ℕ) → cut_at nodes words ≡ Some (cut, rest) → IsProc a → IsProc b →
     (has (slice_index cut (a - 1)) b ≡ true) ↔ ((word : List ℕ) × Contains words word × Names nodes word a × Names nodes word b)
 unfolding cut_at

@@ -15,14 +15,14 @@ use Rattle.ring_base.specs.Processors.{max_processors, has, nobody, everybody, u
 use Rattle.ring_script.specs.Cuts.{group_of, groups_of, union_of_groups, are_apart, is_cut, placed_from, table_after, table_of, cut_at}
 use Rattle.ring_script.specs.Reading.{◌>>=◌}
 
--- the cut that the words complete, after `count` groups of these nodes with this table
+-- The cut that the words complete, after `count` groups of these nodes with this table.
 unfoldable pub cut_after : Group → ℕ → ℕ → List ℕ → List (List ℕ) → Option (List ℕ × List (List ℕ))
 cut_after nodes count placed table [] = if nat_le 2 count && (placed == everybody nodes.count) then Some (table, []) else None
 cut_after nodes count placed table (word ∷ words) = do
   group ← group_of nodes word
   (if intersection placed group == nobody then cut_after nodes (min (count + 1) 255) (union placed group) (placed_from 1 group table) words else None)
 
--- ---- sets
+-- ---- sets.
 
 intersection-union : (a b c : ℕ) → intersection a (union b c) ≡ union (intersection a b) (intersection a c)
 intersection-union a b c = same_from_bits _ _ (λ i.
@@ -47,7 +47,7 @@ union-nobody a = let e = or_add_and a 0 in let f = and_le_l 0 a in let g = and_c
 intersection-nobody : (a : ℕ) → intersection a nobody ≡ nobody
 intersection-nobody a = let f = and_le_l 0 a in let g = and_comm 0 a in omega arith
 
--- a union is empty where both sets are
+-- A union is empty if both sets are.
 empty-union : (a b : ℕ) → (union a b == nobody) ≡ ((a == nobody) && (b == nobody))
 empty-union a b =
     let e = or_add_and a b in
@@ -68,7 +68,7 @@ apart_first a b c = rw intersection-union (empty-union (intersection a b) (inter
 apart_second : (a b c : ℕ) → (intersection (union a b) c == nobody) ≡ ((intersection a c == nobody) && (intersection b c == nobody))
 apart_second a b c = rw (and_comm (union a b) c, and_comm a c, and_comm b c) (apart_first c a b)
 
--- ---- the tests of a cut, from some groups on
+-- ---- the tests of a cut, from some groups on.
 
 abbrev tests : Group → ℕ → ℕ → List ℕ → Bool
 tests nodes count placed groups =
@@ -97,7 +97,7 @@ tests_more nodes count placed group groups =
     )
     (regroup (intersection placed group == nobody) (intersection placed (union_of_groups groups) == nobody) (intersection group (union_of_groups groups) == nobody) (are_apart groups) _)
 
--- ---- the words, by the groups that they denote
+-- ---- the words, by the groups that they denote.
 
 nested : {Y : Type 0} (b t : Bool) (x : Option Y) → (if b then (if t then x else None) else None) ≡ (if b && t then x else None)
 nested true t x = refl
@@ -107,11 +107,11 @@ neither : {Y : Type 0} (b : Bool) → if◌then◌else◌ {A = Option Y} b None 
 neither true = refl
 neither false = refl
 
--- the result for these groups, if they could be parsed
+-- The result for these groups, if they could be parsed.
 abbrev made : Group → ℕ → ℕ → List ℕ → Option (List ℕ) → Option (List ℕ × List (List ℕ))
 made nodes count placed table read = read >>= λ groups. if tests nodes count placed groups then Some (table_after table groups, []) else None
 
--- one group more
+-- One more group.
 made_more : (nodes : Group) (count placed : ℕ) (table : List ℕ) (group : ℕ) (read : Option (List ℕ)) →
     (if intersection placed group == nobody then made nodes (min (count + 1) 255) (union placed group)
     (placed_from 1 group table) read else None) ≡ made nodes count placed table
@@ -155,7 +155,7 @@ tests-none nodes groups =
     let same : 0 + length groups ≡ length groups = omega arith in
     rw (none, all, same) (shuffle (are_apart groups) (nat_le 2 (length groups)) (union_of_groups groups == everybody nodes.count))
 
--- from the first group on
+-- From the first group on.
 pub cut_after-none : (nodes : Group) (words : List (List ℕ)) → cut_after nodes 0 nobody (replicate max_processors nobody) words ≡ cut_at nodes words
 unfolding cut_at
 cut_after-none nodes words = cut_after-groups nodes 0 nobody (replicate max_processors nobody) words ∙ whole (groups_of nodes words)
@@ -165,14 +165,14 @@ cut_after-none nodes words = cut_after-groups nodes 0 nobody (replicate max_proc
     whole None = refl
     whole (Some groups) = rw (tests-none nodes groups) refl
 
--- ---- the groups of the processors, one after the other
+-- ---- the groups of the processors, one after the other.
 
 placed-more : (group i : ℕ) (kept : List ℕ) → i < length kept → placed_from (i + 1) group (drop i kept)
     ≡ (if has group (i + 1) then group else get_or kept i 0) ∷ placed_from (i + 1 + 1) group (drop (suc i) kept)
 unfolding placed_from
 placed-more group i kept lt = rw (drop-cons kept i 0) refl
 
--- one place more
+-- One more place.
 pub placed_at : (group i : ℕ) (kept : List ℕ) (y : ℕ) → i < length kept
     → y ≡ (if has group (i + 1) then group else get_or kept i 0) → take (i + 1) (set kept i y) ++ placed_from
     (i + 1 + 1) group (drop (i + 1) (set kept i y)) ≡ take i kept ++ placed_from (i + 1) group (drop i kept)
@@ -183,7 +183,7 @@ placed_at group i kept y lt e =
     let back = drop-set-lt (suc i) kept i y (omega arith) in
     rw (more, next, front, back) (append_assoc (take i kept) (y ∷ []) (placed_from (suc i + 1) group (drop (suc i) kept)))
 
--- after the last
+-- After the last.
 pub placed_all : (group i : ℕ) (kept total : List ℕ) → length kept ≤ i → take i kept ++ placed_from (i + 1) group (drop i kept) ≡ total → kept ≡ total
 unfolding placed_from
 placed_all group i kept total le e =

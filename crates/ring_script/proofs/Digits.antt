@@ -17,7 +17,7 @@ use Rattle.ring_script.specs.Words.{pieces, with_first, pieces_left}
 abbrev AreDigits : List ℕ → Type 0
 AreDigits word = list_all is_ascii_digit word ≡ true
 
--- ---- read one by one
+-- ---- read one by one.
 
 pub digits_more : (text : List ℕ) (n : ℕ) → n < length text → AreDigits (take n text) → is_ascii_digit (get_or text n 0) ≡ true → AreDigits (take (n + 1) text)
 digits_more text n lt h e = rw (list_all_more is_ascii_digit text n 0 lt, h, e) refl
@@ -30,14 +30,14 @@ value_more text n lt e =
     let more = digits_value_more 10 text n lt in
     omega (arith, digit, more)
 
--- ---- the first word
+-- ---- the first word.
 
--- the text doesn't begin with a digit
+-- The text doesn't begin with a digit.
 abbrev pub GoesOn : List ℕ → Type 0
 GoesOn [] = Unit {0}
 GoesOn (b ∷ rest) = is_ascii_digit b ≡ false
 
--- a digit is no separator
+-- A digit is no separator.
 no_separator : (separator d : ℕ) → is_ascii_digit separator ≡ false → is_ascii_digit d ≡ true → (d == separator) ≡ false
 no_separator separator d none digit =
     elim (cases_Bool (d == separator)) [
@@ -45,7 +45,7 @@ no_separator separator d none digit =
       | inr other ↦ other
     ]
 
--- digits before a text come before its first piece
+-- Digits before a text come before its first piece.
 pieces_behind : (separator : ℕ) (digits rest first : List ℕ) (others : List (List ℕ)) → AreDigits digits → is_ascii_digit separator ≡ false
     → pieces separator rest ≡ first ∷ others → pieces separator (digits ++ rest) ≡ (digits ++ first) ∷ others
 unfolding pieces
@@ -54,7 +54,7 @@ pieces_behind separator (d ∷ digits) rest first others h none e =
     let parts = and_parts (is_ascii_digit d) (list_all is_ascii_digit digits) h in
     rw (no_separator separator d none parts.0, pieces_behind separator digits rest first others parts.1 none e) refl
 
--- the first piece of a text that doesn't begin with a digit
+-- The first piece of a text that doesn't begin with a digit.
 record Opens (separator : ℕ) (rest : List ℕ) : Type 0 where
   first : List ℕ
   others : List (List ℕ)
@@ -74,7 +74,7 @@ opens separator (b ∷ rest) goes_on =
     before [] e later = record { first = b ∷ []; others = []; parted = rw (later, e) refl; goes_on = goes_on }
     before (piece ∷ others) e later = record { first = b ∷ piece; others = others; parted = rw (later, e) refl; goes_on = goes_on }
 
--- ---- words that are no number
+-- ---- words that are no number.
 
 above_zero : (n : ℕ) → 0 < n → (n == 0) ≡ false
 above_zero n lt =
@@ -83,7 +83,7 @@ above_zero n lt =
       | inr some ↦ some
     ]
 
--- a word with more than its leading digits is no number
+-- A word with more than its leading digits is no number.
 broken : (digits : List ℕ) (b : ℕ) (rest : List ℕ) → AreDigits digits → is_ascii_digit b ≡ false → is_decimal (digits ++ b ∷ rest) ≡ false
 broken [] b rest h e =
     elim (cases_Bool (b == 48)) [
@@ -96,7 +96,7 @@ broken (c ∷ digits) b rest h e =
       | inr other ↦ rw (other, list_all-append is_ascii_digit (c ∷ digits) (b ∷ rest), h, e) refl
     ]
 
--- nor are digits that are no number on their own
+-- Nor are digits that are no number on their own.
 none_behind : (digits first : List ℕ) → AreDigits digits → GoesOn first → is_decimal digits ≡ false → is_decimal (digits ++ first) ≡ false
 none_behind digits [] h goes_on none = rw (append-nil digits) none
 none_behind digits (b ∷ rest) h goes_on none = broken digits b rest h goes_on
@@ -106,7 +106,7 @@ none_read : (separator : ℕ) (digits rest first : List ℕ) (others : List (Lis
 unfolding number_of
 none_read separator digits rest first others h none e bad = rw (pieces_behind separator digits rest first others h none e, bad) refl
 
--- the text after its leading digits
+-- The text after its leading digits.
 rest_goes_on : (text : List ℕ) (n : ℕ) → (n < length text → is_ascii_digit (get_or text n 0) ≡ false) → GoesOn (drop n text)
 rest_goes_on [] zero e = tt
 rest_goes_on [] (suc n) e = tt
@@ -122,7 +122,7 @@ decimal-none separator text n value none begins bad =
     (none_read separator (take n text) (drop n text) o.first o.others begins.digits none o.parted
     (none_behind (take n text) o.first begins.digits o.goes_on bad))
 
--- another byte follows the digits
+-- Another byte follows the digits.
 broken_read : (separator : ℕ) (digits rest : List ℕ) → AreDigits digits → is_ascii_digit separator ≡ false → GoesOn rest → 0 < length rest
     → (get_or rest 0 0 == separator) ≡ false → decimal_at (pieces separator (digits ++ rest)) ≡ None
 unfolding pieces
@@ -140,7 +140,7 @@ decimal-broken separator text n value none begins some other =
     subst (λ (whole : List ℕ). decimal_at (pieces separator whole) ≡ None) (take-append-drop n text)
     (broken_read separator (take n text) (drop n text) begins.digits none (rest_goes_on text n begins.ended) some other)
 
--- ---- a word that is a number
+-- ---- a word that is a number.
 
 pub decimal-read : (separator : ℕ) (text : List ℕ) (n : ℕ) (value : Option ℕ) (left : Option (Bor (List ℕ))) → is_ascii_digit separator ≡ false
     → BeginsWith text n value → is_decimal (take n text) ≡ true → pieces separator (drop n text) ≡ [] ∷ pieces_left separator left
@@ -151,7 +151,7 @@ decimal-read separator text n value left none begins plain parted =
     let first = rw (take-append-drop n text, append-nil (take n text)) at whole in
     rw (first, plain, ← begins.value_is) refl
 
--- ---- the rest after a separator
+-- ---- the rest after a separator.
 
 pub pieces-empty : (separator : ℕ) (text : List ℕ) → length text ≡ 0 → pieces separator text ≡ [] ∷ []
 unfolding pieces
@@ -163,7 +163,7 @@ pub pieces-parted : (separator first : ℕ) (text others : List ℕ) → text �
 unfolding pieces
 pieces-parted separator first text others e here = rw (e, eq-eqb first separator here) refl
 
--- ---- whether a word is left
+-- ---- whether a word is left.
 
 pieces_some : (separator : ℕ) (text : List ℕ) → 0 < length (pieces separator text)
 unfolding pieces

@@ -1,4 +1,4 @@
--- Each call that a script asks for keeps the limits of calls.
+-- Each call that a script asks for is within the limits of a call.
 use Rattle.std.proofs.Common.{◌≡◌, ℕ, ◌+◌, ◌-◌, ◌^◌, ◌<◌, ◌≤◌, true, List, [], ◌∷◌, length, map, Option, Some, None, Result, Ok, arith, refl}
 use Rattle.std.specs.Prelude.{IfSome, IfOk}
 use Rattle.std.specs.List.{AllByRecursion}
@@ -19,7 +19,7 @@ use Rattle.ring_script.specs.Scripts.{unless_skipped, then_request, requests_in,
 use Rattle.ring_script.specs.Words.{words_of, whole}
 use Rattle.ring_script.proofs.Lengths.{operation_short}
 
--- the request keeps the limits
+-- The request is within the limits.
 abbrev FitsAsked : LineRequest → Type 0
 FitsAsked (Call node client number operation) = (client < 2 ^ 32) × (1 ≤ number) × (number < 2 ^ 64) × (length operation ≤ 1024)
 FitsAsked (Deliver node frame) = Unit {0}
@@ -31,7 +31,7 @@ FitsAsked Heal = Unit {0}
 FitsAsked (Pump turns) = Unit {0}
 FitsAsked Show = Unit {0}
 
--- ---- the forms of lines
+-- ---- the forms of lines.
 
 client_low : (words : List (List ℕ)) → IfSome (number_at 0 (2 ^ 32 - 1) words) (λ number. number.0 < 2 ^ 32)
 client_low words = grind (arith, common_steps)
@@ -47,7 +47,7 @@ operation_low forms words are = at_some (operation_at forms words) refl
     at_some None e = tt
     at_some (Some x) e = operation_short forms words x are e
 
--- what a form parses, and the words after it
+-- What a form parses, and the words after it.
 abbrev ReadFits : Option (LineRequest × List (List ℕ)) → Type 0
 ReadFits read = IfSome read (λ asked. FitsAsked asked.0)
 
@@ -113,7 +113,7 @@ form_fits : (forms : List OperationForm) (nodes : Group) (word : List ℕ) (word
 unfolding form_at
 form_fits forms nodes word words are = grind (arith, call_fits forms nodes words are, deliver_fits, timeout_fits, noise_fits, stop_fits, cut_fits, pump_fits)
 
--- ---- one line
+-- ---- one line.
 
 whole_fits : (read : Option (LineRequest × List (List ℕ))) → ReadFits read → IfSome (read >>= whole) FitsAsked
 whole_fits read fits = grind arith
@@ -127,9 +127,9 @@ asked_fits : (forms : List OperationForm) (nodes : Group) (line : List ℕ) → 
 unfolding request_in
 asked_fits forms nodes line are = words_fit forms nodes (words_of line) are
 
--- ---- all lines
+-- ---- all lines.
 
--- the requests with their numbers keep the limits
+-- The requests with their numbers are within the limits.
 abbrev AllFit : List (ℕ × LineRequest) → Type 0
 AllFit asked = AllByRecursion (λ (a : ℕ × LineRequest). FitsAsked a.1) asked
 
@@ -149,7 +149,7 @@ all_fit forms nodes before (line ∷ lines) are =
     then_fits (before + 1) (unless_skipped (request_in forms nodes) line) (requests_in forms nodes (before + 1) lines)
     (told_fits forms nodes line are) (all_fit forms nodes (before + 1) lines are)
 
--- the same of the program's lines
+-- The same for the program's lines.
 IsFit-asked : {A : Type 0} (line : ScriptLine A) → FitsAsked (request_of line) → IsFit line
 IsFit-asked (lines.Call node call) fits = record { client = fits.0; number = fits.1; number_fits = fits.2; op = fits.3 }
 IsFit-asked (lines.Deliver node frame) fits = tt
@@ -165,7 +165,7 @@ AreFit-numbered : {A : Type 0} (lines : List (NumberedLine A)) → AllFit (map n
 AreFit-numbered [] fit = tt
 AreFit-numbered (line ∷ lines) fit = (IsFit-asked line.line fit.0, AreFit-numbered lines fit.1)
 
--- the parsed lines of a text
+-- The parsed lines of a text.
 pub lines_fit : {A : Type 0} (forms : List OperationForm) (nodes : Group) (before : ℕ) (text : List (List ℕ)) (lines : List (NumberedLine A))
     → are_short forms ≡ true → requests_in forms nodes before text ≡ Ok (map numbered_by lines) → AreFit lines
 lines_fit forms nodes before text lines are read = AreFit-numbered lines (IfOk-at_ok AllFit read (all_fit forms nodes before text are))

@@ -24,7 +24,7 @@ use Rattle.ring_script.specs.Numbers.{is, word_at, number_at}
 use Rattle.ring_script.specs.Operations.{is_name, argument_at, argument_after, arguments_after, OperationForm, is_short, are_short, form_of, named_at, raw_at, operation_at}
 use Rattle.ring_script.specs.Reading.{IsBadScriptOrMemory}
 
--- a word that may be a name
+-- A word that may be a name.
 name_short : (word x : List ℕ × List (List ℕ)) → (if is_name word.0 then Some word else None) ≡ Some x → length x.0 ≤ 64
 name_short word x e =
     elim (cases_Bool (is_name word.0)) [
@@ -60,7 +60,7 @@ arguments_short bytes (argument ∷ others) words x e =
     let same : bytes ++ first.0 ≡ next.0 = cc in
     omega (arith, ap length same, length-append bytes first.0, argument_short argument words first read, arguments_short next.0 others next.1 x made)
 
--- the form found among these makes at most 1,024 bytes
+-- The form found among these makes at most 1,024 bytes.
 either_short : (b : Bool) (first form : OperationForm) (others : Option OperationForm) → is_short first ≡ true → (others ≡ Some form → is_short form ≡ true)
     → (if b then Some first else others) ≡ Some form → is_short form ≡ true
 either_short true first form others short more e = subst (λ (f : OperationForm). is_short f ≡ true) (same_Some first form e) short
@@ -85,7 +85,7 @@ ok_from_some : {X E : Type 0} (r : Result X E) (x : X) → result_ok r ≡ Some 
 ok_from_some (Ok y) x e = ap Ok (same_Some y x e)
 ok_from_some (Err y) x e = absurd cc
 
--- the bytes that a word encodes
+-- The bytes that a word encodes.
 encoded_short : (most : ℕ) (word bytes : List ℕ) → hex_bytes_of most word ≡ Some bytes → length bytes ≤ most
 unfolding hex_bytes_of
 encoded_short most word bytes e =
@@ -117,7 +117,7 @@ operation_short forms words x short e =
       | inr named ↦ named_short forms word.0 word.1 x short (let taken = rw named at next in taken)
     ]
 
--- a call of such an operation is refused for want of memory alone
+-- A call of such an operation is refused only because an allocation failed.
 pub call_refused : {Y : Type 0} (A : Type 0) (e : Fault) (client number : ℕ) (op : List ℕ) (read : Option Y)
     → length op ≤ 1024 → 1 ≤ number → IsNewCall {A = A} client number op (Err e) → IsBadScriptOrMemory e read
 call_refused A NotMember client number op read short some h = h

@@ -8,11 +8,11 @@ use Rattle.memchr.specs.Find.{IsFirstByte, is_byte}
 use Rattle.ring_base.proofs.ListFronts.{rest_whole}
 use Rattle.ring_script.specs.Words.{pieces, lines_of}
 
--- the index of the first such byte, or the length
+-- The index of the first such byte, or the length.
 abbrev place : ℕ → List ℕ → ℕ
 place separator text = position_or_len (λ b. b == separator) text
 
--- a piece that ends at the separator
+-- A piece that ends at the separator.
 piece_ends : (separator : ℕ) (text : List ℕ) → place separator text < length text → pieces separator text ≡ take
     (place separator text) text ∷ pieces separator (drop (place separator text + 1) text)
 unfolding pieces
@@ -27,7 +27,7 @@ piece_ends separator (b ∷ text) lt =
           rw (later, second, first, others) refl
     ]
 
--- the last piece
+-- The last piece.
 piece_stays : (separator : ℕ) (text : List ℕ) → length text ≤ place separator text → pieces separator text ≡ text ∷ []
 unfolding pieces
 piece_stays separator [] le = refl
@@ -39,7 +39,7 @@ piece_stays separator (b ∷ text) le =
           rw (later, others) refl
     ]
 
--- the same by what `position` gives
+-- The same by what `position` gives.
 pub pieces-ended : (separator n : ℕ) (text : List ℕ) → Some n ≡ position (λ b. b == separator) text
     → pieces separator text ≡ take n text ∷ pieces separator (take (length text - (n + 1)) (drop (n + 1) text))
 pieces-ended separator n text e =
@@ -59,7 +59,7 @@ pieces-last separator text e =
       | inr outside ↦ piece_stays separator text (ltb-false _ _ outside)
     ]
 
--- a line that ends at a line feed
+-- A line that ends at a line feed.
 line_ends : (text : List ℕ) → place 10 text < length text → lines_of text ≡ take (place 10 text) text ∷ lines_of (drop (place 10 text + 1) text)
 unfolding lines_of
 line_ends [] lt = absurd (omega arith)
@@ -73,7 +73,7 @@ line_ends (b ∷ text) lt =
           rw (later, second, first, others) refl
     ]
 
--- the last line, of at least one byte
+-- The last line, of at least one byte.
 line_stays : (b : ℕ) (text : List ℕ) → length (b ∷ text) ≤ place 10 (b ∷ text) → lines_of (b ∷ text) ≡ (b ∷ text) ∷ []
 unfolding lines_of
 line_stays b [] le =
@@ -89,7 +89,7 @@ line_stays b (c ∷ text) le =
           rw (later, others) refl
     ]
 
--- the first such byte is where a search finds it
+-- The first such byte is where a search finds it.
 found_place : (b : ℕ) (text : List ℕ) (n : ℕ) → IsFirstByte (is_byte b) text (Some n) → place b text ≡ n
 found_place b text n found =
     position_or_len_is (λ x. x == b) text n 0 (omega (arith, found.0.high)) (λ k lt. other k lt) (λ lt. found.1)
@@ -101,7 +101,7 @@ found_place b text n found =
           | inr later ↦ later
         ]
 
--- and nowhere where it finds none
+-- And nowhere if it finds none.
 no_place : (b : ℕ) (text : List ℕ) → IsFirstByte (is_byte b) text None → place b text ≡ length text
 no_place b text none =
     position_or_len_is (λ x. x == b) text (length text) 0 (omega arith) (λ k lt. other k lt) (λ lt. absurd (omega (arith, lt)))

@@ -15,18 +15,18 @@ use Rattle.ring_script.specs.Scripts.{unless_skipped, nodes_of, then_request, re
 use Rattle.ring_script.specs.Votes.{votes_of, is_votes, then_votes, votes_in}
 use Rattle.ring_script.specs.Words.{LinesLeft, are_ascii, is_skipped}
 
--- the lines parsed before, and then those parsed after
+-- The lines parsed before, and then those parsed after.
 abbrev pub behind : {X : Type 0} → List X → Result (List X) ℕ → Result (List X) ℕ
 behind front (Ok others) = Ok (front ++ others)
 behind front (Err line) = Err line
 
--- the lines parsed before and one more, and then those parsed after
+-- The lines parsed before and one more, and then those parsed after.
 then-behind : (front : List (ℕ × LineRequest)) (number : ℕ) (asked : LineRequest) (others : Result (List (ℕ × LineRequest)) ℕ)
     → behind (front ++ (number, asked) ∷ []) others ≡ behind front (then_request number (Some (Some asked)) others)
 then-behind front number asked (Ok rest) = ap Ok (append_assoc front ((number, asked) ∷ []) rest)
 then-behind front number asked (Err line) = refl
 
--- one more line was parsed
+-- One more line was parsed.
 pub next_asked : {A : Type 0} (forms : List OperationForm) (nodes : Group) (items : List (NumberedLine A)) (numbered : NumberedLine A) (line : List ℕ)
     (old left : LinesLeft) (whole : Result (List (ℕ × LineRequest)) ℕ)
     → behind (map numbered_by items) (requests_in forms nodes old.before old.lines) ≡ whole
@@ -43,7 +43,7 @@ next_asked forms nodes items numbered line old left whole before lines_are numbe
     rw (lines_are, told) refl in
     rw (now, number_is, after) (then-behind front (old.before + 1) asked others) ∙ sym step ∙ before
 
--- ---- the line at fault is one that the text has, or the one after its last
+-- ---- the line at fault is one that the text has, or the one after its last.
 
 told_low : (number line : ℕ) (read : Option (Option LineRequest)) (others : Result (List (ℕ × LineRequest)) ℕ) → 1 ≤ number
     → (others ≡ Err line → 1 ≤ line) → then_request number read others ≡ Err line → 1 ≤ line
@@ -89,7 +89,7 @@ votes_low nodes before (first ∷ lines) line e =
       ]
     ]
 
--- a refusal at such a line
+-- A refusal at such a line.
 pub faults_low : {Y : Type 0} (fault : ScriptFault) (read : Result Y ℕ) → Faults fault read → ((line : ℕ) → read ≡ Err line → 1 ≤ line) → IsOfText fault
 faults_low Memory read e low = tt
 faults_low (AtLine line) read e low = low line e

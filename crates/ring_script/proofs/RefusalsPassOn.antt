@@ -1,4 +1,4 @@
--- A refusal of one parse is a refusal of every other that has no value where that one has none.
+-- A refusal of one parse is a refusal of every other that has no value if that one has none.
 use Rattle.std.proofs.Common.{◌≡◌, Option, None}
 use Rattle.ring_base.specs.declared.fault.Fault.{Fault}
 use Rattle.ring_base.specs.declared.fault.Fault.TheVariants.{NotMember, PendingFull, OpTooLong, Conflict, Stale}
@@ -6,7 +6,7 @@ use Rattle.ring_base.specs.declared.fault.Fault.TheVariants.{NumberGap, Sessions
 use Rattle.ring_base.specs.declared.fault.Fault.TheVariants.{Memory, BadFrame, BadScript, NoAnswer, BadSnapshot}
 use Rattle.ring_script.specs.Reading.{IsBadScript, IsBadScriptOrMemory}
 
--- a refusal is also one of whatever has no value where this has none
+-- A refusal is also one of whatever has no value if this one has none.
 pub IsBadScriptOrMemory-passes : {A B : Type 0} (e : Fault) (r : Option A) (s : Option B) → IsBadScriptOrMemory e r → (r ≡ None → s ≡ None) → IsBadScriptOrMemory e s
 IsBadScriptOrMemory-passes NotMember r s h f = h
 IsBadScriptOrMemory-passes PendingFull r s h f = h
@@ -24,7 +24,7 @@ IsBadScriptOrMemory-passes BadScript r s h f = f h
 IsBadScriptOrMemory-passes NoAnswer r s h f = h
 IsBadScriptOrMemory-passes BadSnapshot r s h f = h
 
--- the same where memory is not refused
+-- The same if no allocation can fail.
 pub IsBadScript-passes : {A B : Type 0} (e : Fault) (r : Option A) (s : Option B) → IsBadScript e r → (r ≡ None → s ≡ None) → IsBadScript e s
 IsBadScript-passes NotMember r s h f = h
 IsBadScript-passes PendingFull r s h f = h

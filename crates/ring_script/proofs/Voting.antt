@@ -11,7 +11,7 @@ use Rattle.ring_script.specs.Numbers.{number_at}
 use Rattle.ring_script.specs.Votes.{votes_at}
 use Rattle.ring_base.proofs.Cases.{and_then_some}
 
--- the votes parsed before, and then those parsed after
+-- The votes parsed before, and then those parsed after.
 abbrev pub with_front : List ℕ → Option (List ℕ × List (List ℕ)) → Option (List ℕ × List (List ℕ))
 with_front front read = option_map (λ (r : List ℕ × List (List ℕ)). (front ++ r.0, r.1)) read
 
@@ -20,7 +20,7 @@ put_behind : (front : List ℕ) (vote : ℕ) (read : Option (List ℕ × List (L
 put_behind front vote None = refl
 put_behind front vote (Some others) = ap (λ (votes : List ℕ). Some (votes, others.1)) (sym (append_assoc front (vote ∷ []) others.0))
 
--- one more vote, or none
+-- One more vote, or none.
 pub votes_more : (front : List ℕ) (count : ℕ) (words : List (List ℕ)) (next : ℕ × List (List ℕ)) → number_at 1 255 words ≡ Some next
     → with_front front (votes_at (suc count) words) ≡ with_front (front ++ next.0 ∷ []) (votes_at count next.1)
 unfolding votes_at
@@ -37,7 +37,7 @@ votes_end front words = ap (λ (votes : List ℕ). Some (votes, words)) (append-
 low_vote : (words : List (List ℕ)) → IfSome (number_at 1 255 words) (λ vote. 1 ≤ vote.0)
 low_vote words = grind (arith, common_steps)
 
--- the parsed votes are as many as `count`, each at least 1
+-- The parsed votes are as many as `count`, each at least 1.
 pub votes_are : (count : ℕ) (words : List (List ℕ)) (read : List ℕ × List (List ℕ)) → votes_at count words ≡ Some read
     → (length read.0 ≡ count) × All (λ vote. 1 ≤ vote) read.0
 unfolding votes_at
@@ -55,14 +55,14 @@ votes_are (suc count) words read e =
           (number_at 1 255 words) vote at (low_vote words)) rest.1),
     )
 
--- once no vote is left to parse
+-- Once no vote is left to parse.
 pub votes_all : (count i : ℕ) (votes : List ℕ) (words all : List (List ℕ)) → count ≤ i
     → with_front (take i votes) (votes_at (count - i) words) ≡ votes_at count all → votes_at count all ≡ Some (take i votes, words)
 votes_all count i votes words all le read =
     let none : count - i ≡ 0 = omega arith in
     sym (rw none at read) ∙ votes_end (take i votes) words
 
--- the parsed votes are those of `count` processors
+-- The parsed votes are those of `count` processors.
 pub votes_made : (count : ℕ) (words : List (List ℕ)) (read : List ℕ × List (List ℕ)) → IsProc count → votes_at count words ≡ Some read → AreVotes read.0
 votes_made count words read proc e =
     let are = votes_are count words read e in

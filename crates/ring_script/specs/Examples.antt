@@ -10,11 +10,11 @@ use Rattle.ring_script.specs.ShelfVocabulary.{shelf_operation_forms}
 use Rattle.ring_script.specs.Votes.{nodes_with_one_vote}
 use Rattle.ring_script.specs.Words.{words_of}
 
--- lines joined by line feeds
+-- The lines, joined by line feeds.
 abbrev pub text : List (List ℕ) → List ℕ
 text lines = join_with_byte 10 lines
 
--- the number of the faulty line, and the lines of the text
+-- The number of the faulty line, and the lines of the text.
 abbrev pub faulty : List (ℕ × List (List ℕ))
 faulty =
     (1, []) ∷
@@ -72,11 +72,11 @@ faulty =
     (2, codes "nodes 2" ∷ codes "pump 0" ∷ codes "nodes 99" ∷ [] ∷ []) ∷
     []
 
--- each of these texts is refused at the line given with it
+-- Each of these texts has its first fault in the line given with it.
 abbrev pub AreFaultExamples : Type 0
 AreFaultExamples = map (λ row. script_of (text row.1)) faulty ≡ map (λ row. Err row.0) faulty
 
--- the lines of a text, and its schedule
+-- The lines of a text, and its schedule.
 abbrev pub good : List (List (List ℕ) × Schedule)
 good = (
   codes "nodes 3" ∷ codes "cut 3,1 2" ∷ [],
@@ -115,11 +115,11 @@ good = (
     ) ∷
     []
 
--- each of these texts is the schedule given with it
+-- Each of these texts denotes the schedule given with it.
 abbrev pub AreScheduleExamples : Type 0
 AreScheduleExamples = map (λ row. script_of (text row.0)) good ≡ map (λ row. Ok row.1) good
 
--- the words of an operation, and its bytes
+-- The words of an operation, and its bytes.
 abbrev pub operations : List (List ℕ × List ℕ)
 operations =
     (codes "get 255", 0 ∷ 1 ∷ 255 ∷ []) ∷
@@ -136,6 +136,6 @@ operations =
     (codes "raw 00ff7a", 0 ∷ 255 ∷ 122 ∷ []) ∷
     []
 
--- the words of each operation denote the bytes given with them, and no word is left
+-- The words of each operation denote the bytes given with them, and no word is left.
 abbrev pub AreOperationExamples : Type 0
 AreOperationExamples = map (λ row. operation_at shelf_operation_forms (words_of row.0)) operations ≡ map (λ row. Some (row.1, [])) operations

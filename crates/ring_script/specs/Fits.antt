@@ -1,4 +1,4 @@
--- The requests of a script keep the limits of calls.
+-- The requests of a script are within the limits of a call.
 -- Formats: Scripts
 use Rattle.std.specs.Prelude.{List}
 use Rattle.std.specs.List.{AllByRecursion}
@@ -7,7 +7,7 @@ use Rattle.ring_script.specs.declared.line.ScriptLine.{ScriptLine}
 use Rattle.ring_script.specs.declared.line.ScriptLine.TheVariants.{Call, Deliver, Timeout, Noise, Stop, Cut, Heal, Pump, Show}
 use Rattle.ring_script.specs.declared.scripts.NumberedLine.{NumberedLine}
 
--- a call has an encoding: its number is at least 1, and its operation has at most 1,024 bytes
+-- A call has an encoding: its number is at least 1, and its operation has at most 1,024 bytes.
 abbrev pub IsFit : {A : Type 0} → ScriptLine A → Type 0
 IsFit (Call node call) = CallFits call
 IsFit (Deliver node frame) = Unit {0}
@@ -19,6 +19,6 @@ IsFit Heal = Unit {0}
 IsFit (Pump turns) = Unit {0}
 IsFit Show = Unit {0}
 
--- each call has an encoding
+-- Each call has an encoding.
 abbrev pub AreFit : {A : Type 0} → List (NumberedLine A) → Type 0
 AreFit lines = AllByRecursion (λ (l : NumberedLine _). IsFit l.line) lines

@@ -7,63 +7,63 @@ use Rattle.std.specs.Str.Parse.{digits_value}
 use Rattle.ring_base.specs.Group.{Group}
 use Rattle.ring_script.specs.Reading.{◌>>=◌}
 
--- whether the word equals this name
+-- Whether the word equals this name.
 unfoldable pub is : List ℕ → List ℕ → Bool
 is name word = bytes_eq word name
 
--- whether the word is one or more digits, without a leading zero except in `0` itself
+-- Whether the word is one or more digits, without a leading zero except in `0` itself.
 abbrev pub is_decimal : List ℕ → Bool
 is_decimal [] = false
 is_decimal (c ∷ word) = if c == 48 then length word == 0 else list_all is_ascii_digit (c ∷ word)
 
--- the number that the word denotes
+-- The number that the word denotes.
 unfoldable pub number_of : List ℕ → Option ℕ
 number_of word = if is_decimal word then Some (digits_value 10 word) else None
 
--- the number that the word denotes, if it is from `least` to `most`
+-- The number that the word denotes, if it is from `least` to `most`.
 abbrev pub number_within : ℕ → ℕ → List ℕ → Option ℕ
 number_within least most word = do
   number ← number_of word
   if nat_le least number && nat_le number most then Some number else None
 
--- the node whose number the word is
+-- The node whose number the word is.
 abbrev pub node_of : Group → List ℕ → Option ℕ
 node_of nodes word = number_within 1 nodes.count word
 
--- the number, if a u64 holds it
+-- The number, if a u64 holds it.
 abbrev pub as_u64 : ℕ → Option ℕ
 as_u64 number = if nat_lt number (2 ^ 64) then Some number else None
 
--- the number that the word denotes; `Some None` is one that no u64 holds
+-- The number that the word denotes; `Some None` is one that no u64 holds.
 abbrev pub decimal_of : List ℕ → Option (Option ℕ)
 decimal_of word = option_map as_u64 (number_of word)
 
--- The text begins with exactly `count` digits, and they denote the number `value`, None where no u64 holds it.
+-- The text begins with exactly `count` digits, and they denote the number `value`, None if no u64 holds it.
 pub record BeginsWith (text : List ℕ) (count : ℕ) (value : Option ℕ) : Type 0 where
   pub within : count ≤ length text
   pub digits : list_all is_ascii_digit (take count text) ≡ true
   pub ended : count < length text → is_ascii_digit (get_or text count 0) ≡ false
   pub value_is : value ≡ as_u64 (digits_value 10 (take count text))
 
--- the next word, and the words after it
+-- The next word, and the words after it.
 abbrev pub word_at : List (List ℕ) → Option (List ℕ × List (List ℕ))
 word_at [] = None
 word_at (word ∷ words) = Some (word, words)
 
--- the number that the next word denotes, None where no u64 holds it, and the words after it
+-- The number that the next word denotes, None if no u64 holds it, and the words after it.
 abbrev pub decimal_at : List (List ℕ) → Option (Option ℕ × List (List ℕ))
 decimal_at words = do
   word ← word_at words
   number ← decimal_of word.0
   Some (number, word.1)
 
--- the number that the next word denotes, from `least` to `most`, and the words after it
+-- The number that the next word denotes, from `least` to `most`, and the words after it.
 abbrev pub number_at : ℕ → ℕ → List (List ℕ) → Option (ℕ × List (List ℕ))
 number_at least most words = do
   word ← word_at words
   number ← number_within least most word.0
   Some (number, word.1)
 
--- the node that the next word denotes, and the words after it
+-- The node that the next word denotes, and the words after it.
 abbrev pub node_at : Group → List (List ℕ) → Option (ℕ × List (List ℕ))
 node_at nodes words = number_at 1 nodes.count words

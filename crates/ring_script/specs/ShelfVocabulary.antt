@@ -1,10 +1,10 @@
--- The vocabulary of the program's object: a shelf with registers, counters, a queue and names, in this order.
+-- The vocabulary of the standard object: a shelf with registers, counters, a queue and names, in this order.
 -- Formats: Scripts; Operations and replies
 use Rattle.std.specs.Prelude.{List, [], ◌∷◌, codes}
 use Rattle.ring_script.specs.declared.vocabulary.Argument.TheVariants.{Key, Value, Name}
 use Rattle.ring_script.specs.Operations.{OperationForm}
 
--- `add` is listed twice, so a generated script has it twice as often
+-- `add` is listed twice, so a generated script has it twice as often.
 unfoldable pub shelf_operation_forms : List OperationForm
 shelf_operation_forms =
     record { word = codes "get"; first = 0 ∷ 1 ∷ []; arguments = Key ∷ [] } ∷

@@ -1,4 +1,4 @@
--- The operations of the program's object are short.
+-- The operations of the standard object are short.
 use Rattle.std.specs.Prelude.{◌≡◌, true, refl}
 use Rattle.ring_script.specs.Operations.{are_short}
 use Rattle.ring_script.specs.ShelfVocabulary.{shelf_operation_forms}

@@ -1,4 +1,5 @@
 //! The groups that a cut splits the nodes into.
+//!
 //! Formats: Scripts
 
 ghost use Rattle.std.specs.Prelude.{◌≡◌, ◌-◌, slice_index};
@@ -11,7 +12,9 @@ use ring_base::{Fault, Fixed, PROCESSORS, Proc, ProcSet};
 use std::marker::Model;
 
 /// A partition of the nodes into the groups of a cut: each node is in exactly one group.
-/// Contracts see the group of each processor, 1 to 16. It takes no heap memory.
+///
+/// Contracts see it as the list of the groups of the processors 1 to 16.
+///
 /// Formats: Scripts
 #[derive(Clone, Copy, Debug, PartialEq, Eq)]
 pub struct Groups {
@@ -31,7 +34,8 @@ impl Model for Groups {
 }
 
 impl Groups {
-    /// Returns the partition into two groups: this node alone, and all other processors from 1 to 16.
+    /// Returns the partition into two groups: only `node`, and all other processors from 1 to 16.
+    ///
     /// Formats: The command line
     pub fn isolation(node: Proc) -> Groups
         ensures { result ≡ isolation node }
@@ -44,6 +48,7 @@ impl Groups {
     }
 
     /// Returns whether the two nodes are in one group, so that each hears the other under this cut.
+    ///
     /// Formats: Pump
     pub fn are_connected(&self, a: Proc, b: Proc) -> bool
         ensures { result ≡ has (slice_index self.now (a - 1)) b }
@@ -51,10 +56,13 @@ impl Groups {
         self.group_of[a.number() as usize - 1].contains(b)
     }
 
-    /// Takes the remaining words and parses them as the groups of a cut. A word is a group: node numbers with single commas
-    /// between them.
-    /// Errors: `BadScript` unless there are at least two groups, and each node is in exactly one of them, once. The words
-    /// left are then unspecified.
+    /// Takes the remaining words and parses them as the groups of a cut.
+    ///
+    /// A word is a group: node numbers with single commas between them.
+    ///
+    /// Errors: `BadScript` unless there are at least two groups, and each node is in exactly one of them, once. The
+    /// remaining words are then unspecified.
+    ///
     /// Formats: Scripts
     #[tactic(auto, unfolding(crate::proofs::Cutting::cut_after))]
     pub(crate) fn parse(words: &mut Words<'_>, nodes: Fixed) -> Result<Groups, Fault>
@@ -80,7 +88,7 @@ impl Groups {
         Ok(groups)
     }
 
-    /// Makes this the group of each of its members.
+    /// Sets `group` as the group of each of its members.
     fn place(&mut self, group: ProcSet)
         ensures { self.new ≡ placed_from 1 group self.old }
     {
@@ -92,7 +100,9 @@ impl Groups {
     }
 }
 
-/// Parses a group: node numbers separated by single commas. `BadScript` where a number is that of no node, or comes twice.
+/// Parses a group: node numbers separated by single commas.
+///
+/// Errors: `BadScript` if a word isn't the number of a node, or a number occurs twice.
 #[tactic(auto, unfolding(crate::specs::Cuts::group_of))]
 fn group_of(word: &[u8], nodes: Fixed) -> Result<ProcSet, Fault>
     ensures { IsParseResult (λ set. set) result (group_of nodes word.now) }
@@ -100,7 +110,9 @@ fn group_of(word: &[u8], nodes: Fixed) -> Result<ProcSet, Fault>
     member_set(nodes, &mut Words::new(word, b','))
 }
 
-/// Returns the set of nodes with these numbers. `BadScript` where a number is that of no node, or comes twice.
+/// Takes the remaining numbers, and returns the set of the nodes with these numbers.
+///
+/// Errors: `BadScript` if a word isn't the number of a node, or a number occurs twice.
 #[tactic(auto, unfolding(crate::specs::Cuts::member_set))]
 fn member_set(nodes: Fixed, numbers: &mut Words<'_>) -> Result<ProcSet, Fault>
     ensures { IsParseResult (λ set. set) result (member_set nodes nobody numbers.old) }

@@ -1,4 +1,5 @@
 //! Bytes that a word encodes in hex.
+//!
 //! Formats: Scripts
 
 ghost use Rattle.std.specs.Char.{is_ascii_uppercase};
@@ -11,8 +12,13 @@ ghost use Rattle.ring_base.specs.Numbers.{max_frame_bytes};
 use ring_base::Fault;
 use std::alloc::Allocator;
 
-/// Decodes a word of lower-case hex, two digits a byte, to the 1 to `most` bytes that it encodes. `most` is at most 8,192.
-/// Errors: `BadScript` where the word is empty, has more than 2 * `most` digits, or isn't such hex. `Memory`.
+/// Decodes a word of lower-case hex, two digits a byte, to the 1 to `most` bytes that it encodes.
+///
+/// `most` must be at most 8,192.
+///
+/// Errors: `BadScript` if the word is empty, has more than 2 * `most` digits, or isn't such hex. `Memory` if an
+/// allocation fails.
+///
 /// Formats: Scripts
 #[tactic(auto, unfolding(crate::specs::HexWords::hex_bytes_of))]
 pub(crate) fn hex_bytes_of<A: Allocator + Copy>(

@@ -1,4 +1,5 @@
 //! Laws of cuts.
+//!
 //! Formats: Scripts
 
 ghost use Rattle.std.specs.Prelude.{◌≡◌, ◌-◌, ◌≤◌, ◌↔◌, ℕ, List, Contains, Some, slice_index, true};
@@ -7,10 +8,11 @@ ghost use Rattle.ring_base.specs.Processors.{IsProc, IsMember, has};
 ghost use Rattle.ring_script.specs.Cuts.{AreConnected, Names, cut_at, is_cut, table_of};
 
 /// States which nodes a cut connects, for every group of nodes and every cut of it.
-/// Two nodes are connected, so that each hears the other, exactly where one group of the cut has both. Each node is in one
-/// group of the cut and in no other.
-/// Of a cut parsed from words, two nodes are connected exactly where one word has the numbers of both.
-/// It has no effect at run time.
+///
+/// Two nodes are connected, so that each hears the other, exactly if one group of the cut has both. Each node is in one
+/// group of the cut and in no other. A cut that is parsed from words connects two nodes exactly if one word has the
+/// numbers of both. Has no effect at run time.
+///
 /// Formats: Scripts; Pump
 pub fn cut_law()
     ensures union_of_groups { (nodes : Group) (groups : List ℕ) (a b : ℕ) → is_cut nodes groups ≡ true → IsProc a → IsProc b

@@ -1,5 +1,7 @@
-//! The script language, as a text: the number of nodes, their votes, and the events, in order. The parser accepts a whole text
-//! or reports its first fault; it runs nothing.
+//! The script language, as a text: the number of nodes, their votes, and the events, in order.
+//!
+//! The parser accepts a whole text or reports its first fault; it runs nothing.
+//!
 //! Formats: Scripts
 #![tactic(auto)]
 

@@ -1,4 +1,5 @@
 //! The lines of a script after its first: parsing, and the names of the timeouts.
+//!
 //! Formats: Scripts
 
 ghost use Rattle.std.specs.Prelude.{◌≡◌, Some};
@@ -15,40 +16,53 @@ use ring_base::{Fault, Fixed, Kind, MAX_FRAME_BYTES, Proc};
 use ring_payload::Call;
 use std::alloc::{Allocator, Global};
 
-/// The greatest number of turns that a line `pump` may request: 100,000.
+/// The maximum number of turns that a line `pump` may request: 100,000.
+///
 /// Formats: Scripts
 pub const MAX_TURNS: u64 = 100_000;
 
-/// The event or command that an effective line of a script requests. The lines `nodes` and `votes` request none.
+/// The event or command that an effective line of a script requests.
+///
+/// The lines `nodes` and `votes` request none.
+///
 /// Formats: Scripts
 #[derive(Drop)]
 pub enum ScriptLine<A: Allocator + Copy = Global> {
-    /// The call of a client is submitted at the node.
+    /// A client's call is submitted at the node.
     Call { node: Proc, call: Call<A> },
-    /// The frame of this number is delivered at the node. The number is at least 1. `None` stands for a number of 2^64 or
-    /// more, which no frame has.
+    /// Frame `frame` is delivered at the node.
+    ///
+    /// The number is at least 1, in the order of sending. `None` stands for a number of 2^64 or more, which no frame
+    /// has.
     Deliver { node: Proc, frame: Option<u64> },
-    /// The timeout of this kind comes at the node.
+    /// The timeout of this kind fires at the node.
     Timeout { node: Proc, kind: Kind },
     /// Bytes that no node sent, 1 to 8,192 of them, arrive at the node.
     Noise { node: Proc, bytes: Vec<u8, A> },
     /// The node stops for good.
     Stop { node: Proc },
-    /// From then on, nodes of different groups don't hear each other. An earlier cut is replaced.
+    /// From then on, nodes of different groups don't hear each other.
+    ///
+    /// An earlier cut is replaced.
     Cut(Groups),
     /// From then on, all nodes hear each other.
     Heal,
-    /// The network takes this number of turns, 1 to 100,000, and fewer where no copy of a frame is open.
+    /// The network takes this number of turns, 1 to 100,000, or fewer: it ends as soon as no copy of a frame is open.
     Pump { turns: u32 },
     /// The state of all nodes is printed.
     Show,
 }
 
 impl<A: Allocator + Copy> ScriptLine<A> {
-    /// Parses an effective line that is neither `nodes` nor `votes`, for these nodes and an object with this vocabulary. It
-    /// builds the bytes of an operation in `room`, a buffer that all lines share. The contents of `room` don't matter,
-    /// before or after.
-    /// Errors: `BadScript` where the line has none of the forms, or a number is outside its range; `Memory`.
+    /// Parses an effective line that is neither `nodes` nor `votes`, for these nodes and an object with this
+    /// vocabulary.
+    ///
+    /// `room` is a scratch buffer, in which the bytes of an operation are built. Its contents are unspecified
+    /// afterwards.
+    ///
+    /// Errors: `BadScript` if the line has none of the forms, or a number is outside its range; `Memory` if an
+    /// allocation fails.
+    ///
     /// Formats: Scripts
     #[tactic(auto, unfolding(crate::specs::Lines::request_in))]
     pub(crate) fn parse<V: Vocabulary>(
@@ -71,7 +85,7 @@ impl<A: Allocator + Copy> ScriptLine<A> {
     }
 }
 
-/// Parses the words after `word`, the first one, by the form that begins with it.
+/// Parses the words after the first one, `word`, by the form that begins with `word`.
 #[tactic(auto, unfolding(crate::specs::Lines::form_at))]
 fn form_of<V: Vocabulary, A: Allocator + Copy>(
     alloc: A,
@@ -211,7 +225,11 @@ fn parse_pump<A: Allocator + Copy>(words: &mut Words<'_>) -> Result<ScriptLine<A
     }
 }
 
-/// Parses the next word as the number of a frame, at least 1: `None` if no u64 holds it.
+/// Takes the next word and parses it as the number of a frame, at least 1.
+///
+/// Returns `None` for a number of 2^64 or more.
+///
+/// Errors: `BadScript` if it is no such number.
 #[tactic(auto, unfolding(crate::specs::Lines::frame_of))]
 fn frame_at(words: &mut Words<'_>) -> Result<Option<u64>, Fault>
     ensures { IsParseResult (λ frame. (frame, words.new)) result (frame_at words.old) }
@@ -222,7 +240,8 @@ fn frame_at(words: &mut Words<'_>) -> Result<Option<u64>, Fault>
     }
 }
 
-/// Returns the word that names a timeout of this kind in scripts: `retransmit`, `join`, `consensus` or `loss`.
+/// Returns the word that names this timeout in scripts: `retransmit`, `join`, `consensus` or `loss`.
+///
 /// Formats: Scripts
 pub fn timeout_name(kind: Kind) -> &'static str
     ensures { timeout_kind_of result.now ≡ Some kind }
@@ -235,7 +254,9 @@ pub fn timeout_name(kind: Kind) -> &'static str
     }
 }
 
-/// Returns the timeout with this name, or `BadScript`.
+/// Returns the timeout that this word names.
+///
+/// Errors: `BadScript` if it names none.
 #[tactic(auto, unfolding(crate::specs::Lines::timeout_kind_of))]
 fn timeout_kind_of(word: &[u8]) -> Result<Kind, Fault>
     ensures { IsParseResult (λ kind. kind) result (timeout_kind_of word.now) }

@@ -1,4 +1,5 @@
 //! The operations of calls: by an object's vocabulary, or by their bytes.
+//!
 //! Formats: Scripts
 
 ghost use Rattle.std.specs.Prelude.{◌≡◌, ◌++◌, OnOk, IfErr};
@@ -15,14 +16,20 @@ use ring_base::Fault;
 use ring_payload::MAX_OPERATION;
 use std::alloc::Allocator;
 
-/// The greatest length of a name that a script gives as an argument, in bytes: 64.
+/// The maximum length in bytes of a name that a script gives as an argument: 64.
+///
 /// Formats: Scripts
 pub const MAX_NAME_BYTES: usize = 64;
 
-/// Takes the next words, and replaces `bytes` by the operation that they denote: `raw` and hex, or a word of the vocabulary
-/// and its arguments. Words after the operation are left.
-/// Errors: `BadScript` where no operation begins with these words; `Memory`. `bytes` and the words left are then
-/// unspecified.
+/// Takes the words of an operation, and replaces the contents of `bytes` by its encoding.
+///
+/// The words are `raw` and hex, or a word of the vocabulary and its arguments.
+///
+/// Words after the operation are not taken.
+///
+/// Errors: `BadScript` if no operation begins with these words; `Memory` if an allocation fails. `bytes` and the
+/// remaining words are then unspecified.
+///
 /// Formats: Scripts
 #[tactic(auto, unfolding(crate::specs::Operations::operation_at))]
 pub(crate) fn encode_operation<V: Vocabulary, A: Allocator + Copy>(
@@ -42,7 +49,9 @@ pub(crate) fn encode_operation<V: Vocabulary, A: Allocator + Copy>(
     }
 }
 
-/// Replaces `bytes` by those that the next word encodes in hex. `BadScript` where it encodes none; `Memory`.
+/// Replaces the contents of `bytes` by the bytes that the next word encodes in hex.
+///
+/// Errors: `BadScript` if it isn't hex of 1 to 1,024 bytes; `Memory` if an allocation fails.
 #[tactic(auto, unfolding(crate::specs::Operations::raw_at))]
 fn encode_raw<A: Allocator + Copy>(
     alloc: A,
@@ -63,8 +72,10 @@ fn encode_raw<A: Allocator + Copy>(
     }
 }
 
-/// Replaces `bytes` by the operation of this name, with the next words as its arguments. `BadScript` where they don't fit;
-/// `Memory`.
+/// Replaces the contents of `bytes` by the encoding of the operation `name`, with the next words as its arguments.
+///
+/// Errors: `BadScript` if no operation has this name, or the words aren't its arguments; `Memory` if an allocation
+/// fails.
 #[tactic(auto, unfolding(crate::specs::Operations::named_at))]
 fn encode_named<V: Vocabulary, A: Allocator + Copy>(
     name: &[u8],
@@ -80,7 +91,9 @@ fn encode_named<V: Vocabulary, A: Allocator + Copy>(
     encode_arguments(form.arguments, words, bytes)
 }
 
-/// Replaces the bytes by these few, one at a time, which costs less than a copy; or `Memory`.
+/// Replaces the contents of `bytes` by the few bytes of `first`, one at a time, which costs less than a copy.
+///
+/// Errors: `Memory` if an allocation fails.
 fn begin<A: Allocator + Copy>(bytes: &mut Vec<u8, A>, first: &[u8]) -> Result<(), Fault>
     ensures bytes { OnOk result (bytes.new.items ≡ first.now) }
     ensures refused { IfErr result (λ fault. fault ≡ Memory) }
@@ -94,7 +107,9 @@ fn begin<A: Allocator + Copy>(bytes: &mut Vec<u8, A>, first: &[u8]) -> Result<()
     Ok(())
 }
 
-/// Appends the encodings of these arguments, which the next words denote.
+/// Takes a word for each argument, and appends their encodings to `bytes`.
+///
+/// Errors: `BadScript` if a word isn't such an argument; `Memory` if an allocation fails.
 fn encode_arguments<A: Allocator + Copy>(
     arguments: &[Argument],
     words: &mut Words<'_>,
@@ -109,7 +124,9 @@ fn encode_arguments<A: Allocator + Copy>(
     Ok(())
 }
 
-/// Appends the encoding of this argument, which the next word denotes.
+/// Takes the next word, and appends the encoding of the argument that it denotes.
+///
+/// Errors: `BadScript` if it isn't such an argument; `Memory` if an allocation fails.
 #[tactic(auto, unfolding(crate::specs::Operations::argument_at))]
 fn encode_argument<A: Allocator + Copy>(
     argument: Argument,
@@ -149,6 +166,7 @@ fn append<A: Allocator + Copy>(bytes: &mut Vec<u8, A>, more: &[u8]) -> Result<()
 }
 
 /// Returns whether the word is a valid name: 1 to 64 bytes, each from `!` to `~` (`21` to `7E`).
+///
 /// Formats: Scripts
 pub fn is_name(word: &[u8]) -> bool
     ensures { result ≡ is_name word.now }

@@ -1,4 +1,5 @@
 //! Scripts: schedules of events, as a text.
+//!
 //! Rules: Limits 1 and 2
 //! Formats: Scripts
 
@@ -26,50 +27,63 @@ use ring_base::{Fault, Fixed, MAX_PROCESSORS};
 use std::alloc::{Allocator, Global};
 use std::io::{ErrorKind, Read};
 
-/// The greatest length of a script, in bytes: 1,048,576.
+/// The maximum length of a script in bytes: 1,048,576.
+///
 /// Rules: Limits 1
 /// Formats: Scripts
 pub const MAX_SCRIPT_BYTES: u64 = 1_048_576;
 
-/// The greatest number of nodes of a script.
+/// The maximum number of nodes of a script: 16.
 const MAX_NODES: u64 = MAX_PROCESSORS as u64;
 
-/// The reason why an input gives no script.
+/// The reason why an input can't be read or parsed as a script.
+///
 /// Formats: Scripts
 #[derive(Clone, Copy, Debug, PartialEq, Eq)]
 pub enum ScriptFault {
-    /// Memory was refused. Whether the input is a script isn't known.
+    /// Memory was refused.
+    ///
+    /// Whether the input is a script isn't known.
     Memory,
-    /// The first line at fault, counted from 1. Where the only fault is that no line is effective, it is one more than the
-    /// number of lines. It is 0 for the input as a whole, which can't be read or is too long.
+    /// The first line at fault, counted from 1.
+    ///
+    /// If the only fault is that no line is effective, it is one more than the number of lines. It is 0 for the input
+    /// as a whole, which can't be read or is too long.
     AtLine(u64),
 }
 
 /// A parsed script: the nodes with their votes, and the requests of all other effective lines, in order.
+///
 /// Formats: Scripts
 #[derive(Drop)]
 pub struct Script<A: Allocator + Copy = Global> {
-    /// The nodes, 1 to 16, with their votes: one vote each where the script has no line `votes`.
+    /// The nodes, 1 to 16, with their votes: one vote each if the script has no line `votes`.
     pub nodes: Fixed,
     /// The requests of the effective lines after `nodes` and `votes`, in the order of the lines.
     pub lines: Vec<NumberedLine<A>, A>,
 }
 
 /// The request of an effective line, and the number of the line.
+///
 /// Formats: Scripts
 #[derive(Drop)]
 pub struct NumberedLine<A: Allocator + Copy = Global> {
-    /// The number of the line in the text, counted from 1. Skipped lines count.
+    /// The number of the line in the text, counted from 1.
+    ///
+    /// Skipped lines count.
     pub number: u64,
     /// The event or command that the line requests.
     pub line: ScriptLine<A>,
 }
 
 impl<A: Allocator + Copy> Script<A> {
-    /// Reads the whole input and parses it as a script over the program's object, as [`parse`](Script::parse) does. No line
-    /// names a node above the script's nodes, and each call keeps the limits of calls.
-    /// Errors: `AtLine(0)` where the input can't be read or is longer than 1,048,576 bytes. Otherwise those of `parse`.
-    /// `Memory` also where it is refused to the reading.
+    /// Reads the whole input and parses it as a script for the standard object, as [`parse`](Script::parse) does.
+    ///
+    /// No line names a node above the script's nodes, and each call is within the limits of a call.
+    ///
+    /// Errors: `AtLine(0)` if the input can't be read or is longer than 1,048,576 bytes; otherwise those of `parse`.
+    /// `Memory` if an allocation fails, including while the input is read.
+    ///
     /// Formats: Scripts
     pub fn read<R: Read>(alloc: A, input: &mut R) -> Result<Script<A>, ScriptFault>
         ensures among { IfOk result (λ script. AreAmong script.nodes.count script.lines.items) }
@@ -80,10 +94,13 @@ impl<A: Allocator + Copy> Script<A> {
         Script::read_by::<ShelfVocabulary, R>(alloc, input)
     }
 
-    /// Parses the text as a script over the program's object. No line names a node above the script's nodes. The length of
-    /// the text isn't checked.
-    /// Errors: `AtLine` with the number of the first line at fault, or of the line after the last where all lines are
-    /// skipped. `Memory`.
+    /// Parses the text as a script for the standard object.
+    ///
+    /// No line names a node above the script's nodes. The length of the text isn't checked.
+    ///
+    /// Errors: `AtLine` with the number of the first line at fault, or of the line after the last if all lines are
+    /// skipped. `Memory` if an allocation fails.
+    ///
     /// Formats: Scripts
     pub fn parse(alloc: A, text: &[u8]) -> Result<Script<A>, ScriptFault>
         ensures among { IfOk result (λ script. AreAmong script.nodes.count script.lines.items) }
@@ -94,8 +111,10 @@ impl<A: Allocator + Copy> Script<A> {
         Script::parse_by::<ShelfVocabulary>(alloc, text)
     }
 
-    /// Reads the whole input and parses it as a script over an object with this vocabulary.
+    /// Reads the whole input and parses it as a script for an object with the vocabulary `V`.
+    ///
     /// Errors: as for [`read`](Script::read).
+    ///
     /// Formats: Scripts
     pub fn read_by<V: Vocabulary, R: Read>(
         alloc: A,
@@ -110,8 +129,10 @@ impl<A: Allocator + Copy> Script<A> {
         Script::parse_by::<V>(alloc, text.as_slice())
     }
 
-    /// Parses the text as a script over an object with this vocabulary.
+    /// Parses the text as a script for an object with the vocabulary `V`.
+    ///
     /// Errors: as for [`parse`](Script::parse).
+    ///
     /// Formats: Scripts
     #[tactic(auto, unfolding(crate::specs::Scripts::script_by))]
     pub fn parse_by<V: Vocabulary>(alloc: A, text: &[u8]) -> Result<Script<A>, ScriptFault>
@@ -128,7 +149,9 @@ impl<A: Allocator + Copy> Script<A> {
     }
 }
 
-/// Reads the whole input. `AtLine(0)` where it can't be read or is too long for a script; `Memory`.
+/// Reads the whole input.
+///
+/// Errors: `AtLine(0)` if it can't be read or is longer than 1,048,576 bytes; `Memory` if an allocation fails.
 fn read_text<A: Allocator + Copy, R: Read>(
     alloc: A,
     input: &mut R,
@@ -145,7 +168,10 @@ fn read_text<A: Allocator + Copy, R: Read>(
     }
 }
 
-/// Returns the nodes that the first effective line gives. Where all lines are skipped, the line after them is at fault.
+/// Returns the nodes that the first effective line gives.
+///
+/// Errors: `AtLine` with the number of that line, unless it is `nodes N` with 1 to 16 nodes. If all lines are skipped,
+/// the line after them is at fault.
 #[tactic(auto, unfolding(crate::specs::Scripts::nodes_in))]
 fn read_nodes(lines: &mut Lines<'_>) -> Result<Fixed, ScriptFault>
     ensures { Answers (λ nodes. (nodes, lines.new)) result
@@ -161,7 +187,9 @@ fn read_nodes(lines: &mut Lines<'_>) -> Result<Fixed, ScriptFault>
     Err(ScriptFault::AtLine(lines.number()))
 }
 
-/// Parses the remaining lines.
+/// Parses the remaining lines, and returns the requests of the effective ones.
+///
+/// Errors: `AtLine` with the number of the first line at fault; `Memory` if an allocation fails.
 #[tactic(auto, unfolding(crate::specs::Scripts::requests_in))]
 fn read_lines<V: Vocabulary, A: Allocator + Copy>(
     alloc: A,
@@ -188,8 +216,9 @@ fn read_lines<V: Vocabulary, A: Allocator + Copy>(
     Ok(asked)
 }
 
-/// Returns the script's fault for a fault in the line of this number, counted from 1. `Memory` stays `Memory`, and any
-/// other fault becomes `AtLine` with this number.
+/// Converts a fault in line `number`, counted from 1, to a script's fault.
+///
+/// `Memory` stays `Memory`, and any other fault becomes `AtLine(number)`.
 pub(crate) fn at_line(fault: Fault, number: u64) -> ScriptFault
     ensures { result ≡ at_line fault number }
 {
@@ -199,7 +228,11 @@ pub(crate) fn at_line(fault: Fault, number: u64) -> ScriptFault
     }
 }
 
-/// Returns the nodes that a line gives: `None` where it is skipped. `BadScript` where it is not of the form `nodes N`.
+/// Parses a line as the line `nodes`.
+///
+/// Returns `None` if it is skipped.
+///
+/// Errors: `BadScript` if it is not of the form `nodes N`.
 fn first_of(line: &[u8]) -> Result<Option<Fixed>, Fault>
     ensures { IsParseResult (λ told. told) result (unless_skipped nodes_of line.now) }
 {
@@ -215,8 +248,12 @@ fn first_of(line: &[u8]) -> Result<Option<Fixed>, Fault>
     }
 }
 
-/// Parses a line: `None` where it is skipped. `BadScript` where it has none of the forms; `Memory`. A line known to be ASCII
-/// isn't checked for that again.
+/// Parses a line after the line `nodes`.
+///
+/// Returns `None` if it is skipped.
+///
+/// Errors: `BadScript` if it has none of the forms; `Memory` if an allocation fails. `is_plain` must be true only if
+/// the line is ASCII; it is then not checked again.
 fn line_of<V: Vocabulary, A: Allocator + Copy>(
     alloc: A,
     nodes: Fixed,
@@ -240,6 +277,7 @@ fn line_of<V: Vocabulary, A: Allocator + Copy>(
 }
 
 /// Returns whether a line is skipped and so isn't effective: it is empty, or its first byte is `#`.
+///
 /// Formats: Scripts
 pub fn is_skipped(line: &[u8]) -> bool
     ensures { result ≡ is_skipped line.now }
@@ -257,7 +295,9 @@ pub(crate) fn are_ascii(line: &[u8]) -> bool
     line.is_ascii()
 }
 
-/// Returns the nodes that a line `nodes N` gives, or `BadScript` where it is none.
+/// Parses a line `nodes N`, and returns that many nodes, with one vote each.
+///
+/// Errors: `BadScript` if it isn't such a line.
 #[tactic(auto, unfolding(crate::specs::Scripts::nodes_of))]
 fn nodes_of(line: &[u8]) -> Result<Fixed, Fault>
     ensures { IsParseResult (λ nodes. nodes) result (nodes_of line.now) }
@@ -269,7 +309,9 @@ fn nodes_of(line: &[u8]) -> Result<Fixed, Fault>
     }
 }
 
-/// Parses the rest of a line `nodes N`: one number, and no word after it.
+/// Parses the rest of a line `nodes N`: one number from 1 to 16, and no word after it.
+///
+/// Errors: `BadScript` otherwise.
 fn parse_node_count(words: &mut Words<'_>) -> Result<Fixed, Fault>
     ensures { IsParseResult (λ nodes. nodes) result
         (option_and_then (λ count. option_map nodes_with_one_vote (whole count)) (number_at 1 16 words.old)) }
@@ -280,7 +322,9 @@ fn parse_node_count(words: &mut Words<'_>) -> Result<Fixed, Fault>
     }
 }
 
-/// Returns a group of this number of nodes, with one vote each.
+/// Returns a group of `count` nodes, with one vote each.
+///
+/// `count` must be 1 to 16.
 fn one_vote_each(count: u8) -> Result<Fixed, Fault>
     requires { (1 ≤ count) × (count ≤ 16) }
     ensures { IsParseResult (λ nodes. nodes) result (Some (nodes_with_one_vote count)) }

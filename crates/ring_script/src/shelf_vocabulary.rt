@@ -1,9 +1,12 @@
-//! The vocabulary of the program's object.
+//! The vocabulary of the standard object.
+//!
 //! Formats: Scripts
 
 use crate::vocabulary::{Argument, OperationForm, Vocabulary};
 
-/// The words of the operations of the program's object: a shelf with registers, counters, a queue and names, in this order.
+/// The words of the operations of the standard object: a shelf with registers, counters, a queue and names, in this
+/// order.
+///
 /// Formats: Scripts; Operations and replies
 #[derive(Clone, Copy)]
 pub struct ShelfVocabulary;

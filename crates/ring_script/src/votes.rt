@@ -1,4 +1,5 @@
 //! The votes of the nodes, and the line that gives them.
+//!
 //! Formats: Scripts
 
 ghost use Rattle.std.specs.Prelude.{◌≡◌, codes, IfOk};
@@ -11,9 +12,12 @@ use crate::scripts::{ScriptFault, are_ascii, at_line, is_skipped};
 use crate::words::{Words, is};
 use ring_base::{Fault, Fixed, PROCESSORS};
 
-/// Takes the line of votes, if it is the next effective line, and returns the nodes with these votes. Otherwise it returns
-/// the nodes as they are, and the next effective line stays the next one of `lines`.
-/// Errors: `AtLine` with the number of the line of votes, unless it gives one vote from 1 to 255 for each node.
+/// Takes the line of votes, if it is the next effective line, and returns the nodes with these votes.
+///
+/// If it isn't, returns `nodes`, and the next effective line is still the next one of `lines`.
+///
+/// Errors: `AtLine` with the number of the line of votes, unless it has one vote from 1 to 255 for each node.
+///
 /// Formats: Scripts
 #[tactic(auto, unfolding(crate::specs::Votes::votes_in))]
 pub(crate) fn read_votes(lines: &mut Lines<'_>, nodes: Fixed) -> Result<Fixed, ScriptFault>
@@ -47,8 +51,9 @@ fn is_votes(line: &[u8]) -> bool
     }
 }
 
-/// Returns the nodes with the votes of a line `votes V1 .. VN`. `BadScript` unless there is one vote for each node, each 1 to
-/// 255.
+/// Parses a line `votes V1 .. VN`, and returns `nodes` with these votes.
+///
+/// Errors: `BadScript` unless there is one vote for each node, each 1 to 255.
 #[tactic(auto, unfolding(crate::specs::Votes::votes_of))]
 fn votes_of(line: &[u8], nodes: Fixed) -> Result<Fixed, Fault>
     ensures count { IfOk result (λ voted. voted.count ≡ nodes.count) }
@@ -64,7 +69,9 @@ fn votes_of(line: &[u8], nodes: Fixed) -> Result<Fixed, Fault>
     }
 }
 
-/// Returns the nodes with the votes that the next words denote.
+/// Takes one word for each node, and returns `nodes` with these votes.
+///
+/// Errors: `BadScript` unless each word is a number from 1 to 255.
 fn votes_at(words: &mut Words<'_>, nodes: Fixed) -> Result<Fixed, Fault>
     ensures count { IfOk result (λ voted. voted.count ≡ nodes.count) }
     ensures read { IsParseResult (λ voted. (voted.votes, words.new)) result (votes_at nodes.count words.old) }

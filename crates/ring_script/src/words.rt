@@ -1,4 +1,5 @@
 //! The words of a script's line, and the values that a word can denote.
+//!
 //! Formats: Scripts
 
 ghost use Rattle.std.specs.Prelude.{◌≡◌, ◌+◌, ◌-◌, ◌*◌, ◌^◌, ◌≤◌, ◌<◌, ◌==◌, ◌∷◌, [], IfOk, IfErr, SomeIff, take, get_or, length, position, true, false};
@@ -14,8 +15,10 @@ ghost use Rattle.ring_script.specs.Words.{pieces, pieces_left};
 use ring_base::{Fault, Fixed, Proc};
 use std::marker::Model;
 
-/// The remaining words of a text: the pieces between its separators. Each separator separates two words, so two in a row
-/// have an empty word between them. The separator isn't a digit. Contracts see the list of the words.
+/// The remaining words of a text: the parts between its separators.
+///
+/// Two separators in a row have an empty word between them. The separator isn't a digit. Contracts see the list of the
+/// words.
 #[derive(Drop)]
 pub(crate) struct Words<'a> {
     rest: Option<&'a [u8]>,
@@ -35,8 +38,11 @@ impl<'a> Model for Words<'a> {
 }
 
 impl<'a> Words<'a> {
-    /// Returns the words of the text, split at the byte `separator`, which isn't a digit. An empty text has one word, which
-    /// is empty.
+    /// Returns the words of the text, split at the byte `separator`, which must not be a digit.
+    ///
+    /// An empty text has one word, which is empty.
+    ///
+    /// Formats: Scripts
     pub fn new(text: &'a [u8], separator: u8) -> Words<'a>
         requires { is_ascii_digit separator ≡ false }
         ensures { result ≡ pieces separator text.now }
@@ -47,7 +53,11 @@ impl<'a> Words<'a> {
         }
     }
 
-    /// Takes the next word and returns it. Returns `None` after the last word.
+    /// Takes the next word and returns it.
+    ///
+    /// Returns `None` after the last word.
+    ///
+    /// Formats: Scripts
     pub fn next_word(&mut self) -> Option<&'a [u8]>
         ensures { YieldsFirstRef (λ words. words) self.old result self.new }
     {
@@ -64,10 +74,13 @@ impl<'a> Words<'a> {
         }
     }
 
-    /// Takes the next word and returns the number that it denotes, or `None` for a number of 2^64 or more. It reads each
-    /// byte once.
-    /// Errors: `BadScript` where no word is left, or where the word isn't decimal digits without a leading zero (`0` itself
-    /// is a number). The words left are then unspecified.
+    /// Takes the next word and returns the number that it denotes, or `None` for a number of 2^64 or more.
+    ///
+    /// Each byte is read once.
+    ///
+    /// Errors: `BadScript` if no word is left, or if the word isn't `0` or decimal digits without a leading zero. The
+    /// remaining words are then unspecified.
+    ///
     /// Formats: Scripts
     pub fn decimal(&mut self) -> Result<Option<u64>, Fault>
         ensures { IsParseResult (λ number. (number, self.new)) result (decimal_at self.old) }
@@ -89,8 +102,10 @@ impl<'a> Words<'a> {
     }
 
     /// Takes the next word and returns the number from `least` to `most`, both included, that it denotes.
-    /// Errors: `BadScript` where no word is left, or where the word isn't such a number. The words left are then
+    ///
+    /// Errors: `BadScript` if no word is left, or if the word isn't such a number. The remaining words are then
     /// unspecified.
+    ///
     /// Formats: Scripts
     pub fn number(&mut self, least: u64, most: u64) -> Result<u64, Fault>
         ensures read { IsParseResult (λ number. (number, self.new)) result (number_at least most self.old) }
@@ -102,9 +117,11 @@ impl<'a> Words<'a> {
         }
     }
 
-    /// Takes the next word and returns the node whose number, 1 to N, it denotes.
-    /// Errors: `BadScript` where no word is left, or where the word isn't such a number. The words left are then
+    /// Takes the next word and returns the node whose number, from 1 to the number of nodes, it denotes.
+    ///
+    /// Errors: `BadScript` if no word is left, or if the word isn't such a number. The remaining words are then
     /// unspecified.
+    ///
     /// Formats: Scripts
     pub fn node(&mut self, nodes: Fixed) -> Result<Proc, Fault>
         ensures { IsParseResult (λ node. (node, self.new)) result (node_at nodes self.old) }
@@ -123,7 +140,7 @@ impl<'a> Words<'a> {
     }
 }
 
-/// The digits that a text begins with: their count, and the number that they denote, `None` if no u64 holds it.
+/// The digits that a text begins with: their count, and the number that they denote, `None` if it is 2^64 or more.
 #[derive(Drop)]
 struct Digits {
     count: usize,
@@ -150,7 +167,9 @@ impl Digits {
         }
     }
 
-    /// As `leading`, where the digits up to and including this place denote a number that no u64 holds.
+    /// Returns the leading digits of a text in which those up to the index `place` denote 2^64 or more.
+    ///
+    /// The digits up to and including that index must denote such a number.
     fn beyond(text: &[u8], place: usize) -> Digits
         requires within { place + 1 ≤ length text.now }
         requires digits { list_all is_ascii_digit (take (place + 1) text.now) ≡ true }
@@ -165,7 +184,7 @@ impl Digits {
     }
 }
 
-/// Returns the number with one more digit at its end: `None` if no u64 holds it.
+/// Returns the number with one more digit at its end, or `None` if it is 2^64 or more.
 fn with_digit(number: u64, digit: u8) -> Option<u64>
     requires { is_ascii_digit digit ≡ true }
     ensures { SomeIff result (number * 10 + (digit - 48) < 2 ^ 64) (number * 10 + (digit - 48)) }
@@ -173,7 +192,7 @@ fn with_digit(number: u64, digit: u8) -> Option<u64>
     number.checked_mul(10)?.checked_add(u64::from(digit - b'0'))
 }
 
-/// Whether there are digits, without a leading zero except in `0` itself.
+/// Returns whether there are digits, without a leading zero except in `0` itself.
 fn are_plain(digits: &[u8]) -> bool
     requires { list_all is_ascii_digit digits.now ≡ true }
     ensures { result ≡ is_decimal digits.now }
@@ -184,8 +203,9 @@ fn are_plain(digits: &[u8]) -> bool
     }
 }
 
-/// Returns the text after its first byte, which is the separator: `None` for an empty text. `BadScript` where its first byte is
-/// another.
+/// Returns the text after its first byte, the separator, or `None` if the text is empty.
+///
+/// Errors: `BadScript` if its first byte isn't the separator.
 fn behind(text: &[u8], separator: u8) -> Result<Option<&[u8]>, Fault>
     ensures left { IfOk result (λ left. pieces separator text.now ≡ [] ∷ pieces_left separator left) }
     ensures failed { IfErr result (λ fault. (fault ≡ BadScript) × (0 < length text.now) × ((get_or text.now 0 0 == separator) ≡ false)) }
@@ -197,14 +217,16 @@ fn behind(text: &[u8], separator: u8) -> Result<Option<&[u8]>, Fault>
     }
 }
 
-/// Returns the index of the first separator in the text, counted from 0. Returns `None` where there is none.
+/// Returns the index of the first separator in the text, counted from 0.
+///
+/// Returns `None` if there is none.
 pub(crate) fn piece_end(text: &[u8], separator: u8) -> Option<usize>
     ensures { result ≡ position (λ byte. byte == separator) text.now }
 {
     text.iter().position(|byte| *byte == separator)
 }
 
-/// Returns whether the word has exactly the bytes of this name.
+/// Returns whether the word equals `name`.
 #[tactic(auto, unfolding(crate::specs::Numbers::is))]
 pub(crate) fn is(word: &[u8], name: &[u8]) -> bool
     ensures { result ≡ is name.now word.now }

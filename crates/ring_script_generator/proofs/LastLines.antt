@@ -14,7 +14,7 @@ use Rattle.ring_script.specs.declared.scripts.Script.{Script}
 use Rattle.ring_script_generator.specs.Generated.{IsGeneratedBy}
 use Rattle.ring_script_generator.proofs.ReadVotes.{script_whole, same_nodes}
 
--- a line other than `show` has another request
+-- A line other than `show` has another request.
 other_asked : {A : Type 0} (l : ScriptLine A) → l ≢ line.Show → request_of l ≢ LineRequest.Show
 other_asked (line.Call node call) other = λ same. absurd (cc same)
 other_asked (line.Deliver node frame) other = λ same. absurd (cc same)
@@ -26,14 +26,14 @@ other_asked line.Heal other = λ same. absurd (cc same)
 other_asked (line.Pump turns) other = λ same. absurd (cc same)
 other_asked line.Show other = λ same. other refl
 
--- the line at a place is `show`, so its schedule has that request there
+-- The line at a place is `show`, so its schedule has that request there.
 shown_at : {A : Type 0} (lines : List (NumberedLine A)) (k : ℕ) → k < length lines → ((d : NumberedLine A) → (slice_index_or lines k d).line ≡ line.Show)
     → (number : ℕ) × (slice_get (map numbered_by lines) k ≡ Some (number, LineRequest.Show))
 shown_at [] k within shows = absurd (omega (arith, within))
 shown_at (x ∷ xs) zero within shows = (x.number, ap (λ l. Some (x.number, request_of l)) (shows x))
 shown_at (x ∷ xs) (suc k) within shows = shown_at xs k (omega (arith, within)) shows
 
--- it isn't, so the schedule has another request there
+-- It isn't, so the schedule has another request there.
 other_at : {A : Type 0} (lines : List (NumberedLine A)) (k number : ℕ) → ((d : NumberedLine A) → (slice_index_or lines k d).line ≢ line.Show)
     → ¬ (slice_get (map numbered_by lines) k ≡ Some (number, LineRequest.Show))
 other_at [] k number others = λ same. absurd (cc same)
@@ -41,7 +41,7 @@ other_at (x ∷ xs) zero number others =
     λ same. other_asked x.line (others x) (ap (λ (a : ℕ × LineRequest). a.1) (same_Some (numbered_by x) (number, LineRequest.Show) same))
 other_at (x ∷ xs) (suc k) number others = other_at xs k number others
 
--- a script that is as requested
+-- A script that is as requested.
 pub read_made : {A T E : Type 0} (forms : List OperationForm) (script : Script A) (r : Result T E) (nodes : Group) (lines : ℕ) (text : List ℕ)
     → AreVotes nodes.votes → nodes.count ≡ length nodes.votes → length text ≤ max_script_bytes → script_by forms text ≡ Ok (schedule_by script)
     → OnOk r ((script.nodes.count ≡ nodes.count) × (filled script.nodes.votes ≡ filled nodes.votes))

@@ -15,15 +15,15 @@ use Rattle.ring_script.specs.Words.{LinesLeft, words_of, whole, are_ascii, is_sk
 use Rattle.ring_base.proofs.Cases.{and_then_some}
 use Rattle.ring_script.proofs.Voting.{votes_are}
 
--- as many votes as nodes
+-- As many votes as nodes.
 abbrev Whole : Group → Type 0
 Whole nodes = length nodes.votes ≡ nodes.count
 
--- the parsed value, where no word is left
+-- The parsed value, if no word is left.
 whole_is : {X : Type 0} (read : X × List (List ℕ)) (x : X) → whole read ≡ Some x → read.0 ≡ x
 whole_is read x e = grind arith
 
--- ---- one line
+-- ---- one line.
 
 alike_whole : (line : List ℕ) → IfSome (nodes_of line) Whole
 unfolding nodes_of
@@ -48,7 +48,7 @@ voted_whole nodes line = at_some (votes_of nodes line) refl
     at_some None e = tt
     at_some (Some voted) e = voted_is nodes line voted e
 
--- ---- all lines
+-- ---- all lines.
 
 then_voted : (number : ℕ) (voted : Option Group) (lines : List (List ℕ)) → IfSome voted Whole → IfOk (then_votes number voted lines) (λ read. Whole read.0)
 then_voted number None lines whole = tt
@@ -82,7 +82,7 @@ nodes_whole before [] = tt
 nodes_whole before (line ∷ lines) =
     then_whole (before + 1) (unless_skipped nodes_of line) lines (nodes_in (before + 1) lines) (told_whole line) (nodes_whole (before + 1) lines)
 
--- ---- a script
+-- ---- a script.
 
 asked_whole : (nodes : Group) (asked : Result (List (ℕ × LineRequest)) ℕ) → Whole nodes → IfOk (with_nodes nodes asked) (λ schedule. Whole schedule.nodes)
 asked_whole nodes (Ok asked) whole = whole
@@ -103,18 +103,18 @@ text_whole : (forms : List OperationForm) (text : List ℕ) → IfOk (script_by 
 unfolding script_by
 text_whole forms text = schedule_whole forms (nodes_in 0 (lines_of text)) (nodes_whole 0 (lines_of text))
 
--- the nodes of a parsed script
+-- The nodes of a parsed script.
 pub script_whole : (forms : List OperationForm) (text : List ℕ) (schedule : Schedule) → script_by forms text ≡ Ok schedule
     → length schedule.nodes.votes ≡ schedule.nodes.count
 script_whole forms text schedule read = IfOk-at_ok (λ (s : Schedule). Whole s.nodes) read (text_whole forms text)
 
--- ---- the same nodes
+-- ---- the same nodes.
 
--- of places that are filled, the votes are the first
+-- Of places that are filled, the votes are the first.
 front_is : (n : ℕ) (votes : List ℕ) → length votes ≡ n → take n (filled votes) ≡ votes
 front_is n votes long = take-append-le n votes _ (omega (arith, long)) ∙ take_all n votes (omega (arith, long))
 
--- as many nodes, with the same votes
+-- As many nodes, with the same votes.
 pub same_nodes : (one other : Group) → length one.votes ≡ one.count → other.count ≡ length other.votes → one.count ≡ other.count
     → filled one.votes ≡ filled other.votes → one ≡ record { count = length other.votes; votes = other.votes }
 same_nodes one other whole long count same =

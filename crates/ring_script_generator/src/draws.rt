@@ -1,4 +1,5 @@
 //! Random draws from a seed.
+//!
 //! Formats: The command line
 
 ghost use Rattle.std.specs.Prelude.{◌≤◌, ◌<◌};
@@ -9,6 +10,7 @@ use rand_pcg::Pcg32;
 use ring_base::{Proc, ProcSet};
 
 /// A sequence of draws from the generator PCG32 (XSH RR 64/32), fixed by its seed: the same on every machine.
+///
 /// Formats: The command line
 #[derive(Drop)]
 pub(crate) struct RandomDraws {
@@ -16,14 +18,16 @@ pub(crate) struct RandomDraws {
 }
 
 impl RandomDraws {
-    /// Creates the sequence of this seed, which may be any u64, before its first draw.
+    /// Creates the sequence for `seed`, at its first draw.
     pub fn new(seed: u64) -> RandomDraws {
         RandomDraws {
             rng: Pcg32::seed_from_u64(seed),
         }
     }
 
-    /// Draws a number from 0 up to, but not including, `many`, which is at least 1. All of them are about equally likely.
+    /// Draws a number from 0 up to, but not including, `many`, which must be at least 1.
+    ///
+    /// All of them are about equally likely.
     pub fn draw_below(&mut self, many: u32) -> u32
         requires { 1 ≤ many }
         ensures { result < many }
@@ -31,8 +35,9 @@ impl RandomDraws {
         self.rng.random_range(0..many)
     }
 
-    /// Draws a number from `least` to `most`, both included. `least` is at most `most`. All of them are about equally
-    /// likely.
+    /// Draws a number from `least` to `most`, both included.
+    ///
+    /// `least` must be at most `most`. All of them are about equally likely.
     pub fn draw_between(&mut self, least: u32, most: u32) -> u32
         requires { least ≤ most }
         ensures least { least ≤ result }
@@ -46,8 +51,9 @@ impl RandomDraws {
         self.draw_below(100) < percent
     }
 
-    /// Draws a member of the set. All of them are about equally likely. Returns `None`, and draws nothing, where the set is
-    /// empty.
+    /// Draws a member of the set.
+    ///
+    /// All of them are about equally likely. If the set is empty, returns `None` and draws nothing.
     pub fn draw_member(&mut self, set: ProcSet) -> Option<Proc> {
         let many = set.len();
         if many == 0 {

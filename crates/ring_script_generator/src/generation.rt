@@ -1,4 +1,5 @@
 //! Generating a script, and the command `gen`.
+//!
 //! Formats: The command line
 
 ghost use Rattle.std.specs.Prelude.{◌≡◌, ◌≢◌, ◌≤◌, ◌<◌, ◌+◌, ◌⊎◌, ◌↔◌, ℕ, min, length, slice_index_or, List};
@@ -19,13 +20,18 @@ use std::alloc::Allocator;
 use std::fmt::Write as _;
 use std::io::Write;
 
-/// Returns the script of this seed over the program's object, with one node for each vote. The same arguments always give
-/// the same text. It is parsed before it is returned.
-/// It has `lines` lines that call, deliver, time out, make noise, stop, cut, heal or pump, and one `show` after them. More
-/// than 10,000 lines count as 10,000. Comments explain them.
-/// Errors: `NotMember` unless there are 1 to 16 votes, each at least 1. Otherwise `Memory`, or `BadScript` where the text
-/// isn't such a script, which no seed is known to give.
-/// Formats: The command line
+/// Generates a script from a seed, with one node per vote and calls to the standard object.
+///
+/// The text depends only on the arguments and is the same on every machine. It may change with the program's version.
+/// The script has `lines` lines of `call`, `deliver`, `timeout`, `noise`, `stop`, `cut`, `heal` and `pump`, then one
+/// `show`. If `lines` is above 10,000, there are 10,000. Some lines have a comment before them. The text is parsed as a
+/// check before it is returned.
+///
+/// Errors: `NotMember` unless there are 1 to 16 votes, each at least 1. `Memory` if an allocation fails. `BadScript` if
+/// the check fails; no seed is known for which it does.
+///
+/// Rules: Objects 6
+/// Formats: Scripts; The command line
 pub fn generate_script<A: Allocator + Copy + Drop>(
     alloc: A,
     votes: &[u8],
@@ -38,9 +44,12 @@ pub fn generate_script<A: Allocator + Copy + Drop>(
     generate_script_by::<ShelfVocabulary, A>(alloc, votes, seed, lines)
 }
 
-/// Returns the script of this seed as [`generate_script`] does, but over an object with this vocabulary.
+/// Generates a script from a seed as [`generate_script`] does, but for an object with the vocabulary `V`.
+///
 /// Errors: as for [`generate_script`].
-/// Formats: The command line
+///
+/// Rules: Objects 6
+/// Formats: Scripts; The command line
 pub fn generate_script_by<V: Vocabulary, A: Allocator + Copy + Drop>(
     alloc: A,
     votes: &[u8],
@@ -56,7 +65,9 @@ pub fn generate_script_by<V: Vocabulary, A: Allocator + Copy + Drop>(
     Ok(text)
 }
 
-/// Builds the text of the script. It fails only where memory is refused.
+/// Builds the text of the script.
+///
+/// Errors: any fault means that an allocation failed.
 fn build_script<V: Vocabulary, A: Allocator>(
     alloc: A,
     nodes: Fixed,
@@ -71,7 +82,9 @@ fn build_script<V: Vocabulary, A: Allocator>(
     Ok(script_builder.into_text())
 }
 
-/// Parses the text as a script of these nodes with `lines` lines and `show` after them. `BadScript` where it is none; `Memory`.
+/// Checks that the text is a script of these nodes with `lines` lines, at most 10,000, and `show` after them.
+///
+/// Errors: `BadScript` if it isn't; `Memory` if an allocation fails.
 fn read_back<V: Vocabulary, A: Allocator + Copy + Drop>(
     alloc: A,
     nodes: Fixed,
@@ -93,7 +106,9 @@ fn read_back<V: Vocabulary, A: Allocator + Copy + Drop>(
     }
 }
 
-/// `BadScript` unless the script has these nodes, `lines` lines other than `show`, at most 10,000, and `show` after them.
+/// Checks that the script has these nodes, `lines` lines other than `show`, at most 10,000, and `show` after them.
+///
+/// Errors: `BadScript` if it doesn't.
 fn check_script<A: Allocator + Copy + Drop>(
     nodes: Fixed,
     lines: u32,
@@ -113,14 +128,14 @@ fn check_script<A: Allocator + Copy + Drop>(
     Ok(())
 }
 
-/// Whether the nodes are as many, with the same votes.
+/// Returns whether the two groups have as many nodes, with the same votes.
 fn are_same(one: Fixed, other: Fixed) -> bool
     ensures { IsTrue result → (one.count ≡ other.count) × (filled one.votes ≡ filled other.votes) }
 {
     one == other
 }
 
-/// Returns the index of the first `show`, or the number of lines where there is none.
+/// Returns the index of the first `show`, or the number of lines if there is none.
 fn first_show<A: Allocator + Copy>(lines: &[NumberedLine<A>]) -> usize
     ensures within { result ≤ length lines.now }
     ensures before { (k : ℕ) (line : _) → k < result → (slice_index_or lines.now k line).line ≢ Show }
@@ -143,7 +158,9 @@ fn is_show<A: Allocator + Copy>(line: &ScriptLine<A>) -> bool
     }
 }
 
-/// The most lines of a generated script, without its comments, `nodes`, `votes` and the final `show`: 10,000.
+/// The maximum number of lines of a generated script, without its comments, `nodes`, `votes` and the final `show`:
+/// 10,000.
+///
 /// Formats: The command line
 pub const MAX_LINES: u32 = 10_000;
 
@@ -169,10 +186,13 @@ fn write_head<A: Allocator>(
     Ok(head.push_str("\n")?)
 }
 
-/// Prints the script of this seed, as [`generate_script`] returns it, on `out`. Returns the exit status: 0, or 1 with an
-/// error.
-/// Errors: those of `generate_script` are reported on `err`, and nothing is printed. Where `out` fails, nothing is
+/// Prints the script that [`generate_script`] generates from these arguments on `out`.
+///
+/// Returns the exit status: 0, or 1 after an error.
+///
+/// Errors: those of `generate_script` are reported on `err`, and nothing is printed. If `out` fails, nothing is
 /// reported.
+///
 /// Formats: The command line
 pub fn generate<A: Allocator + Copy + Drop, O: Write, E: Write>(
     alloc: A,
@@ -191,8 +211,12 @@ pub fn generate<A: Allocator + Copy + Drop, O: Write, E: Write>(
     generate_by::<ShelfVocabulary, A, O, E>(alloc, votes, seed, lines, out, err)
 }
 
-/// Prints the script of this seed as [`generate`] does, but over an object with this vocabulary. Returns the exit status.
+/// Prints a generated script as [`generate`] does, but for an object with the vocabulary `V`.
+///
+/// Returns the exit status: 0, or 1 after an error.
+///
 /// Errors: as for [`generate`].
+///
 /// Formats: The command line
 pub fn generate_by<V: Vocabulary, A: Allocator + Copy + Drop, O: Write, E: Write>(
     alloc: A,

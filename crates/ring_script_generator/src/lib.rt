@@ -1,5 +1,7 @@
-//! Generated scripts, each from a seed: a story in which rings form, split and merge, and clients call and retry. A seed gives
-//! the same script on every machine.
+//! Scripts generated from seeds: scenarios in which rings form, split and merge, and clients call and retry.
+//!
+//! A seed gives the same script on every machine.
+//!
 //! Formats: The command line
 #![tactic(auto)]
 

@@ -1,4 +1,5 @@
 //! The operations that clients call.
+//!
 //! Formats: The command line
 
 use crate::draws::RandomDraws;
@@ -7,8 +8,10 @@ use ring_script::{Argument, OperationForm};
 use std::alloc::Allocator;
 use std::fmt::Write;
 
-/// An operation that a client calls: the index of its form in a vocabulary, and its arguments. Where the vocabulary has no
-/// such form, it is the single byte 0.
+/// An operation that a client calls: the index of its form in a vocabulary, and its arguments.
+///
+/// If the vocabulary has no form of that index, the operation is the single byte 0.
+///
 /// Formats: The command line
 #[derive(Clone, Copy)]
 pub(crate) struct Operation {
@@ -22,7 +25,9 @@ pub(crate) struct Operation {
     other: u32,
 }
 
-/// The number of keys and of names to draw from. It is small, so clients share them.
+/// The number of keys and of names to draw from.
+///
+/// It is small, so clients share them.
 const KEYS: u32 = 3;
 
 /// Values are drawn below this number.
@@ -39,8 +44,10 @@ impl Operation {
         }
     }
 
-    /// Draws an operation by one of the first `forms` forms, with a key from 0 to 2 and values from 0 to 9. 0 forms count
-    /// as one.
+    /// Draws an operation by one of the first `forms` forms, with a key from 0 to 2 and values from 0 to 9. 0 forms are
+    /// treated as 1.
+    ///
+    /// Formats: The command line
     pub fn draw(forms: usize, draws: &mut RandomDraws) -> Operation {
         let key = draws.draw_below(KEYS);
         let (value, other) = (draws.draw_below(VALUES), draws.draw_below(VALUES));
@@ -54,9 +61,12 @@ impl Operation {
         }
     }
 
-    /// Appends the operation's words, by these forms, as a line `call` has them. Where there is no form of its index, the
-    /// words are `raw 00`.
-    /// Errors: only `Memory`. A part of the words may be appended.
+    /// Appends the operation's words, by these forms, as a line `call` has them.
+    ///
+    /// If no form has its index, the words are `raw 00`.
+    ///
+    /// Errors: `Memory` if an allocation fails. A part of the words may then be appended.
+    ///
     /// Formats: Scripts
     pub fn write<A: Allocator>(
         self,
@@ -75,7 +85,9 @@ impl Operation {
         Ok(())
     }
 
-    /// Appends a space and an argument: of a value, `value` or `other`.
+    /// Appends a space and an argument.
+    ///
+    /// A value is `other` if `is_other`, otherwise `value`.
     fn write_argument<A: Allocator>(
         self,
         argument: Argument,
@@ -92,7 +104,7 @@ impl Operation {
     }
 }
 
-/// Returns the name with this number.
+/// Returns the name for the key `key`.
 fn name_of(key: u32) -> &'static str {
     match key {
         0 => "ada",

@@ -3,7 +3,9 @@
 use ring_base::Proc;
 use std::fmt;
 
-/// The purpose of the next lines of a generated script. It is displayed as the comment before them, without its line feed.
+/// The purpose of the next lines of a generated script.
+///
+/// It is displayed as the comment before them, without its line feed.
 #[derive(Clone, Copy)]
 pub(crate) enum Scenario {
     /// All nodes look for each other and form a ring.
@@ -16,11 +18,13 @@ pub(crate) enum Scenario {
     Split,
     /// The cut heals, and the sides look for each other.
     Merge,
-    /// Rings change, and this node begins anew before they have formed.
+    /// Rings change, and this node begins again before they have formed.
     Interrupt { node: Proc },
     /// This node stops for good, and the others give it up.
     Stop { node: Proc },
-    /// This node hears nobody for a few turns. Then the cut heals and tokens are sent again.
+    /// This node receives nothing from the others for a few turns.
+    ///
+    /// Then the cut heals and tokens are sent again.
     Isolate { node: Proc },
     /// Old frames arrive again, and bytes that no node sent.
     Repeat,

@@ -1,4 +1,5 @@
 //! The scenarios that generated scripts consist of.
+//!
 //! Formats: The command line
 
 use crate::scenario::Scenario;
@@ -12,7 +13,9 @@ use std::alloc::Allocator;
 impl<V: Vocabulary, A: Allocator> ScriptBuilder<V, A> {
     /// Appends the whole script after its head: an opening, random scenarios until the lines are used up, an end, and
     /// `show`.
-    /// Errors: only `Memory`. The text is then unspecified.
+    ///
+    /// Errors: `Memory` if an allocation fails. The text is then unspecified.
+    ///
     /// Formats: The command line
     pub fn generate_all(&mut self) -> Result<(), Fault> {
         self.open()?;
@@ -34,7 +37,9 @@ impl<V: Vocabulary, A: Allocator> ScriptBuilder<V, A> {
         self.pump_long()
     }
 
-    /// All nodes that have not stopped form one ring. It has two lines for each of them, and five more.
+    /// All nodes that have not stopped form one ring.
+    ///
+    /// It has two lines for each of them, and five more.
     fn end(&mut self) -> Result<(), Fault> {
         self.write_comment(Scenario::End)?;
         self.heal()?;

@@ -22,8 +22,9 @@ struct Client {
     last: Operation,
 }
 
-/// A generated script under construction: its text so far, and the state of its nodes and clients after these lines. `V`
-/// has the words of the operations.
+/// A generated script under construction: its text so far, and the state of its nodes and clients after these lines.
+///
+/// `V` is the vocabulary of the calls' operations.
 #[derive(Drop)]
 pub(crate) struct ScriptBuilder<V: Vocabulary, A: Allocator> {
     /// The draws that decide the script.
@@ -34,7 +35,9 @@ pub(crate) struct ScriptBuilder<V: Vocabulary, A: Allocator> {
     vocabulary: PhantomData<V>,
     /// The nodes that have not stopped.
     pub live: ProcSet,
-    /// The sides of the current cut: all nodes are on one side where there is none.
+    /// The sides of the current cut.
+    ///
+    /// Without a cut all nodes are on one side.
     pub sides: CutSides,
     /// The clients that call now.
     clients: [Client; 4],
@@ -48,7 +51,9 @@ pub(crate) struct ScriptBuilder<V: Vocabulary, A: Allocator> {
 }
 
 impl<V: Vocabulary, A: Allocator> ScriptBuilder<V, A> {
-    /// Creates a builder for a script with `lines` lines between this head, which has `nodes` and `votes`, and its `show`.
+    /// Creates a builder for a script with `lines` lines between this head, which has `nodes` and `votes`, and its
+    /// `show`.
+    ///
     /// No line is reserved for the end.
     pub fn new(head: String<A>, nodes: Fixed, seed: u64, lines: u32) -> ScriptBuilder<V, A> {
         let live = nodes.everybody();
@@ -72,8 +77,9 @@ impl<V: Vocabulary, A: Allocator> ScriptBuilder<V, A> {
         }
     }
 
-    /// Reserves the lines that the end takes: two for each node that has not stopped, and five more. It replaces an earlier
-    /// reservation.
+    /// Reserves the lines that the end takes: two for each node that has not stopped, and five more.
+    ///
+    /// It replaces an earlier reservation.
     pub fn reserve_end(&mut self) {
         self.kept = self.live.len().saturating_mul(2).saturating_add(5);
     }
@@ -88,7 +94,7 @@ impl<V: Vocabulary, A: Allocator> ScriptBuilder<V, A> {
         self.left
     }
 
-    /// Returns the number of lines still to come that aren't reserved: 0 where all are.
+    /// Returns the number of lines still to come that aren't reserved for the end, 0 if all are.
     pub fn left(&self) -> u32 {
         self.left.saturating_sub(self.kept)
     }
@@ -98,8 +104,13 @@ impl<V: Vocabulary, A: Allocator> ScriptBuilder<V, A> {
         self.text
     }
 
-    /// Appends a comment on the next lines. Without an unreserved line to come, nothing is appended.
-    /// Errors: only `Memory`. A part of the comment may be appended.
+    /// Appends a comment on the next lines.
+    ///
+    /// Without an unreserved line to come, nothing is appended.
+    ///
+    /// Errors: `Memory` if an allocation fails; a part of the comment may then have been appended.
+    ///
+    /// Formats: Scripts
     pub fn write_comment(&mut self, scenario: Scenario) -> Result<(), Fault> {
         if self.left() > 0 {
             writeln!(&mut self.text, "{scenario}")?;
@@ -107,8 +118,13 @@ impl<V: Vocabulary, A: Allocator> ScriptBuilder<V, A> {
         Ok(())
     }
 
-    /// Appends a line with this request, and uses one of the lines to come. Without an unreserved one, nothing is appended.
-    /// Errors: only `Memory`. A part of the line may be appended.
+    /// Appends a line with this request, and uses one of the lines to come.
+    ///
+    /// Without an unreserved one, nothing is appended.
+    ///
+    /// Errors: `Memory` if an allocation fails; a part of the line may then have been appended.
+    ///
+    /// Formats: Scripts
     pub fn add_step(&mut self, step: Step) -> Result<(), Fault> {
         if self.take_line() {
             writeln!(&mut self.text, "{step}")?;
@@ -116,7 +132,9 @@ impl<V: Vocabulary, A: Allocator> ScriptBuilder<V, A> {
         Ok(())
     }
 
-    /// Uses one of the lines still to come. Returns whether there was one.
+    /// Uses one of the lines still to come.
+    ///
+    /// Returns whether there was one.
     fn take_line(&mut self) -> bool {
         if self.left() == 0 {
             return false;
@@ -126,20 +144,29 @@ impl<V: Vocabulary, A: Allocator> ScriptBuilder<V, A> {
     }
 
     /// Appends `show`, the last line, which isn't one of the counted lines.
-    /// Errors: only `Memory`.
+    ///
+    /// Errors: `Memory` if an allocation fails; a part of the text may then have been appended.
+    ///
+    /// Formats: Scripts
     pub fn show(&mut self) -> Result<(), Fault> {
         Ok(self.text.push_str("show\n")?)
     }
 
     /// Appends a timeout of this kind at the node, as [`add_step`](ScriptBuilder::add_step) does.
-    /// Errors: only `Memory`.
+    ///
+    /// Errors: `Memory` if an allocation fails; a part of the text may then have been appended.
+    ///
+    /// Formats: Scripts
     pub fn time_out(&mut self, node: Proc, kind: Kind) -> Result<(), Fault> {
         self.add_step(Step::Timeout { node, kind })
     }
 
     /// Appends a timeout of this kind at each of these nodes, in the order of their numbers, as
     /// [`add_step`](ScriptBuilder::add_step) does.
-    /// Errors: only `Memory`.
+    ///
+    /// Errors: `Memory` if an allocation fails; a part of the text may then have been appended.
+    ///
+    /// Formats: Scripts
     pub fn time_out_all(&mut self, nodes: ProcSet, kind: Kind) -> Result<(), Fault> {
         for node in nodes.iter() {
             self.time_out(node, kind)?;
@@ -148,16 +175,24 @@ impl<V: Vocabulary, A: Allocator> ScriptBuilder<V, A> {
     }
 
     /// Appends a pump whose number of turns is drawn from `turns` / 2 + 1 to `turns` more than that, both included.
-    /// Errors: only `Memory`.
+    ///
+    /// Errors: `Memory` if an allocation fails; a part of the text may then have been appended.
+    ///
+    /// Formats: Scripts
     pub fn pump_about(&mut self, turns: u32) -> Result<(), Fault> {
         let least = turns / 2 + 1;
         let turns = self.draws.draw_between(least, least.saturating_add(turns));
         self.add_step(Step::Pump { turns })
     }
 
-    /// Appends a pump that is usually long enough for a ring to form: of about 8 turns for each pair of nodes and 40 more,
-    /// as [`pump_about`](ScriptBuilder::pump_about) draws them. In it joins go to all nodes, and all answer them.
-    /// Errors: only `Memory`.
+    /// Appends a pump that is usually long enough for a ring to form: of about 8 turns for each pair of nodes and 40
+    /// more, as [`pump_about`](ScriptBuilder::pump_about) draws them.
+    ///
+    /// While a ring forms, joins go to all nodes, and all answer them.
+    ///
+    /// Errors: `Memory` if an allocation fails; a part of the text may then have been appended.
+    ///
+    /// Formats: Scripts
     pub fn pump_long(&mut self) -> Result<(), Fault> {
         self.pump_about(self.pairs().saturating_mul(8).saturating_add(40))
     }
@@ -168,35 +203,51 @@ impl<V: Vocabulary, A: Allocator> ScriptBuilder<V, A> {
         count.saturating_mul(count)
     }
 
-    /// Cuts the nodes into these sides, and appends the line `cut`. There must be nodes on two sides at least.
-    /// Errors: only `Memory`.
+    /// Cuts the nodes into these sides, and appends the line `cut`.
+    ///
+    /// At least two of the sides must have nodes.
+    ///
+    /// Errors: `Memory` if an allocation fails; a part of the text may then have been appended.
+    ///
+    /// Formats: Scripts
     pub fn set_sides(&mut self, sides: CutSides) -> Result<(), Fault> {
         let cut = sides.copied();
         self.sides = sides;
         self.add_step(Step::Cut(cut))
     }
 
-    /// Removes the cut, if there is one, and appends the line `heal` as `add_step` does: nothing is appended if only
-    /// reserved lines are left, but the cut is removed all the same.
-    /// Errors: `Memory` if an allocation fails; the cut is removed, and a part of the line may be appended.
+    /// Removes the cut, if there is one, and appends the line `heal` as `add_step` does.
+    ///
+    /// If only reserved lines are left, nothing is appended, but the cut is still removed.
+    ///
+    /// Errors: `Memory` if an allocation fails; the cut is removed, and a part of the line may have been appended.
+    ///
     /// Formats: Scripts
     pub fn heal(&mut self) -> Result<(), Fault> {
         self.sides = CutSides::joined(self.nodes.everybody());
         self.add_step(Step::Heal)
     }
 
-    /// Appends a pump of 16 turns for each ordered pair of nodes and 80 more. That is usually enough for all sent frames to
-    /// arrive and for rings to form; nothing checks it.
-    /// Errors: only `Memory`.
+    /// Appends a pump of 16 turns for each ordered pair of nodes, and 80 more.
+    ///
+    /// That is usually enough for all sent frames to arrive and for rings to form; nothing checks it.
+    ///
+    /// Errors: `Memory` if an allocation fails; a part of the text may then have been appended.
+    ///
+    /// Formats: Scripts
     pub fn pump_all(&mut self) -> Result<(), Fault> {
         let turns = self.pairs().saturating_mul(16).saturating_add(80);
         self.add_step(Step::Pump { turns })
     }
 
-    /// Appends the next call of one of the four clients, at the client's node, with a drawn operation. A new client, at any
-    /// node that has not stopped, replaces it where it has not called yet, where its node has stopped, and in 4 of 100
-    /// other cases.
-    /// Errors: only `Memory`.
+    /// Appends the next call of one of the four clients, at the client's node, with a drawn operation.
+    ///
+    /// The client is replaced by a new one, at any node that has not stopped, if it has not called yet or its node has
+    /// stopped, and in 4 of 100 other cases.
+    ///
+    /// Errors: `Memory` if an allocation fails; a part of the text may then have been appended.
+    ///
+    /// Formats: Scripts
     pub fn call(&mut self) -> Result<(), Fault> {
         let place = self.draws.draw_below(4);
         let last = Operation::draw(V::forms().len(), &mut self.draws);
@@ -213,7 +264,9 @@ impl<V: Vocabulary, A: Allocator> ScriptBuilder<V, A> {
         self.submit(client, home)
     }
 
-    /// Returns the client with this index that calls next.
+    /// Returns the client at the index `place`, or a new client in its stead, which calls next.
+    ///
+    /// `place` must be below 4.
     fn next_caller(&mut self, place: u32) -> Client
         requires { place < 4 }
     {
@@ -225,7 +278,7 @@ impl<V: Vocabulary, A: Allocator> ScriptBuilder<V, A> {
         self.next_client(client)
     }
 
-    /// Returns a new client that replaces this one, at any live node.
+    /// Returns a new client that replaces `before`, at any live node.
     fn next_client(&mut self, before: Client) -> Client {
         let home = self.draws.draw_member(self.live).unwrap_or(before.home);
         self.names = self.names.saturating_add(1);
@@ -248,9 +301,13 @@ impl<V: Vocabulary, A: Allocator> ScriptBuilder<V, A> {
         Ok(())
     }
 
-    /// Appends the last call of one of the four clients again, at any node that has not stopped, with a comment. Where the
-    /// client has not called yet, nothing is appended.
-    /// Errors: only `Memory`.
+    /// Appends the last call of one of the four clients again, at any node that has not stopped, with a comment.
+    ///
+    /// If the client has not called yet, nothing is appended.
+    ///
+    /// Errors: `Memory` if an allocation fails; a part of the text may then have been appended.
+    ///
+    /// Formats: Scripts
     pub fn retry(&mut self) -> Result<(), Fault> {
         let place = self.draws.draw_below(4);
         let client = self.clients[place as usize];

@@ -4,8 +4,9 @@ use crate::draws::RandomDraws;
 use ring_base::{MAX_PROCESSORS, Proc, ProcSet};
 use std::fmt;
 
-/// The sides that a cut splits the nodes into: each node is on one of three sides, of which some may be empty. Without a
-/// cut all are on the first. It is displayed as the groups of a line `cut`, each with a space before it.
+/// The sides that a cut splits the nodes into: each node is on one of three sides, some of which may be empty.
+///
+/// Without a cut all are on the first. It is displayed as the groups of a line `cut`, each with a space before it.
 #[derive(Clone, Copy)]
 pub(crate) struct CutSides {
     first: ProcSet,
@@ -17,7 +18,7 @@ pub(crate) struct CutSides {
 const TWO_SIDES: u32 = 75;
 
 impl CutSides {
-    /// Returns the sides with all of these nodes on the first: no cut.
+    /// Returns the sides without a cut: all of `nodes` on the first side.
     pub fn joined(nodes: ProcSet) -> CutSides {
         CutSides {
             first: nodes,
@@ -26,7 +27,7 @@ impl CutSides {
         }
     }
 
-    /// Returns the sides with this node alone on the first, and all others of `nodes` on the second.
+    /// Returns the sides with only `node` on the first, and all other nodes of `nodes` on the second.
     pub fn isolation(nodes: ProcSet, node: Proc) -> CutSides {
         let own = ProcSet::only(node);
         CutSides {
@@ -36,8 +37,9 @@ impl CutSides {
         }
     }
 
-    /// Draws a side for each of these nodes: one of two sides in 75 of 100 cases, else one of three. All nodes may get the
-    /// same side, so it may be no cut.
+    /// Draws a side for each of these nodes: one of two sides in 75 of 100 cases, otherwise one of three.
+    ///
+    /// All nodes may get the same side, so it may be no cut.
     pub fn draw(draws: &mut RandomDraws, nodes: ProcSet) -> CutSides {
         let many = if draws.draw_bool(TWO_SIDES) { 2 } else { 3 };
         let mut drawn = CutSides::joined(ProcSet::new());
@@ -51,7 +53,7 @@ impl CutSides {
         drawn
     }
 
-    /// Puts the node on the side with this number.
+    /// Puts the node on side `side`, counted from 0.
     fn put(&mut self, side: u32, node: Proc) {
         let own = ProcSet::only(node);
         match side {

@@ -1,4 +1,5 @@
 //! The lines of a generated script other than calls.
+//!
 //! Formats: Scripts
 
 use crate::sides::CutSides;
@@ -6,15 +7,18 @@ use ring_base::{Kind, Proc};
 use ring_script::timeout_name;
 use std::fmt;
 
-/// The request of a generated line other than a call. It is displayed as the line, without its line feed.
+/// The request of a generated line other than a call.
+///
+/// It is displayed as the line, without its line feed.
+///
 /// Formats: Scripts
 #[derive(Clone, Copy)]
 pub(crate) enum Step {
-    /// The frame of this number, at least 1, is delivered at the node.
+    /// Frame `frame`, counted from 1, is delivered at the node.
     Deliver { node: Proc, frame: u32 },
-    /// The timeout of this kind comes at the node.
+    /// The timeout of this kind fires at the node.
     Timeout { node: Proc, kind: Kind },
-    /// This one byte, which no node sent, arrives at the node.
+    /// A single byte, which no node sent, arrives at the node.
     Noise { node: Proc, byte: u8 },
     /// The node stops for good.
     Stop { node: Proc },
@@ -22,7 +26,7 @@ pub(crate) enum Step {
     Cut(CutSides),
     /// The cut is removed.
     Heal,
-    /// The network takes this number of turns, from 1 on.
+    /// The network takes `turns` turns, at least 1.
     Pump { turns: u32 },
 }
 

@@ -29,7 +29,7 @@ IsAt gauge s = s.gauge ≡ gauge
 abbrev pub IsOwn : TableId → SeatView → Type 0
 IsOwn gauge s = (s.gauge ≡ gauge) × MatchOption s.node ⊥ (λ node. Unit {0})
 
--- the node of the seat at this place, where the seats of `nodes` nodes come first, then those of none
+-- the node of the seat at this index, if the seats of `nodes` nodes come first, then those of none
 abbrev pub node_at : ℕ → ℕ → Option ℕ
 node_at nodes i = if nat_lt i nodes then Some (suc i) else None
 

@@ -1,4 +1,5 @@
 //! The clock of a seat: when timeouts are due.
+//!
 //! Rules: The book and the threads 30 to 32
 
 ghost use Rattle.std.specs.Prelude.{◌≡◌};
@@ -6,7 +7,9 @@ ghost use Rattle.ring_seat.specs.Clocks.{new_clock, clock_counted_down, due_time
 
 use ring_base::Kind;
 
-/// The number of turns after which a timeout is due, for each kind.
+/// The number of turns after which a timeout is due: this one and the next three.
+///
+/// Rules: The book and the threads 30
 const JOIN: u16 = 500;
 
 const RETRANSMIT: u16 = 1000;
@@ -15,9 +18,11 @@ const CONSENSUS: u16 = 8000;
 
 const LOSS: u16 = 32000;
 
-/// A clock that counts turns of a seat: for each timeout, the number of turns until it is due. 0 means that it is due.
-/// The join timeout is due at every 500th turn and counts down from 500. The others count down from 1,000, 8,000 and
-/// 32,000. Each begins anew when it is done, and all but join do when a turn takes an item.
+/// A clock that counts a seat's turns: for each timeout, the number of turns until it is due. 0 means that it is due.
+///
+/// Join is due at every 500th turn. Retransmit, consensus and loss count down from 1,000, 8,000 and 32,000. Each begins
+/// again when the turn runs it, and all but join begin again when a turn takes a token.
+///
 /// Rules: The book and the threads 30 to 32
 #[derive(Clone, Copy, Debug, PartialEq, Eq)]
 pub struct Clock {
@@ -32,7 +37,10 @@ pub struct Clock {
 }
 
 impl Clock {
-    /// Returns the clock of a seat before its first turn: no timeout is due.
+    /// Returns the clock of a seat before its first turn.
+    ///
+    /// No timeout is due.
+    ///
     /// Rules: The book and the threads 30 and 31
     pub fn new() -> Clock
         ensures { result ≡ new_clock }
@@ -45,9 +53,11 @@ impl Clock {
         }
     }
 
-    /// Counts a turn that begins. Returns the timeout that is done in this turn, or `None` if none is due.
-    /// That timeout begins to count anew. If several are due, it is the first in the order join, retransmit, consensus,
-    /// loss. The others stay due.
+    /// Counts a turn that begins, and returns the timeout to run in this turn, or `None` if none is due.
+    ///
+    /// If several are due, it is the first in the order join, retransmit, consensus, loss. It begins to count again,
+    /// and the others stay due.
+    ///
     /// Rules: The book and the threads 31 and 32
     pub fn tick(&mut self) -> Option<Kind>
         ensures due { result ≡ due_timeout (clock_counted_down self.old) }
@@ -76,8 +86,10 @@ impl Clock {
         None
     }
 
-    /// Notes that the turn has taken an item, a token or a commit token that the step didn't ignore.
-    /// All timeouts but join begin to count anew.
+    /// Notes that the turn took a token or a commit token that the step didn't ignore.
+    ///
+    /// All timeouts but join begin to count again.
+    ///
     /// Rules: The book and the threads 31
     pub fn take(&mut self)
         ensures { self.new ≡ clock_after_item self.old }

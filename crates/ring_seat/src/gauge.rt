@@ -1,4 +1,5 @@
-//! The gauge: a progress counter for each node.
+//! The gauge, which has the greatest published length of each node.
+//!
 //! Rules: The book and the threads 33 and 34
 
 ghost use Rattle.std.specs.Prelude.{◌≡◌, ◌<◌, ◌≤◌, ◌+◌, ◌-◌, ◌++◌, ◌∷◌, [], Some, length, All, IfOk, IfErr, OnOk};
@@ -14,10 +15,11 @@ use ring_base::{Fault, Proc};
 use std::alloc::{Allocator, Global};
 use std::marker::Model;
 
-/// `Gauge`: a watermark for each node: the greatest length published for it.
-/// Contracts see which gauge it is, and the number of its nodes.
+/// `Gauge`: a watermark for each node, which is the greatest length published for it.
 ///
-/// Each word changes by `fetch_max` alone, so it never falls, and no lock is taken.
+/// Each node has an atomic word that only `fetch_max` changes, so it never falls, and no lock is taken. Contracts see
+/// which gauge it is, and the number of its nodes.
+///
 /// Rules: The book and the threads 33 and 34
 #[derive(Drop)]
 pub struct Gauge<A: Allocator + Copy + Drop = Global> {
@@ -33,9 +35,12 @@ impl<A: Allocator + Copy + Drop> Model for Gauge<A> {
 }
 
 impl<A: Allocator + Copy + Drop> Gauge<A> {
-    /// Returns a gauge of the nodes 1 to `nodes`, each word 0, and its seats: one for each node, ascending, then `more`
-    /// seats of no node. That `nodes` is 1 to 16 is the caller's condition.
-    /// Errors: `Memory`.
+    /// Creates a gauge of nodes 1 to `nodes`, with each word 0, and its seats.
+    ///
+    /// The seats are one for each node, in ascending order, then `more` seats of no node. `nodes` must be 1 to 16.
+    ///
+    /// Errors: `Memory` if an allocation fails.
+    ///
     /// Rules: The book and the threads 19 and 33
     pub fn new(alloc: A, nodes: u8, more: u16) -> Result<(Gauge<A>, Vec<Seat<A>, A>), Fault>
         requires { (1 ≤ nodes) × (nodes ≤ 16) }
@@ -57,9 +62,11 @@ impl<A: Allocator + Copy + Drop> Gauge<A> {
         Ok((Gauge { table }, seats))
     }
 
-    /// Publishes a length for the seat's node: from this moment the node's word is at least `length`.
-    /// A smaller length never replaces a greater one. The call takes no lock and no memory, and always returns. That
-    /// `seat` is a node's own seat of this gauge is the caller's condition.
+    /// Publishes a length for the seat's node: from now on the node's word is at least `length`.
+    ///
+    /// A smaller length never replaces a greater one. `seat` must be a node's own seat, of this gauge. Takes no lock,
+    /// does not allocate, and always returns.
+    ///
     /// Rules: The book and the threads 33 and 34
     pub fn publish(&self, seat: &mut Seat<A>, length: u64)
         requires own { IsOwn self.now seat.old }
@@ -73,10 +80,12 @@ impl<A: Allocator + Copy + Drop> Gauge<A> {
             .fetch_max::<Publish>(&mut seat.seat, node.number() as usize - 1, length);
     }
 
-    /// Returns the gauge's length for `node`: 0, or a length that was published for it.
+    /// Returns the gauge's length for `node`, which is 0 or a length that was published for it.
+    ///
     /// It is never less than a length that `seat` saw of that node before. On the node's own seat it is the greatest
-    /// length published there, 0 before the first. How fresh it is for another node is unspecified. The call takes no
-    /// lock and no memory, and always returns. That the seat and the node are of this gauge is the caller's condition.
+    /// length published there, or 0 before the first. How fresh it is for another node is unspecified. `seat` must be
+    /// of this gauge, and `node` one of its nodes. Takes no lock, does not allocate, and always returns.
+    ///
     /// Rules: The book and the threads 33 and 34
     pub fn look(&self, seat: &mut Seat<A>, node: Proc) -> u64
         requires gauge { seat.old.gauge ≡ self.now }
@@ -91,8 +100,11 @@ impl<A: Allocator + Copy + Drop> Gauge<A> {
     }
 }
 
-/// Returns the seats of `nodes` nodes, ascending. `maker` is the first seat of the words, and has made none before.
-/// Errors: `Memory`.
+/// Returns the seats of `nodes` nodes, in ascending order.
+///
+/// `maker` must be the first seat of the words, and must have made none before.
+///
+/// Errors: `Memory` if an allocation fails.
 fn seats_of_nodes<A: Allocator + Copy + Drop>(
     alloc: A,
     words: &Shared<u8, View, u64, GaugeRule>,
@@ -117,8 +129,11 @@ fn seats_of_nodes<A: Allocator + Copy + Drop>(
     Ok(seats)
 }
 
-/// Appends `more` seats of no node to the seats of the nodes. `maker` is the first seat of the words.
-/// Errors: `Memory`.
+/// Appends `more` seats of no node to the seats of the nodes.
+///
+/// `maker` must be the first seat of the words.
+///
+/// Errors: `Memory` if an allocation fails.
 fn add_foreign_seats<A: Allocator + Copy + Drop>(
     alloc: A,
     words: &Shared<u8, View, u64, GaugeRule>,

@@ -1,8 +1,9 @@
-//! A host thread's own state: its seat, and the gauge that all seats share.
-//! A seat counts turns, knows what it published and saw at the gauge, and has room for the frames that a turn sends.
-//! The gauge holds, for each node, the greatest length published for it.
+//! A host thread's own state, which is its seat, and the gauge that all seats share.
 //!
-//! Nothing here waits. Once the seats are made, only the outbox takes memory.
+//! A seat counts turns, knows what it published and saw at the gauge, and has room for the frames that a turn sends.
+//! The gauge holds, for each node, the greatest length published for it. Nothing here waits. Once the seats are made,
+//! only the outbox allocates.
+//!
 //! Rules: The book and the threads 30 to 34
 #![tactic(auto)]
 

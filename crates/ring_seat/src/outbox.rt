@@ -1,4 +1,5 @@
 //! The frames of a line, on their way from the book to the inboxes.
+//!
 //! Rules: The book and the threads 21
 
 ghost use Rattle.std.specs.Prelude.{◌≡◌, ◌≤◌, [], length, slice_get, IfSome, IfNone, IsSomeAnd};
@@ -9,26 +10,33 @@ use bytes::BytesMut;
 use ring_base::ProcSet;
 use std::alloc::{Allocator, Global};
 
-/// The frames that one line sends, copied from the book while it is locked, so that they can be pushed to the inboxes
-/// once it is unlocked. An outbox is used for one line after another and keeps its memory. So a line that isn't longer
-/// than the lines before it takes none.
+/// The frames that one line sends, copied from the book while it is locked, to be pushed to the inboxes once it is
+/// unlocked.
+///
+/// An outbox is used for one line after another and keeps its capacity. So it allocates only for a line that needs more
+/// room than every line before.
+///
 /// Rules: The book and the threads 21
 #[derive(Drop)]
 pub struct Outbox<A: Allocator + Copy + Drop = Global> {
-    /// The allocator of the memory that the outbox takes.
+    /// The allocator of the outbox's memory.
     pub(crate) alloc: A,
     /// The line's number in the book, counted from 0.
     pub line: u32,
-    /// The encodings of the frames in `frames`, one after the other.
+    /// The encodings of the frames in `frames`, one after another.
     pub text: BytesMut<A>,
-    /// The frames that were copied, in the order of their places in the line.
+    /// The copied frames, in the order of their indexes in the line.
     pub frames: OutboxFrames<A>,
-    /// The number of copies that memory refused: one for each receiver of a frame that could not be copied.
+    /// The number of dropped copies: one for each receiver of a frame for which an allocation failed.
     pub dropped: u32,
 }
 
 impl<A: Allocator + Copy + Drop> Outbox<A> {
-    /// Returns an outbox without frames, of line number 0. It takes no memory.
+    /// Creates an outbox without frames, for line 0.
+    ///
+    /// Does not allocate.
+    ///
+    /// Rules: The book and the threads 21
     pub fn new(alloc: A) -> Outbox<A>
         ensures text { result.text.items ≡ [] }
         ensures frames { result.frames ≡ [] }
@@ -43,7 +51,8 @@ impl<A: Allocator + Copy + Drop> Outbox<A> {
         }
     }
 
-    /// Begins the line of this number: removes all frames, sets `dropped` to 0, and keeps the memory.
+    /// Begins line `line`: removes all frames, sets `dropped` to 0, and keeps the capacity.
+    ///
     /// Rules: The book and the threads 21
     pub fn start_line(&mut self, line: u32)
         ensures line { self.new.line ≡ line }
@@ -57,10 +66,12 @@ impl<A: Allocator + Copy + Drop> Outbox<A> {
         self.dropped = 0;
     }
 
-    /// Adds the frame at `place` of the line, counted from 0, with the receivers `to`.
-    /// `is_put` says whether the frame's bytes were appended to `text`, after the bytes of the frames before it. If
-    /// they were not, or an allocation for the frame fails, the frame is left out: its bytes are removed from `text`, and
-    /// `dropped` grows by the number of its receivers, to at most 2^32 - 1.
+    /// Adds the frame at index `place` of the line, counted from 0, with the receivers `to`.
+    ///
+    /// `is_put` says whether the frame's bytes were appended to `text`, after those of the frames before it. If they
+    /// weren't, or an allocation fails, the frame is left out: its bytes are removed from `text`, and `dropped` grows
+    /// by the number of its receivers. `dropped` saturates at `u32::MAX`.
+    ///
     /// Rules: The book and the threads 23
     pub fn add_frame(&mut self, place: u16, to: ProcSet, is_put: bool)
         ensures line { self.new.line ≡ self.old.line }
@@ -76,8 +87,12 @@ impl<A: Allocator + Copy + Drop> Outbox<A> {
         }
     }
 
-    /// Returns the bytes of the frame at `index` of `frames`, counted from 0, or `None` if there is no such frame.
-    /// In a whole outbox, one with all its frames' bytes, every frame has its bytes.
+    /// Returns the bytes of the frame at index `index` of `frames`, counted from 0, or `None` if there is no such
+    /// frame.
+    ///
+    /// If the outbox is whole, which means that `text` has the bytes of all its frames, every frame has its bytes.
+    ///
+    /// Rules: The book and the threads 21
     pub fn bytes_at(&self, index: usize) -> Option<&[u8]>
         ensures some { IfSome result (λ bytes. IsSomeAnd (slice_get (frames_in self.now) index) (λ frame. bytes.now ≡ frame.bytes)) }
         ensures none { IfNone result (IsWhole self.now → length self.now.frames ≤ index) }

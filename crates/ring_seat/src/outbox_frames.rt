@@ -1,4 +1,4 @@
-//! The frames of a line, by where their bytes end in a text.
+//! The list of an outbox's frames, by the ends of their bytes in one text.
 
 ghost use Rattle.std.specs.Prelude.{◌≡◌, ◌≤◌, [], ◌∷◌, ◌++◌, take, slice_get, if◌then◌else◌};
 ghost use Rattle.ring_seat.specs.OutboxFrames.{end_of, AreInOrder};
@@ -7,19 +7,25 @@ use ring_base::ProcSet;
 use std::alloc::{Allocator, Global};
 use std::marker::Model;
 
-/// A frame of a line. Its bytes in the outbox's text begin where the bytes of the frame before it end.
+/// A frame of a line.
+///
+/// Its bytes in the outbox's text begin where the bytes of the frame before it end.
+///
 /// Rules: The book and the threads 21
 #[derive(Clone, Copy, Debug, PartialEq, Eq)]
 pub struct OutboxFrame {
-    /// The frame's place among the frames that its line sends, counted from 0.
+    /// The frame's index among the frames that its line sends, counted from 0.
     pub place: u16,
-    /// The processors that the frame goes to.
+    /// The frame's receivers.
     pub to: ProcSet,
     /// The index in the text at which the frame's bytes end, exclusive.
     pub end: usize,
 }
 
-/// The list of the frames in an outbox's text, whose bytes follow each other there. Contracts see the list.
+/// The list of the frames in an outbox's text, in which their bytes follow one another.
+///
+/// Contracts see the list.
+///
 /// Rules: The book and the threads 21
 #[derive(Drop)]
 pub struct OutboxFrames<A: Allocator + Copy + Drop = Global> {
@@ -40,7 +46,9 @@ impl<A: Allocator + Copy + Drop> Model for OutboxFrames<A> {
 }
 
 impl<A: Allocator + Copy + Drop> OutboxFrames<A> {
-    /// Returns an empty list. It takes no memory.
+    /// Returns an empty list.
+    ///
+    /// Does not allocate.
     pub(crate) fn new(alloc: A) -> OutboxFrames<A>
         ensures { result ≡ [] }
     {
@@ -50,14 +58,14 @@ impl<A: Allocator + Copy + Drop> OutboxFrames<A> {
         }
     }
 
-    /// Returns the frames, in the order of their places in the line.
+    /// Returns the frames, in the order of their indexes in the line.
     pub fn as_slice(&self) -> &[OutboxFrame]
         ensures { result.now ≡ self.now }
     {
         self.list.as_slice()
     }
 
-    /// Returns the frame at `index` of the list, counted from 0, or `None` past the last.
+    /// Returns the frame at index `index` of the list, counted from 0, or `None` if there is no such frame.
     #[tactic(auto, using(ring_base::proofs::ListPlaces::item_copied))]
     pub fn get(&self, index: usize) -> Option<OutboxFrame>
         ensures { result ≡ slice_get self.now index }
@@ -65,7 +73,7 @@ impl<A: Allocator + Copy + Drop> OutboxFrames<A> {
         self.list.as_slice().get(index).copied()
     }
 
-    /// Returns the index in the text at which the bytes of the last frame end, 0 without a frame.
+    /// Returns the index in the text at which the bytes of the last frame end, or 0 without frames.
     pub(crate) fn end(&self) -> usize
         ensures end { result ≡ end_of self.now }
         ensures order { AreInOrder 0 self.now }
@@ -73,8 +81,10 @@ impl<A: Allocator + Copy + Drop> OutboxFrames<A> {
         self.end
     }
 
-    /// Returns the index in the text at which the bytes of the frame at `index` begin: where the bytes of the frame
-    /// before it end. Past the last frame it is [`end`](OutboxFrames::end).
+    /// Returns the index in the text at which the bytes of the frame at `index` begin, which is where those before it
+    /// end.
+    ///
+    /// For an index after the last frame it is [`end`](OutboxFrames::end).
     pub(crate) fn start(&self, index: usize) -> usize
         ensures { result ≡ end_of (take index self.now) }
     {
@@ -87,7 +97,7 @@ impl<A: Allocator + Copy + Drop> OutboxFrames<A> {
         }
     }
 
-    /// Removes all frames and keeps the memory of the list.
+    /// Removes all frames and keeps the capacity.
     pub(crate) fn clear(&mut self)
         ensures { self.new ≡ [] }
     {
@@ -95,8 +105,11 @@ impl<A: Allocator + Copy + Drop> OutboxFrames<A> {
         self.end = 0;
     }
 
-    /// Appends a frame and returns true. Returns false, and changes nothing, if memory refuses the frame. That its
-    /// bytes end no earlier than the bytes of the frames before it is the caller's condition.
+    /// Appends a frame, and returns whether it did.
+    ///
+    /// Returns false, and changes nothing, if an allocation fails.
+    ///
+    /// The frame's bytes must end no earlier than those of the frames before it.
     pub(crate) fn push(&mut self, outbox_frame: OutboxFrame) -> bool
         requires { end_of self.old ≤ outbox_frame.end }
         ensures { self.new ≡ (if result then self.old ++ outbox_frame ∷ [] else self.old) }

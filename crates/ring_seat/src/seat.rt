@@ -1,4 +1,5 @@
-//! The seats of a host: a thread's handles for taking turns, publishing and looking.
+//! The seats of a host, which are threads' handles for taking turns, publishing and looking.
+//!
 //! Rules: The book and the threads 19, 30 to 34
 
 ghost use Rattle.std.specs.Prelude.{◌≡◌, ◌≤◌, IfSome};
@@ -15,12 +16,14 @@ use std::marker::Model;
 use std::mem;
 
 /// `Seat`: a thread's handle on a host: a node's own seat, or a seat of no node.
-/// It has a clock, an outbox, and what the thread needs to publish and look.
-/// Contracts see its gauge, its node, the lengths published on it, the words that it saw, and its clock.
+///
+/// It has a clock, an outbox, and what the thread needs to publish and look. Contracts see its gauge, its node, the
+/// lengths published on it, the words that it saw, and its clock.
+///
 /// Rules: The book and the threads 19
 #[derive(Drop)]
 pub struct Seat<A: Allocator + Copy + Drop = Global> {
-    /// The node whose own seat it is, `None` for a seat of no node.
+    /// The node whose own seat it is, or `None` for a seat of no node.
     pub(crate) node: Option<Proc>,
     clock: Clock,
     /// The seat's handle on the gauge's words.
@@ -45,8 +48,10 @@ impl<A: Allocator + Copy + Drop> Model for Seat<A> {
 }
 
 impl<A: Allocator + Copy + Drop> Seat<A> {
-    /// Returns the seat of this node, or a seat of no node for `None`, with a new clock and an empty outbox.
-    /// It takes no memory.
+    /// Creates the own seat of `node`, or a seat of no node for `None`, with a new clock and an empty outbox.
+    ///
+    /// Does not allocate.
+    ///
     /// Rules: The book and the threads 19
     pub(crate) fn new(alloc: A, node: Option<Proc>, seat: TableSeat<u8, View>) -> Seat<A>
         requires { IsSeated node seat }
@@ -61,6 +66,7 @@ impl<A: Allocator + Copy + Drop> Seat<A> {
     }
 
     /// Returns the node whose own seat it is, one of the gauge's nodes, or `None` for a seat of no node.
+    ///
     /// Rules: The book and the threads 19
     pub fn node(&self) -> Option<Proc>
         ensures node { result ≡ self.now.node }
@@ -69,7 +75,8 @@ impl<A: Allocator + Copy + Drop> Seat<A> {
         self.node
     }
 
-    /// Returns a copy of the seat's clock at this moment.
+    /// Returns a copy of the seat's clock.
+    ///
     /// Rules: The book and the threads 30 to 32
     pub fn clock(&self) -> Clock
         ensures { result ≡ self.now.clock }
@@ -77,8 +84,8 @@ impl<A: Allocator + Copy + Drop> Seat<A> {
         self.clock
     }
 
-    /// Counts a turn that begins at the seat's clock.
-    /// Returns the timeout that is done in this turn, or `None`, as [`Clock::tick`] does.
+    /// Counts a turn that begins, and returns the timeout to run in it, or `None`, as [`Clock::tick`] does.
+    ///
     /// Rules: The book and the threads 31 and 32
     pub fn tick(&mut self) -> Option<Kind>
         ensures due { result ≡ due_timeout (clock_counted_down self.old.clock) }
@@ -87,7 +94,8 @@ impl<A: Allocator + Copy + Drop> Seat<A> {
         self.clock.tick()
     }
 
-    /// Notes that the turn has taken an item, as [`Clock::take`] does: a token or a commit token that wasn't ignored.
+    /// Notes that the turn took a token or a commit token that the step didn't ignore, as [`Clock::take`] does.
+    ///
     /// Rules: The book and the threads 31
     pub fn take(&mut self)
         ensures { self.new ≡ record (self.old) { clock = clock_after_item self.old.clock } }
@@ -95,7 +103,10 @@ impl<A: Allocator + Copy + Drop> Seat<A> {
         self.clock.take();
     }
 
-    /// Returns the seat's outbox, with its memory, and leaves an empty one in the seat. It takes no memory.
+    /// Takes the outbox, with its capacity, and leaves an empty one in the seat.
+    ///
+    /// Does not allocate.
+    ///
     /// Rules: The book and the threads 21
     pub fn take_outbox(&mut self) -> Outbox<A>
         ensures { self.new ≡ self.old }
@@ -104,7 +115,10 @@ impl<A: Allocator + Copy + Drop> Seat<A> {
         mem::replace(&mut self.outbox, none)
     }
 
-    /// Puts an outbox back into the seat, in place of the outbox there, which is dropped. It takes no memory.
+    /// Puts an outbox back into the seat.
+    ///
+    /// The one there is dropped. Does not allocate.
+    ///
     /// Rules: The book and the threads 21
     pub fn put_outbox(&mut self, outbox: Outbox<A>)
         ensures { self.new ≡ self.old }

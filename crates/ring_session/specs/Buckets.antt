@@ -1,5 +1,5 @@
--- The positions of unanswered tickets by the bucket of their call, so that a committed call is searched for in its bucket
--- alone; and the tickets whose call was committed before.
+-- The positions of unanswered tickets by the bucket of their call, so that a committed call is searched for only in its
+-- bucket; and the tickets whose calls were committed before.
 -- Rules: The replicated log 13 to 15
 use Rattle.std.specs.Prelude.{◌≡◌, ℕ, ◌+◌, ◌*◌, ◌%◌, ◌==◌, ◌<◌, ◌≤◌, ◌||◌, Bool, false, List, [], ◌∷◌, drop, slice_get, slice_index, slice_index_or}
 use Rattle.std.specs.Prelude.{Some, if◌then◌else◌}
@@ -8,33 +8,34 @@ use Rattle.ring_session.specs.declared.pending.Pending.{Pending}
 use Rattle.ring_session.specs.SessionAnswer.{is_same}
 use Rattle.ring_session.specs.Pendings.{contains_call}
 
--- The bucket of a call, one of 256. Successive calls of one client are in different buckets, and those of different clients
--- begin far apart.
+-- The bucket of a call, one of 256. Successive calls of one client are in different buckets, and the calls of different
+-- clients begin far apart.
 abbrev pub bucket_of : {A : Type 0} → Call A → ℕ
 bucket_of c = (c.client % 256 * 157 + c.number % 256) % 256
 
--- The first position of a bucket, for tickets with positions from i on; their end if no ticket is in the bucket.
+-- The first position of a bucket, for tickets with positions from i on, or the end of the tickets if the bucket is
+-- empty.
 abbrev pub place_from : {A : Type 0} → ℕ → ℕ → List (Pending A) → ℕ
 place_from b i [] = i
 place_from b i (p ∷ ps) = if bucket_of p.call == b then i else place_from b (i + 1) ps
 
--- The chains of the tickets from position i on: the first position of each bucket, and after each position the next of its
--- bucket.
+-- The chains of the tickets from position i on: the first position of each bucket, and for each position the next one
+-- in its bucket.
 pub record AreChained {A : Type 0} (firsts nexts : List ℕ) (i : ℕ) (pending : List (Pending A)) : Type 0 where
   pub first : (b : ℕ) → b < 256 → slice_index firsts b ≡ place_from b i (drop i pending)
   pub next : (j : ℕ) → (p : Pending A) → i ≤ j → slice_get pending j ≡ Some p
       → slice_index nexts j ≡ place_from (bucket_of p.call) (j + 1) (drop (j + 1) pending)
 
--- The marked tickets are those whose call is among the calls done before.
+-- The marked tickets are exactly those whose call is among the calls done before.
 abbrev pub AreCommitted : {A : Type 0} → List Bool → List (Call A) → List (Pending A) → Type 0
 AreCommitted {A} gone before pending = (j : ℕ) → (p : Pending A) → slice_get pending j ≡ Some p → slice_index_or gone j false ≡ contains_call before p.call
 
--- The same, with one call more for the tickets before position i.
+-- The same, with one more call for the tickets before position i.
 pub record AreCommittedTo {A : Type 0} (gone : List Bool) (before : List (Call A)) (c : Call A) (i : ℕ) (pending : List (Pending A)) : Type 0 where
   pub behind : (j : ℕ) → (p : Pending A) → slice_get pending j ≡ Some p → j < i → slice_index_or gone j false ≡ (contains_call before p.call || is_same p.call c)
   pub ahead : (j : ℕ) → (p : Pending A) → slice_get pending j ≡ Some p → i ≤ j → slice_index_or gone j false ≡ contains_call before p.call
 
--- None of the tickets from position i to before k is of the call.
+-- None of the tickets at the positions from i to before k is of the call.
 abbrev pub IsNone : {A : Type 0} → Call A → ℕ → ℕ → List (Pending A) → Type 0
 IsNone {A} c i k pending = (j : ℕ) → (p : Pending A) → slice_get pending j ≡ Some p → i ≤ j → j < k → is_same p.call c ≡ false
 

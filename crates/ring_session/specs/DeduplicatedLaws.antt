@@ -1,5 +1,5 @@
--- The calls that take effect are calls of the list, each once; each client's are numbered 1, 2, ..; and more calls only
--- append to them.
+-- The calls that take effect are calls of the list, each once, and each client's are numbered 1, 2, ..; appended calls
+-- only append to them.
 -- Rules: Sessions 6
 use Rattle.std.proofs.Common.{◌≡◌, ℕ, zero, suc, ◌+◌, ◌<◌, ◌≤◌, ◌==◌, Bool, true, false, List, [], ◌∷◌, ◌++◌}
 use Rattle.std.proofs.Common.{take, get_or, refl, ap, sym, subst, ◌∙◌, arith, append_assoc, inl}
@@ -18,7 +18,7 @@ use Rattle.ring_session.specs.Deduplicated.{is_of, count_of, may_call, takes_eff
 
 -- ---- counts
 
--- One call more.
+-- The count with one more call.
 pub count_of-push : {A : Type 0} (client : ℕ) (calls : List (Call A)) (c : Call A) → count_of client (calls ++ c ∷ [])
     ≡ count_of client calls + (if is_of client c then 1 else 0)
 count_of-push client calls c = sum_by_push (λ x. if is_of client x then 1 else 0) calls c
@@ -36,7 +36,7 @@ count_of-push_other client calls c ne =
     ∙ ap (λ n. count_of client calls + n) (cond-false (c.client == client) 1 0 (ne_eqb c.client client ne)) in
     omega (arith, none)
 
--- A client's count rises at each call of the client.
+-- A client's count is greater after each call of the client.
 pub count_of-take : {A : Type 0} (calls : List (Call A)) (p q : ℕ) (c : Call A) → StandsAt calls p c → p < q
     → count_of c.client (take p calls) + 1 ≤ count_of c.client (take q calls)
 count_of-take {A} calls p q c at lt =
@@ -62,19 +62,19 @@ append_step kept xs ys x true taken left =
     (append_assoc kept (x ∷ []) (deduplicated_after (kept ++ x ∷ []) xs))
 append_step kept xs ys x false taken left = left
 
--- More calls append.
+-- More calls only append to the calls that take effect.
 pub deduplicated_after-append : {A : Type 0} (kept xs ys : List (Call A)) → deduplicated_after kept (xs ++ ys)
     ≡ deduplicated_after kept xs ++ deduplicated_after (kept ++ deduplicated_after kept xs) ys
 deduplicated_after-append kept [] ys = ap (λ w. deduplicated_after w ys) (sym (append-nil kept))
 deduplicated_after-append kept (x ∷ xs) ys = append_step kept xs ys x (takes_effect kept x)
     (deduplicated_after-append (kept ++ x ∷ []) xs ys) (deduplicated_after-append kept xs ys)
 
--- One call more is appended if it takes effect.
+-- One more call is appended if it takes effect.
 pub deduplicated-push : {A : Type 0} (calls : List (Call A)) (c : Call A) → deduplicated (calls ++ c ∷ [])
     ≡ deduplicated calls ++ (if takes_effect (deduplicated calls) c then c ∷ [] else [])
 deduplicated-push calls c = deduplicated_after-append [] calls (c ∷ [])
 
--- The calls that take effect in a prefix are a prefix of those that do in the whole list.
+-- The calls that take effect in a prefix are a prefix of those that take effect in the whole list.
 pub deduplicated-front : {A : Type 0} (xs ys : List (Call A)) → IsListPrefix xs ys → IsListPrefix (deduplicated xs) (deduplicated ys)
 deduplicated-front xs ys front = (deduplicated_after (deduplicated xs) front.0, sym (deduplicated_after-append [] xs front.0) ∙ ap deduplicated front.1)
 
@@ -134,7 +134,7 @@ deduplicated-stands calls p c at = deduplicated_after-stands [] calls p c at
 
 -- ---- each number once
 
--- If each client's calls are numbered, no call comes before another one of the same client and number.
+-- If each client's calls are numbered, no call precedes another one of the same client and number.
 not_before : {A : Type 0} (calls : List (Call A)) → IsNumbered calls → (p q : ℕ) (c d : Call A) → StandsAt calls p c
     → StandsAt calls q d → c.client ≡ d.client → c.number ≡ d.number → p < q → ⊥
 not_before calls numbered p q c d at at' client number lt =
@@ -144,7 +144,7 @@ not_before calls numbered p q c d at at' client number lt =
     let same : count_of c.client (take q calls) ≡ count_of d.client (take q calls) = ap (λ k. count_of k (take q calls)) client in
     omega (arith, more, first, second, number, same)
 
--- If each client's calls are numbered, a client's number occurs at one place.
+-- If each client's calls are numbered, a client's number occurs only once.
 pub numbered_once : {A : Type 0} (calls : List (Call A)) → IsNumbered calls → (p q : ℕ) (c d : Call A)
     → StandsAt calls p c → StandsAt calls q d → c.client ≡ d.client → c.number ≡ d.number → p ≡ q
 numbered_once calls numbered p q c d at at' client number =

@@ -11,7 +11,7 @@ pub record Found (A : Type 0) : Type 0 where
   pub table : Table Content
   pub calls : List (Call A)
 
--- These are the table and the effects of the added calls.
+-- The table and the calls are those of the added calls.
 pub record AreOf {A : Type 0} (added : List (Call A)) (found : Found A) : Type 0 where
   pub table_is : found.table ≡ table_after nothing added
   pub calls_are : found.calls ≡ deduplicated added

@@ -16,23 +16,24 @@ module _ {O : Type 0} (object : Sequential O) where
     pub told : session_answer object calls p ≡ Some answer
     pub brings : reply_in answer ≡ Some r
 
-  -- Each call that takes effect has the answer `Done` at its place in the list, with the sequential object's reply.
+  -- Each call that takes effect has the answer `Done` at its place in the list, with the reply of the sequential
+  -- object.
   abbrev pub EachIsDone : {A : Type 0} → List (Call A) → Type 0
   EachIsDone {A} calls = (q : ℕ) (c : Call A) → StandsAt (deduplicated calls) q c
       → (p : ℕ) × StandsAt calls p c × (session_answer object calls p ≡ Some (Done (call_reply object (deduplicated calls) q)))
 
-  -- A client's number has the answer `Done` at no second place.
+  -- A client's number has the answer `Done` at no more than one place.
   abbrev pub IsDoneOnce : {A : Type 0} → List (Call A) → Type 0
   IsDoneOnce {A} calls = (p q : ℕ) (c d : Call A) (r s : List ℕ) → StandsAt calls p c → StandsAt calls q d
       → session_answer object calls p ≡ Some (Done r) → session_answer object calls q ≡ Some (Done s)
       → c.client ≡ d.client → c.number ≡ d.number → p ≡ q
 
-  -- Each reply is the sequential object's, at the place of its call among those that take effect, and the call's number is
-  -- at least 1.
+  -- Each reply is that of the sequential object, at the place of its call among those that take effect, and the call's
+  -- number is at least 1.
   abbrev pub RepliesAreTheObjects : {A : Type 0} → List (Call A) → Type 0
   RepliesAreTheObjects {A} calls = (p : ℕ) (c : Call A) (r : List ℕ) → IsReplied calls p c r → IsReplyIn object (deduplicated calls) c r × (1 ≤ c.number)
 
-  -- A client's number with a reply names one call, which has one reply, at whichever places.
+  -- A client's number with a reply names one call, which has the same reply at all its places.
   abbrev pub RepliesAreOne : {A : Type 0} → List (Call A) → Type 0
   RepliesAreOne {A} calls = (p q : ℕ) (c d : Call A) (r s : List ℕ) → IsReplied calls p c r → IsReplied calls q d s
       → c.client ≡ d.client → c.number ≡ d.number → (c ≡ d) × (r ≡ s)

@@ -15,7 +15,7 @@ use Rattle.ring_session.specs.declared.recent.KeptAnswer.{KeptAnswer}
 use Rattle.ring_session.specs.RecentAnswers.{last_kept, kept_of}
 use Rattle.ring_session.specs.Tickets.{TicketCall, place_of, kept_answers}
 
--- The number of tickets given, the unanswered ones in order, and the last answers.
+-- The number of tickets given, the unanswered tickets in order, and the last answers.
 pub record Tickets (A : Type 0) : Type 0 where
   pub given : ℕ
   pub pending : List (Pending A)
@@ -25,7 +25,7 @@ pub record Tickets (A : Type 0) : Type 0 where
 abbrev pub no_tickets : {A : Type 0} → Tickets A
 no_tickets = record { given = 0; pending = []; kept = [] }
 
--- Whether no ticket may be given: 64 are unanswered, which is the most, or 2^62 were given.
+-- Whether no ticket may be given: 64 are unanswered, or 2^62 have been given.
 abbrev pub is_full : {A : Type 0} → Tickets A → Bool
 is_full t = nat_le 64 (length t.pending) || nat_le max_number t.given
 
@@ -39,23 +39,23 @@ with_ticket t c = record t { given = t.given + 1; pending = t.pending ++ record 
 abbrev pub contains_call : {A : Type 0} → List (Call A) → Call A → Bool
 contains_call calls c = list_any (is_same c) calls
 
--- The answer to a ticket, if its call is the answered one and wasn't done before.
+-- The answer to a ticket, if its call is the answered call and wasn't done before.
 abbrev pub answer_for : {A : Type 0} → List (Call A) → Call A → Answer → Pending A → List (TicketAnswer A)
 answer_for before c answer p =
     if is_same p.call c && not (contains_call before p.call) then record { ticket = p.ticket; call = p.call; answer = answer } ∷ [] else []
 
--- The answers to tickets that a call's answer gives.
+-- The answers that a call's answer gives to the tickets.
 abbrev pub answers_to : {A : Type 0} → List (Call A) → Call A → Answer → List (Pending A) → List (TicketAnswer A)
 answers_to before c answer [] = []
 answers_to before c answer (p ∷ ps) = answer_for before c answer p ++ answers_to before c answer ps
 
--- The answers that calls in order give, by the session table, after calls done earlier in the same step.
+-- The answers that calls in order give, by the session table, after calls that were done earlier in the same step.
 abbrev pub answers_behind : {O A : Type 0} → Sequential O → Table O → List (Pending A) → List (Call A) → List (Call A) → List (TicketAnswer A)
 answers_behind object table pending before [] = []
 answers_behind object table pending before (c ∷ more) =
     answers_to before c (table_answer object table c) pending ++ answers_behind object (table_next object table c) pending (before ++ c ∷ []) more
 
--- The tickets that none of these calls answers.
+-- The tickets that none of these calls answers, in order.
 abbrev pub unanswered_by : {A : Type 0} → List (Call A) → List (Pending A) → List (Pending A)
 unanswered_by {A} committed pending = filter (λ (p : Pending A). not (contains_call committed p.call)) pending
 
@@ -65,13 +65,13 @@ with_answers {A} t committed answers = record t { pending = unanswered_by commit
 
 -- The state as determined by all tickets and answers given and all calls done
 
--- The unanswered tickets, of which the first has this number.
+-- The unanswered tickets among these tickets, which are numbered from the given number on.
 abbrev pub pending_from : {A : Type 0} → List (Call A) → ℕ → List (TicketCall A) → List (Pending A)
 pending_from done ticket [] = []
 pending_from done ticket (t ∷ ts) =
     if is_none (place_of done t) then record { ticket = ticket; call = t.call } ∷ pending_from done (ticket + 1) ts else pending_from done (ticket + 1) ts
 
--- The state is the one determined by all tickets, all calls done and all answers.
+-- The state is determined by all tickets, all calls done and all answers.
 pub record AreTickets {A : Type 0} (asked : List (TicketCall A)) (done : List (Call A)) (answers : List (TicketAnswer A)) (t : Tickets A) : Type 0 where
   pub given : t.given ≡ length asked
   -- Each ticket was given when at most as many calls were done as now.

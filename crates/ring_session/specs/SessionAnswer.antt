@@ -1,4 +1,4 @@
--- The session table's answer to each call of a list, as a function of the list alone: earlier answers, and the node that
+-- The session table's answer to each call of a list, as a function of the list: earlier answers, and the nodes that
 -- gave them, play no part.
 -- Rules: Sessions 3, 4, 7 and 8
 use Rattle.std.specs.Prelude.{◌≡◌, ℕ, ◌+◌, ◌==◌, nat_lt, Bool, true, false, List, length, take, slice_get, Option, Some, None, position, if◌then◌else◌}
@@ -17,8 +17,8 @@ use Rattle.ring_session.specs.Deduplicated.{count_of, may_call, deduplicated, St
 abbrev pub refusal : Fault → Answer
 refusal fault = Refused (fault_number fault)
 
--- Sessions 3: the answer to a call with its client's last number: the reply at its own place, unless another call has that
--- number.
+-- Sessions 3: the answer to a call with its client's last number: the reply at its place if it is the call with that
+-- number, otherwise `Conflict`.
 abbrev pub repeated : (ℕ → List ℕ) → Option ℕ → Answer
 repeated replies (Some place) = Kept (replies place)
 repeated replies None = refusal Conflict
@@ -53,6 +53,6 @@ module _ {O : Type 0} (object : Sequential O) where
   abbrev pub session_answer : {A : Type 0} → List (Call A) → ℕ → Option Answer
   session_answer calls p = option_map (answer_after (call_reply (deduplicated calls)) (deduplicated (take p calls))) (slice_get calls p)
 
-  -- The call is in this order of calls, and this is the sequential object's reply there.
+  -- The call is in this order of calls, and the reply is the sequential object's reply there.
   abbrev pub IsReplyIn : {A : Type 0} → List (Call A) → Call A → List ℕ → Type 0
   IsReplyIn order c r = (q : ℕ) × StandsAt order q c × (call_reply order q ≡ r)

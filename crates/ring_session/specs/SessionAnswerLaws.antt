@@ -1,5 +1,5 @@
--- A reply of the session table is the sequential object's at the one place where its call takes effect, and no later call
--- changes it.
+-- A reply of the session table is the sequential object's reply at the one place where its call takes effect, and no
+-- later call changes it.
 -- Rules: Sessions 3, 7 and 8
 use Rattle.std.proofs.Common.{◌≡◌, ℕ, suc, ◌+◌, ◌<◌, ◌≤◌, ◌==◌, ◌&&◌, nat_lt, Bool, true, false, List, [], ◌∷◌}
 use Rattle.std.proofs.Common.{◌++◌, length, take, drop, Option, Some, None, position, slice_get, get_or, refl, ap, sym}
@@ -28,7 +28,7 @@ use Rattle.ring_session.specs.SessionAnswer.{refusal, is_same, repeated, answer_
 
 -- ---- the sequential object's replies
 
--- A reply stays the same as the list grows.
+-- A reply stays the same if the list grows.
 pub call_reply-front : {O A : Type 0} (object : Sequential O) (xs ys : List (Call A)) (q : ℕ) → IsListPrefix xs ys → q < length xs
     → call_reply object ys q ≡ call_reply object xs q
 call_reply-front {O} {A} object xs ys q front within =
@@ -42,7 +42,7 @@ call_reply-front {O} {A} object xs ys q front within =
     ap (λ w. object.reply (content_after object object.initial w) (slice_index_or (operations ys) q [])) before
     ∙ ap (λ op. object.reply (content_after object object.initial (take q (operations xs))) op) here
 
--- A reply of a call in an order is its reply in each longer order.
+-- A reply of a call in an order is its reply in every longer order.
 pub replied_front : {O A : Type 0} (object : Sequential O) (xs ys : List (Call A)) (c : Call A) (r : List ℕ) → IsListPrefix xs ys
     → IsReplyIn object xs c r → IsReplyIn object ys c r
 replied_front object xs ys c r front replied = (
@@ -52,7 +52,7 @@ replied_front object xs ys c r front replied = (
       (slice_get_within xs replied.0 c replied.1) ∙ replied.2,
 )
 
--- In an order where each client's calls are numbered, a client's number names one call with one reply.
+-- In an order in which each client's calls are numbered, a client's number names one call with one reply.
 pub one_reply : {O A : Type 0} (object : Sequential O) (order : List (Call A)) → IsNumbered order → (c d : Call A) (r s : List ℕ)
     → IsReplyIn object order c r → IsReplyIn object order d s → c.client ≡ d.client → c.number ≡ d.number → (c ≡ d) × (r ≡ s)
 one_reply {O} {A} object order numbered c d r s x y client number =
@@ -66,7 +66,7 @@ one_reply {O} {A} object order numbered c d r s x y client number =
 before_front : {A : Type 0} (calls : List (Call A)) (p : ℕ) → IsListPrefix (deduplicated (take p calls)) (deduplicated calls)
 before_front calls p = deduplicated-front (take p calls) calls (taken-front p calls)
 
--- A call that takes effect at its place comes directly after those that did before.
+-- A call that takes effect at its place comes directly after the calls that took effect before.
 pub takes_effect-front : {A : Type 0} (calls : List (Call A)) (p : ℕ) (c : Call A) → StandsAt calls p c
     → takes_effect (deduplicated (take p calls)) c ≡ true → IsListPrefix (deduplicated (take p calls) ++ c ∷ [])
     (deduplicated (take (suc p) calls))
@@ -102,7 +102,7 @@ same_place : (f g : ℕ → List ℕ) (o : Option ℕ) → ((q : ℕ) → o ≡ 
 same_place f g None same = refl
 same_place f g (Some q) same = ap Kept (same q refl)
 
--- Two answers by the same tests are equal, if the replies and the kept answers that they lead to are.
+-- Two answers by the same tests are equal if the replies and the kept answers to which they lead are equal.
 pub same_cases : (next room last old : Bool) (x y : List ℕ) (k l : Answer) → (next && room ≡ true → x ≡ y) → (last ≡ true → k ≡ l)
     → (if next then (if room then Done x else refusal SessionsFull) else if last then k else if old then refusal Stale else refusal NumberGap)
     ≡ (if next then (if room then Done y else refusal SessionsFull) else if last then l else if old then refusal Stale else refusal NumberGap)
@@ -120,7 +120,7 @@ answer_after-same f g kept c own before =
     (f (length kept)) (g (length kept)) (repeated f (position (is_same c) kept)) (repeated g (position (is_same c) kept)) own
     (λ last. same_place f g (position (is_same c) kept) (λ q found. before q (position-Some (is_same c) kept q c found).0))
 
--- An answer stays the same as the list grows.
+-- An answer stays the same if the list grows.
 pub session_answer-front : {O A : Type 0} (object : Sequential O) (xs ys : List (Call A)) (p : ℕ) (c : Call A) → StandsAt xs p c → IsListPrefix xs ys
     → session_answer object ys p ≡ session_answer object xs p
 session_answer-front {O} {A} object xs ys p c at front =
@@ -149,7 +149,7 @@ replied_cases false room true old f n (Some q) r e = inr (q, refl, cc e)
 replied_cases false room false true f n o r e = absurd (cc e)
 replied_cases false room false false f n o r e = absurd (cc e)
 
--- A reply is the sequential object's at a place where the call takes effect.
+-- A reply is the sequential object's reply at a place where the call takes effect.
 pub answered : {O A : Type 0} (object : Sequential O) (calls : List (Call A)) (p : ℕ) (c : Call A) (a : Answer) (r : List ℕ) → StandsAt calls p c
     → session_answer object calls p ≡ Some a → reply_in a ≡ Some r → IsReplyIn object (deduplicated calls) c r
 answered {O} {A} object calls p c a r at answer is =
@@ -219,7 +219,7 @@ no_later_effect {A} calls p q c d at at' taken taken' client number lt =
     let same : count_of c.client kept ≡ count_of d.client kept = ap (λ k. count_of k kept) client in
     omega (arith, first, second, more, all, same, number)
 
--- A client's number has the answer `Done` at one place.
+-- A client's number has the answer `Done` at only one place.
 pub done_once : {O A : Type 0} (object : Sequential O) (calls : List (Call A)) (p q : ℕ) (c d : Call A) (r s : List ℕ) → StandsAt calls p c → StandsAt calls q d
     → session_answer object calls p ≡ Some (Done r) → session_answer object calls q ≡ Some (Done s) → c.client ≡ d.client → c.number ≡ d.number → p ≡ q
 done_once object calls p q c d r s at at' done done' client number =

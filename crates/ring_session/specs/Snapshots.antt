@@ -1,4 +1,4 @@
--- A session table as bytes, and the table of which bytes are the snapshot.
+-- A session table as bytes, and the table whose snapshot is given bytes.
 -- Rules: Sessions 12
 -- Formats: Snapshots
 use Rattle.std.proofs.Common.{◌≡◌, ℕ, zero, suc, ◌^◌, ◌<◌, ◌≤◌, ◌==◌, if◌then◌else◌, List, [], ◌∷◌, length, Option, Some, None, IsSome, refl, arith}
@@ -18,7 +18,7 @@ use Rattle.ring_session.specs.Table.{LastCall, Table, table_of}
 
 -- ---- a reply: its length in one byte, and its bytes
 
--- The most bytes of a reply.
+-- The maximum length of a reply in bytes.
 abbrev pub max_reply : ℕ
 max_reply = 64
 
@@ -132,43 +132,43 @@ table_snapshot snapshot_of table =
 unfoldable pub sessions_at : List ℕ → Option ((ℕ × List (ℕ × LastCall)) × List ℕ)
 sessions_at bytes = then_at (such_at (λ n. nat_le n max_clients) (number_at 2)) (λ n. clients_at n 0) bytes
 
--- A text after its length in 8 bytes.
+-- A text preceded by its length in 8 bytes.
 unfoldable pub object_at : List ℕ → Option ((ℕ × List ℕ) × List ℕ)
 object_at bytes = (followed u64_field text).at bytes
 
--- The clients and the object's snapshot of which the bytes consist.
+-- The clients and the object's snapshot that the bytes consist of.
 unfoldable pub parts_at : List ℕ → Option (List (ℕ × LastCall) × List ℕ)
 parts_at bytes = do
   sessions ← sessions_at bytes
   object ← object_at sessions.1
   if length object.1 == 0 then Some (sessions.0.1, object.0.1) else None
 
--- The table of these clients, with the content of which this is the snapshot.
+-- The table of these clients with the content whose snapshot is given.
 abbrev pub table_with : {O : Type 0} → (List ℕ → Option O) → List (ℕ × LastCall) × List ℕ → Option (Table O)
 table_with restored parts = option_map (λ content. table_of parts.0 content) (restored parts.1)
 
--- The table of which the bytes are the snapshot, if any.
+-- The table whose snapshot is the bytes, if they are one.
 abbrev pub restored_table : {O : Type 0} → (List ℕ → Option O) → List ℕ → Option (Table O)
 restored_table restored bytes = parts_at bytes >>= table_with restored
 
--- Sessions 12: a table that its snapshot restores: its clients and its content are within the limits.
+-- Sessions 12: the snapshot restores the table: its clients and its content are within the limits.
 pub record HasSnapshot {O : Type 0} (IsContent : O → Type 0) (table : Table O) : Type 0 where
   pub few : length table.sessions ≤ max_clients
   pub clients : AreFrom 0 table.sessions
   pub content : IsContent table.content
 
--- A call within the limits, whose operation has bytes.
+-- The call is within the limits, and its operation is bytes.
 pub record KeepsLimits {A : Type 0} (c : Call A) : Type 0 where
   pub fits : CallFits c
   pub bytes : AreBytes c.op
 
 -- ---- how the code splits a snapshot: the number of clients, the bytes from the first client on, and the object's snapshot
 
--- `count` ascending clients at the start of the bytes, if they are there.
+-- `count` ascending clients, if the bytes begin with them.
 abbrev pub clients_in : ℕ → List ℕ → Option (List (ℕ × LastCall))
 clients_in count bytes = option_map (λ x. x.0) (clients_at count 0 bytes)
 
--- The parts of the bytes, with at most 1,024 clients; none exactly if the bytes have no such parts.
+-- The parts of the bytes, with at most 1,024 clients; none exactly if the bytes don't consist of such parts.
 abbrev pub AreParts : List ℕ → Option (ℕ × List ℕ × List ℕ) → Type 0
 AreParts bytes None = parts_at bytes ≡ None
 AreParts bytes (Some p) = (p.0 ≤ max_clients) × IsSome (clients_in p.0 p.1) × (parts_at bytes ≡ option_map (λ ss. (ss, p.2)) (clients_in p.0 p.1))

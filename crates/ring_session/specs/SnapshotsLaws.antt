@@ -1,4 +1,5 @@
--- Exactly the snapshots of tables are restored, each to its table; and each table after calls within the limits has one.
+-- Exactly the snapshots of tables are restored, each to its table; and each table after calls within the limits has
+-- one.
 -- Rules: Sessions 12
 -- Formats: Snapshots
 use Rattle.std.proofs.Common.{◌≡◌, ℕ, zero, suc, ◌^◌, ◌<◌, ◌≤◌, ◌==◌, List, [], ◌∷◌, ◌++◌, length, drop, if◌then◌else◌, Option, Some, None, refl}
@@ -25,7 +26,7 @@ use Rattle.ring_session.specs.Snapshots.{sessions_at, object_at, parts_at, table
 bytes_each : (bytes : List ℕ) → IsBytes bytes → AreBytes bytes
 bytes_each bytes are = All-from_get_or (λ byte. byte < 256) bytes 0 (λ i within. are i)
 
--- A text that is the rest of bytes has bytes.
+-- A text that ends bytes consists of bytes.
 rest_bytes : (front back bytes : List ℕ) → bytes ≡ front ++ back → IsBytes bytes → AreBytes back
 rest_bytes front back bytes is are =
     let all : AreBytes (front ++ back) = rw (← is) (bytes_each bytes are) in
@@ -72,7 +73,7 @@ clients_format count low = record {
 
 -- ---- the parts of a snapshot
 
--- At most `max_clients`.
+-- The number of clients is at most `max_clients`.
 abbrev IsCount : ℕ → Type 0
 IsCount n = IsWord 2 n × (n ≤ max_clients)
 
@@ -80,7 +81,7 @@ count_format : IsFormat (λ n. big_bytes 2 n) IsCount (such_at (λ n. nat_le n m
 count_format = such_format (λ n. big_bytes 2 n) (IsWord 2) IsCount (number_at 2) (λ n. nat_le n max_clients)
     (λ n f h. (f, leb-true n max_clients h)) (λ n f. (f.0, le-leb n max_clients f.1)) number_format2
 
--- Ascending clients with their number.
+-- The clients ascend, and the number before them is theirs.
 abbrev SessionsFit : ℕ × List (ℕ × LastCall) → Type 0
 SessionsFit p = IsCount p.0 × ((length p.1 ≡ p.0) × AreFrom 0 p.1)
 
@@ -93,7 +94,7 @@ unfolding sessions_at
 sessions_format = then_format (λ n. big_bytes 2 n) IsCount (such_at (λ n. nat_le n max_clients) (number_at 2))
     (λ n. flat_map client_encoding) (λ n ss. (length ss ≡ n) × AreFrom 0 ss) (λ n. clients_at n 0) count_format (λ n f. clients_format n 0)
 
--- A text with its length.
+-- The number is the length of the text.
 abbrev ObjectFits : ℕ × List ℕ → Type 0
 ObjectFits p = IsWord 8 p.0 × (length p.1 ≡ p.0)
 
@@ -112,7 +113,7 @@ pub record AreSnapshotParts (bytes : List ℕ) (parts : List (ℕ × LastCall) �
   pub text : AreBytes parts.1
   pub whole : sessions_encoding (length parts.0, parts.0) ++ object_encoding (length parts.1, parts.1) ≡ bytes
 
--- Bytes consist of the parts read from them.
+-- Bytes consist of the parts that are read from them.
 pub parts_exact : (bytes : List ℕ) (parts : List (ℕ × LastCall) × List ℕ) → AreBytes bytes → parts_at bytes ≡ Some parts → AreSnapshotParts bytes parts
 unfolding parts_at
 parts_exact bytes parts are is =
@@ -132,7 +133,7 @@ parts_exact bytes parts are is =
       whole = rw (front.1.1.0, back.1.1) (sym (front.0.parts ∙ ap (λ (w : List ℕ). sessions_encoding a.0.0 ++ w) behind));
     })
 
--- The parts of a snapshot.
+-- The parts that a snapshot was made of are read from it.
 parts_again : (ss : List (ℕ × LastCall)) (bytes : List ℕ) → length ss ≤ max_clients → AreFrom 0 ss → length bytes < 2 ^ 64
     → parts_at (sessions_encoding (length ss, ss) ++ object_encoding (length bytes, bytes)) ≡ Some (ss, bytes)
 unfolding parts_at

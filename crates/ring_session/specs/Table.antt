@@ -23,7 +23,7 @@ pub record Table (O : Type 0) : Type 0 where
 abbrev pub table_of : {O : Type 0} → List (ℕ × LastCall) → O → Table O
 table_of sessions content = record { sessions = sessions; content = content }
 
--- The invariant of every table: at most `max_clients` clients, each with a last call that took effect.
+-- The invariant of every table: at most `max_clients` clients, each with a last call of a number of at least 1.
 pub record IsTable {O : Type 0} (table : Table O) : Type 0 where
   pub few : length table.sessions ≤ max_clients
   pub numbered : All (λ (last : LastCall). 1 ≤ last.number) (values_of table.sessions)
@@ -49,12 +49,13 @@ has_room table client = is_some (session_of table client) || nat_lt (length tabl
 abbrev pub is_taken : {O A : Type 0} → Table O → Call A → Bool
 is_taken table c = (c.number == last_number (session_of table c.client) + 1) && has_room table c.client
 
--- The answer to a call with its client's last number: the kept reply, if the operation is the kept one.
+-- The answer to a call with its client's last number: the kept reply if the operation is the kept one, otherwise
+-- `Conflict`.
 abbrev pub kept_answer : Option LastCall → List ℕ → Answer
 kept_answer None operation = refusal Conflict
 kept_answer (Some last) operation = if bytes_eq last.operation operation then Kept last.reply else refusal Conflict
 
--- The answer to a call whose number is not its client's next.
+-- The answer to a call whose number isn't its client's next.
 abbrev pub other_answer : {A : Type 0} → Option LastCall → Call A → Answer
 other_answer last c =
     if c.number == last_number last then kept_answer last c.op
@@ -69,7 +70,8 @@ module _ {O : Type 0} (object : Sequential O) where
       if c.number == last_number last + 1 then (if has_room table c.client then Done (object.reply table.content c.op) else refusal SessionsFull)
       else other_answer last c
 
-  -- Sessions 3: the table after a call. A call that takes effect is applied and kept; any other leaves the table unchanged.
+  -- Sessions 3: the table after a call. A call that takes effect is applied and kept; any other call leaves the table
+  -- unchanged.
   abbrev pub table_next : {A : Type 0} → Table O → Call A → Table O
   table_next table c =
       if is_taken table c

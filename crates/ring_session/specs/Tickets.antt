@@ -12,8 +12,8 @@ use Rattle.ring_session.specs.SessionAnswer.{is_same}
 use Rattle.ring_session.specs.Table.{Table, table_answer, table_next}
 use Rattle.ring_session.specs.declared.answered.TicketAnswer.{TicketAnswer}
 
--- A ticket: its call, and the number of calls that its node had done at the submission. Its number is its position, from 0,
--- in the list of these.
+-- A ticket: its call, and the number of calls that its node had done at the submission. The ticket's number is its
+-- position in the list of tickets, counted from 0.
 pub record TicketCall (A : Type 0) : Type 0 where
   pub call : Call A
   pub since : ℕ
@@ -22,12 +22,12 @@ pub record TicketCall (A : Type 0) : Type 0 where
 abbrev pub ticket_calls : {A : Type 0} → List (TicketCall A) → List (Call A)
 ticket_calls {A} tickets = map (λ (t : TicketCall A). t.call) tickets
 
--- The first place from `since` on of the call among these, of which the first has the place `at`.
+-- The first place, at least `since`, of the call among these calls, the first of which has the place `at`.
 abbrev pub first_place : {A : Type 0} → Call A → ℕ → ℕ → List (Call A) → Option ℕ
 first_place c since at [] = None
 first_place c since at (d ∷ ds) = if nat_le since at && is_same c d then Some at else first_place c since (at + 1) ds
 
--- The place among the calls done that answers the ticket, if its call is done.
+-- The place of the call done that answers the ticket, if there is one.
 abbrev pub place_of : {A : Type 0} → List (Call A) → TicketCall A → Option ℕ
 place_of done t = first_place t.call t.since 0 done
 
@@ -40,25 +40,27 @@ abbrev pub is_place : ℕ → Option ℕ → Bool
 is_place place None = false
 is_place place (Some p) = p == place
 
--- The answers at a place of the calls done, in the order of tickets, of which the first has this number.
+-- The answers that the call at a place of the calls done gives, in the order of tickets, the first of which has this
+-- number.
 abbrev pub answers_at : {A : Type 0} → Answer → List (Call A) → ℕ → ℕ → List (TicketCall A) → List (TicketAnswer A)
 answers_at answer done place ticket [] = []
 answers_at answer done place ticket (t ∷ ts) =
     (if is_place place (place_of done t) then record { ticket = ticket; call = t.call; answer = answer } ∷ [] else [])
     ++ answers_at answer done place (ticket + 1) ts
 
--- The answers to tickets as a node does more calls after those done, in order, by the session table before these.
+-- The answers to tickets if a node does more calls after those done, in order, by the session table before the new
+-- calls.
 abbrev pub answers_after : {O A : Type 0} → Sequential O → Table O → List (TicketCall A) → List (Call A) → List (Call A) → List (TicketAnswer A)
 answers_after object table tickets done [] = []
 answers_after object table tickets done (c ∷ more) =
     answers_at (table_answer object table c) (done ++ c ∷ []) (length done) 0 tickets
     ++ answers_after object (table_next object table c) tickets (done ++ c ∷ []) more
 
--- The 64 last answers, which are kept.
+-- The last 64 answers, which are kept.
 abbrev pub kept_answers : {A : Type 0} → List (TicketAnswer A) → List (TicketAnswer A)
 kept_answers answers = last_kept answers
 
--- The answer to the ticket among these.
+-- The answer to the ticket among these answers.
 abbrev pub answer_to : {A : Type 0} → ℕ → List (TicketAnswer A) → Option Answer
 answer_to ticket [] = None
 answer_to ticket (a ∷ rest) = if a.ticket == ticket then Some a.answer else answer_to ticket rest

@@ -1,4 +1,5 @@
 //! Answered tickets.
+//!
 //! Rules: The replicated log 14
 
 use crate::Answer;
@@ -6,7 +7,8 @@ use crate::ticket::Ticket;
 use ring_payload::Call;
 use std::alloc::{Allocator, Global};
 
-/// The answer to a ticket, with the ticket's call, as a step of a node puts it out.
+/// The answer to a ticket, with the ticket's call, as a node's step outputs it.
+///
 /// Rules: The replicated log 14
 #[derive(Clone, Drop)]
 pub struct TicketAnswer<A: Allocator + Copy = Global> {
@@ -14,6 +16,6 @@ pub struct TicketAnswer<A: Allocator + Copy = Global> {
     pub ticket: Ticket,
     /// The call for which the node gave the ticket.
     pub call: Call<A>,
-    /// The answer of the sessions to this call, at its place among the committed calls.
+    /// The sessions' answer to this call, at its place among the committed calls.
     pub answer: Answer,
 }

@@ -1,4 +1,6 @@
-//! Buckets of unanswered tickets by the client and number of their calls.
+//! Buckets of unanswered tickets, by the client and the number of their calls.
+//!
+//! Rules: The replicated log 14
 
 ghost use Rattle.std.specs.Prelude.{◌≡◌, ◌≢◌, ℕ, ◌<◌, ◌≤◌, ◌&&◌, ◌||◌, Bool, not, true, false, length, slice_index, slice_index_or};
 ghost use Rattle.ring_session.specs.Buckets.{bucket_of, AreChained};
@@ -11,12 +13,15 @@ use std::alloc::Allocator;
 /// The number of buckets.
 const BUCKETS: usize = 256;
 
-/// The same as a word, for the arithmetic of `bucket_of`.
+/// The number of buckets as a `u64`, for the arithmetic of `bucket_of`.
 const MODULUS: u64 = BUCKETS as u64;
 
-/// The positions of the calls of at most 64 tickets, by bucket: the first position of each bucket, and after each
-/// position the next of the same bucket. Positions count from 0, and the number of tickets ends a chain. So a committed
-/// call is compared only with the few calls of its bucket.
+/// The positions of the calls of at most 64 tickets, by bucket, so that a committed call is compared only with its
+/// bucket's calls.
+///
+/// `first` has the first position of each bucket, and `next` has, for each position, the next one in the same bucket.
+/// Positions count from 0, and the number of tickets ends a chain.
+///
 /// Rules: The replicated log 14
 #[derive(Drop)]
 pub(crate) struct Buckets {
@@ -26,7 +31,8 @@ pub(crate) struct Buckets {
 
 impl Buckets {
     /// Returns the buckets of these tickets, each chain in ascending order.
-    /// That there are at most 64 is the caller's condition.
+    ///
+    /// There must be at most 64 tickets.
     pub(crate) fn of<A: Allocator + Copy>(pending: &[Pending<A>]) -> Buckets
         requires { length pending.now ≤ 64 }
         ensures { AreChained result.first result.next 0 pending.now }
@@ -41,7 +47,7 @@ impl Buckets {
         buckets
     }
 
-    /// Puts a position in front of its bucket's chain.
+    /// Puts `place` at the front of the chain of `bucket`.
     fn put(&mut self, bucket: usize, place: usize)
         requires bucket { bucket < 256 }
         requires place { place < 64 }
@@ -62,7 +68,8 @@ impl Buckets {
     }
 
     /// Returns the position after `place` in its bucket, or the number of tickets if it is the last.
-    /// That `place` is below 64 is the caller's condition.
+    ///
+    /// `place` must be below 64.
     pub(crate) fn next_of(&self, place: usize) -> usize
         requires { place < 64 }
         ensures { result ≡ slice_index self.now.next place }
@@ -71,6 +78,7 @@ impl Buckets {
     }
 }
 
+/// Returns the bucket of a call, 0 to 255, which depends only on its client and number.
 fn bucket_of<A: Allocator + Copy>(call: &Call<A>) -> usize
     ensures bucket { result ≡ bucket_of call.now }
     ensures within { result < 256 }
@@ -78,7 +86,8 @@ fn bucket_of<A: Allocator + Copy>(call: &Call<A>) -> usize
     ((u64::from(call.client) % MODULUS * 157 + call.number % MODULUS) % MODULUS) as usize
 }
 
-/// For each of 64 positions of tickets, whether the call of the ticket there has been committed.
+/// For each of 64 ticket positions, whether the call of the ticket there has been committed.
+///
 /// Rules: The replicated log 14
 #[derive(Drop)]
 pub(crate) struct CommittedFlags {
@@ -95,7 +104,9 @@ impl CommittedFlags {
         }
     }
 
-    /// Returns whether the position is marked. That `place`, counted from 0, is below 64 is the caller's condition.
+    /// Returns whether position `place`, counted from 0, is marked.
+    ///
+    /// `place` must be below 64.
     pub(crate) fn has(&self, place: usize) -> bool
         requires { place < 64 }
         ensures { result ≡ slice_index_or self.now.places place false }
@@ -103,8 +114,9 @@ impl CommittedFlags {
         self.places[place]
     }
 
-    /// Marks the position if `same`, which says that its call is the committed one.
-    /// Returns whether this marked it newly. That `place`, counted from 0, is below 64 is the caller's condition.
+    /// Marks position `place` if `same` is true, and returns whether this marked it newly.
+    ///
+    /// `same` says that the call of the ticket there is the committed one. `place` counts from 0 and must be below 64.
     pub(crate) fn take(&mut self, place: usize, same: bool) -> bool
         requires { place < 64 }
         ensures first { result ≡ (same && not (slice_index_or self.old.places place false)) }

@@ -1,4 +1,5 @@
-//! The calls of a list that take effect.
+//! Finding the calls of a list that take effect.
+//!
 //! Rules: Sessions 6
 
 ghost use Rattle.std.specs.Prelude.{◌≡◌, [], ◌∷◌, ◌++◌, List, OnOk, IfOk, IfErr};
@@ -15,8 +16,9 @@ use std::alloc::Allocator;
 use std::marker::Model;
 
 /// The deduplicated calls of a list that grows: the calls that take effect among the calls added so far.
-/// The session table of an object without content finds them, so they don't depend on the object that the calls are
-/// for.
+///
+/// A session table with a stateless object finds them, so they don't depend on the object that the calls are for.
+///
 /// Rules: Sessions 6
 #[derive(Drop)]
 pub struct Effects<A: Allocator + Copy + Drop> {
@@ -35,7 +37,8 @@ impl<A: Allocator + Copy + Drop> Model for Effects<A> {
 impl<A: Allocator + Copy + Drop> Effects<A> {
     /// Returns the deduplicated calls of the empty list: none.
     ///
-    /// Errors: `Memory`.
+    /// Errors: `Memory` if an allocation fails.
+    ///
     /// Rules: Sessions 6
     pub fn new(alloc: A) -> Result<Effects<A>, Fault>
         ensures ok { IfOk result (λ effects. AreOf [] effects) }
@@ -47,11 +50,13 @@ impl<A: Allocator + Copy + Drop> Effects<A> {
         })
     }
 
-    /// Adds one call to the list. It takes effect if its number is one more than the count of its client's calls that
-    /// took effect, and the client is known or fewer than 1,024 clients are. Then a copy of it becomes the last of the
-    /// deduplicated calls.
+    /// Adds one call to the list and, if it takes effect, a copy of it to the deduplicated calls.
     ///
-    /// Errors: `Memory`; the value is then unspecified. Drop it.
+    /// It takes effect if its number is one more than the number of its client's calls that took effect, and the client
+    /// is known or fewer than 1,024 clients are.
+    ///
+    /// Errors: `Memory` if an allocation fails; the value is then unspecified, so drop it.
+    ///
     /// Rules: Sessions 6
     pub fn add(&mut self, call: &Call<A>) -> Result<(), Fault>
         ensures ok { (before : List (OneCall A)) → AreOf before self.old → OnOk result (AreOf (before ++ call.now ∷ []) self.new) }
@@ -69,9 +74,10 @@ impl<A: Allocator + Copy + Drop> Effects<A> {
         }
     }
 
-    /// Adds these calls to the list, one after another, as [`add`](Effects::add) does.
+    /// Adds the calls to the list, one after another, as [`add`](Effects::add) does.
     ///
-    /// Errors: `Memory`; the value is then unspecified. Drop it.
+    /// Errors: `Memory` if an allocation fails; the value is then unspecified, so drop it.
+    ///
     /// Rules: Sessions 6
     pub fn add_all(&mut self, calls: &[Call<A>]) -> Result<(), Fault>
         ensures ok { (before : List (OneCall A)) → AreOf before self.old → OnOk result (AreOf (before ++ calls.now) self.new) }
@@ -83,8 +89,10 @@ impl<A: Allocator + Copy + Drop> Effects<A> {
         Ok(())
     }
 
-    /// Returns the deduplicated calls: the calls that take effect among the calls added, in the order in which they
-    /// were added.
+    /// Returns the deduplicated calls, in the order in which they were added.
+    ///
+    /// These are the calls that take effect among the calls added.
+    ///
     /// Rules: Sessions 6
     pub fn into_calls(self) -> Vec<Call<A>, A>
         ensures { result.items ≡ self.calls }
@@ -94,9 +102,10 @@ impl<A: Allocator + Copy + Drop> Effects<A> {
     }
 }
 
-/// Returns copies of the calls that take effect in a list, in order: its deduplicated calls.
+/// Returns copies of the deduplicated calls of a list: those that take effect, in order.
 ///
-/// Errors: `Memory`.
+/// Errors: `Memory` if an allocation fails.
+///
 /// Rules: Sessions 6
 pub fn effects_of<A: Allocator + Copy + Drop>(
     alloc: A,

@@ -1,4 +1,5 @@
 //! Unanswered tickets.
+//!
 //! Rules: The replicated log 13 and 14
 
 use crate::ticket::Ticket;
@@ -6,6 +7,7 @@ use ring_payload::Call;
 use std::alloc::{Allocator, Global};
 
 /// An unanswered ticket, with its call.
+///
 /// Rules: The replicated log 13 and 14
 #[derive(Clone, Drop)]
 pub struct Pending<A: Allocator + Copy = Global> {

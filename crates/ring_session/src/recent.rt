@@ -1,4 +1,5 @@
 //! The answers that a node gave last.
+//!
 //! Rules: The replicated log 15
 
 ghost use Rattle.std.specs.Prelude.{◌≡◌, ◌≤◌, [], ◌∷◌, ◌++◌, map, IfOk, IfErr};
@@ -16,6 +17,7 @@ use std::collections::VecDeque;
 use std::marker::Model;
 
 /// An answer that a node keeps, with its ticket.
+///
 /// Rules: The replicated log 15
 #[derive(Clone, Copy)]
 pub struct KeptAnswer {
@@ -26,7 +28,9 @@ pub struct KeptAnswer {
 }
 
 /// The answers that a node gave last, at most [`KEPT_ANSWERS`], oldest first.
-/// Memory for all of them is allocated at once.
+///
+/// Memory for [`KEPT_ANSWERS`] answers is allocated when the list is created.
+///
 /// Rules: The replicated log 15
 #[derive(Drop)]
 pub struct RecentAnswers<A: Allocator + Copy> {
@@ -46,7 +50,7 @@ impl<A: Allocator + Copy> Model for RecentAnswers<A> {
     ghost invariant = { λ recent. (deque_len recent.answers ≤ MAX_KEPT) × (MAX_KEPT ≤ deque_capacity recent.answers) };
 }
 
-/// A copy has memory for [`KEPT_ANSWERS`] answers too.
+/// A copy also has memory for [`KEPT_ANSWERS`] answers.
 impl<A: Allocator + Copy> Clone for RecentAnswers<A> {
     ghost is_clone = { λ recent copy. copy ≡ recent };
 
@@ -60,7 +64,8 @@ impl<A: Allocator + Copy> Clone for RecentAnswers<A> {
 impl<A: Allocator + Copy> RecentAnswers<A> {
     /// Returns an empty list with memory for [`KEPT_ANSWERS`] answers.
     ///
-    /// Errors: `Memory`.
+    /// Errors: `Memory` if an allocation fails.
+    ///
     /// Rules: The replicated log 15
     pub fn new(alloc: A) -> Result<RecentAnswers<A>, Fault>
         ensures ok { IfOk result (λ recent. recent ≡ []) }
@@ -72,6 +77,8 @@ impl<A: Allocator + Copy> RecentAnswers<A> {
     }
 
     /// Appends an answer, and drops the oldest if the list is full.
+    ///
+    /// Does not allocate.
     fn push(&mut self, kept: KeptAnswer)
         ensures { self.new ≡ last_kept (self.old ++ kept ∷ []) }
     {
@@ -81,7 +88,10 @@ impl<A: Allocator + Copy> RecentAnswers<A> {
         self.answers.push_back_reserved(kept);
     }
 
-    /// Appends answers in order, and drops the oldest until at most [`KEPT_ANSWERS`] are kept. Takes no memory.
+    /// Appends the answers in order, and drops the oldest until at most [`KEPT_ANSWERS`] are kept.
+    ///
+    /// Does not allocate.
+    ///
     /// Rules: The replicated log 15
     pub fn extend<B: Allocator + Copy>(&mut self, answers: &[TicketAnswer<B>])
         ensures { self.new ≡ last_kept (self.old ++ map kept_of answers.now) }
@@ -96,8 +106,11 @@ impl<A: Allocator + Copy> RecentAnswers<A> {
         }
     }
 
-    /// Returns the answer to the ticket if it is kept.
-    /// Returns `None` if the ticket is unanswered, was never given, or was answered too long ago.
+    /// Returns the answer to `ticket` if it is kept.
+    ///
+    /// Returns `None` if the ticket was never given, is unanswered, or is no longer among the last [`KEPT_ANSWERS`]
+    /// answered.
+    ///
     /// Rules: The replicated log 15
     pub fn answer_to(&self, ticket: Ticket) -> Option<Answer>
         ensures { result ≡ kept_answer ticket self.now }
@@ -112,7 +125,9 @@ impl<A: Allocator + Copy> RecentAnswers<A> {
     }
 }
 
-/// Copies the answers into a list with the whole capacity.
+/// Copies the answers into a list with memory for [`KEPT_ANSWERS`].
+///
+/// Errors: `AllocError` if an allocation fails.
 fn with_room<A: Allocator + Copy>(
     answers: &VecDeque<KeptAnswer, A>,
 ) -> Result<VecDeque<KeptAnswer, A>, AllocError>

@@ -1,5 +1,6 @@
-//! A client's last call: the answers to other calls of the client, and its bytes in a snapshot.
-//! Rules: Sessions 3
+//! A client's last call: its bytes in a snapshot, and the answers to other calls of the client.
+//!
+//! Rules: Sessions 3 and 12
 //! Formats: Snapshots
 
 ghost use Rattle.std.specs.Prelude.{◌≡◌, ◌++◌, take, vec_len, IfErr, OnOk, Some};
@@ -15,9 +16,13 @@ use ring_session_entry::LastCall;
 use std::alloc::Allocator;
 
 /// Appends the last call of a client to `out`, as in a snapshot of the sessions: its number, its operation and the
-/// reply. An operation that is to be read again has at most 1,024 bytes.
+/// reply.
 ///
-/// Errors: `Memory`; a prefix of the encoding may then be appended to `out`.
+/// To be read again, the operation must have at most 1,024 bytes.
+///
+/// Errors: `Memory` if an allocation fails; a prefix of the encoding may then have been appended to `out`.
+///
+/// Rules: Sessions 12
 /// Formats: Snapshots
 pub fn append_last<A: Allocator + Copy>(
     last: &LastCall<A>,
@@ -37,8 +42,10 @@ pub fn append_last<A: Allocator + Copy>(
 }
 
 /// Returns the answer to a call that isn't the next of its client, whose last call is `last`.
-/// It is `Kept` for the number and operation of `last`. Else it is `Refused` with `Conflict` for the same number,
-/// `Stale` for a smaller one, and `NumberGap` for a greater one.
+///
+/// It is `Kept` if the call has the number and the operation of `last`. Otherwise it is `Refused`: with `Conflict` for
+/// the same number, with `Stale` for a smaller one, and with `NumberGap` for a greater one.
+///
 /// Rules: Sessions 3
 pub fn other_answer<A: Allocator + Copy>(last: &LastCall<A>, call: &Call<A>) -> Answer
     ensures { result ≡ other_answer (Some last.now) call.now }

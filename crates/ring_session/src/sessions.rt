@@ -1,4 +1,5 @@
 //! The session table: an object with the sessions of its clients.
+//!
 //! Rules: Sessions 2 to 5, 8 and 12
 
 ghost use Rattle.std.specs.Prelude.{◌≡◌, ◌-◌, ◌^◌, min, ◌<◌, ◌≤◌, ◌∷◌, [], ◌++◌, List, length, take, vec_len, IfOk, IfErr, OnOk, OnErr, Some, None, IsSome};
@@ -23,9 +24,11 @@ use std::alloc::Allocator;
 use std::collections::BTreeMap;
 use std::marker::Model;
 
-/// The session table: an object, and the session of each client that is known.
+/// The session table: an object, and the session of each known client.
+///
 /// Contracts see it as a `Table`: the known clients, ascending, each with its last call and the reply to it, and the
 /// object's content.
+///
 /// Rules: Sessions 2
 #[derive(Drop)]
 pub struct Sessions<O: Object> {
@@ -45,9 +48,10 @@ impl<O: Object> Model for Sessions<O> {
 }
 
 impl<O: Object> Sessions<O> {
-    /// Returns the table without known clients, whose object has its start content.
+    /// Returns a table without known clients, whose object has its start content.
     ///
-    /// Errors: `Memory`.
+    /// Errors: `Memory` if an allocation fails.
+    ///
     /// Rules: Sessions 2
     pub fn new(alloc: O::Alloc) -> Result<Sessions<O>, Fault>
         ensures ok { IfOk result (λ sessions. sessions ≡ opening O.sequential.initial) }
@@ -61,11 +65,14 @@ impl<O: Object> Sessions<O> {
         })
     }
 
-    /// Applies a call and returns its answer. A call that takes effect is applied to the object and kept with its
-    /// reply. After every answer but `Done` the table is unchanged. A call of number 0 is refused: with `Conflict` for
-    /// an unknown client, with `Stale` for a known one.
+    /// Applies a call and returns its answer.
     ///
-    /// Errors: `Memory`; the table is then unchanged.
+    /// A call that takes effect is applied to the object and kept with its reply. After every answer except `Done` the
+    /// table is unchanged. A call of number 0 is refused: with `Conflict` for an unknown client, with `Stale` for a
+    /// known one.
+    ///
+    /// Errors: `Memory` if an allocation fails; the table is then unchanged.
+    ///
     /// Rules: Sessions 1, 3 and 5
     pub fn apply(&mut self, call: &Call<O::Alloc>) -> Result<Answer, Fault>
         ensures answer { IfOk result (λ answer. answer ≡ table_answer O.sequential self.old call.now) }
@@ -73,7 +80,7 @@ impl<O: Object> Sessions<O> {
         ensures err { OnErr result (self.new ≡ self.old) }
         ensures refused { IfErr result (λ fault. fault ≡ Memory) }
 
-        // After a list of calls, the answer is the one that the list alone determines.
+        // After a list of calls, the answer depends only on the list.
         ensures told { (calls : List (Call O.Alloc)) → self.old ≡ table_after O.sequential calls
             → IfOk result (λ answer. session_answer O.sequential (calls ++ call.now ∷ []) (length calls) ≡ Some answer) }
 
@@ -98,11 +105,15 @@ impl<O: Object> Sessions<O> {
         }
     }
 
-    /// Appends the snapshot to `out`: the number of clients, each client with its last call, ascending, and the
-    /// object's snapshot after its length. [`restore`](Sessions::restore) restores the table from it if each kept
-    /// operation has at most 1,024 bytes, as the operations of valid calls have (`snapshot_law`).
+    /// Appends the snapshot to `out`: the number of clients, the clients with their last calls, and the object's
+    /// snapshot.
     ///
-    /// Errors: `Memory`; `out` is then unchanged.
+    /// The clients ascend, and the object's snapshot is preceded by its length. [`restore`](Sessions::restore) restores
+    /// the table from the snapshot if each kept operation has at most 1,024 bytes, as the operations of valid calls
+    /// have (`snapshot_law`).
+    ///
+    /// Errors: `Memory` if an allocation fails; the bytes of `out` are then unchanged.
+    ///
     /// Rules: Sessions 12
     /// Formats: Snapshots
     pub fn snapshot(&self, out: &mut Vec<u8, O::Alloc>) -> Result<(), Fault>
@@ -119,7 +130,9 @@ impl<O: Object> Sessions<O> {
         Ok(())
     }
 
-    /// Appends the snapshot. `Memory` may leave a prefix of it appended.
+    /// Appends the snapshot to `out`.
+    ///
+    /// Errors: `Memory` if an allocation fails; a prefix of the snapshot may then have been appended.
     #[tactic(auto, unfolding(ring_object::specs::Sized::sized))]
     fn append(&self, out: &mut Vec<u8, O::Alloc>) -> Result<(), Fault>
         ensures content { OnOk result (O.is_content self.now.content) }
@@ -133,7 +146,9 @@ impl<O: Object> Sessions<O> {
 
     /// Returns the table whose snapshot is exactly `bytes`, in memory of `alloc`.
     ///
-    /// Errors: `BadSnapshot`, exactly if `bytes` isn't a snapshot of such a table; `Memory`, only if it is one.
+    /// Errors: `BadSnapshot`, exactly if `bytes` isn't a snapshot of such a table. `Memory` if it is one and an
+    /// allocation fails.
+    ///
     /// Rules: Sessions 12
     /// Formats: Snapshots
     pub fn restore(alloc: O::Alloc, bytes: &[u8]) -> Result<Sessions<O>, Fault>
@@ -152,9 +167,13 @@ impl<O: Object> Sessions<O> {
         })
     }
 
-    /// Returns a copy of the table. The object of the copy is restored from a snapshot of this table's object.
+    /// Returns a copy of the table.
     ///
-    /// Errors: `Memory`.
+    /// The copy's object is restored from a snapshot of this table's object.
+    ///
+    /// Errors: `Memory` if an allocation fails.
+    ///
+    /// Rules: Objects 3
     pub fn copy(&self) -> Result<Sessions<O>, Fault>
         ensures ok { IfOk result (λ copy. copy ≡ self.now) }
         ensures refused { IfErr result (λ fault. fault ≡ Memory) }
@@ -166,8 +185,10 @@ impl<O: Object> Sessions<O> {
         })
     }
 
-    /// Returns the number of calls that have taken effect: the sum of the clients' last numbers, at most 2^64 - 1.
-    /// Calls before a restored snapshot count too.
+    /// Returns the number of calls that have taken effect: the sum of the clients' last numbers.
+    ///
+    /// It includes the calls before a snapshot from which the table was restored. It saturates at `u64::MAX`.
+    ///
     /// Rules: Sessions 2
     pub fn effects(&self) -> u64
         ensures { result ≡ table_effects self.now }
@@ -175,8 +196,12 @@ impl<O: Object> Sessions<O> {
         sum_of_numbers(&self.sessions)
     }
 
-    /// Applies a client's first call. The session is inserted before the object applies the operation, so that nothing can
-    /// fail after that; it is removed again if the object refuses.
+    /// Applies a client's first call, if there is room for the client.
+    ///
+    /// The session is inserted before the object applies the operation, so that nothing can fail after that; it is
+    /// removed again if the object refuses.
+    ///
+    /// Errors: `Memory` if an allocation fails; the table is then unchanged.
     fn admit(&mut self, call: &Call<O::Alloc>) -> Result<Answer, Fault>
         requires unknown { session_of self.old call.now.client ≡ None }
         requires first { call.now.number ≡ 1 }
@@ -203,7 +228,7 @@ impl<O: Object> Sessions<O> {
     }
 }
 
-/// Returns the sum of the clients' last numbers, at most 2^64 - 1.
+/// Returns the sum of the clients' last numbers, which saturates at `u64::MAX`.
 fn sum_of_numbers<A: Allocator + Copy>(sessions: &BTreeMap<u32, LastCall<A>, A>) -> u64
     ensures { result ≡ min (2 ^ 64 - 1) (numbers_in sessions.now.entries) }
 {

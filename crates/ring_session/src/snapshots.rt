@@ -1,4 +1,5 @@
 //! The bytes of a session table's snapshot.
+//!
 //! Rules: Sessions 12
 //! Formats: Snapshots
 
@@ -25,9 +26,12 @@ use std::marker::Model;
 
 // ---- writing
 
-/// Appends the low `width` bytes of `number` to `out`, big-endian. That `width` is at most 8 is the caller's condition.
+/// Appends the lowest `width` bytes of `number` to `out`, big-endian.
 ///
-/// Errors: `Memory`; `out` is then unchanged.
+/// `width` must be at most 8.
+///
+/// Errors: `Memory` if an allocation fails; the bytes of `out` are then unchanged.
+///
 /// Formats: Numbers and parts
 pub fn append_number<A: Allocator + Copy>(
     out: &mut Vec<u8, A>,
@@ -47,7 +51,9 @@ pub fn append_number<A: Allocator + Copy>(
 
 /// Appends the number of clients to `out`, in 2 bytes, then the clients, ascending, each with its last call.
 ///
-/// Errors: `Memory`; a prefix of the encoding may then be appended to `out`.
+/// Errors: `Memory` if an allocation fails; a prefix of the encoding may then have been appended to `out`.
+///
+/// Rules: Sessions 12
 /// Formats: Snapshots
 pub fn append_clients<A: Allocator + Copy>(
     out: &mut Vec<u8, A>,
@@ -68,7 +74,9 @@ pub fn append_clients<A: Allocator + Copy>(
 
 // ---- reading
 
-/// Splits off a number of `width` bytes, 1 to 8.
+/// Splits off a big-endian number of `width` bytes, which must be 1 to 8.
+///
+/// Returns `None` if there are fewer bytes.
 fn first_number(width: usize, bytes: &[u8]) -> Option<(u64, &[u8])>
     requires low { 1 ≤ width }
     requires high { width ≤ 8 }
@@ -82,6 +90,8 @@ fn first_number(width: usize, bytes: &[u8]) -> Option<(u64, &[u8])>
 }
 
 /// Splits off the first `len` bytes.
+///
+/// Returns `None` if there are fewer.
 fn first_text(len: u64, bytes: &[u8]) -> Option<(&[u8], &[u8])>
     ensures { option_map (λ p. (p.0.now, p.1.now)) result ≡ text_at len bytes.now }
 {
@@ -91,7 +101,9 @@ fn first_text(len: u64, bytes: &[u8]) -> Option<(&[u8], &[u8])>
     Some(bytes.split_at(len as usize))
 }
 
-/// Splits off an operation after its length.
+/// Splits off an operation preceded by its length in 2 bytes.
+///
+/// Returns `None` if there is none of at most 1,024 bytes.
 #[tactic(auto, unfolding(ring_payload::specs::Operations::op_at))]
 fn first_operation(bytes: &[u8]) -> Option<(&[u8], &[u8])>
     ensures { option_map (λ p. (p.0.now, p.1.now)) result ≡ op_at bytes.now }
@@ -103,7 +115,9 @@ fn first_operation(bytes: &[u8]) -> Option<(&[u8], &[u8])>
     first_text(len, rest)
 }
 
-/// Splits off a reply after its length.
+/// Splits off a reply preceded by its length in one byte.
+///
+/// Returns `None` if there is none of at most 64 bytes.
 #[tactic(auto, unfolding(crate::specs::Snapshots::reply_at))]
 fn first_reply(bytes: &[u8]) -> Option<(&[u8], &[u8])>
     ensures { option_map (λ p. (p.0.now, p.1.now)) result ≡ reply_at bytes.now }
@@ -118,6 +132,7 @@ fn first_reply(bytes: &[u8]) -> Option<(&[u8], &[u8])>
 }
 
 /// A client and its last call, borrowed from the bytes of a snapshot.
+///
 /// Formats: Snapshots
 #[derive(Drop)]
 pub struct ClientFields<'a> {
@@ -139,20 +154,23 @@ impl<'a> Model for ClientFields<'a> {
 }
 
 impl<'a> ClientFields<'a> {
+    /// Returns the client's number.
     fn client(&self) -> u32
         ensures { result ≡ self.now.0 }
     {
         self.client
     }
 
-    /// Returns the least number that the next client may have.
+    /// Returns the smallest number that the next client may have.
     fn above(&self) -> u64
         ensures { result ≡ suc self.now.0 }
     {
         u64::from(self.client) + 1
     }
 
-    /// Returns the client's last call. The only refusal is `Memory`.
+    /// Returns a copy of the client's last call.
+    ///
+    /// Errors: `Memory` if an allocation fails.
     fn last_call<A: Allocator + Copy>(&self, alloc: A) -> Result<LastCall<A>, Fault>
         ensures ok { IfOk result (λ last. last ≡ self.now.1) }
         ensures refused { IfErr result (λ fault. fault ≡ Memory) }
@@ -161,7 +179,9 @@ impl<'a> ClientFields<'a> {
     }
 }
 
-/// Splits off the first client. `None` also if its number is below `low`.
+/// Splits off the first client.
+///
+/// Returns `None` if there is none, or its number is below `low`.
 fn first_client(low: u64, bytes: &[u8]) -> Option<(ClientFields<'_>, &[u8])>
     ensures { option_map (λ p. (p.0, p.1.now)) result ≡ next_at low bytes.now }
 {
@@ -184,7 +204,7 @@ fn first_client(low: u64, bytes: &[u8]) -> Option<(ClientFields<'_>, &[u8])>
     Some((client_entry, rest))
 }
 
-/// Returns the bytes after `count` ascending clients; `None` if the bytes don't begin with these.
+/// Returns the bytes after `count` ascending clients, or `None` if the bytes don't begin with such clients.
 fn bytes_after_clients(count: u64, bytes: &[u8]) -> Option<&[u8]>
     ensures { option_map (λ rest. rest.now) result ≡ option_map (λ x. x.1) (clients_at count 0 bytes.now) }
 {
@@ -201,8 +221,11 @@ fn bytes_after_clients(count: u64, bytes: &[u8]) -> Option<&[u8]>
 }
 
 /// Splits a snapshot of the sessions into its three parts.
+///
 /// They are the number of clients, 0 to 1,024, the bytes from the first client on, and the object's snapshot, which
-/// isn't checked. Returns `None` for all bytes that don't have these parts, bytes left over included.
+/// isn't checked. Returns `None` if the bytes don't consist of exactly these parts.
+///
+/// Rules: Sessions 12
 /// Formats: Snapshots
 pub fn parts_of(bytes: &[u8]) -> Option<(u64, &[u8], &[u8])>
     ensures { AreParts bytes.now (option_map (λ p. (p.0, p.1.now, p.2.now)) result) }
@@ -221,9 +244,12 @@ pub fn parts_of(bytes: &[u8]) -> Option<(u64, &[u8], &[u8])>
 }
 
 /// Decodes `count` clients with their last calls from the front of `bytes`.
-/// That the encodings of `count` ascending clients begin `bytes` is the caller's condition.
 ///
-/// Errors: `Memory`.
+/// `bytes` must begin with the encodings of `count` ascending clients.
+///
+/// Errors: `Memory` if an allocation fails.
+///
+/// Rules: Sessions 12
 /// Formats: Snapshots
 pub fn read_clients<A: Allocator + Copy>(
     alloc: A,

@@ -1,12 +1,15 @@
 //! Tickets for submitted calls.
+//!
 //! Rules: The replicated log 13
 
 ghost use Rattle.std.specs.Prelude.{◌≡◌};
 
 use std::marker::Model;
 
-/// A ticket, which a node gives for a submitted call: its position, counted from 0, in the list of all tickets of this
-/// node. Contracts see the position.
+/// A ticket, which a node gives for a submitted call: its position in the list of all tickets of this node.
+///
+/// Positions count from 0. Contracts see the position.
+///
 /// Rules: The replicated log 13
 #[derive(Clone, Copy, Debug, Default, PartialEq, Eq, PartialOrd, Ord)]
 pub struct Ticket {
@@ -24,7 +27,8 @@ impl Model for Ticket {
 }
 
 impl Ticket {
-    /// Returns the ticket at this position, counted from 0. Whether the node has given it isn't known here.
+    /// Returns the ticket at position `number`, counted from 0, whether or not a node has given it.
+    ///
     /// Rules: The replicated log 13
     pub fn new(number: u64) -> Ticket
         ensures { result ≡ number }
@@ -32,7 +36,8 @@ impl Ticket {
         Ticket { number }
     }
 
-    /// Returns the ticket's position in the list of all tickets that the node gave, counted from 0.
+    /// Returns the ticket's position in the list of all tickets that its node gave, counted from 0.
+    ///
     /// Rules: The replicated log 13
     pub fn number(self) -> u64
         ensures { result ≡ self }

@@ -1,4 +1,5 @@
 //! Laws of tickets.
+//!
 //! Rules: The replicated log 13 to 15
 
 ghost use Rattle.std.specs.Prelude.{◌≡◌, ◌||◌, nat_le, ℕ, List, [], ◌∷◌, ◌++◌, length};
@@ -12,10 +13,12 @@ ghost use Rattle.ring_session.specs.Pendings.{Tickets, no_tickets, is_full, with
 
 use ring_object::Object;
 
-/// States that, for every object and every history of a node's tickets, `Tickets` keeps enough: all tickets and answers
-/// ever given and all calls ever done determine it. That is so at the opening, after each submit, and as calls are done
-/// and answered. So it determines the answers of each step, for every session table. A ticket is refused exactly with
-/// 64 unanswered or 2^62 given tickets. A reply is one of the last 64 answers.
+/// States that a node's `Tickets` always agree with its whole history of tickets, calls done and answers.
+///
+/// The history determines `Tickets`: at the opening, after each submit, and as calls are done and answered. `Tickets`
+/// determine the answers that each step gives, for every object and every session table. A ticket is refused exactly if
+/// 64 are unanswered or 2^62 have been given. A reply is one of the last 64 answers.
+///
 /// Rules: The replicated log 13 to 15
 pub fn tickets_law<O: Object>()
     ensures opening { AreTickets {A = O.Alloc} [] [] [] no_tickets }

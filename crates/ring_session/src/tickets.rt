@@ -1,4 +1,5 @@
 //! The tickets of a node, and the answers that committed calls give to them.
+//!
 //! Rules: The replicated log 13 to 15
 
 ghost use Rattle.std.specs.Prelude.{◌≡◌, ◌≤◌, ◌<◌, List, [], ◌∷◌, ◌++◌, fold, true, false, not, IfOk, IfErr, OnOk, length};
@@ -24,8 +25,11 @@ use ring_payload::Call;
 use std::alloc::{AllocError, Allocator, Global};
 use std::marker::Model;
 
-/// The tickets of a node: the number of tickets that it has given, the unanswered tickets, and the answers given last.
-/// Memory for all of them is allocated at once. Contracts see these three.
+/// The tickets of a node: the number of tickets given, the unanswered tickets, and the answers given last.
+///
+/// Memory for [`MAX_UNANSWERED`] unanswered tickets and [`KEPT_ANSWERS`] answers is allocated when the value is
+/// created. Contracts see the three parts.
+///
 /// Rules: The replicated log 13 to 15
 #[derive(Drop)]
 pub struct Tickets<A: Allocator + Copy + Drop = Global> {
@@ -47,7 +51,7 @@ impl<A: Allocator + Copy + Drop> Model for Tickets<A> {
     ghost invariant = { λ t. (length t.pending.items ≤ 64) × (64 ≤ vec_capacity t.pending) × (t.given ≤ max_number) };
 }
 
-/// A copy has memory for [`MAX_UNANSWERED`] unanswered tickets and [`KEPT_ANSWERS`] answers too.
+/// A copy also has memory for [`MAX_UNANSWERED`] unanswered tickets and [`KEPT_ANSWERS`] answers.
 impl<A: Allocator + Copy + Drop> Clone for Tickets<A> {
     ghost is_clone = { λ tickets copy. copy ≡ tickets };
 
@@ -66,9 +70,10 @@ impl<A: Allocator + Copy + Drop> Clone for Tickets<A> {
 }
 
 impl<A: Allocator + Copy + Drop> Tickets<A> {
-    /// Returns the tickets of a node that hasn't given any.
+    /// Returns the tickets of a node that has given none.
     ///
-    /// Errors: `Memory`.
+    /// Errors: `Memory` if an allocation fails.
+    ///
     /// Rules: The replicated log 13
     pub fn new(alloc: A) -> Result<Tickets<A>, Fault>
         ensures ok { IfOk result (λ tickets. tickets ≡ no_tickets) }
@@ -83,7 +88,8 @@ impl<A: Allocator + Copy + Drop> Tickets<A> {
 
     /// Checks whether the node may give a ticket now.
     ///
-    /// Errors: `PendingFull` if 64 tickets are unanswered, which is the most, or `MAX` tickets have been given.
+    /// Errors: `PendingFull` if 64 tickets are unanswered, or `MAX` tickets have been given.
+    ///
     /// Rules: The replicated log 13
     pub fn check(&self) -> Result<(), Fault>
         ensures ok { OnOk result (is_full self.now ≡ false) }
@@ -96,8 +102,10 @@ impl<A: Allocator + Copy + Drop> Tickets<A> {
         Ok(())
     }
 
-    /// Gives the next ticket for the call, which is unanswered now, and returns the ticket.
-    /// That [`check`](Tickets::check) succeeds is the caller's condition. Takes no memory.
+    /// Gives the next ticket for `call` and returns it; the ticket is unanswered.
+    ///
+    /// [`check`](Tickets::check) must succeed. Does not allocate.
+    ///
     /// Rules: The replicated log 13
     pub fn give(&mut self, call: Call<A>) -> Ticket
         requires { is_full self.old ≡ false }
@@ -111,6 +119,7 @@ impl<A: Allocator + Copy + Drop> Tickets<A> {
     }
 
     /// Returns the unanswered tickets with their calls, at most 64, in the order in which they were given.
+    ///
     /// Rules: The replicated log 13
     pub fn pending(&self) -> &[Pending<A>]
         ensures { result.now ≡ self.now.pending }
@@ -118,8 +127,10 @@ impl<A: Allocator + Copy + Drop> Tickets<A> {
         self.pending.as_slice()
     }
 
-    /// Records that the calls `committed` were done, and that the node gave these answers, in this order.
-    /// The tickets of these calls are answered from now on. Takes no memory.
+    /// Records that the calls `committed` were done, and that the node gave `answers`, in this order.
+    ///
+    /// The tickets of these calls are answered from now on. Does not allocate.
+    ///
     /// Rules: The replicated log 14 and 15
     pub fn keep(&mut self, committed: &[Call<A>], answers: &[TicketAnswer<A>])
         ensures { self.new ≡ with_answers self.old committed.now answers.now }
@@ -128,7 +139,8 @@ impl<A: Allocator + Copy + Drop> Tickets<A> {
         self.recent.extend(answers);
     }
 
-    /// Returns the answer to a ticket if the ticket is among the 64 that were answered last, else `None`.
+    /// Returns the answer to `ticket` if it is among the 64 tickets answered last, otherwise `None`.
+    ///
     /// Rules: The replicated log 15
     pub fn reply(&self, ticket: Ticket) -> Option<Answer>
         ensures { result ≡ kept_answer ticket self.now.kept }
@@ -137,8 +149,9 @@ impl<A: Allocator + Copy + Drop> Tickets<A> {
     }
 }
 
-/// Returns whether the two are one call. The pending calls of a node differ nearly all by their number, so it is
-/// compared first, inline.
+/// Returns whether the two calls are the same: in number, client and operation.
+///
+/// The pending calls of a node differ nearly all by their number, so it is compared first, inline.
 #[inline(always)]
 fn is_same<A: Allocator + Copy>(call: &Call<A>, other: &Call<A>) -> bool
     ensures { result ≡ is_same call.now other.now }
@@ -146,7 +159,7 @@ fn is_same<A: Allocator + Copy>(call: &Call<A>, other: &Call<A>) -> bool
     other.number == call.number && is_same_call(call, other)
 }
 
-/// Compares client, number and operation.
+/// Returns whether the two calls have the same client, number and operation.
 fn is_same_call<A: Allocator + Copy>(call: &Call<A>, other: &Call<A>) -> bool
     ensures { result ≡ is_same call.now other.now }
 {
@@ -155,22 +168,25 @@ fn is_same_call<A: Allocator + Copy>(call: &Call<A>, other: &Call<A>) -> bool
         && other.op.as_slice() == call.op.as_slice()
 }
 
-/// Returns a copy of the call. The two share the bytes of the operation.
+/// Returns a copy of the call.
 ///
-/// Errors: `AllocError` if memory is refused.
+/// The two share the bytes of the operation.
+///
+/// Errors: `AllocError` if an allocation fails.
 pub fn copy_of<A: Allocator + Copy>(call: &Call<A>) -> Result<Call<A>, AllocError>
     ensures { IfOk result (λ copy. copy ≡ call.now) }
 {
     call.clone()
 }
 
+/// Returns whether the answer is `Done`.
 fn is_done(answer: &Answer) -> bool
     ensures { result ≡ is_done answer.now }
 {
     matches!(answer, Answer::Done(_))
 }
 
-/// Removes the tickets whose call was committed.
+/// Removes the tickets whose calls were committed.
 fn remove_committed<A: Allocator + Copy + Drop>(
     pending: &mut Vec<Pending<A>, A>,
     committed: &[Call<A>],
@@ -186,8 +202,9 @@ fn remove_committed<A: Allocator + Copy + Drop>(
     remove_committed_some(pending, committed);
 }
 
-/// `remove_committed` for a nonempty list of calls and of tickets. A function of its own keeps the large stack slot for the
-/// tickets' positions out of its caller.
+/// Does the same as `remove_committed`, for nonempty lists of calls and of tickets.
+///
+/// A separate function keeps the large stack slot for the tickets' positions out of its caller.
 #[inline(never)]
 fn remove_committed_some<A: Allocator + Copy + Drop>(
     pending: &mut Vec<Pending<A>, A>,
@@ -209,7 +226,7 @@ fn remove_committed_some<A: Allocator + Copy + Drop>(
     pending.truncate(kept);
 }
 
-/// Marks the tickets whose call is among the committed.
+/// Returns the flags of the tickets whose calls are among the committed calls.
 fn committed_among<A: Allocator + Copy>(
     pending: &[Pending<A>],
     committed: &[Call<A>],
@@ -245,6 +262,7 @@ fn mark_committed<A: Allocator + Copy>(
 }
 
 /// Returns whether one of `calls` has the same client, number and operation as `call`.
+///
 /// Rules: The replicated log 14
 pub fn contains_call<A: Allocator + Copy>(calls: &[Call<A>], call: &Call<A>) -> bool
     ensures { result ≡ contains_call calls.now call.now }
@@ -252,8 +270,11 @@ pub fn contains_call<A: Allocator + Copy>(calls: &[Call<A>], call: &Call<A>) -> 
     calls.iter().any(|other| is_same(call, other))
 }
 
-/// Appends the answers to the tickets of a committed call, and marks these tickets. Tickets already marked get none. The
-/// only refusal is `Memory`.
+/// Appends the answers to the tickets of a committed call, and marks these tickets.
+///
+/// Tickets already marked get no answer.
+///
+/// Errors: `Memory` if an allocation fails.
 fn answer_to<A: Allocator + Copy + Drop>(
     buckets: &Buckets,
     gone: &mut CommittedFlags,
@@ -281,8 +302,11 @@ fn answer_to<A: Allocator + Copy + Drop>(
     Ok(())
 }
 
-/// `answer_to` for the tickets past the buckets' capacity. It searches these tickets for the call; a ticket whose call is
-/// in `before` gets no answer.
+/// Appends the answers to the tickets of a committed call that are beyond the buckets' capacity.
+///
+/// It compares each of these tickets with the call. A ticket whose call is in `before` gets no answer.
+///
+/// Errors: `Memory` if an allocation fails.
 fn answer_without_buckets<A: Allocator + Copy + Drop>(
     pending: &[Pending<A>],
     before: &[Call<A>],
@@ -301,6 +325,9 @@ fn answer_without_buckets<A: Allocator + Copy + Drop>(
     Ok(())
 }
 
+/// Returns `answer` as the answer to the ticket `asked`, with a copy of its call.
+///
+/// Errors: `AllocError` if an allocation fails.
 fn answered<A: Allocator + Copy + Drop>(
     asked: &Pending<A>,
     answer: Answer,
@@ -314,12 +341,14 @@ fn answered<A: Allocator + Copy + Drop>(
     })
 }
 
-/// Applies newly committed calls to the sessions, in order.
-/// Returns the answers to the pending tickets of these calls, and the number of calls that took effect. The answers
-/// come in the order of the calls, then of their tickets. Each ticket is answered once, by the first of these calls
-/// with the same client, number and operation.
+/// Applies newly committed calls to the sessions, in order, and answers the pending tickets of these calls.
 ///
-/// Errors: `Memory`; the sessions are then unspecified.
+/// Returns the answers and the number of calls that took effect. The answers come in the order of the calls, then of
+/// their tickets. Each ticket is answered once, by the first of these calls that has the same client, number and
+/// operation.
+///
+/// Errors: `Memory` if an allocation fails; the sessions are then unspecified.
+///
 /// Rules: The replicated log 12 and 14
 pub fn answers_of<O: Object>(
     alloc: O::Alloc,
@@ -341,7 +370,9 @@ pub fn answers_of<O: Object>(
     answers_of_pending(alloc, sessions, pending, committed)
 }
 
-/// Applies calls to the sessions, in order. Returns the number of calls that took effect. The only refusal is `Memory`.
+/// Applies calls to the sessions, in order, and returns the number of calls that took effect.
+///
+/// Errors: `Memory` if an allocation fails.
 fn apply_all<O: Object>(
     sessions: &mut Sessions<O>,
     committed: &[Call<O::Alloc>],
@@ -360,8 +391,9 @@ fn apply_all<O: Object>(
     Ok(effects)
 }
 
-/// [`answers_of`] for a nonempty list of calls and of tickets. A function of its own keeps the large stack slot for the
-/// tickets' positions out of its caller.
+/// Does the same as [`answers_of`], for nonempty lists of calls and of tickets.
+///
+/// A separate function keeps the large stack slot for the tickets' positions out of its caller.
 #[inline(never)]
 fn answers_of_pending<O: Object>(
     alloc: O::Alloc,

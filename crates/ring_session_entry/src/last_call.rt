@@ -1,4 +1,5 @@
-//! A client's last call that took effect, with its reply.
+//! A client's last call that took effect, with the reply to it.
+//!
 //! Rules: Sessions 2, 3 and 5
 
 ghost use Rattle.std.specs.Prelude.{◌≡◌, ◌+◌, ◌≤◌, ◌==◌, length, IfOk, IfErr, OnOk, OnErr};
@@ -11,6 +12,7 @@ use std::alloc::{AllocError, Allocator};
 use std::marker::Model;
 
 /// The last call of a client that took effect: its number, its operation, and the reply to it.
+///
 /// Rules: Sessions 2
 #[derive(Drop)]
 pub struct LastCall<A: Allocator + Copy> {
@@ -40,8 +42,10 @@ impl<A: Allocator + Copy> Clone for LastCall<A> {
 }
 
 impl<A: Allocator + Copy> LastCall<A> {
-    /// Returns the entry of a client of which no call has taken effect yet: number 0, an empty operation and an empty
-    /// reply. Takes no memory.
+    /// Returns the entry of a client none of whose calls has taken effect yet.
+    ///
+    /// It has the number 0, an empty operation and an empty reply. Does not allocate.
+    ///
     /// Rules: Sessions 2
     pub fn none(alloc: A) -> LastCall<A>
         ensures { result ≡ no_call }
@@ -54,9 +58,11 @@ impl<A: Allocator + Copy> LastCall<A> {
     }
 
     /// Returns the entry with this number, a copy of this operation, and this reply.
-    /// That the reply has at most 64 bytes is the caller's condition.
     ///
-    /// Errors: `Memory`.
+    /// The reply must have at most 64 bytes.
+    ///
+    /// Errors: `Memory` if an allocation fails.
+    ///
     /// Rules: Sessions 2
     pub fn of(alloc: A, number: u64, operation: &[u8], reply: &[u8]) -> Result<LastCall<A>, Fault>
         requires { length reply.now ≤ 64 }
@@ -72,6 +78,7 @@ impl<A: Allocator + Copy> LastCall<A> {
     }
 
     /// Returns the number of the last call that took effect, 0 before the first.
+    ///
     /// Rules: Sessions 2
     pub fn number(&self) -> u64
         ensures { result ≡ self.now.number }
@@ -79,7 +86,8 @@ impl<A: Allocator + Copy> LastCall<A> {
         self.number
     }
 
-    /// Returns the bytes of the last call's operation. There are none before the first call.
+    /// Returns the bytes of the last call's operation, none before the first call.
+    ///
     /// Rules: Sessions 2
     pub fn operation(&self) -> &[u8]
         ensures { result.now ≡ self.now.operation }
@@ -87,7 +95,10 @@ impl<A: Allocator + Copy> LastCall<A> {
         self.operation.as_slice()
     }
 
-    /// Returns the reply to the last call, 0 to 64 bytes. It is empty before the first call.
+    /// Returns the reply to the last call, 0 to 64 bytes.
+    ///
+    /// It is empty before the first call.
+    ///
     /// Rules: Sessions 2
     pub fn reply(&self) -> Reply
         ensures { result ≡ self.now.reply }
@@ -96,7 +107,9 @@ impl<A: Allocator + Copy> LastCall<A> {
     }
 
     /// Returns whether `number` is the client's next: one more than the number of its last call.
-    /// After 2^64 - 1 there is none.
+    ///
+    /// No number is next after 2^64 - 1.
+    ///
     /// Rules: Sessions 3
     pub fn is_next(&self, number: u64) -> bool
         ensures { result ≡ (number == self.now.number + 1) }
@@ -104,10 +117,13 @@ impl<A: Allocator + Copy> LastCall<A> {
         self.number.checked_add(1) == Some(number)
     }
 
-    /// Applies the call's operation to the object, stores the call with its reply as the client's last, and returns the
-    /// reply. That the call is the client's next is not checked.
+    /// Applies the call's operation to `object`, keeps the call and its reply as the client's last, and returns the
+    /// reply.
     ///
-    /// Errors: `Memory`; the entry and the object are then unchanged.
+    /// That the call is the client's next isn't checked.
+    ///
+    /// Errors: `Memory` if an allocation fails; the entry and the object's content are then unchanged.
+    ///
     /// Rules: Sessions 3 and 5
     pub fn apply<O: Object<Alloc = A>>(
         &mut self,

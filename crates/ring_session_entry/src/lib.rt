@@ -1,5 +1,6 @@
-//! The session of one client: its last call that took effect, and the reply to it. By these a repeated call is recognised,
-//! and the client's next call too.
+//! The session of one client: its last call that took effect, and the reply to it.
+//!
+//! By these a repeated call and the client's next call are recognized.
 //!
 //! Rules: Sessions 2, 3 and 5
 #![tactic(auto)]

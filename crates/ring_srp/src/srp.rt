@@ -1,5 +1,7 @@
 //! The ring core of one processor, with one call for each kind of input.
+//!
 //! A function marked `inline(never)` keeps the large stack slot of the value that it replaces out of its caller.
+//!
 //! Rules: Rings and states 5, 8, 9 and 12 to 14; Outputs 1 and 2; Refusals 4 to 6
 
 ghost use Rattle.std.specs.Prelude.{◌≡◌, ◌≤◌, false, [], None, Ok, Err, if◌then◌else◌, IfOk, IfErr, OnOk, OnErr};
@@ -23,17 +25,18 @@ use ring_wire::Frame;
 use std::alloc::{AllocError, Allocator, Global};
 use std::marker::Model;
 
-/// `Srp`: the ring core of one processor: a state machine that takes one input at a time and has neither clock nor
-/// network.
-/// Contracts see a `Core`, with all its history.
+/// The ring core of one processor: a state machine that takes one input at a time and has neither clock nor network.
+///
+/// Contracts see it as a `Core`, with all its history.
+///
 /// Rules: Rings and states 3, 6 and 8
 #[derive(Drop)]
 pub struct Srp<A: Allocator + Copy = Global> {
-    /// The core, `None` once it has stopped.
+    /// The running core, `None` after a stop.
     running_core: Option<RunningCore<A>>,
-    /// The last installed ring at the moment of the stop.
+    /// The last installed ring at the time of the stop.
     last: Configuration,
-    /// The core at the moment of the stop, for contracts.
+    /// The core at the time of the stop, for contracts.
     before: Ghost<RunningCore<A>>,
 }
 
@@ -49,10 +52,13 @@ impl<A: Allocator + Copy> Model for Srp<A> {
 }
 
 impl<A: Allocator + Copy> Srp<A> {
-    /// Returns the ring core of processor `me` at the opening: in Gather, with the ring (0, `me`) of `me` alone
-    /// installed.
-    /// `me` is at most the number of processors. No join is sent for the opening.
-    /// Errors: `Memory` where an allocation fails.
+    /// Creates the ring core of processor `me` at the opening, in Gather.
+    ///
+    /// Its installed ring is (0, `me`), of which it is the only member. `me` must be at most the number of processors.
+    /// No join is sent for the opening.
+    ///
+    /// Errors: `Memory` if an allocation fails.
+    ///
     /// Rules: Rings and states 5
     pub fn new(alloc: A, fixed: Fixed, me: Proc) -> Result<Srp<A>, Fault>
         requires { me ≤ fixed.count }
@@ -63,10 +69,12 @@ impl<A: Allocator + Copy> Srp<A> {
         Ok(running(running_core))
     }
 
-    /// Returns the ring core of processor `me` in the formed ring (1, 1) of all processors: Operational, with nothing
-    /// held, and not yet visited by the token.
-    /// `me` is at most the number of processors.
-    /// Errors: `Memory` where an allocation fails.
+    /// Creates the ring core of processor `me` in the formed ring (1, 1) of all processors.
+    ///
+    /// It is Operational, holds nothing and hasn't visited a token yet. `me` must be at most the number of processors.
+    ///
+    /// Errors: `Memory` if an allocation fails.
+    ///
     /// Rules: Rings and states 14
     pub fn formed(alloc: A, fixed: Fixed, me: Proc) -> Result<Srp<A>, Fault>
         requires { me ≤ fixed.count }
@@ -77,10 +85,14 @@ impl<A: Allocator + Copy> Srp<A> {
         Ok(running(running_core))
     }
 
-    /// Returns the ring core of processor 1, the representative of the formed ring (1, 1), after the first token has
-    /// visited it. Returns with it the outputs of that visit: the token, sent to the next member.
-    /// No other call accepts that token, whose number is 0.
-    /// Errors: `Memory` where an allocation fails.
+    /// Creates the ring core of processor 1, the representative of the formed ring (1, 1), after its visit of the first
+    /// token.
+    ///
+    /// Returns with it the outputs of that visit: the token, sent to the next member. The first token has number 0 and
+    /// is never a frame, so only this call starts the token of a formed ring.
+    ///
+    /// Errors: `Memory` if an allocation fails.
+    ///
     /// Rules: Rings and states 14; The commit token 7
     pub fn representative_started(alloc: A, fixed: Fixed) -> Result<(Srp<A>, Vec<Out<A>, A>), Fault>
         ensures core { IfOk result (λ representative_started. representative_started.0 ≡ (token_visited (formed fixed.count 1) (first_token (all_of fixed.count).ring)).core) }
@@ -92,10 +104,13 @@ impl<A: Allocator + Copy> Srp<A> {
         Ok((running(running_core), outs))
     }
 
-    /// Does one step for any input, and returns all its outputs in one list, in their order.
-    /// The frame of the input keeps the limits, as a decoded one does. An ignored input has no outputs.
-    /// Errors: `Stopped` once the core has stopped. `Memory` where an allocation fails; the core has then stopped for
-    /// good, and the step's outputs are dropped.
+    /// Runs one step on any input, and returns all its outputs in one list, in their order.
+    ///
+    /// A frame must be within the limits of its format, as every decoded frame is. An ignored input has no outputs.
+    ///
+    /// Errors: `Stopped` if the core had already stopped; it is unchanged. `Memory` if an allocation fails: the core
+    /// has then stopped for good, and the step's outputs are dropped.
+    ///
     /// Rules: Rings and states 12 and 13; Outputs 1; Refusals 4 to 6
     pub fn step(&mut self, input: Input<A>) -> Result<Vec<Out<A>, A>, Fault>
         requires fits { InputFits input }
@@ -121,12 +136,17 @@ impl<A: Allocator + Copy> Srp<A> {
         }
     }
 
-    /// Does one step for a frame that the caller keeps. The frames to send are appended to `sends`, and the other
-    /// outputs are returned.
-    /// `sends` is empty at the call. A caller can reuse it from step to step with its capacity. The core copies the
-    /// frame, unless it is a token that is accepted. The frame keeps the limits, as a decoded one does.
-    /// Errors: `Stopped` once the core has stopped. `Memory` where an allocation fails; the core has then stopped for
-    /// good, the step's outputs are dropped, and the contents of `sends` are unspecified, so the caller clears it.
+    /// Runs one step on a borrowed frame.
+    ///
+    /// Appends the frames to be sent to `sends`, and returns the other outputs. `sends` must be empty; a caller can
+    /// reuse it, with its capacity, from step to step. `frame` must be within the limits of its format, as every
+    /// decoded frame is. The core copies the frame unless it is a token that is accepted. An ignored frame has no
+    /// outputs.
+    ///
+    /// Errors: `Stopped` if the core had already stopped; it is unchanged. `Memory` if an allocation fails: the core
+    /// has then stopped for good, the step's outputs are dropped, and the contents of `sends` are unspecified, so clear
+    /// it.
+    ///
     /// Rules: Rings and states 12 and 13; Outputs 1 and 2; Refusals 4 to 6
     pub fn receive(
         &mut self,
@@ -157,11 +177,15 @@ impl<A: Allocator + Copy> Srp<A> {
         }
     }
 
-    /// Does one step for a timeout of this kind. The frames to send are appended to `sends`, which is empty at the
-    /// call, and the other outputs are returned.
-    /// Errors: `Stopped` once the core has stopped. `Memory` where an allocation fails; the core has then stopped for
-    /// good, the step's outputs are dropped, and the contents of `sends` are unspecified, so the caller clears it.
-    /// Rules: Rings and states 12 and 13; Timeouts 1 and 2; Refusals 4 to 6
+    /// Runs one step on a timeout of this kind.
+    ///
+    /// Appends the frames to be sent to `sends`, which must be empty, and returns the other outputs.
+    ///
+    /// Errors: `Stopped` if the core had already stopped; it is unchanged. `Memory` if an allocation fails: the core
+    /// has then stopped for good, the step's outputs are dropped, and the contents of `sends` are unspecified, so clear
+    /// it.
+    ///
+    /// Rules: Rings and states 12 and 13; Timeouts 1 and 2; Outputs 1 and 2; Refusals 4 to 6
     pub fn time_out(
         &mut self,
         kind: Kind,
@@ -190,12 +214,15 @@ impl<A: Allocator + Copy> Srp<A> {
         }
     }
 
-    /// Queues a payload to be sent as a message of the ring, if the core is Operational. In every other state the
-    /// payload is dropped.
-    /// An End, a Wrapped or a Pack is dropped in every state. The step has no outputs.
-    /// Errors: `Stopped` once the core has stopped. `Memory` where an allocation fails; nothing has changed then, and
-    /// the core hasn't stopped.
-    /// Rules: Rings and states 9
+    /// Queues a payload to be sent as a message of the ring, if the core is Operational.
+    ///
+    /// In every other state the payload is dropped. An End, a Wrapped or a Pack is dropped in every state. The step has
+    /// no outputs.
+    ///
+    /// Errors: `Stopped` if the core had already stopped. `Memory` if an allocation fails; the core is unchanged and
+    /// hasn't stopped.
+    ///
+    /// Rules: Rings and states 9 and 12; Refusals 4 and 5
     pub fn send(&mut self, payload: Payload<A>) -> Result<(), Fault>
         ensures ok { OnOk result (self.new ≡ (ring_step self.old (SendInput payload)).core) }
         ensures silent { OnOk result ((ring_step self.old (SendInput payload)).outs ≡ []) }
@@ -210,7 +237,9 @@ impl<A: Allocator + Copy> Srp<A> {
     }
 
     /// Stops the core for good and frees the memory that it holds.
-    /// A core that has stopped stays as it is.
+    ///
+    /// Does nothing if it has already stopped. [`installed`](Srp::installed) and [`ring`](Srp::ring) keep their values.
+    ///
     /// Rules: Rings and states 12
     pub fn stop(&mut self)
         ensures { self.new ≡ halted self.old }
@@ -224,7 +253,8 @@ impl<A: Allocator + Copy> Srp<A> {
         }
     }
 
-    /// Returns the core's state: Gather, Commit, Recovery, Operational, or Stopped once it has stopped.
+    /// Returns the core's state: Gather, Commit, Recovery, Operational or Stopped.
+    ///
     /// Rules: Rings and states 6
     pub fn state(&self) -> State
         ensures { result ≡ self.now.state }
@@ -235,8 +265,11 @@ impl<A: Allocator + Copy> Srp<A> {
         }
     }
 
-    /// Returns the last installed ring with its members. Before any installation that is the ring (0, `me`) of `me`
-    /// alone. After a stop it is the one at the stop.
+    /// Returns the last installed ring with its members.
+    ///
+    /// Before the first installation it is (0, `me`), of which `me` is the only member. After a stop, it is the one at
+    /// the time of the stop.
+    ///
     /// Rules: Rings and states 3 and 5
     pub fn installed(&self) -> Configuration
         ensures { result ≡ self.now.installed }
@@ -247,8 +280,10 @@ impl<A: Allocator + Copy> Srp<A> {
         }
     }
 
-    /// Returns the last installed ring. Before any installation that is (0, `me`). After a stop it is the one at the
-    /// stop.
+    /// Returns the last installed ring, (0, `me`) before the first installation.
+    ///
+    /// After a stop, it is the one at the time of the stop.
+    ///
     /// Rules: Rings and states 3 and 5
     pub fn ring(&self) -> RingId
         ensures { result ≡ self.now.installed.ring }
@@ -257,10 +292,12 @@ impl<A: Allocator + Copy> Srp<A> {
     }
 }
 
-/// A clone equals the original, history included, and runs independently of it. The two share the bytes of operations,
-/// which never change.
-/// It allocates for the kept messages and the queue.
-/// Errors: `AllocError` where an allocation fails.
+/// A clone equals the original, history included, and runs independently of it.
+///
+/// It shares with the original only the bytes of operations, which never change. Cloning allocates for the kept
+/// messages and the queue.
+///
+/// Errors: `AllocError` if an allocation fails.
 impl<A: Allocator + Copy> Clone for Srp<A> {
     ghost is_clone = { λ srp copy. copy ≡ srp };
 
@@ -273,7 +310,7 @@ impl<A: Allocator + Copy> Clone for Srp<A> {
     }
 }
 
-/// Returns the ring core with this running core, in which no installation is due.
+/// Returns the ring core with this running core, in which no installation may be due.
 fn running<A: Allocator + Copy>(running_core: RunningCore<A>) -> Srp<A>
     requires { may_install running_core ≡ false }
     ensures { result ≡ running_core }

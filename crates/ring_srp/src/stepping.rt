@@ -1,6 +1,8 @@
-//! One step: chooses the transition, applies it, proposes a ring where that is due, and gathers the outputs.
+//! One step: chooses the transition, applies it, proposes a ring if one is due, and collects the outputs.
+//!
 //! A function marked `inline(never)` keeps the large stack slots of a copied frame and its transition out of its
 //! caller.
+//!
 //! Rules: Rings and states 13; Gather 7, 8, 10, 11 and 13; Outputs 1 and 2
 
 ghost use Rattle.std.specs.Prelude.{◌≡◌, ◌≤◌, ◌++◌, [], true, false, map, IfOk, IfErr, OnOk, OnErr};
@@ -27,8 +29,13 @@ use ring_srp_transitions::{RingProgress, RunningCore, Transition, all_of, first_
 use ring_wire::{Frame, Message, Token};
 use std::alloc::Allocator;
 
-/// Does one step for an input. Appends the frames to `sends`, which is empty, and returns the other outputs.
-/// Errors: `Memory` where an allocation fails; the core and the contents of `sends` are then unspecified.
+/// Runs one step on an input. Appends the frames to be sent to `sends`, which must be empty, and returns the other
+/// outputs.
+///
+/// A frame must be within the limits of its format.
+///
+/// Errors: `Memory` if an allocation fails; the core and the contents of `sends` are then unspecified.
+///
 /// Rules: Rings and states 13; Outputs 1
 pub(crate) fn step<A: Allocator + Copy>(
     running_core: &mut RunningCore<A>,
@@ -49,8 +56,12 @@ pub(crate) fn step<A: Allocator + Copy>(
     give_outputs(running_core, before, told)
 }
 
-/// Does one step for an input and returns all its outputs in one list, in their order.
-/// Errors: `Memory` where an allocation fails; the core is then unspecified.
+/// Runs one step on an input, and returns all its outputs in one list, in their order.
+///
+/// A frame must be within the limits of its format.
+///
+/// Errors: `Memory` if an allocation fails; the core is then unspecified.
+///
 /// Rules: Rings and states 13; Outputs 1
 pub(crate) fn step_into_one_list<A: Allocator + Copy>(
     running_core: &mut RunningCore<A>,
@@ -67,10 +78,13 @@ pub(crate) fn step_into_one_list<A: Allocator + Copy>(
     join_outputs(sends, told)
 }
 
-/// Does one step for a frame that the caller keeps. Appends the frames to `sends`, which is empty, and returns the
-/// other outputs.
-/// A token that is accepted isn't copied. A message that is taken is copied once.
-/// Errors: `Memory` where an allocation fails; the core and the contents of `sends` are then unspecified.
+/// Runs one step on a borrowed frame.
+///
+/// Appends the frames to be sent to `sends`, which must be empty, and returns the other outputs. The frame must be
+/// within the limits of its format. A token that is accepted isn't copied; a message that is taken is copied once.
+///
+/// Errors: `Memory` if an allocation fails; the core and the contents of `sends` are then unspecified.
+///
 /// Rules: Rings and states 13; Outputs 1
 pub(crate) fn receive<A: Allocator + Copy>(
     running_core: &mut RunningCore<A>,
@@ -90,7 +104,7 @@ pub(crate) fn receive<A: Allocator + Copy>(
     }
 }
 
-/// Does one step for a frame whose transition isn't `Visit`.
+/// Runs one step on a frame whose transition isn't `Visit`.
 fn receive_other<A: Allocator + Copy>(
     running_core: &mut RunningCore<A>,
     frame: &Frame<A>,
@@ -109,7 +123,7 @@ fn receive_other<A: Allocator + Copy>(
     }
 }
 
-/// Does one step for a message that is taken, with a copy of it.
+/// Runs one step on a copy of a message that the core takes.
 #[inline(never)]
 fn step_with_message_copy<A: Allocator + Copy>(
     running_core: &mut RunningCore<A>,
@@ -127,7 +141,7 @@ fn step_with_message_copy<A: Allocator + Copy>(
     step_with_message(running_core, copy, sends)
 }
 
-/// Does one step for a message that is taken.
+/// Runs one step on a message that the core takes.
 fn step_with_message<A: Allocator + Copy>(
     running_core: &mut RunningCore<A>,
     message: Message<A>,
@@ -146,7 +160,7 @@ fn step_with_message<A: Allocator + Copy>(
     give_outputs(running_core, before, told)
 }
 
-/// Takes a message, and then proposes a ring where that is due.
+/// Takes a message, and then proposes a ring if one is due.
 fn take_and_propose<A: Allocator + Copy>(
     running_core: &mut RunningCore<A>,
     message: Message<A>,
@@ -161,7 +175,7 @@ fn take_and_propose<A: Allocator + Copy>(
     running_core.propose_if_due(sends)
 }
 
-/// Does one step for a frame, with a copy of it.
+/// Runs one step on a copy of a frame.
 #[inline(never)]
 fn step_with_frame_copy<A: Allocator + Copy>(
     running_core: &mut RunningCore<A>,
@@ -179,7 +193,7 @@ fn step_with_frame_copy<A: Allocator + Copy>(
     step(running_core, Input::Frame(copy), sends)
 }
 
-/// Does one step for a token that is visited.
+/// Runs one step on a token that the core accepts.
 fn step_with_token<A: Allocator + Copy>(
     running_core: &mut RunningCore<A>,
     token: &Token,
@@ -198,7 +212,7 @@ fn step_with_token<A: Allocator + Copy>(
     give_outputs(running_core, before, told)
 }
 
-/// Visits a token, and then proposes a ring where that is due.
+/// Visits a token, and then proposes a ring if one is due.
 fn visit_and_propose<A: Allocator + Copy>(
     running_core: &mut RunningCore<A>,
     token: &Token,
@@ -213,8 +227,10 @@ fn visit_and_propose<A: Allocator + Copy>(
     running_core.propose_if_due(sends)
 }
 
-/// Lets the first token of the formed ring visit its representative, processor 1. Returns the outputs.
-/// Errors: `Memory` where an allocation fails; the core is then unspecified.
+/// Performs the visit of the formed ring's first token by its representative, processor 1. Returns the outputs.
+///
+/// Errors: `Memory` if an allocation fails; the core is then unspecified.
+///
 /// Rules: Rings and states 14; The commit token 7
 pub(crate) fn visit_first<A: Allocator + Copy>(
     running_core: &mut RunningCore<A>,
@@ -231,8 +247,10 @@ pub(crate) fn visit_first<A: Allocator + Copy>(
     join_outputs(sends, running_core.list())
 }
 
-/// Appends the outputs after a transition to `told`, which is empty: what is newly agreed and safe of the ring that
-/// was installed before it, then the outputs of an installation.
+/// Appends the outputs after a transition to `told`, which must be empty, and returns it.
+///
+/// These are what is newly agreed and safe of the ring that was installed before the transition, and the outputs of an
+/// installation.
 fn give_outputs<A: Allocator + Copy>(
     running_core: &mut RunningCore<A>,
     before: RingProgress,
@@ -251,7 +269,7 @@ fn give_outputs<A: Allocator + Copy>(
     Ok(told)
 }
 
-/// Returns all outputs of a step in one list: the frames that were sent, then the others.
+/// Returns all outputs of a step in one list: the frames to be sent, then the others.
 fn join_outputs<A: Allocator + Copy>(
     sends: Vec<OutgoingFrame<A>, A>,
     mut told: Vec<Out<A>, A>,
@@ -268,8 +286,10 @@ fn join_outputs<A: Allocator + Copy>(
     Ok(outs)
 }
 
-/// Queues a payload in Operational, if its kind is queued, and drops it otherwise.
-/// Errors: `Memory` where an allocation fails; the core is unchanged.
+/// Queues a payload if the state is Operational and its kind may be queued; otherwise drops it.
+///
+/// Errors: `Memory` if an allocation fails; the core is unchanged.
+///
 /// Rules: Rings and states 9
 pub(crate) fn send<A: Allocator + Copy>(
     running_core: &mut RunningCore<A>,
@@ -294,7 +314,7 @@ pub(crate) fn send<A: Allocator + Copy>(
     }
 }
 
-/// Applies a transition, and then proposes a ring where that is due.
+/// Applies a transition, and then proposes a ring if one may follow and is due.
 fn apply_and_propose<A: Allocator + Copy>(
     running_core: &mut RunningCore<A>,
     what: Transition<A>,
@@ -364,6 +384,7 @@ fn apply_transition<A: Allocator + Copy>(
 }
 
 /// Returns whether a proposal may follow the transition: after a timeout, or a frame that isn't ignored.
+///
 /// Rules: Gather 10 and 11
 fn may_propose_after<A: Allocator + Copy>(what: &Transition<A>) -> bool
     ensures { result ≡ may_propose_after (transition_of what.now) }

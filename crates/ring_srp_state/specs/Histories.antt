@@ -7,7 +7,7 @@ use Rattle.ring_token.specs.Turns.{TokenVisit, Raise}
 use Rattle.ring_core_spec.specs.Commits.{Configuration}
 use Rattle.ring_core_spec.specs.State.{Core, Report}
 
--- the lists of facts of a core, but for the messages held; only contracts see them
+-- The lists of facts of a core, except for the messages held. Only contracts see them.
 pub record History (A : Type 0) : Type 0 where
   pub rings : List Configuration
   pub installs : List Configuration
@@ -16,23 +16,23 @@ pub record History (A : Type 0) : Type 0 where
   pub reports : List Report
   pub plans : List CommitToken
 
--- the lists of facts of a core
+-- The lists of facts of a core.
 abbrev pub history_of : {A : Type 0} → Core A → History A
 history_of c = record { rings = c.rings; installs = c.installs; turns = c.turns; raises = c.raises; reports = c.reports; plans = c.plans }
 
--- the lists after the core takes part in a ring with this report
+-- The lists after the core takes part in a ring with this report.
 abbrev pub with_ring : {A : Type 0} → History A → Configuration → CommitEntry → History A
 with_ring h running own = record h { rings = running ∷ h.rings; reports = record { ring = running.ring; entry = own } ∷ h.reports }
 
--- the lists after a visit of the token: the newest of these visits
+-- The lists after a visit of the token: the newest of these visits.
 abbrev pub with_visit : {A : Type 0} → History A → List (TokenVisit A) → History A
 with_visit h [] = h
 with_visit h (v ∷ turns) = record h { turns = v ∷ h.turns }
 
--- the lists after a full commit token raises the safe mark of an old ring
+-- The lists after a full commit token raises the safe mark of an old ring.
 abbrev pub with_plan : {A : Type 0} → History A → CommitToken → RingId → ℕ → History A
 with_plan h k old mark = record h { raises = record { ring = old; mark = mark } ∷ h.raises; plans = k ∷ h.plans }
 
--- the lists after a ring is installed
+-- The lists after a ring is installed.
 abbrev pub with_install : {A : Type 0} → History A → Configuration → History A
 with_install h running = record h { installs = running ∷ h.installs }

@@ -11,11 +11,11 @@ use Rattle.ring_token.specs.Histories.{TokenHistory, turn_by}
 use Rattle.ring_srp_state.specs.declared.recovery_state.RecoveryState.{RecoveryState}
 use Rattle.ring_srp_state.specs.Users.{users_in}
 
--- the visit of a token, once the new messages are held
+-- The visit of a token, once the new messages are held.
 abbrev pub turn_in : {A : Type 0} → WindowHistory A → TokenHistory A → Token → List ℕ → List (Payload A) → TokenVisit A
 turn_in w h t remaining_requests fresh = turn_by h.me (front_of w.held w.ring) fresh (requests_after remaining_requests (missing w.held w.ring w.mark (t.seq + length fresh))) t
 
--- more user messages are deferred, and all else is unchanged
+-- More user messages are deferred, and all else is unchanged.
 pub record HasDeferred {A : Type 0} (before now : RecoveryState A) : Type 0 where
   pub part : now.part ≡ before.part
   pub plan : now.plan ≡ before.plan

@@ -10,12 +10,12 @@ use Rattle.ring_recover.specs.RecoveryState.{with_seen}
 use Rattle.ring_recover.specs.Wrapping.{inner_messages}
 use Rattle.ring_srp_state.specs.declared.recovery_state.RecoveryState.{RecoveryState}
 
--- the messages of a window that its front covers, ascending
+-- The messages of a window that its front covers, ascending.
 abbrev pub window_front : {A : Type 0} → WindowHistory A → List (Message A)
 window_front w = in_front w.held w.ring
 
--- the state once a message is held: the plan has seen it, the window holds it, and it is counted if the front covers
--- it
+-- The state once a message is held: the plan has seen it, the window holds it, and it is counted if the front covers
+-- it.
 abbrev pub with_taken : {A : Type 0} → RecoveryState A → Message A → RecoveryState A
 with_taken r x =
     record r {
@@ -24,10 +24,10 @@ with_taken r x =
       ends = window_front (taken r.part.window x);
     }
 
--- the inner message of a payload, if it is of the window's ring and new there
+-- The inner message of a payload, if it belongs to the window's ring and is new there.
 abbrev pub inner_of : {A : Type 0} → WindowHistory A → Payload A → List (Message A)
 inner_of w payload = inner_messages w.ring w.mark w.held payload
 
--- the window once it holds that message
+-- The window once it holds that message.
 abbrev pub with_inner : {A : Type 0} → WindowHistory A → Payload A → WindowHistory A
 with_inner w payload = record w { held = inner_of w payload ++ w.held }

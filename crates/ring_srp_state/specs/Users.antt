@@ -10,27 +10,27 @@ use Rattle.ring_window.specs.Windows.{WindowHistory}
 use Rattle.ring_core_spec.specs.declared.out.Out.{Out}
 use Rattle.ring_core_spec.specs.declared.out.Out.TheVariants.{Agreed, Safe}
 
--- the user messages above one number, up to another
+-- The user messages above one number, up to another.
 abbrev pub users_in : {A : Type 0} → WindowHistory A → ℕ → ℕ → List (Message A)
 users_in w below upto = filter (λ (x : Message _). is_user x.payload) (filter_map (found w.held w.ring) (numbers_from (below + 1) (upto - below)))
 
--- those messages as outputs
+-- Those messages as outputs.
 abbrev pub agreed_in : {A : Type 0} → WindowHistory A → ℕ → ℕ → List (Out A)
 agreed_in w below upto = map (λ x. Agreed w.ring x.number x) (users_in w below upto)
 
--- the output of one message, if it is a user's
+-- The output of one message, if it is a user message.
 abbrev pub agreed_of : {A : Type 0} → RingId → Message A → List (Out A)
 agreed_of ring x = if is_user x.payload then Agreed ring x.number x ∷ [] else []
 
--- the message, if it is a user's
+-- The message, if it is a user message.
 abbrev pub user_of : {A : Type 0} → Message A → List (Message A)
 user_of x = if is_user x.payload then x ∷ [] else []
 
--- the message, if there is one and it is a user's
+-- The message, if there is one and it is a user message.
 abbrev pub user_if_there : {A : Type 0} → Option (Message A) → List (Message A)
 user_if_there None = []
 user_if_there (Some x) = user_of x
 
--- the output of a safe mark, if it rose
+-- The output of a safe mark, if it rose.
 abbrev pub safe_to : {A : Type 0} → RingId → ℕ → ℕ → List (Out A)
 safe_to ring before mark = if nat_lt before mark then Safe ring mark ∷ [] else []

@@ -1,5 +1,7 @@
 //! Appends the outputs of one ring's messages and safe mark to a list of outputs.
+//!
 //! A function marked `inline(never)` keeps the large stack slot of an output out of its caller.
+//!
 //! Rules: Outputs 3 to 6
 
 ghost use Rattle.std.specs.Prelude.{◌≡◌, ◌++◌, ◌∷◌, [], ◌≤◌, IfErr, OnOk};
@@ -17,12 +19,14 @@ use ring_window::Window;
 use ring_wire::Message;
 use std::alloc::Allocator;
 
-/// Appends an `Agreed` for each user message of the window's ring with a number above `below` that the front covers,
-/// ascending.
-/// `below` is at least the window's mark, so none of these messages has been forgotten. Where it is the front or more,
-/// nothing is appended.
-/// Errors: `Memory` where an allocation fails; the contents of `outs` are then unspecified.
-/// Rules: Outputs 3
+/// Appends an `Agreed` for each user message that the front covers and whose number is above `below`, ascending.
+///
+/// The messages are those of the window's ring. `below` must be at least the window's safe mark, so that the window
+/// still has all of them. Nothing is appended if `below` is the front or more.
+///
+/// Errors: `Memory` if an allocation fails; the contents of `outs` are then unspecified.
+///
+/// Rules: Outputs 3 and 6
 pub fn give_agreed<A: Allocator + Copy>(
     window: &Window<A>,
     below: u64,
@@ -40,7 +44,7 @@ pub fn give_agreed<A: Allocator + Copy>(
     Ok(())
 }
 
-/// Appends an `Agreed` for a message, if it is a user's.
+/// Appends an `Agreed` for the message if it is a user message.
 #[inline(never)]
 fn give_message<A: Allocator + Copy>(
     ring: RingId,
@@ -58,9 +62,12 @@ fn give_message<A: Allocator + Copy>(
     Ok(())
 }
 
-/// Appends a `Safe` with the mark of a ring, if the mark is above `before`, and else nothing.
-/// `before` is the ring's safe mark as the step began.
-/// Errors: `Memory` where an allocation fails; the contents of `outs` are then unspecified.
+/// Appends a `Safe` with the mark of a ring if the mark has risen above `before`, otherwise nothing.
+///
+/// `before` must be the ring's safe mark at the start of the step.
+///
+/// Errors: `Memory` if an allocation fails; the contents of `outs` are then unspecified.
+///
 /// Rules: Outputs 4
 pub fn give_safe<A: Allocator + Copy>(
     ring: RingId,
@@ -92,9 +99,12 @@ fn give_mark<A: Allocator + Copy>(
 }
 
 /// Appends a `Rest` for each user message of these numbers that the window still has, in ascending order.
-/// A number that the window doesn't hold or has forgotten is skipped, and so is an End or a Wrapped.
-/// Errors: `Memory` where an allocation fails; the contents of `outs` are then unspecified.
-/// Rules: Outputs 5
+///
+/// A number is skipped if the window doesn't hold it or has dropped its message, or if it has an End or a Wrapped.
+///
+/// Errors: `Memory` if an allocation fails; the contents of `outs` are then unspecified.
+///
+/// Rules: Outputs 5 and 6
 pub fn give_rest<A: Allocator + Copy>(
     window: &Window<A>,
     numbers: &Numbers,
@@ -109,7 +119,7 @@ pub fn give_rest<A: Allocator + Copy>(
     Ok(())
 }
 
-/// Appends a `Rest` for the message of a number, where the window still keeps it and it is a user's.
+/// Appends a `Rest` for message `number`, if the window still has it and it is a user message.
 fn give_number<A: Allocator + Copy>(
     window: &Window<A>,
     number: u64,
@@ -124,7 +134,7 @@ fn give_number<A: Allocator + Copy>(
     }
 }
 
-/// Appends a `Rest` for a message, if it is a user's.
+/// Appends a `Rest` for the message if it is a user message.
 fn give_if_users<A: Allocator + Copy>(
     message: &Message<A>,
     outs: &mut Vec<Out<A>, A>,
@@ -138,9 +148,12 @@ fn give_if_users<A: Allocator + Copy>(
     Ok(())
 }
 
-/// Appends an `Agreed` of this ring for each of the messages, in their order.
-/// They are the ring's user messages that Recovery kept aside until the ring's installation.
-/// Errors: `Memory` where an allocation fails; the contents of `outs` are then unspecified.
+/// Appends an `Agreed` of `ring` for each of the messages, in their order.
+///
+/// The core passes the user messages of the ring that Recovery deferred until its installation.
+///
+/// Errors: `Memory` if an allocation fails; the contents of `outs` are then unspecified.
+///
 /// Rules: Outputs 1 and 3
 pub fn give_deferred<A: Allocator + Copy>(
     ring: &RingId,

@@ -1,4 +1,6 @@
 //! The lists of facts of a core, as ghost values that only contracts read, and how they grow.
+//!
+//! Rules: Rings and states 3
 
 ghost use Rattle.std.specs.Prelude.{◌≡◌, [], ◌∷◌, ◌++◌};
 ghost use Rattle.ring_core_spec.specs.State.{formed, opening};
@@ -12,9 +14,11 @@ use ring_wire::{CommitEntry, CommitToken};
 use std::alloc::{Allocator, Global};
 use std::marker::{Model, PhantomData};
 
-/// The lists of facts of a core, but for the messages held. No value of this type is made.
+/// The lists of facts of a core: all that ever happened to it, except for the messages held.
+///
 /// They are the rings taken part in, the rings installed, the visits, the marks raised by plans, the reports, and the
-/// plans, each newest first.
+/// plans, each newest first. Code never creates a value of this type.
+///
 /// Rules: Rings and states 3
 pub struct CoreHistory<A: Allocator + Copy = Global> {
     allocator: PhantomData<A>,
@@ -30,6 +34,7 @@ impl<A: Allocator + Copy> Model for CoreHistory<A> {
 }
 
 /// Returns the lists of facts of processor `me` at the opening.
+///
 /// Rules: Rings and states 5
 pub fn opened<A: Allocator + Copy>(fixed: Fixed, me: Proc) -> Ghost<CoreHistory<A>>
     ensures { result.value ≡ history_of (opening fixed.count me) }
@@ -38,6 +43,7 @@ pub fn opened<A: Allocator + Copy>(fixed: Fixed, me: Proc) -> Ghost<CoreHistory<
 }
 
 /// Returns the lists of facts of processor `me` in the formed ring of all processors.
+///
 /// Rules: Rings and states 14
 pub fn formed_of<A: Allocator + Copy>(fixed: Fixed, me: Proc) -> Ghost<CoreHistory<A>>
     ensures { result.value ≡ history_of (formed fixed.count me) }
@@ -45,7 +51,8 @@ pub fn formed_of<A: Allocator + Copy>(fixed: Fixed, me: Proc) -> Ghost<CoreHisto
     ghost_of(&(&fixed, &me))
 }
 
-/// Returns the lists after the core takes part in the ring `running` and reports `own` of its old ring.
+/// Returns the lists after the core takes part in the ring `running` and reports `own` about its old ring.
+///
 /// Rules: Rings and states 7
 pub fn with_ring<A: Allocator + Copy>(
     history: &Ghost<CoreHistory<A>>,
@@ -57,7 +64,8 @@ pub fn with_ring<A: Allocator + Copy>(
     ghost_step(history, &(running, own))
 }
 
-/// Returns the lists with one visit of the token more: the newest one that `visit` has.
+/// Returns the lists after one more visit of the token: the newest one in `visit`.
+///
 /// Rules: Token and window 7
 pub fn with_visit<A: Allocator + Copy>(
     history: &Ghost<CoreHistory<A>>,
@@ -68,8 +76,11 @@ pub fn with_visit<A: Allocator + Copy>(
     ghost_step(history, visit)
 }
 
-/// Returns the lists after a core makes its plan: with the full commit token, and with the safe mark that the plan
-/// raises in the old ring.
+/// Returns the lists after the core makes its plan: with the full commit token, and the mark of the old ring that it
+/// raises.
+///
+/// `mark` is the safe mark to which the plan raises the ring `old`.
+///
 /// Rules: Recovery 3
 pub fn with_plan<A: Allocator + Copy>(
     history: &Ghost<CoreHistory<A>>,
@@ -83,6 +94,7 @@ pub fn with_plan<A: Allocator + Copy>(
 }
 
 /// Returns the lists after the core installs the ring `running`.
+///
 /// Rules: Recovery 7
 pub fn with_install<A: Allocator + Copy>(
     history: &Ghost<CoreHistory<A>>,
@@ -100,14 +112,14 @@ pub fn none<M>() -> Ghost<[M; 0]>
     ghost_of(&())
 }
 
-/// Returns a ghost list with an item added at its head.
+/// Returns the ghost list with an item added at its head.
 pub fn one_first<M>(items: &Ghost<[M; 0]>, item: &M) -> Ghost<[M; 0]>
     ensures { result.value ≡ item.now ∷ items.now.value }
 {
     ghost_of(&(items, item))
 }
 
-/// Returns a ghost list with an item added at its end.
+/// Returns the ghost list with an item added at its end.
 pub fn one_last<M>(items: &Ghost<[M; 0]>, item: &M) -> Ghost<[M; 0]>
     ensures { result.value ≡ items.now.value ++ item.now ∷ [] }
 {

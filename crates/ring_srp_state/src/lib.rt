@@ -1,5 +1,8 @@
-//! The state that a ring core keeps for one ring: window and visits, the state of Recovery, the messages that it
-//! wraps and sends, its outputs, its lists of facts, and the packing of a visit's new messages.
+//! The state that a ring core keeps for one ring, and the operations on it.
+//!
+//! These are the window and the visits, the state of Recovery, the messages that it wraps and sends, its outputs, its
+//! lists of facts, and the packing of a visit's new messages.
+//!
 //! Rules: Rings and states 3 and 9; Token and window 7, 9 and 12; Recovery 4 to 6; Outputs 3 to 6
 #![tactic(auto)]
 

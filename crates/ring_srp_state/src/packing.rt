@@ -1,5 +1,7 @@
-//! Makes a visit's new messages out of the front of the send queue.
+//! Makes a visit's new messages from the front of the send queue.
+//!
 //! A function marked `inline(never)` keeps the large stack slot of a payload out of its caller.
+//!
 //! Rules: Token and window 9
 
 ghost use Rattle.std.specs.Prelude.{◌≡◌, drop, length, IfOk, IfErr, OnOk, OnErr, option_to_list};
@@ -12,15 +14,19 @@ use ring_payload::{Call, Calls, MAX_PACK_BYTES, MAX_PACK_CALLS, Pack, Payload};
 use std::alloc::Allocator;
 use std::collections::VecDeque;
 
-/// The most calls in one Pack.
+/// The maximum number of calls in one Pack, 16.
 const MAX_CALLS: usize = MAX_PACK_CALLS as usize;
 
-/// Takes the payloads of at most `most` new messages off the front of the queue, and returns them in their order.
-/// Each is made of what is left. The longest run of Calls at the front that fits one Pack goes as a Pack, or as a Call
-/// if it is a single one. Anything else goes alone.
-/// Errors: `Memory` where an allocation fails. Some of the queue's first payloads may then be lost, and the rest is
-/// unchanged.
+/// Takes the payloads of at most `most` new messages from the front of the queue, and returns them in their order.
+///
+/// Each is made from what the ones before it have left. Calls at the front become a Pack: the longest run of them that
+/// fits one, with at most 16 calls and 7,276 bytes of payload. A single Call stays a Call. Any other payload becomes a
+/// message of its own.
+///
+/// Errors: `Memory` if an allocation fails. Some of the queue's first payloads may then be lost; the rest is unchanged.
+///
 /// Rules: Token and window 9
+/// Formats: Payloads
 pub fn take_packed<A: Allocator + Copy>(
     alloc: A,
     queue: &mut VecDeque<Payload<A>, A>,
@@ -59,7 +65,9 @@ fn take_some<A: Allocator + Copy>(
     Ok(payloads)
 }
 
-/// Takes the payload of one new message off the queue, if there is one. The Calls of a Pack are moved, not copied.
+/// Takes the payload of one new message from the queue, if there is one. The Calls of a Pack are moved, not copied.
+///
+/// Errors: `Memory` if an allocation fails. Some of the queue's first payloads may then be lost; the rest is unchanged.
 fn take_message<A: Allocator + Copy>(
     alloc: A,
     queue: &mut VecDeque<Payload<A>, A>,
@@ -99,7 +107,7 @@ fn run_length<A: Allocator + Copy>(queue: &VecDeque<Payload<A>, A>) -> usize
     MAX_CALLS
 }
 
-/// Takes `count` Calls off the queue's front, which begins with at least as many.
+/// Takes `count` Calls from the queue's front. `count` must be what `run_length` returns.
 fn take_calls<A: Allocator + Copy>(
     alloc: A,
     queue: &mut VecDeque<Payload<A>, A>,
@@ -139,7 +147,7 @@ fn call_of<A: Allocator + Copy>(payload: Payload<A>) -> Option<Call<A>>
     }
 }
 
-/// Returns the number of bytes that a Call takes in a Pack, or `None` for any other payload.
+/// Returns the length in bytes of a Call's encoding in a Pack, or `None` for any other payload.
 fn bytes_of<A: Allocator + Copy>(payload: &Payload<A>) -> Option<usize>
     ensures { result ≡ bytes_of payload.now }
 {

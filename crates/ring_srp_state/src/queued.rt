@@ -1,4 +1,5 @@
 //! Which payloads the send queue accepts.
+//!
 //! Rules: Rings and states 9
 
 ghost use Rattle.std.specs.Prelude.{◌≡◌};
@@ -7,8 +8,10 @@ ghost use Rattle.ring_payload.specs.Packing.{is_queued};
 use ring_payload::Payload;
 use std::alloc::Allocator;
 
-/// Returns whether a send may queue this payload: whether it is a Call, a Head, a Part or a Snap.
-/// A Pack, an End or a Wrapped is made by a visit, so a send of one does nothing.
+/// Returns whether a send may queue this payload, that is whether it is a Call, a Head, a Part or a Snap.
+///
+/// Only a visit makes a Pack, an End or a Wrapped, so sending one does nothing.
+///
 /// Rules: Rings and states 9
 pub fn is_queued<A: Allocator + Copy>(payload: &Payload<A>) -> bool
     ensures { result ≡ is_queued payload.now }

@@ -1,4 +1,5 @@
 //! The state of a processor in Recovery.
+//!
 //! Rules: Recovery 4 to 7; Outputs 1
 
 ghost use Rattle.std.specs.Prelude.{◌≡◌, ◌≤◌, ◌++◌, length, IfOk, IfErr, OnOk, OnErr};
@@ -19,28 +20,34 @@ use ring_window::Window;
 use ring_wire::Message;
 use std::alloc::{AllocError, Allocator, Global};
 
-/// The state of a processor in Recovery: its window and visits of the running ring, its plan for the old one, and the
-/// progress of the members.
-/// Installation delivers the running ring's user messages from number 1 on. Those that the window may forget before
-/// then are deferred: they are kept here.
+/// The state of a processor in Recovery: its running ring, its plan for the old ring, and the progress of the members.
+///
+/// Installation delivers the running ring's user messages from number 1 on. Those that the window may drop before then
+/// are deferred: they are kept here.
+///
 /// Rules: Recovery 4 to 7; Outputs 1
 #[derive(Drop)]
 pub struct RecoveryState<A: Allocator + Copy = Global> {
-    /// The window and visits of the running ring.
+    /// The window and the visits of the running ring.
     pub part: RingPart<A>,
-    /// The plan: what the transitional members hold of the old ring, and which of it was seen wrapped.
+    /// The plan: what the transitional members hold of the old ring, and which of its messages were seen wrapped.
     pub plan: Plan<A>,
     /// The counts of Ends and user messages in the running ring's front, which decide on installation.
     pub ends: Ends<A>,
-    /// The user messages of the running ring numbered 1 to `most` are deferred; 0 at first.
+    /// The greatest number up to which the running ring's user messages have been deferred, 0 at first.
     pub most: u64,
-    /// The deferred messages, with ascending numbers.
+    /// The deferred messages, in ascending order of their numbers.
     pub deferred: Vec<Message<A>, A>,
 }
 
 impl<A: Allocator + Copy> RecoveryState<A> {
-    /// Defers the running ring's user messages up to its front, so that the window may forget them.
-    /// Errors: `Memory` where an allocation fails; the messages before the failing one have then been deferred.
+    /// Defers the running ring's user messages up to its front, so that the window may drop them.
+    ///
+    /// `most` must be at least the window's safe mark, and `deferred` must have the user messages numbered 1 to `most`.
+    /// Both hold afterwards too.
+    ///
+    /// Errors: `Memory` if an allocation fails; the messages before the failing one have then been deferred.
+    ///
     /// Rules: Recovery 7; Outputs 1
     pub fn defer_messages(&mut self) -> Result<(), Fault>
         requires mark { self.old.part.window.mark ≤ self.old.most }
@@ -58,8 +65,12 @@ impl<A: Allocator + Copy> RecoveryState<A> {
         Ok(())
     }
 
-    /// Holds a message of the running ring. The plan records it, the window takes it if its number is new there, and
-    /// the messages that the front newly covers are counted.
+    /// Holds a message of the running ring.
+    ///
+    /// The plan records it, the window takes it if its number is new there, and the messages that the front newly
+    /// covers are counted. The window's safe mark must be at most the number of messages counted so far, which must be
+    /// those from number 1 on.
+    ///
     /// Rules: Recovery 5, 7 and 11
     pub fn take(&mut self, message: Message<A>)
         requires front { IsListPrefix self.old.ends (window_front (taken self.old.part.window message)) }
@@ -86,7 +97,9 @@ impl<A: Allocator + Copy> Clone for RecoveryState<A> {
     }
 }
 
-/// Returns a copy of the list and its messages.
+/// Returns a copy of the list with copies of its messages.
+///
+/// Errors: `AllocError` if an allocation fails.
 fn copied_messages<A: Allocator + Copy>(
     messages: &Vec<Message<A>, A>,
 ) -> Result<Vec<Message<A>, A>, AllocError>
@@ -95,7 +108,9 @@ fn copied_messages<A: Allocator + Copy>(
     messages.clone()
 }
 
-/// Appends a copy of a message, if it is a user's.
+/// Appends a copy of the message if it is a user message.
+///
+/// Errors: `Memory` if an allocation fails; nothing is appended.
 fn keep_copy<A: Allocator + Copy>(
     message: &Message<A>,
     deferred: &mut Vec<Message<A>, A>,
@@ -111,9 +126,13 @@ fn keep_copy<A: Allocator + Copy>(
     Ok(())
 }
 
-/// Adds the inner message of a Wrapped to the old ring's window, if it is of that ring and its number is new there. Any
-/// other payload changes nothing.
-/// Errors: `Memory` where an allocation fails; the window is unchanged.
+/// Adds the inner message of a Wrapped to the old ring's window, if it belongs to that ring and its number is new
+/// there.
+///
+/// Any other payload changes nothing.
+///
+/// Errors: `Memory` if an allocation fails; the window is unchanged.
+///
 /// Rules: Recovery 6
 pub fn unwrap_into<A: Allocator + Copy>(
     payload: &Payload<A>,

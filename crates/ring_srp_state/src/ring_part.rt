@@ -1,6 +1,7 @@
 //! The window and the visits that a processor keeps of one ring.
-//! A function marked `inline(never)` keeps the large stack slot of a token or of a list of requests out of its
-//! caller.
+//!
+//! A function marked `inline(never)` keeps the large stack slot of a token or of a list of requests out of its caller.
+//!
 //! Rules: Rings and states 3; Token and window 7, 8 and 10
 
 ghost use Rattle.std.specs.Prelude.{◌≡◌, ℕ, ◌≤◌, ◌<◌, ◌+◌, List, length, take, Some, IfOk, IfErr};
@@ -27,18 +28,21 @@ use ring_wire::{Frame, Requests, Token};
 use std::alloc::{AllocError, Allocator, Global};
 
 /// What a processor keeps of one ring: the messages that it holds, and its visits of the token.
+///
 /// Rules: Rings and states 3
 #[derive(Drop)]
 pub struct RingPart<A: Allocator + Copy = Global> {
     /// The messages held above the safe mark, and which numbers are new.
     pub window: Window<A>,
-    /// The token's visits to this processor, and the processor's safe mark in the ring.
+    /// This processor's visits of the token, and its safe mark in the ring.
     pub visit: Visit<A>,
 }
 
 impl<A: Allocator + Copy> RingPart<A> {
-    /// Returns the part of a ring of which processor `me` holds nothing and whose token hasn't visited it.
-    /// Errors: `Memory` where an allocation fails.
+    /// Creates the state for a ring of which processor `me` holds nothing and whose token it hasn't visited.
+    ///
+    /// Errors: `Memory` if an allocation fails.
+    ///
     /// Rules: Rings and states 3
     pub fn new(alloc: A, me: Proc, ring: RingId) -> Result<RingPart<A>, Fault>
         ensures window { IfOk result (λ part. part.window ≡ opened ring) }
@@ -50,12 +54,16 @@ impl<A: Allocator + Copy> RingPart<A> {
         Ok(RingPart { window, visit })
     }
 
-    /// Records a visit of the token and writes the forwarded token to `last_sent`, with the receivers `to`. The window
-    /// then forgets what has become safe.
-    /// `token` is of this ring, and its number is below 2^62. `count` is the number of new messages, at most 2^62 -
-    /// `seq`. The window holds them already; `fresh` is their payloads, for contracts.
-    /// The forwarded token requests the 32 smallest of `remaining_requests` and of the missing numbers. Where
-    /// `last_sent` is a token, it is overwritten in place.
+    /// Visits the token, writes the token to forward into `last_sent`, and drops the messages that have become safe.
+    ///
+    /// `token` must belong to this ring, and its number must be below `MAX`. `count` is the number of new messages; the
+    /// token's `seq` plus `count` must be at most `MAX`. The window must hold the new messages already, and the front
+    /// must be at least the safe mark and the `aru` forwarded last. `fresh` has the payloads of the new messages, for
+    /// contracts.
+    ///
+    /// The forwarded token goes to `to`. It requests the 32 smallest of `remaining_requests`, which must be strictly
+    /// ascending, and of the missing numbers. If `last_sent` is a token, it is overwritten in place. Does not allocate.
+    ///
     /// Rules: Token and window 7, 8 and 10
     pub fn forward_token(
         &mut self,
@@ -90,7 +98,7 @@ impl<A: Allocator + Copy> RingPart<A> {
         self.forward_first_token(token, remaining_requests, count, fresh, to, last_sent);
     }
 
-    /// Does the same where no token was sent last.
+    /// Does the same if `last_sent` isn't a token.
     #[inline(never)]
     fn forward_first_token(
         &mut self,
@@ -123,7 +131,7 @@ impl<A: Allocator + Copy> RingPart<A> {
         });
     }
 
-    /// Visits the token, and writes the forwarded one over another token.
+    /// Visits the token, and writes the one to forward into `forwarded`.
     fn visit_into_token(
         &mut self,
         token: &Token,
@@ -153,8 +161,7 @@ impl<A: Allocator + Copy> RingPart<A> {
         self.window.forget(self.visit.safe());
     }
 
-    /// Writes the new requests: the 32 smallest of those that remain and of the numbers up to `upto` that are
-    /// missing.
+    /// Writes the new requests: the 32 smallest of those that remain and of the missing numbers up to `upto`.
     fn fill_requests(&self, remaining_requests: &Requests, upto: u64, requests: &mut Requests)
         requires { IsStrictlyIncreasing remaining_requests.now }
         ensures { requests.new ≡ requests_after remaining_requests.now (missing self.now.window.held self.now.window.ring self.now.window.mark upto) }
@@ -177,8 +184,9 @@ impl<A: Allocator + Copy> Clone for RingPart<A> {
     }
 }
 
-/// Writes the 32 smallest of the remaining requests and of the missing numbers over `missing`.
-/// Of the missing numbers, the 32 smallest are enough.
+/// Replaces `missing` with the 32 smallest of the remaining requests and of the missing numbers.
+///
+/// The 32 smallest missing numbers are enough.
 #[inline(never)]
 fn merge_requests(remaining_requests: &Requests, missing: &mut Requests)
     requires { IsStrictlyIncreasing remaining_requests.now }
@@ -189,6 +197,7 @@ fn merge_requests(remaining_requests: &Requests, missing: &mut Requests)
 }
 
 /// Records a visit whose new messages carry the payloads `fresh`.
+///
 /// The ghost argument of `Visit::visit_into` is chosen from a call's own arguments, so this function takes `fresh` as
 /// one of them.
 fn visit_as<A: Allocator + Copy>(

@@ -1,5 +1,7 @@
 //! Appends frames to a list of sends, unless they have no receiver.
+//!
 //! A function marked `inline(never)` keeps the large stack slot of a copied frame out of its caller.
+//!
 //! Rules: Token and window 12
 
 ghost use Rattle.std.specs.Prelude.{◌≡◌, [], ◌∷◌, ◌++◌, IfErr, OnOk};
@@ -12,8 +14,10 @@ use ring_core_spec::OutgoingFrame;
 use ring_wire::{Frame, Message, Requests, Token};
 use std::alloc::Allocator;
 
-/// Appends a frame with its receivers `to` to the list of sends, unless it has no receiver.
-/// Errors: `Memory` where an allocation fails; the contents of `sends` are then unspecified.
+/// Appends a frame for the receivers `to` to the list of sends, unless `to` is empty.
+///
+/// Errors: `Memory` if an allocation fails; the contents of `sends` are then unspecified.
+///
 /// Rules: Token and window 12
 pub fn send<A: Allocator + Copy>(
     sends: &mut Vec<OutgoingFrame<A>, A>,
@@ -30,9 +34,12 @@ pub fn send<A: Allocator + Copy>(
     Ok(())
 }
 
-/// Appends a copy of a frame with its receivers `to` to the list of sends, unless it has no receiver. It is meant for a
-/// token or a commit token that the core keeps.
-/// Errors: `Memory` where an allocation fails; the contents of `sends` are then unspecified.
+/// Appends a copy of a frame for the receivers `to` to the list of sends, unless `to` is empty.
+///
+/// It is meant for the kept token or commit token, of which the core needs the original.
+///
+/// Errors: `Memory` if an allocation fails; the contents of `sends` are then unspecified.
+///
 /// Rules: Token and window 12; Rings and states 10
 pub fn send_copy<A: Allocator + Copy>(
     sends: &mut Vec<OutgoingFrame<A>, A>,
@@ -122,7 +129,7 @@ fn add_asking<A: Allocator + Copy>(
     Ok(())
 }
 
-/// Returns a copy of the token, its requests included. It takes no memory.
+/// Returns a copy of the token, its requests included. Does not allocate.
 pub(crate) fn copied(token: &Token) -> Token
     ensures { result ≡ token.now }
 {
@@ -136,9 +143,10 @@ pub(crate) fn copied(token: &Token) -> Token
     }
 }
 
-/// Appends a copy of a message with its receivers `to` to the list of sends, unless it has no receiver. The core holds
-/// the message itself.
-/// Errors: `Memory` where an allocation fails; the contents of `sends` are then unspecified.
+/// Appends a copy of a message for the receivers `to` to the list of sends, unless `to` is empty.
+///
+/// Errors: `Memory` if an allocation fails; the contents of `sends` are then unspecified.
+///
 /// Rules: Token and window 12
 pub fn send_message<A: Allocator + Copy>(
     sends: &mut Vec<OutgoingFrame<A>, A>,

@@ -1,4 +1,5 @@
 //! The new messages of a visit in Recovery: a Wrapped for each message that is left to wrap, then one End.
+//!
 //! Rules: Recovery 4
 
 ghost use Rattle.std.specs.Prelude.{◌≡◌, ◌+◌, ◌≤◌, ◌<◌, take, IfOk, IfErr};
@@ -15,11 +16,15 @@ use ring_window::Window;
 use std::alloc::Allocator;
 
 /// Returns the payloads that a visit in Recovery sends, at most `most`.
-/// They are a Wrapped of each user message left to wrap, in ascending order, and then the End, unless the node's own
-/// End was seen.
-/// `window` is the window of the old ring. Its safe mark is at most the greatest reported one, and it holds no number
-/// more than 256 above that.
-/// Errors: `Memory` where an allocation fails.
+///
+/// They are a Wrapped for each user message left to wrap, in ascending order, and then an End, unless an End of this
+/// node was seen.
+///
+/// `window` must be the window of the old ring. Its safe mark must be at most the greatest reported one, and it must
+/// hold no number more than 256 above that.
+///
+/// Errors: `Memory` if an allocation fails.
+///
 /// Rules: Recovery 4
 pub fn first_recovery_messages<A: Allocator + Copy>(
     alloc: A,
@@ -51,7 +56,12 @@ pub fn first_recovery_messages<A: Allocator + Copy>(
     Ok(payloads)
 }
 
-/// Returns the Wrapped of the old ring's message of a number, if the message is a user's and wasn't seen wrapped.
+/// Returns the Wrapped of the old ring's message `number`, or `None` if it was seen wrapped or isn't a held user
+/// message.
+///
+/// `number` must be one of the 256 after the greatest reported safe mark.
+///
+/// Errors: `Memory` if an allocation fails.
 fn wrap_if_left<A: Allocator + Copy>(
     plan: &Plan<A>,
     window: &Window<A>,

@@ -19,38 +19,38 @@ use Rattle.ring_core_spec.specs.Deciding.{Transition, Ignore, Enqueue, Repeat, A
 use Rattle.ring_core_spec.specs.Deciding.{EnterGatherAndAgree, EnterGatherAndMergeJoin, Take, Visit, Fill, Learn, is_taken}
 use Rattle.ring_srp_transitions.specs.RunningCores.{is_running}
 
--- an input whose frame keeps the limits, as decoding makes it
+-- An input whose frame is within the limits of its format, as every decoded frame is.
 abbrev pub InputFits : {A : Type 0} → Input A → Type 0
 InputFits (FrameInput frame) = FrameFits frame
 InputFits (Timeout kind) = Unit {0}
 InputFits (Send payload) = Unit {0}
 
--- a token that a visit may take: its numbers stay within the greatest number
+-- A token that a visit may take: its `seq` is at most `MAX`, and its requests are strictly ascending.
 pub record TokenGoes (t : Token) : Type 0 where
   pub seq : t.seq ≤ max_number
   pub ascending : IsStrictlyIncreasing t.requests
 
--- a visit is allowed: a ring runs, and the token is accepted and may be visited
+-- A visit is allowed: a ring runs, and the token is accepted and may be visited.
 pub record VisitAllowed {A : Type 0} (c : Core A) (t : Token) : Type 0 where
   pub runs : is_running c.state ≡ true
   pub passes : accepts c t ≡ true
   pub goes : TokenGoes t
 
--- the first round of a commit token is allowed: the core is in Gather, at the position of the hop, and takes it
+-- The first round of a commit token is allowed: the core is in Gather, at the position of the hop, and takes it.
 pub record FillAllowed {A : Type 0} (c : Core A) (k : CommitToken) : Type 0 where
   pub state : c.state ≡ Gather
   pub here : is_at c.me k ≡ true
   pub passes : takes_first_round c k ≡ true
   pub fits : CommitFits k
 
--- the second round is allowed: the core is in Commit, at the position of the hop, and takes it
+-- The second round is allowed: the core is in Commit, at the position of the hop, and takes it.
 pub record LearnAllowed {A : Type 0} (c : Core A) (k : CommitToken) : Type 0 where
   pub state : c.state ≡ Commit
   pub here : is_at c.me k ≡ true
   pub passes : takes_second_round c k ≡ true
   pub fits : CommitFits k
 
--- the conditions under which a transition may be applied to a core
+-- The conditions under which a transition may be applied to a core.
 abbrev pub Allows : {A : Type 0} → Core A → Transition A → Type 0
 Allows c Ignore = Unit {0}
 Allows c (Enqueue payload) = Unit {0}

@@ -4,7 +4,7 @@ use Rattle.ring_srp_transitions.specs.declared.transition.Transition.TheVariants
 use Rattle.ring_core_spec.specs.Deciding.{Transition, Ignore, Enqueue, Repeat, Announce, Invite, GiveUp, EnterGather, Agree, MergeJoin}
 use Rattle.ring_core_spec.specs.Deciding.{EnterGatherAndAgree, EnterGatherAndMergeJoin, Take, Visit, Fill, Learn}
 
--- the transition of the definitions that a transition of the code is
+-- The transition of the definitions that a transition of the code is.
 abbrev pub transition_of : {A : Type 0} → Told A → Transition A
 transition_of told.Ignore = Ignore
 transition_of (told.Enqueue payload) = Enqueue payload

@@ -8,11 +8,11 @@ use Rattle.ring_core_spec.specs.State.{Core}
 use Rattle.ring_core_spec.specs.Views.{plan}
 use Rattle.ring_core_spec.specs.Giving.{installation_outputs}
 
--- all outputs of an installation
+-- All outputs of an installation.
 unfoldable pub all_installation_outputs : {A : Type 0} → Core A → List (Out A)
 all_installation_outputs c = installation_outputs c
 
--- the two configurations, with the rest of the old ring between them
+-- The two configurations, with the rest of the old ring between them.
 unfoldable pub change_outputs : {A : Type 0} → Core A → List (Out A)
 change_outputs c = Trans c.installed.ring c.running.ring (plan c).transitional_members ∷ (map (λ x. Rest x.ring x.number x) (rests (plan c) c.held)
     ++ Regular c.running.ring c.running.members ∷ [])

@@ -9,11 +9,11 @@ use Rattle.ring_core_spec.specs.State.{Core}
 use Rattle.ring_core_spec.specs.Views.{mark}
 use Rattle.ring_core_spec.specs.Visiting.{to_next}
 
--- the forwarded token, once the new messages are held
+-- The forwarded token, once the new messages are held.
 abbrev pub forwarded : {A : Type 0} → Core A → Token → List ℕ → ℕ → Token
 forwarded c t remaining_requests count = token_after c.me (front_of c.held t.ring) count (requests_after remaining_requests (missing c.held t.ring (mark c t.ring) (t.seq + count))) t
 
--- the core after it has forwarded the token
+-- The core after it has forwarded the token.
 abbrev pub token_passed_on : {A : Type 0} → Core A → Token → List ℕ → List (Payload A) → Core A
 token_passed_on c t remaining_requests fresh =
     record c {

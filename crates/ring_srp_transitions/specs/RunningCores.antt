@@ -1,6 +1,6 @@
 -- What the code of a ring core keeps, and how that represents the core with all its history. The lists of a core are
--- over all rings; for each ring in use the code keeps a window and the token's visits, whose lists are of that ring
--- alone.
+-- over all rings. For each ring in use the code keeps a window and the visits of the token, with only this ring's
+-- items.
 -- Rules: Rings and states 3 to 6
 use Rattle.std.specs.Prelude.{◌≡◌, ℕ, suc, ◌+◌, ◌<◌, ◌≤◌, Bool, true, false, List, filter, Option, Some, None}
 use Rattle.std.specs.List.{AllByRecursion}
@@ -27,7 +27,7 @@ use Rattle.ring_core_spec.specs.Giving.{users}
 use Rattle.ring_srp_state.specs.Histories.{History}
 use Rattle.ring_base.specs.Numbers.{window_size}
 
--- the core that the code's fields and the history make up
+-- The core that the code's fields and the history make up.
 abbrev pub core_of : {A : Type 0} → ℕ → ℕ → State → Configuration → Configuration → Gathering → Option (OutgoingFrame A)
     → List (Payload A) → List (Message A) → History A → Core A
 core_of me total state running installed gathering last_sent queue held h =
@@ -51,20 +51,20 @@ core_of me total state running installed gathering last_sent queue held h =
 
 -- The part of one ring
 
--- the marks to which plans raised the ring's safe mark
+-- The marks to which plans raised the ring's safe mark.
 abbrev pub raises_of : RingId → List Raise → List Raise
 raises_of ring raises = filter (λ (x : Raise). same_ring x.ring ring) raises
 
--- the window of a ring, from the core's lists
+-- The window of a ring, from the core's lists.
 abbrev pub window_of : {A : Type 0} → Core A → RingId → WindowHistory A
 window_of c ring = record { ring = ring; mark = mark c ring; held = of_ring ring c.held }
 
--- the visits of a ring's token and the raises of its safe mark, from the core's lists
+-- The visits of a ring's token and the raises of its safe mark, from the core's lists.
 abbrev pub visits_of : {A : Type 0} → Core A → RingId → TokenHistory A
 visits_of c ring = record { me = c.me; ring = ring; turns = turns_of ring c.turns; raises = raises_of ring c.raises }
 
--- the window and the visits are this ring's; the mark is at most the front, nothing held lies above the window, and
--- the `aru` forwarded last is at most the front
+-- The window and the visits are this ring's; the mark is at most the front, nothing held lies above the window, and the
+-- `aru` forwarded last is at most the front.
 pub record IsPart {A : Type 0} (c : Core A) (ring : RingId) (window : WindowHistory A) (visit : TokenHistory A) : Type 0 where
   pub window_is : window ≡ window_of c ring
   pub visit_is : visit ≡ visits_of c ring
@@ -74,14 +74,14 @@ pub record IsPart {A : Type 0} (c : Core A) (ring : RingId) (window : WindowHist
 
 -- Facts about ring numbers
 
--- nothing was held, visited or raised in a ring of this number or above
+-- Nothing was held, visited or raised in a ring of this number or above.
 pub record IsBelow {A : Type 0} (c : Core A) (number : ℕ) : Type 0 where
   pub held : AllByRecursion (λ (x : Message A). x.ring.seq < number) c.held
   pub turns : AllByRecursion (λ (v : TokenVisit A). v.received.ring.seq < number) c.turns
   pub raises : AllByRecursion (λ (x : Raise). x.ring.seq < number) c.raises
 
--- in a state and with a floor, the number below which all held rings lie: in Commit the ring last taken part in
--- hasn't run yet
+-- In a state and with a floor, the number below which all held rings lie: in Commit the ring last taken part in hasn't
+-- run yet.
 abbrev pub bound : State → ℕ → ℕ
 bound Gather number = suc number
 bound Commit number = number
@@ -89,7 +89,7 @@ bound Recovery number = suc number
 bound Operational number = suc number
 bound Stopped number = suc number
 
--- the core takes part in a ring that isn't its installed one
+-- The core takes part in a ring that isn't its installed one.
 abbrev pub is_forming : State → Bool
 is_forming Gather = false
 is_forming Commit = true
@@ -97,7 +97,7 @@ is_forming Recovery = true
 is_forming Operational = false
 is_forming Stopped = false
 
--- a ring runs
+-- A ring runs.
 abbrev pub is_running : State → Bool
 is_running Recovery = true
 is_running Operational = true
@@ -105,7 +105,7 @@ is_running Gather = false
 is_running Commit = false
 is_running Stopped = false
 
--- the ring whose messages are taken, if any are
+-- The ring whose messages are taken, if any are.
 abbrev pub ring_in_use : {A : Type 0} → State → Core A → RingId
 ring_in_use Recovery c = c.running.ring
 ring_in_use Gather c = c.installed.ring
@@ -113,8 +113,8 @@ ring_in_use Commit c = c.installed.ring
 ring_in_use Operational c = c.installed.ring
 ring_in_use Stopped c = c.installed.ring
 
--- in Recovery the part of the running ring is kept beside that of the installed one, with the plan and the counted
--- Ends; the running ring's user messages up to `most`, which the window may forget, are deferred
+-- In Recovery the code keeps, beside the part of the installed ring, that of the running ring, with the plan and the
+-- counted Ends. The running ring's user messages up to `most`, which the window may drop, are deferred.
 pub record Recovers {A : Type 0} (c : Core A) (r : RecoveryState A) : Type 0 where
   pub part : IsPart c c.running.ring r.part.window r.part.visit
   pub plan_is : r.plan ≡ record { me = c.me; plan = plan c; seen = of_ring c.running.ring c.held }
@@ -123,29 +123,29 @@ pub record Recovers {A : Type 0} (c : Core A) (r : RecoveryState A) : Type 0 whe
   pub deferred_in_front : r.most ≤ front c c.running.ring
   pub deferred_covers_mark : mark c c.running.ring ≤ r.most
   pub deferred_covers_aru : last_aru (turns_of c.running.ring c.turns) ≤ r.most
-  -- the old ring's safe mark is at most the plan's
+  -- The old ring's safe mark is at most the plan's.
   pub old_safe : mark c c.installed.ring ≤ safe (plan c)
 
--- the code keeps a state of Recovery, and it is the core's
+-- The code keeps a state of Recovery, and it is the core's.
 abbrev pub IsRecovering : {A : Type 0} → Core A → Option (RecoveryState A) → Type 0
 IsRecovering c None = ⊥
 IsRecovering c (Some r) = Recovers c r
 
 -- Every state
 
--- the code's fields are those of this core, which hasn't stopped
+-- The code's fields are those of this core, which hasn't stopped.
 pub record IsRunningCore {A : Type 0} (c : Core A) (gather : Gatherer) (window : WindowHistory A) (visit : TokenHistory A)
     (recovery : Option (RecoveryState A)) : Type 0 where
   pub runs : is_stopped c.state ≡ false
   pub gather_me : gather.me ≡ c.me
   pub gather_floor : c.state ≡ Gather → gather.floor ≡ floor c
   pub member : IsMember c.running.members c.me
-  -- the part of the installed ring
+  -- The part of the installed ring.
   pub kept : IsPart c c.installed.ring window visit
   pub below : IsBelow c (bound c.state (floor c))
   pub older : c.installed.ring.seq ≤ floor c
   pub apart : is_forming c.state ≡ true → c.installed.ring.seq < floor c
   pub same : c.state ≡ Operational → c.installed ≡ c.running
-  -- in Recovery there is a state of Recovery, in every other state none
+  -- In Recovery there is a state of Recovery, in every other state none.
   pub recovery_state : c.state ≡ Recovery → IsRecovering c recovery
   pub over : (c.state ≡ Recovery → ⊥) → recovery ≡ None

@@ -7,10 +7,10 @@ use Rattle.ring_wire.specs.declared.token.Token.{Token}
 use Rattle.ring_token.specs.Visits.{numbered}
 use Rattle.ring_core_spec.specs.State.{Core}
 
--- the messages with these payloads, numbered as the visit of a token numbers them
+-- The messages with these payloads, numbered as the visit of a token numbers them.
 abbrev pub messages_of_payloads : {A : Type 0} → Core A → Token → List (Payload A) → List (Message A)
 messages_of_payloads c t payloads = numbered t.ring c.me t.seq payloads
 
--- the core once it holds them
+-- The core once it holds them.
 abbrev pub holding : {A : Type 0} → Core A → Token → List (Payload A) → Core A
 holding c t payloads = record c { held = reverse (messages_of_payloads c t payloads) ++ c.held }

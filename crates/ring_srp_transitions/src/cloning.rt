@@ -51,7 +51,7 @@ fn copied_frames<A: Allocator + Copy>(
     pair_result(queue, copied_last_sent(last_sent))
 }
 
-/// Returns copies of the installed ring's part and of the state of Recovery.
+/// Returns copies of what is kept of the installed ring, and of the state of Recovery.
 fn copied_parts<A: Allocator + Copy>(
     kept: &RingPart<A>,
     recovery: &Option<RecoveryState<A>>,

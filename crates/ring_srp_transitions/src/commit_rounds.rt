@@ -1,5 +1,7 @@
 //! Commit tokens by which a core takes part in a ring: the proposal and the first round.
+//!
 //! A function marked `inline(never)` keeps the large stack slot of a commit token out of its caller.
+//!
 //! Rules: Gather 10; The commit token 4 and 5
 
 ghost use Rattle.std.specs.Prelude.{◌≡◌, ◌==◌, ◌∷◌, ◌++◌, ◌<◌, true, Some, IfErr, OnOk};
@@ -24,11 +26,13 @@ use ring_wire::{CommitBox, Frame};
 use std::alloc::Allocator;
 
 impl<A: Allocator + Copy> RunningCore<A> {
-    /// Proposes a ring, if the core is in Gather with consensus and is the smallest candidate. The core is then in
-    /// Commit, and the first hop is appended to `sends`.
-    /// The new number is one more than the greatest known. If it is above 2^62, and in every other case, nothing
-    /// changes.
-    /// Errors: `Memory` where an allocation fails; the core's state and the contents of `sends` are then unspecified.
+    /// Proposes a ring if the core is in Gather with consensus and is the smallest candidate.
+    ///
+    /// The core is then in Commit, and the commit token's first hop is appended to `sends`. The ring's number is one
+    /// more than the greatest that the core knows. Otherwise, or if that would be above `MAX`, nothing changes.
+    ///
+    /// Errors: `Memory` if an allocation fails; the core's state and the contents of `sends` are then unspecified.
+    ///
     /// Rules: Gather 10; The commit token 4
     pub fn propose_if_due(&mut self, sends: &mut Vec<OutgoingFrame<A>, A>) -> Result<(), Fault>
         ensures core { OnOk result (self.new ≡ (with_proposal_if (proposes self.old) (without_sends self.old)).core) }
@@ -42,7 +46,7 @@ impl<A: Allocator + Copy> RunningCore<A> {
         }
     }
 
-    /// Proposes a ring and takes part in it.
+    /// Proposes a ring and takes part in it. The core must be one that may propose.
     #[inline(never)]
     fn propose(&mut self, sends: &mut Vec<OutgoingFrame<A>, A>) -> Result<(), Fault>
         requires { proposes self.old ≡ true }
@@ -62,7 +66,7 @@ impl<A: Allocator + Copy> RunningCore<A> {
     }
 
     /// Returns whether the core may propose: it is in Gather with consensus, is the smallest candidate, and knows no
-    /// number as great as 2^62.
+    /// ring number of `MAX` or above.
     fn proposes(&self) -> bool
         ensures { result ≡ proposes self.now }
     {
@@ -88,10 +92,13 @@ impl<A: Allocator + Copy> RunningCore<A> {
         }
     }
 
-    /// Takes a commit token in the first round. The core adds its own entry, takes part in the ring and is in Commit.
-    /// The next hop is appended to `sends`.
-    /// The token has passed the tests of `RunningCore::decide`, which chose `Fill`.
-    /// Errors: `Memory` where an allocation fails; the core's state and the contents of `sends` are then unspecified.
+    /// Applies `Fill`: takes a commit token in its first round.
+    ///
+    /// The core adds its own entry, takes part in the ring and is then in Commit. The next hop is appended to `sends`.
+    /// [`decide`](RunningCore::decide) must have chosen `Fill` with this token for this core.
+    ///
+    /// Errors: `Memory` if an allocation fails; the core's state and the contents of `sends` are then unspecified.
+    ///
     /// Rules: The commit token 5
     pub fn fill(
         &mut self,
@@ -130,7 +137,7 @@ impl<A: Allocator + Copy> RunningCore<A> {
         self.repeat(sends)
     }
 
-    /// Takes part in a ring: the core's own entry goes into its history, and the frame becomes the kept token.
+    /// Takes part in a ring: the core records its own entry, and the frame becomes the kept token.
     fn take_part(&mut self, ring: RingId, members: ProcSet, to: ProcSet, frame: Frame<A>)
         requires state { self.old.state ≡ InGather }
         requires newer { floor self.old < ring.seq }

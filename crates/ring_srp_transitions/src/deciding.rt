@@ -1,4 +1,5 @@
 //! Chooses the transition for an input. All conditions are tested here.
+//!
 //! Rules: Processors and sets 5; Rings and states 8 and 9; Timeouts 2; Gather 4, 12 and 13; The commit token 5 to 8;
 //! Token and window 6 and 11
 
@@ -31,9 +32,12 @@ use ring_wire::{CommitBox, CommitToken, Frame, Join, Message, Requests, Token};
 use std::alloc::Allocator;
 
 impl<A: Allocator + Copy> RunningCore<A> {
-    /// Returns the transition that the core makes for an input in its present state; `Ignore` for an input without
+    /// Returns the transition that the core makes for an input in its present state, `Ignore` for an input without
     /// effect.
-    /// All conditions of the rules are tested here. The core is borrowed, so nothing changes.
+    ///
+    /// All conditions of the rules are tested here, so that applying the transition tests nothing. Changes nothing, and
+    /// does not allocate.
+    ///
     /// Rules: Processors and sets 5 and 6; Rings and states 8 and 9; Timeouts 2
     pub fn decide(&self, input: Input<A>) -> Transition<A>
         ensures { transition_of result ≡ decide self.now input }
@@ -51,8 +55,11 @@ impl<A: Allocator + Copy> RunningCore<A> {
         }
     }
 
-    /// Returns the token that a frame is, if the core would accept it now; `None` for every other frame.
-    /// The token is borrowed from the frame, so a visit needs no copy of it.
+    /// Returns the frame's token if it is a token that the core would accept now, otherwise `None`.
+    ///
+    /// The token is borrowed from the frame, so that a visit needs no copy of it. [`decide`](RunningCore::decide) would
+    /// choose `Visit` with this token.
+    ///
     /// Rules: Token and window 6
     pub fn visited_by<'a>(&self, frame: &'a Frame<A>) -> Option<&'a Token>
         ensures { IfSome result (λ token. VisitAct token.now ≡ decide self.now (FrameInput frame.now)) }
@@ -69,8 +76,11 @@ impl<A: Allocator + Copy> RunningCore<A> {
         }
     }
 
-    /// Returns the message that a frame is, if the core would take it now; `None` for every other frame.
-    /// The message is borrowed from the frame, so only a message that is taken is copied.
+    /// Returns the frame's message if it is a message that the core would take now, otherwise `None`.
+    ///
+    /// The message is borrowed from the frame, so that only a message that is taken needs a copy.
+    /// [`decide`](RunningCore::decide) would choose `Take` with this message.
+    ///
     /// Rules: Token and window 11
     pub fn taken_by<'a>(&self, frame: &'a Frame<A>) -> Option<&'a Message<A>>
         ensures { IfSome result (λ message. TakeAct message.now ≡ decide self.now (FrameInput frame.now)) }
@@ -104,8 +114,9 @@ impl<A: Allocator + Copy> RunningCore<A> {
         }
     }
 
-    /// Returns whether a message is taken: its ring is the running one, or in Gather the installed one until the core
-    /// takes part in a newer ring; its sender is a member, and its number is new.
+    /// Returns whether a message is taken: its ring is the one in use, its sender is a member, and its number is new.
+    ///
+    /// The ring in use is the running one, or in Gather the installed one, until the core takes part in a newer ring.
     fn takes(&self, message: &Message<A>) -> bool
         ensures { result ≡ is_taken self.now message.now }
     {
@@ -118,7 +129,7 @@ impl<A: Allocator + Copy> RunningCore<A> {
         }
     }
 
-    /// Returns whether a message is of this ring and of a member, and its number is new.
+    /// Returns whether a message belongs to this ring, its sender is a member, and its number is new.
     fn takes_in(&self, configuration: &Configuration, message: &Message<A>) -> bool
         requires { configuration.now.ring ≡ ring_in_use self.now.state self.now }
         ensures { result ≡ (same_ring message.now.ring configuration.now.ring
@@ -151,7 +162,7 @@ impl<A: Allocator + Copy> RunningCore<A> {
         }
     }
 
-    /// Returns whether the running ring accepts a token.
+    /// Returns whether the core accepts a token in its running ring.
     fn accepts(&self, token: &Token) -> bool
         requires { is_running self.now.state ≡ true }
         ensures { result ≡ accepts self.now token.now }
@@ -182,8 +193,10 @@ impl<A: Allocator + Copy> RunningCore<A> {
         transition_into_gather(self.new_gather().join_effect(&join), join)
     }
 
-    /// Returns whether a join makes the node enter Gather: its sender is a member and its number is at least the
-    /// ring's, or its sender is no member and the state is Operational.
+    /// Returns whether a join makes the node enter Gather.
+    ///
+    /// True if its sender is a member and its number is at least the ring's, or if its sender isn't a member and the
+    /// state is Operational.
     fn is_gather_trigger(&self, join: &Join) -> bool
         ensures { result ≡ is_gather_trigger self.now join.now }
     {
@@ -204,7 +217,7 @@ impl<A: Allocator + Copy> RunningCore<A> {
         }
     }
 
-    /// Returns the transition for a commit token at the position of its hop.
+    /// Returns the transition for a commit token that is at this node.
     fn decide_round(&self, boxed: CommitBox<A>) -> Transition<A>
         ensures { transition_of result ≡ decide_round self.now.state self.now boxed }
     {
@@ -232,7 +245,7 @@ impl<A: Allocator + Copy> RunningCore<A> {
         is_second_round(&self.running, &own, token)
     }
 
-    /// Returns whether a commit token starts the token of the running ring. That happens once.
+    /// Returns whether a commit token starts the token of the running ring. That happens only once.
     fn takes_start(&self, token: &CommitToken) -> bool
         requires { is_running self.now.state ≡ true }
         ensures { result ≡ takes_start self.now token.now }
@@ -287,7 +300,9 @@ fn transition_into_gather<A: Allocator + Copy>(join_effect: JoinEffect, join: Jo
 }
 
 /// Returns the token that starts a ring: number, `seq` and `aru` 0, no `aru_id` and no requests.
-/// It visits the representative when the commit token comes back. It is never a frame.
+///
+/// The representative visits it when the commit token has returned after two rounds. It is never sent as a frame.
+///
 /// Rules: The commit token 7
 pub fn first_token(ring: RingId) -> Token
     ensures { result ≡ first_token ring }

@@ -1,4 +1,5 @@
 //! Gather: how a core enters it, what a join does there, and which joins are sent.
+//!
 //! Rules: Gather 1 and 4 to 8; Timeouts 3 and 4
 
 ghost use Rattle.std.specs.Prelude.{◌≡◌, true, [], ◌∷◌, ◌++◌, IfErr, OnOk, None};
@@ -20,8 +21,8 @@ use std::alloc::Allocator;
 use std::collections::VecDeque;
 
 impl<A: Allocator + Copy> RunningCore<A> {
-    /// Returns the `proc_set` with which Gather begins: the members of the last installed ring, or all processors
-    /// where none was installed.
+    /// Returns the `proc_set` with which Gather begins: the members of the last installed ring, or all processors if
+    /// none was installed.
     fn first_procs(&self) -> ProcSet
         ensures { result ≡ first_procs self.now }
     {
@@ -32,7 +33,8 @@ impl<A: Allocator + Copy> RunningCore<A> {
         }
     }
 
-    /// Returns the sets and agreement with which this core enters Gather, for its installed ring and its floor.
+    /// Returns the sets and agreement with which this core would enter Gather.
+    ///
     /// Rules: Gather 1
     pub(crate) fn new_gather(&self) -> Gather
         ensures { result ≡ record { me = self.now.me; floor = floor self.now; gathering = gathering_opening (first_procs self.now) } }
@@ -40,9 +42,11 @@ impl<A: Allocator + Copy> RunningCore<A> {
         Gather::new(self.me, self.floor(), self.first_procs())
     }
 
-    /// Enters Gather, from any state: sets and agreement begin anew, and the queue, the kept token and the state of
-    /// Recovery are dropped.
-    /// It sends nothing; `announce` sends the join.
+    /// Enters Gather, from any state.
+    ///
+    /// Sets and agreement start again; the queue, the kept token and the state of Recovery are dropped. Sends nothing:
+    /// [`announce`](RunningCore::announce) sends the join.
+    ///
     /// Rules: Gather 1
     pub fn enter_gather(&mut self)
         ensures { self.new ≡ gather_entered self.old }
@@ -55,8 +59,10 @@ impl<A: Allocator + Copy> RunningCore<A> {
         self.recovery = None;
     }
 
-    /// Gives up each candidate that doesn't agree: it enters `fail_set`. Agreement then falls back to the node alone.
-    /// It sends nothing; `announce` sends the join.
+    /// Gives up each candidate that doesn't agree, by adding it to `fail_set`.
+    ///
+    /// Then agreement falls back to the node itself. Sends nothing: [`announce`](RunningCore::announce) sends the join.
+    ///
     /// Rules: Gather 6
     pub fn give_up(&mut self)
         ensures { self.new ≡ with_gathering self.old (silent_given_up self.old.me self.old.gathering) }
@@ -64,8 +70,10 @@ impl<A: Allocator + Copy> RunningCore<A> {
         self.gather.give_up();
     }
 
-    /// Counts the sender of a join, and the join's number, as agreeing with the node's sets.
-    /// The join's sets equal the node's own. It sends nothing.
+    /// Records that the sender of the join agrees, and counts the join's number.
+    ///
+    /// The join must have exactly the node's own sets. Sends nothing.
+    ///
     /// Rules: Gather 3, 4 and 8
     pub fn agree(&mut self, join: &Join)
         requires { has_same_sets self.old.gathering join.now ≡ true }
@@ -74,9 +82,11 @@ impl<A: Allocator + Copy> RunningCore<A> {
         self.gather.agree(join);
     }
 
-    /// Widens the node's sets by those of a join. Agreement falls back; the sender agrees at once if its sets equal the
-    /// new ones.
-    /// It sends nothing; `announce` sends the join.
+    /// Widens the node's sets by those of a join.
+    ///
+    /// Agreement falls back to the node itself; the join's sender agrees at once if its sets equal the widened ones.
+    /// Sends nothing: [`announce`](RunningCore::announce) sends the join.
+    ///
     /// Rules: Gather 5
     pub fn merge_join(&mut self, join: &Join)
         ensures { self.new ≡ with_gathering self.old (join_merged self.old.me self.old.gathering join.now) }
@@ -84,10 +94,13 @@ impl<A: Allocator + Copy> RunningCore<A> {
         self.gather.merge_join(join);
     }
 
-    /// Sends the node's own join, with its floor and its present sets, to all other processors 1 to N. In a group of
-    /// one it sends nothing.
-    /// The state is Gather.
-    /// Errors: `Memory` where an allocation fails; the contents of `sends` are then unspecified.
+    /// Appends the node's own join, for all other processors 1 to N, to `sends`.
+    ///
+    /// The join has the node's floor and its present sets. In a group of one nothing is appended. The state must be
+    /// Gather.
+    ///
+    /// Errors: `Memory` if an allocation fails; the contents of `sends` are then unspecified.
+    ///
     /// Rules: Gather 2 and 7
     pub fn announce(&self, sends: &mut Vec<OutgoingFrame<A>, A>) -> Result<(), Fault>
         requires { self.now.state ≡ InGather }
@@ -98,10 +111,14 @@ impl<A: Allocator + Copy> RunningCore<A> {
         send(sends, others, Frame::Join(self.gather.my_join()))
     }
 
-    /// Sends a join to the processors outside the running ring, as an Operational node does at a join timeout. Where
-    /// there is none it sends nothing.
-    /// The join has the floor, the ring's members as `proc_set`, and an empty `fail_set`.
-    /// Errors: `Memory` where an allocation fails; the contents of `sends` are then unspecified.
+    /// Appends a join for the processors outside the running ring to `sends`, as an Operational node does at a join
+    /// timeout.
+    ///
+    /// The join has the node's floor, the ring's members as `proc_set`, and an empty `fail_set`. If no processor is
+    /// outside the ring, nothing is appended.
+    ///
+    /// Errors: `Memory` if an allocation fails; the contents of `sends` are then unspecified.
+    ///
     /// Rules: Timeouts 4
     pub fn invite(&self, sends: &mut Vec<OutgoingFrame<A>, A>) -> Result<(), Fault>
         ensures ok { OnOk result (sends.new.items ≡ sends.old.items ++ addressed (join_invitation self.now ∷ [])) }
@@ -121,8 +138,11 @@ impl<A: Allocator + Copy> RunningCore<A> {
         )
     }
 
-    /// Sends the kept token, unchanged, to the same receiver again. Without a kept token it sends nothing.
-    /// Errors: `Memory` where an allocation fails; the contents of `sends` are then unspecified.
+    /// Appends the kept token, unchanged and for the same receiver, to `sends`. Without a kept token nothing is
+    /// appended.
+    ///
+    /// Errors: `Memory` if an allocation fails; the contents of `sends` are then unspecified.
+    ///
     /// Rules: Timeouts 3; Rings and states 10
     pub fn repeat(&self, sends: &mut Vec<OutgoingFrame<A>, A>) -> Result<(), Fault>
         ensures ok { OnOk result (sends.new.items ≡ sends.old.items ++ addressed (last_sent_repeated self.now.last_sent)) }

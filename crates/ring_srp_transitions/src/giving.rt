@@ -1,4 +1,5 @@
-//! The outputs of a step for the ring that was installed as the step began.
+//! The outputs of a step for the ring that was installed at the start of the step.
+//!
 //! Rules: Outputs 1, 3 and 4
 
 ghost use Rattle.std.specs.Prelude.{◌≡◌, ◌++◌, ◌≤◌, false, IfErr, OnOk};
@@ -15,22 +16,26 @@ use ring_core_spec::Out;
 use ring_srp_state::{give_agreed, give_safe};
 use std::alloc::Allocator;
 
-/// How far a node is in a ring as a step begins. The step's `Agreed` and `Safe` report what has been added since.
+/// A node's progress in a ring at the start of a step. The step's `Agreed` and `Safe` report what has been added since.
+///
 /// Rules: Outputs 3 and 4
 #[derive(Clone, Copy)]
 pub struct RingProgress {
-    /// The ring: the one that was installed last as the step began.
+    /// The ring: the last installed one at the start of the step.
     pub ring: RingId,
     /// The front: the greatest number up to which the node holds every message of the ring, 0 if it lacks number 1.
     pub front: u64,
-    /// The safe mark: the number up to which the node knows that all members hold the ring's messages. It is at most
-    /// the front.
+    /// The safe mark: the number up to which the node knows that all members hold the ring's messages.
+    ///
+    /// It is at most the front.
     pub mark: u64,
 }
 
 impl<A: Allocator + Copy> RunningCore<A> {
-    /// Returns how far the node is now in its last installed ring. Call it as a step begins.
+    /// Returns the node's present progress in its last installed ring. Call it at the start of a step.
+    ///
     /// The safe mark, and the `aru` that the node forwarded last in that ring, are at most the front.
+    ///
     /// Rules: Token and window 2 and 3
     pub fn reached(&self) -> RingProgress
         ensures ring { result.ring ≡ self.now.installed.ring }
@@ -48,10 +53,14 @@ impl<A: Allocator + Copy> RunningCore<A> {
         }
     }
 
-    /// Appends what a step has added to the installed ring, compared with `before`: an `Agreed` for each user message
-    /// that the front newly covers, and a `Safe` if the mark has risen.
-    /// The safe mark is at most `before.front`, so the window still has these messages.
-    /// Errors: `Memory` where an allocation fails; the contents of `outs` are then unspecified.
+    /// Appends what a step has added to the installed ring since `before`.
+    ///
+    /// That is an `Agreed` for each user message that the front newly covers, and a `Safe` if the mark has risen.
+    /// `before` must be the progress in the last installed ring, and the present safe mark must be at most
+    /// `before.front`, so that the window still has these messages.
+    ///
+    /// Errors: `Memory` if an allocation fails; the contents of `outs` are then unspecified.
+    ///
     /// Rules: Outputs 1, 3 and 4
     pub fn give(&self, before: RingProgress, outs: &mut Vec<Out<A>, A>) -> Result<(), Fault>
         requires ring { before.ring ≡ self.now.installed.ring }
@@ -65,9 +74,10 @@ impl<A: Allocator + Copy> RunningCore<A> {
         give_safe(window.ring(), before.mark, window.mark(), outs)
     }
 
-    /// Reserves capacity for the outputs past a front and a mark, and no more: the messages that the front newly
-    /// covers, and the safe mark if it rose.
-    /// Most often that is one output or none.
+    /// Reserves capacity for the outputs past `front` and `mark`, and no more.
+    ///
+    /// These are the messages that the front newly covers, and the safe mark if it has risen: most often one output or
+    /// none.
     fn make_room(&self, front: u64, mark: u64, outs: &mut Vec<Out<A>, A>) -> Result<(), Fault>
         ensures kept { outs.new.items ≡ outs.old.items }
         ensures refused { IfErr result (λ fault. fault ≡ Memory) }

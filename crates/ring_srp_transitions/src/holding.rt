@@ -1,4 +1,5 @@
-//! A core holds messages and, in Recovery, the inner messages of Wrapped.
+//! How a core holds messages and, in Recovery, the inner messages of Wrapped ones.
+//!
 //! Rules: Token and window 1 and 11; Recovery 6
 
 ghost use Rattle.std.specs.Prelude.{◌≡◌, ◌∷◌, true, IfErr, OnOk};
@@ -15,9 +16,13 @@ use ring_wire::Message;
 use std::alloc::Allocator;
 
 impl<A: Allocator + Copy> RunningCore<A> {
-    /// Takes a message: the core holds it. In Recovery its inner message, if any, is offered to the old ring's window.
-    /// The message has passed the tests of `RunningCore::decide`, which chose `Take`.
-    /// Errors: `Memory` where an allocation fails; the core's state is then unspecified.
+    /// Applies `Take`: the core holds the message. In Recovery its inner message, if any, is offered to the old ring's
+    /// window.
+    ///
+    /// [`decide`](RunningCore::decide) must have chosen `Take` with this message for this core.
+    ///
+    /// Errors: `Memory` if an allocation fails; the core's state is then unspecified.
+    ///
     /// Rules: Token and window 11; Recovery 6
     pub fn take(&mut self, message: Message<A>) -> Result<(), Fault>
         requires { is_taken self.old message ≡ true }
@@ -40,7 +45,7 @@ impl<A: Allocator + Copy> RunningCore<A> {
         }
     }
 
-    /// Holds a message of the ring whose messages are taken. Its number is new there.
+    /// Holds a message of the ring whose messages are taken. Its number must be new there.
     pub(crate) fn hold(&mut self, message: Message<A>)
         requires ring { message.ring ≡ ring_in_use self.old.state self.old }
         requires new { takes_number self.old message.ring message.number ≡ true }

@@ -1,4 +1,5 @@
 //! The installation of the running ring, with its outputs.
+//!
 //! Rules: Recovery 7 and 8; Outputs 1
 
 ghost use Rattle.std.specs.Prelude.{◌≡◌, ◌≤◌, true, if◌then◌else◌, [], ◌++◌, Some, None, IfErr, OnOk};
@@ -17,7 +18,7 @@ use ring_srp_state::{give_deferred, give_rest, with_install};
 use ring_wire::Message;
 use std::alloc::{Allocator, Global};
 
-/// The user messages of a ring up to the number `most`, kept for its installation.
+/// The user messages of a ring up to number `most`, deferred until its installation.
 #[derive(Drop)]
 struct DeferredMessages<A: Allocator + Copy = Global> {
     most: u64,
@@ -26,9 +27,12 @@ struct DeferredMessages<A: Allocator + Copy = Global> {
 
 impl<A: Allocator + Copy> RunningCore<A> {
     /// Installs the running ring if the core is in Recovery and may end it, and appends the outputs of the
-    /// installation. Otherwise nothing changes.
-    /// It may end it once it holds enough of both rings: the three conditions of Recovery, rule 7.
-    /// Errors: `Memory` where an allocation fails; the core's state and the contents of `outs` are then unspecified.
+    /// installation.
+    ///
+    /// The core may end Recovery once the three conditions of Recovery, rule 7, hold. Otherwise nothing changes.
+    ///
+    /// Errors: `Memory` if an allocation fails; the core's state and the contents of `outs` are then unspecified.
+    ///
     /// Rules: Recovery 7; Outputs 1
     pub fn install_if_due(&mut self, outs: &mut Vec<Out<A>, A>) -> Result<(), Fault>
         ensures core { OnOk result (self.new ≡ (settle (may_install self.old) self.old []).core) }
@@ -41,8 +45,8 @@ impl<A: Allocator + Copy> RunningCore<A> {
         }
     }
 
-    /// Returns the deliveries of the old ring, if recovery is over and the core holds every number that a
-    /// transitional member holds.
+    /// Returns what is delivered of the old ring, if recovery is over and the core holds every number that a
+    /// transitional member reported, otherwise `None`.
     fn delivery(&self) -> Option<Delivery>
         ensures { result ≡ (if may_install self.now then Some (whole_delivery (plan self.now) self.now.held) else None) }
     {
@@ -58,8 +62,10 @@ impl<A: Allocator + Copy> RunningCore<A> {
         }
     }
 
-    /// Installs the running ring: appends the transitional configuration with the rest of the old ring, the regular
-    /// one, and what is agreed and safe of the new ring.
+    /// Installs the running ring.
+    ///
+    /// Appends the transitional configuration with the rest of the old ring, the regular configuration, and what is
+    /// agreed and safe of the new ring.
     fn install(&mut self, delivery: &Delivery, outs: &mut Vec<Out<A>, A>) -> Result<(), Fault>
         requires due { may_install self.old ≡ true }
         requires delivery { delivery.now ≡ whole_delivery (plan self.old) self.old.held }
@@ -80,8 +86,10 @@ impl<A: Allocator + Copy> RunningCore<A> {
         self.give(before, outs)
     }
 
-    /// Reserves capacity for the outputs of an installation: the two configurations, the messages in the old ring's
-    /// window, the deferred messages of the running ring, those that its front covers above them, and its safe mark.
+    /// Reserves capacity for the outputs of an installation.
+    ///
+    /// These are the two configurations, the messages in the old ring's window, the deferred messages of the running
+    /// ring, those that its front covers after them, and its safe mark.
     fn make_room_to_install(&self, outs: &mut Vec<Out<A>, A>) -> Result<(), Fault>
         ensures kept { outs.new.items ≡ outs.old.items }
         ensures refused { IfErr result (λ fault. fault ≡ Memory) }
@@ -100,7 +108,7 @@ impl<A: Allocator + Copy> RunningCore<A> {
         Ok(())
     }
 
-    /// Appends the transitional configuration with the rest of the old ring, and the regular one.
+    /// Appends the transitional configuration with the rest of the old ring, and the regular configuration.
     fn give_change(&self, delivery: &Delivery, outs: &mut Vec<Out<A>, A>) -> Result<(), Fault>
         requires due { may_install self.now ≡ true }
         requires delivery { delivery.now ≡ whole_delivery (plan self.now) self.now.held }

@@ -1,8 +1,9 @@
-//! The state of a running ring core, the choice of a transition for an input, and the effect of each transition. Each
-//! transition has one public call, with a contract that equates it to its definition; `ring_srp` puts the calls
-//! together to a step.
-//! Apply a transition only to the core for which `RunningCore::decide` chose it.
-//! After `Memory` the core's state is unspecified, unless the call says otherwise; drop it.
+//! The state of a running ring core, the choice of a transition for an input, and the effect of each transition.
+//!
+//! Each transition has one public call, whose contract equates it with its definition; `ring_srp` makes a step of these
+//! calls. Apply a transition only to the core for which `RunningCore::decide` chose it. After `Memory` the core's state
+//! is unspecified, unless the call says otherwise; drop it.
+//!
 //! Rules: Rings and states 3 to 14; Gather 1, 4 to 8, 10, 12 and 13; The commit token 4 to 8; Token and window 6 to 12;
 //! Recovery 4 to 8; Outputs 1 to 6
 #![tactic(auto)]

@@ -1,4 +1,5 @@
 //! The end of a visit: forwards the token and records the visit.
+//!
 //! Rules: Token and window 7, 8 and 10
 
 ghost use Rattle.std.specs.Prelude.{◌≡◌, ◌≤◌, ◌<◌, ◌+◌, ◌++◌, ◌∷◌, [], true, length, IfErr, OnOk};
@@ -21,9 +22,13 @@ use std::alloc::Allocator;
 
 impl<A: Allocator + Copy> RunningCore<A> {
     /// Forwards the token to the next member, with the new requests, and records the visit.
-    /// The safe mark may rise by it, and the window then forgets the numbers up to the mark.
-    /// `count` is the number of new messages, `fresh` their payloads, for contracts.
-    /// Errors: `Memory` where an allocation fails; the core's state and the contents of `sends` are then unspecified.
+    ///
+    /// This may raise the safe mark; the window then drops the messages up to the mark. `count` is the number of new
+    /// messages, which the core must hold already; the token's `seq` plus `count` must be at most `MAX`. `fresh` has
+    /// their payloads, for contracts.
+    ///
+    /// Errors: `Memory` if an allocation fails; the core's state and the contents of `sends` are then unspecified.
+    ///
     /// Rules: Token and window 7, 8 and 10
     pub(crate) fn pass_token(
         &mut self,
@@ -73,7 +78,7 @@ impl<A: Allocator + Copy> RunningCore<A> {
         }
     }
 
-    /// Does so in Recovery. It first defers the user messages that the window may forget.
+    /// Does the same in Recovery. It first defers the user messages that the window may drop.
     fn pass_running(
         &mut self,
         token: &Token,
@@ -106,7 +111,7 @@ impl<A: Allocator + Copy> RunningCore<A> {
         Ok(())
     }
 
-    /// Does so in Operational, where the running ring is the installed one.
+    /// Does the same in Operational, where the running ring is the installed one.
     fn pass_installed(
         &mut self,
         token: &Token,

@@ -1,4 +1,5 @@
 //! The send queue.
+//!
 //! Rules: Rings and states 9
 
 ghost use Rattle.std.specs.Prelude.{◌≡◌, [], ◌∷◌, ◌++◌, IfErr, OnOk, OnErr};
@@ -10,9 +11,12 @@ use ring_payload::Payload;
 use std::alloc::Allocator;
 
 impl<A: Allocator + Copy> RunningCore<A> {
-    /// Appends a payload to the end of the send queue, whatever its kind; `RunningCore::decide` tests the kind and the
-    /// state.
-    /// Errors: `Memory` where an allocation fails; the core is unchanged.
+    /// Appends a payload to the end of the send queue.
+    ///
+    /// Neither the state nor the kind of the payload is checked: [`decide`](RunningCore::decide) does that.
+    ///
+    /// Errors: `Memory` if an allocation fails; the core is unchanged.
+    ///
     /// Rules: Rings and states 9
     pub fn enqueue(&mut self, payload: Payload<A>) -> Result<(), Fault>
         ensures ok { OnOk result (self.new ≡ record self.old { queue = self.old.queue ++ payload ∷ [] }) }

@@ -1,4 +1,5 @@
-//! The second round of a commit token, by which Recovery begins.
+//! The second round of a commit token, with which Recovery begins.
+//!
 //! Rules: The commit token 6; Recovery 3
 
 ghost use Rattle.std.specs.Prelude.{◌≡◌, ◌++◌, IfErr, OnOk};
@@ -23,10 +24,14 @@ use std::alloc::Allocator;
 use std::mem;
 
 impl<A: Allocator + Copy> RunningCore<A> {
-    /// Takes a commit token in the second round. The core keeps its entries as the plan, raises the old ring's safe
-    /// mark to the greatest reported, and is in Recovery. The next hop is appended to `sends`.
-    /// The token has passed the tests of `RunningCore::decide`, which chose `Learn`.
-    /// Errors: `Memory` where an allocation fails; the core's state and the contents of `sends` are then unspecified.
+    /// Applies `Learn`: takes a commit token in its second round.
+    ///
+    /// The core keeps the token's entries as its plan, raises the old ring's safe mark to the greatest reported one,
+    /// and is then in Recovery. The next hop is appended to `sends`. [`decide`](RunningCore::decide) must have chosen
+    /// `Learn` with this token for this core.
+    ///
+    /// Errors: `Memory` if an allocation fails; the core's state and the contents of `sends` are then unspecified.
+    ///
     /// Rules: The commit token 6; Recovery 3
     pub fn learn(
         &mut self,
@@ -50,7 +55,8 @@ impl<A: Allocator + Copy> RunningCore<A> {
     }
 
     /// Enters Recovery with a plan and an empty window of the running ring.
-    /// What a transitional member reported safe in the old ring is safe.
+    ///
+    /// The old ring's safe mark rises to the greatest one that a transitional member reported.
     fn recover(
         &mut self,
         received: &Ghost<CommitToken>,

@@ -1,4 +1,5 @@
 //! The state of a ring core that hasn't stopped.
+//!
 //! Rules: Rings and states 3 to 6 and 14
 
 ghost use Rattle.std.specs.Prelude.{◌≡◌, ◌≤◌, true, false, [], IfOk, IfErr};
@@ -17,7 +18,8 @@ use std::alloc::{Allocator, Global};
 use std::collections::VecDeque;
 use std::marker::Model;
 
-/// A ring core that hasn't stopped, with all that it keeps. Contracts see its `Core`.
+/// A ring core that hasn't stopped, with its whole state. Contracts see it as a `Core`.
+///
 /// Rules: Rings and states 3
 #[derive(Drop)]
 pub struct RunningCore<A: Allocator + Copy = Global> {
@@ -25,16 +27,16 @@ pub struct RunningCore<A: Allocator + Copy = Global> {
     pub(crate) me: Proc,
     pub(crate) fixed: Fixed,
     pub(crate) state: State,
-    /// The newest ring taken part in. Its number is the floor.
+    /// The newest ring that the core has taken part in. Its number is the floor.
     pub(crate) running: Configuration,
     pub(crate) installed: Configuration,
     pub(crate) gather: Gather,
     /// The kept token: the last token or commit token sent since Gather was entered.
     pub(crate) last_sent: Option<OutgoingFrame<A>>,
     pub(crate) queue: VecDeque<Payload<A>, A>,
-    /// The part of the installed ring.
+    /// The window and the visits of the installed ring.
     pub(crate) kept: RingPart<A>,
-    /// The state of Recovery, with the part of the running ring. It is `None` in every other state.
+    /// The state of Recovery, with the window and the visits of the running ring. It is `None` in every other state.
     pub(crate) recovery: Option<RecoveryState<A>>,
     /// The messages taken, sent or unwrapped, newest first.
     pub(crate) held: Ghost<[Message<A>; 0]>,
@@ -58,10 +60,12 @@ impl<A: Allocator + Copy> RunningCore<A> {
     ghost use Rattle.ring_core_spec.specs.Views.{own_entry};
     ghost use Rattle.ring_srp_transitions.specs.RunningCores.{IsPart, ring_in_use, is_running};
 
-    /// Returns the core of processor `me` at the opening: in Gather, with the ring (0, `me`) of itself alone
-    /// installed.
-    /// `me` is at most the number of processors.
-    /// Errors: `Memory` where an allocation fails.
+    /// Creates the core of processor `me` at the opening, in Gather.
+    ///
+    /// Its installed ring is (0, `me`), of which it is the only member. `me` must be at most the number of processors.
+    ///
+    /// Errors: `Memory` if an allocation fails.
+    ///
     /// Rules: Rings and states 5
     pub fn new(alloc: A, fixed: Fixed, me: Proc) -> Result<RunningCore<A>, Fault>
         requires { me ≤ fixed.count }
@@ -86,10 +90,12 @@ impl<A: Allocator + Copy> RunningCore<A> {
         })
     }
 
-    /// Returns the core of processor `me` in the formed ring (1, 1) of all processors: Operational, with nothing held,
-    /// and not yet visited by the token.
-    /// `me` is at most the number of processors.
-    /// Errors: `Memory` where an allocation fails.
+    /// Creates the core of processor `me` in the formed ring (1, 1) of all processors.
+    ///
+    /// It is Operational, holds nothing and hasn't visited a token yet. `me` must be at most the number of processors.
+    ///
+    /// Errors: `Memory` if an allocation fails.
+    ///
     /// Rules: Rings and states 14
     pub fn formed(alloc: A, fixed: Fixed, me: Proc) -> Result<RunningCore<A>, Fault>
         requires { me ≤ fixed.count }
@@ -114,14 +120,15 @@ impl<A: Allocator + Copy> RunningCore<A> {
         })
     }
 
-    /// Returns an empty list over the core's allocator, for frames or outputs. It takes no memory.
+    /// Returns an empty list with the core's allocator, for frames or outputs. Does not allocate.
     pub fn list<T>(&self) -> Vec<T, A>
         ensures { result.items ≡ [] }
     {
         Vec::new(self.alloc)
     }
 
-    /// Returns the core's state: Gather, Commit, Recovery or Operational.
+    /// Returns the core's state, which isn't Stopped.
+    ///
     /// Rules: Rings and states 6
     pub fn state(&self) -> State
         ensures value { result ≡ self.now.state }
@@ -130,7 +137,10 @@ impl<A: Allocator + Copy> RunningCore<A> {
         self.state
     }
 
-    /// Returns the last installed ring with its members; the ring (0, `me`) of `me` alone before any installation.
+    /// Returns the last installed ring with its members.
+    ///
+    /// Before the first installation it is (0, `me`), of which `me` is the only member.
+    ///
     /// Rules: Rings and states 3 and 5
     pub fn installed(&self) -> Configuration
         ensures value { result ≡ self.now.installed }
@@ -140,6 +150,7 @@ impl<A: Allocator + Copy> RunningCore<A> {
     }
 
     /// Returns the floor: the number of the newest ring that the node has taken part in.
+    ///
     /// Rules: Rings and states 4
     pub(crate) fn floor(&self) -> u64
         ensures { result ≡ floor self.now }
@@ -147,7 +158,8 @@ impl<A: Allocator + Copy> RunningCore<A> {
         self.running.ring.seq
     }
 
-    /// Returns the core's own entry: what it would report now of its last installed ring.
+    /// Returns the core's own entry: what it would report now about its last installed ring.
+    ///
     /// Rules: The commit token 2 and 3
     pub(crate) fn own_entry(&self) -> CommitEntry
         ensures { result ≡ own_entry self.now }
@@ -161,8 +173,10 @@ impl<A: Allocator + Copy> RunningCore<A> {
         }
     }
 
-    /// Returns the part of the ring whose messages are taken: the running one in Recovery, the last installed one in
-    /// every other state.
+    /// Returns the window and the visits of the ring whose messages are taken.
+    ///
+    /// That is the running ring in Recovery, and the last installed one in every other state.
+    ///
     /// Rules: Token and window 11
     pub(crate) fn part(&self) -> &RingPart<A>
         ensures taken { IsPart self.now (ring_in_use self.now.state self.now) result.now.window result.now.visit }
@@ -175,7 +189,7 @@ impl<A: Allocator + Copy> RunningCore<A> {
     }
 }
 
-/// Returns the opening ring of a processor: number 0, of itself alone.
+/// Returns the opening ring of a processor: number 0, with the processor as its only member.
 fn alone(me: Proc) -> Configuration
     ensures value { result ≡ alone me }
     ensures member { IsMember result.members me }
@@ -186,7 +200,8 @@ fn alone(me: Proc) -> Configuration
     }
 }
 
-/// Returns the formed ring (1, 1), of which all processors 1 to N are members.
+/// Returns the formed ring (1, 1), whose members are all processors 1 to N.
+///
 /// Rules: Rings and states 14
 pub fn all_of(fixed: Fixed) -> Configuration
     ensures { result ≡ all_of fixed.count }

@@ -1,6 +1,8 @@
 //! The visit of an accepted token.
+//!
 //! A function marked `inline(never)` keeps the large stack slot of a message or of a list of requests out of its
 //! caller.
+//!
 //! Rules: Token and window 7 to 12
 
 ghost use Rattle.std.specs.Prelude.{◌≡◌, ◌≤◌, ◌++◌, ◌∷◌, [], true, length, IfOk, IfErr, OnOk};
@@ -26,10 +28,14 @@ use ring_wire::{Message, Requests, Token};
 use std::alloc::Allocator;
 
 impl<A: Allocator + Copy> RunningCore<A> {
-    /// Does all that a node does when an accepted token visits it: sends the requested messages again, sends new
-    /// messages and holds them, and forwards the token. The frames are appended to `sends`, in this order.
-    /// The token has passed the tests of `RunningCore::decide`, which chose `Visit`.
-    /// Errors: `Memory` where an allocation fails; the core's state and the contents of `sends` are then unspecified.
+    /// Applies `Visit`: performs the visit of an accepted token.
+    ///
+    /// The core sends the requested messages that it holds again, sends new messages and holds them, and forwards the
+    /// token. The frames are appended to `sends` in this order. [`decide`](RunningCore::decide) must have chosen
+    /// `Visit` with this token for this core.
+    ///
+    /// Errors: `Memory` if an allocation fails; the core's state and the contents of `sends` are then unspecified.
+    ///
     /// Rules: Token and window 7 to 10
     pub fn visit(
         &mut self,
@@ -65,9 +71,13 @@ impl<A: Allocator + Copy> RunningCore<A> {
     }
 
     /// Returns an empty list with capacity for the outputs of the coming visit: an `Agreed` for each new message, and a
-    /// `Safe`. Where nothing is queued the capacity is 0, and nothing is allocated.
-    /// Call it before the visit: a visit frees many small blocks, and a large allocation after them is slow.
-    /// Errors: `Memory` where the allocation fails; the core is unchanged.
+    /// `Safe`.
+    ///
+    /// If nothing is queued, the capacity is 0, and nothing is allocated. Call it before the visit: a visit frees many
+    /// small blocks, and a large allocation after them is slow.
+    ///
+    /// Errors: `Memory` if the allocation fails; the core is unchanged.
+    ///
     /// Rules: Outputs 3 and 4
     pub fn visit_output_buffer(&self) -> Result<Vec<Out<A>, A>, Fault>
         ensures ok { IfOk result (λ told. told.items ≡ []) }
@@ -77,7 +87,7 @@ impl<A: Allocator + Copy> RunningCore<A> {
         Ok(told)
     }
 
-    /// Returns that capacity.
+    /// Returns the capacity of that list: 0 if nothing is queued, otherwise 2 to 9.
     fn max_visit_outputs(&self) -> usize {
         match self.queue.len().min(VISIT_LIMIT as usize) {
             0 => 0,
@@ -85,7 +95,7 @@ impl<A: Allocator + Copy> RunningCore<A> {
         }
     }
 
-    /// Visits an accepted token, of whose requests these remain.
+    /// Visits an accepted token, with `remaining_requests` as those of its requests that stay.
     fn visit_asked(
         &mut self,
         token: &Token,
@@ -105,7 +115,7 @@ impl<A: Allocator + Copy> RunningCore<A> {
         self.pass_token(token, remaining_requests, count, &fresh, sends)
     }
 
-    /// Returns the requests that remain: those above the safe mark that aren't held.
+    /// Returns the requests that stay: those above the safe mark whose messages aren't held.
     fn remaining_requests(&self, token: &Token) -> Requests
         requires runs { is_running self.now.state ≡ true }
         requires passes { accepts self.now token.now ≡ true }
@@ -146,9 +156,11 @@ impl<A: Allocator + Copy> RunningCore<A> {
         Ok(())
     }
 
-    /// Returns the payloads of the visit's new messages: in Operational those made of the queue, in Recovery the
-    /// first of the Wrapped and the End.
-    /// After `Memory` the queue is unspecified.
+    /// Returns the payloads of the visit's new messages.
+    ///
+    /// In Operational they are made from the queue; in Recovery they are the first of the Wrapped messages and the End.
+    ///
+    /// Errors: `Memory` if an allocation fails; the core's queue is then unspecified.
     fn new_payloads(&mut self, token: &Token) -> Result<Vec<Payload<A>, A>, Fault>
         requires runs { is_running self.old.state ≡ true }
         requires passes { accepts self.old token.now ≡ true }
@@ -185,7 +197,7 @@ impl<A: Allocator + Copy> RunningCore<A> {
         self.send_all(token, payloads, sends)
     }
 
-    /// Does the same where there are new messages.
+    /// Does the same if there are new messages.
     #[inline(never)]
     fn send_all(
         &mut self,
@@ -220,7 +232,8 @@ impl<A: Allocator + Copy> RunningCore<A> {
     }
 
     /// Sends a message, unless it has no receiver, and holds it.
-    /// It is of the ring in use, and its number is new there.
+    ///
+    /// It must belong to the ring in use, and its number must be new there.
     fn send_and_hold(
         &mut self,
         to: ProcSet,
@@ -239,8 +252,9 @@ impl<A: Allocator + Copy> RunningCore<A> {
     }
 }
 
-/// Returns the most new messages that a visit may send: at most 8, up to the end of the window and to the greatest
-/// number.
+/// Returns the maximum number of new messages in a visit: at most 8, up to the end of the window and up to `MAX`.
+///
+/// `mark` is the member's safe mark, and must be at most the token's `seq`.
 fn room(mark: u64, seq: u64) -> u64
     requires { mark ≤ seq }
     ensures { result ≡ room mark seq }

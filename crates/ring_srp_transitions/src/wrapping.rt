@@ -1,4 +1,5 @@
 //! The new messages of a visit in Recovery.
+//!
 //! Rules: Recovery 4
 
 ghost use Rattle.std.specs.Prelude.{◌≡◌, ◌+◌, ◌<◌, IfOk, IfErr};
@@ -13,10 +14,13 @@ use ring_srp_state::first_recovery_messages;
 use std::alloc::Allocator;
 
 impl<A: Allocator + Copy> RunningCore<A> {
-    /// Returns the payloads that a visit in Recovery sends, at most `most`.
-    /// They are a Wrapped of each user message of the old ring above the least front that hasn't been seen wrapped,
-    /// ascending, and then the node's End, unless that was seen.
-    /// Errors: `Memory` where an allocation fails.
+    /// Returns the payloads that a visit in Recovery sends, at most `most`. The state must be Recovery.
+    ///
+    /// They are a Wrapped for each user message of the old ring above the least reported front that hasn't been seen
+    /// wrapped, in ascending order, and then the node's End, unless one was seen.
+    ///
+    /// Errors: `Memory` if an allocation fails.
+    ///
     /// Rules: Recovery 4
     pub(crate) fn recovery_messages(&self, most: u64) -> Result<Vec<Payload<A>, A>, Fault>
         requires { self.now.state ≡ InRecovery }

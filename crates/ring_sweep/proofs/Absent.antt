@@ -10,7 +10,7 @@ use Rattle.ring_sweep.specs.declared.script_position.ScriptPosition.{ScriptPosit
 use Rattle.ring_sweep.specs.ScriptPositions.{IsScriptPosition, HasNoVariant}
 use Rattle.ring_sweep.specs.Variants.{steps_of, AreStepsDone, HasEvents, IsDue}
 
--- the variants before this event and those before it are this many
+-- The variants before this event and those before it are this many.
 past_all : (place count before events : ℕ) → before ≡ (place - 1) / (2 * count) → 1 ≤ count → events < before → 2 * (events + 1) * count < place
 past_all place count before events is some less =
     let at : events + 1 ≤ (place - 1) / (2 * count) = omega (arith, is, less) in
@@ -22,7 +22,7 @@ past_all place count before events is some less =
     omega (arith, room, same, least)
 
 module _ {O A : Type 0} (object : Sequential O) (group : Group) (lines : List (NumberedLine A)) where
-  -- where there is no such event, all steps come before the place
+  -- If there is no such event, all steps come before the place.
   all_before : (first others : List (ScriptLine A)) (reached : RunView A) (events before : ℕ) → steps_of lines ≡ first ++ others
       → AreStepsDone object first 0 events (run_opening group) reached → IsDue object others events before reached → events < before
       → HasEvents object group lines events

@@ -5,7 +5,7 @@ use Rattle.std.proofs.lemmas.Bool.{cases_lt}
 use Rattle.ring_base.specs.Prefixes.{IsListPrefix, prefix_get}
 use Rattle.ring_node_spec.proofs.FirstMatch.{EachUpTo}
 
--- the element at each place of the first list is at that place in the second
+-- The element at each place of the first list is at that place in the second.
 front_from_places : {X : Type 0} (xs ys : List X) → ((p : ℕ) (x : X) → slice_get xs p ≡ Some x → slice_get ys p ≡ Some x) → IsListPrefix xs ys
 front_from_places [] ys same = (ys, refl)
 front_from_places (x ∷ xs) [] same = absurd (cc (same zero x refl))
@@ -14,7 +14,7 @@ front_from_places (x ∷ xs) (y ∷ ys) same =
     let rest = front_from_places xs ys (λ p z at. same (suc p) z at) in
     (rest.0, cc (head, rest.1))
 
--- that holds at the places so far
+-- That holds at the places so far.
 abbrev pub AreSame : {X : Type 0} → List X → List X → ℕ → Type 0
 AreSame {X} xs ys n = EachUpTo (λ p x. slice_get ys p ≡ Some x) xs n
 

@@ -18,7 +18,7 @@ use Rattle.ring_sweep.specs.Variants.{turn, steps_in, steps_of, is_event, bit, l
 use Rattle.ring_sweep.specs.ScriptPositions.{IsWithin, left_in, IsPlace, done_of, left_of, IsNext, IsUntil, IsStepUntil, HasReachedEvent, IsScriptPosition}
 use Rattle.ring_sweep.proofs.Walking.{passes_append, turns_more, turns_idle, lines_more}
 
--- ---- whether a step is the event after `before` others
+-- ---- whether a step is the event after `before` others.
 
 both_true : (e d : Bool) → (e && d) ≡ true → (e ≡ true) × (d ≡ true)
 both_true true true is = (refl, refl)
@@ -30,20 +30,20 @@ is_now l run done before is =
     let both = both_true (is_event run l) (done == before) is in
     (both.0, eqb-true done before both.1)
 
--- after a step that is not that event, at most as many events are run as come before it
+-- After a step that is not that event, at most as many events are run as come before it.
 room : (e d : Bool) (done before : ℕ) → (done == before) ≡ d → (e && d) ≡ false → done ≤ before → done + bit e ≤ before
 room true true done before is not le = absurd (cc (not))
 room true false done before is not le = let isolation = eqb-false done before is in omega (arith, isolation, le)
 room false d done before is not le = omega (arith, le)
 
--- ---- positions
+-- ---- positions.
 
 module _ {A : Type 0} where
   turns_parted : (turns k : ℕ) → k ≤ turns → replicate turns (turn {A = A}) ≡ replicate k turn ++ replicate (turns - k) turn
   turns_parted turns k most =
       ap (λ (n : ℕ). replicate n (turn {A = A})) (omega (arith, most)) ∙ sym (replicate-append-replicate k (turns - k) (turn {A = A}))
 
-  -- after no turn, all of a line is left
+  -- After no turn, all of a line is left.
   pub left_whole : (l : ScriptLine A) → left_in l 0 ≡ steps_in l
   left_whole (Pump turns) = ap (λ (n : ℕ). replicate n (turn {A = A})) (omega arith)
   left_whole (Call node call) = refl
@@ -55,7 +55,7 @@ module _ {A : Type 0} where
   left_whole Heal = refl
   left_whole Show = refl
 
-  -- none of a line was done
+  -- None of a line was done.
   none_taken : (l : ScriptLine A) (taken : ℕ) → taken ≡ 0 → steps_in l ≡ replicate taken turn ++ steps_in l
   none_taken l taken none = ap (λ (n : ℕ). replicate n (turn {A = A}) ++ steps_in l) (sym none)
 
@@ -86,7 +86,7 @@ module _ {A : Type 0} where
   begun (l ∷ ls) zero = none_within l.line
   begun (l ∷ ls) (suc k) = begun ls k
 
-  -- the turns of the line that is next
+  -- The turns of the line that is next.
   pub place_within : (lines : List (NumberedLine A)) (k taken : ℕ) (l : NumberedLine A) → slice_get lines k ≡ Some l → IsPlace lines k taken → IsWithin l.line taken
   place_within [] k taken l here place = absurd (cc (here))
   place_within (x ∷ xs) zero taken l here place = let same : x ≡ l = cc in subst (λ (y : NumberedLine A). IsWithin y.line taken) same place
@@ -111,11 +111,11 @@ module _ {A : Type 0} where
   left_behind (x ∷ xs) zero taken past = absurd (omega (arith, past))
   left_behind (x ∷ xs) (suc k) taken past = left_behind xs k taken (omega (arith, past))
 
-  -- after the last line, nothing is left
+  -- After the last line, nothing is left.
   pub none_left : (lines : List (NumberedLine A)) (k taken : ℕ) → slice_get lines k ≡ None → left_of lines k taken ≡ []
   none_left lines k taken none = left_behind lines k taken (none-length lines k none)
 
-  -- a position splits the steps
+  -- A position splits the steps.
   parted : (lines : List (NumberedLine A)) (k taken : ℕ) → IsPlace lines k taken → steps_of lines ≡ done_of lines k taken ++ left_of lines k taken
   parted [] zero taken place = ap (λ (n : ℕ). replicate n (turn {A = A}) ++ []) (sym place)
   parted [] (suc k) taken place = ap (λ (n : ℕ). replicate n (turn {A = A}) ++ []) (sym place)
@@ -128,10 +128,10 @@ module _ {A : Type 0} where
       ∙ (sym (append_assoc first (done_of ls k taken) (left_of ls k taken))
       ∙ ap (λ (xs : List (ScriptLine A)). xs ++ left_of ls k taken) (sym (append_assoc first (steps_of (take k ls)) (replicate taken turn))))
 
--- ---- a run from position to position
+-- ---- a run from position to position.
 
 module _ {O A : Type 0} (object : Sequential O) where
-  -- the turns of a pump from this one on were taken, none of them that event
+  -- The turns of a pump from this one on were taken, none of them that event.
   abbrev pub AreTurns : ℕ → ℕ → ℕ → ℕ → ℕ → RunView A → RunView A → Type 0
   AreTurns k from before done events old new =
       AreStepsDone object (replicate (k - from) turn) done events old new × (done ≤ before → events ≤ before)
@@ -143,7 +143,7 @@ module _ {O A : Type 0} (object : Sequential O) where
       let most = room (is_event s l) (done == before) done before refl not le in
       omega (arith, more, most)
 
-  -- a step was taken, or it is that event
+  -- A step was taken, or it is that event.
   pub step_taken : (l : ScriptLine A) (before done events : ℕ) (s t : RunView A) → AreStepsDone object (l ∷ []) done events s t
       → (is_event s l && done == before) ≡ false → IsStepUntil object l before None done events s t
   step_taken l before done events s t h not = (h, λ le. stays_before l before done events s t h not le)
@@ -162,7 +162,7 @@ module _ {O A : Type 0} (object : Sequential O) where
         λ le. stays_before turn before mid events m t step not (h.1 le),
       )
 
-  -- all of them were taken; the remaining ones do nothing
+  -- All of them were taken; the remaining ones do nothing.
   pub turns_ended : (turns k from before done events : ℕ) (s t : RunView A) → k ≤ turns → t.open_copies ≡ []
       → AreTurns k from before done events s t → IsUntil object (Pump turns) from before None done events s t
   turns_ended turns k from before done events s t most none h =
@@ -173,7 +173,7 @@ module _ {O A : Type 0} (object : Sequential O) where
       → IsUntil object (Pump turns) from before None done events s t
   turns_done turns k from before done events s t all h = subst (λ (n : ℕ). AreTurns n from before done events s t) all h
 
-  -- that event is the next of them
+  -- That event is the next of them.
   pub is_turn_due : (turns k from before done events : ℕ) (s t : RunView A) → from ≤ k → k < turns → AreTurns k from before done events s t
       → (is_event t (turn {A = A}) && events == before) ≡ true → IsUntil object (Pump turns) from before (Some k) done events s t
   is_turn_due turns k from before done events s t least less h is =
@@ -185,9 +185,9 @@ module _ {O A : Type 0} (object : Sequential O) where
         subst (λ (n : ℕ). IsNext (replicate n (turn {A = A})) before events t) many (is_now turn t events before is),
       )
 
-  -- ---- lines
+  -- ---- lines.
 
-  -- the rest of a line is done, and then the lines after it
+  -- The rest of a line is done, and then the lines after it.
   pub rest_done : {T E : Type 0} (r : Result T E) (lines rest : List (NumberedLine A)) (k taken begun mid ended : ℕ) (l : NumberedLine A) (s m t : RunView A)
       → slice_get lines k ≡ Some l → rest ≡ take (length lines - (k + 1)) (drop (k + 1) lines) → AreStepsDone object (left_in l.line taken) begun mid s m
       → OnOk r (AreStepsDone object (steps_of rest) mid ended m t) → OnOk r (AreStepsDone object (left_of lines k taken) begun ended s t)
@@ -209,7 +209,7 @@ module _ {O A : Type 0} (object : Sequential O) where
       (subst (λ (n : ℕ). HasReachedEvent object group lines 0 0 n run) (sym no_event)
       (subst (λ (r : RunView A). HasReachedEvent object group lines 0 0 0 r) (sym opening) here)))
 
-  -- the rest of a line was done
+  -- The rest of a line was done.
   come_past : (group : Group) (lines : List (NumberedLine A)) (k taken done events : ℕ) (l : NumberedLine A) (s t : RunView A)
       → slice_get lines k ≡ Some l → HasReachedEvent object group lines k taken done s → AreStepsDone object (left_in l.line taken) done events s t
       → HasReachedEvent object group lines (k + 1) 0 events t
@@ -230,7 +230,7 @@ module _ {O A : Type 0} (object : Sequential O) where
   next_due [] rest before events t next = absurd next
   next_due (x ∷ xs) rest before events t next = (next.1, next.0)
 
-  -- that event comes in a line
+  -- That event comes in a line.
   come_to : (group : Group) (lines : List (NumberedLine A)) (k taken turns before done events : ℕ) (l : NumberedLine A) (s t : RunView A)
       → slice_get lines k ≡ Some l → HasReachedEvent object group lines k taken done s
       → IsUntil object l.line taken before (Some turns) done events s t
@@ -251,13 +251,13 @@ module _ {O A : Type 0} (object : Sequential O) where
             (next_due (left_in l.line turns) (steps_of (drop (k + 1) lines)) before events t until.3),
       )
 
-  -- it doesn't come
+  -- It doesn't come.
   pub come_behind : (lines : List (NumberedLine A)) (k taken events before : ℕ) (t : RunView A) → length lines ≤ k → events ≤ before
       → IsDue object (left_of lines k taken) events before t
   come_behind lines k taken events before t past most =
       subst (λ (xs : List (ScriptLine A)). IsDue object xs events before t) (sym (left_behind lines k taken past)) most
 
-  -- ---- the same of lines read one after another
+  -- ---- the same of lines read one after another.
 
   pub read_line : (lines : List (NumberedLine A)) (k len : ℕ) (l : NumberedLine A) → k < len → len ≡ length lines → l ≡ get_or lines k l → slice_get lines k ≡ Some l
   read_line lines k len l less all is = slice_get_read lines (length lines) k l refl (omega (arith, less, all)) is
@@ -278,9 +278,9 @@ module _ {O A : Type 0} (object : Sequential O) where
       come_to group lines k taken turns before done events l s t here come
       (subst (λ (f : Option ℕ). IsUntil object l.line taken before f done events s t) some until)
 
-  -- ---- the result there
+  -- ---- the result there.
 
-  -- at most as many events were run as come before it
+  -- At most as many events were run as come before it.
   pub max_before : (others : List (ScriptLine A)) (events before : ℕ) (t : RunView A) → IsDue object others events before t → events ≤ before
   max_before [] events before t due = due
   max_before (l ∷ ls) events before t due = let now = due.0 in omega (arith, now)
@@ -298,7 +298,7 @@ module _ {O A : Type 0} (object : Sequential O) where
     due = due;
   }
 
-  -- the injection there, and then all that follows, is a variant
+  -- The injection there, and then all that follows, is a variant.
   pub is_variant : (group : Group) (lines : List (NumberedLine A)) (u : Injection) (k taken events ended : ℕ) (reached injected new : RunView A)
       → HasReachedEvent object group lines k taken events reached → IsDue object (left_of lines k taken) events u.before reached
       → IsLineDone object (line_of_injection u) reached injected → AreStepsDone object (left_of lines k taken) events ended injected new

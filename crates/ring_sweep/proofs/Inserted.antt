@@ -10,7 +10,7 @@ module _ (old mid new : Option (List ℕ)) where
   pub grown_more : IsGrown old mid → IsGrown mid new → IsGrown old new
   grown_more a b = (a.0 ++ b.0, Appends-trans old mid new a.0 b.0 a.1 b.1)
 
-  -- the comment, and more behind it
+  -- The comment, and more after it.
   pub comment_then : (u : Injection) (events : ℕ) → Appends old mid (comment_of events u) → IsGrown mid new → HasPrinted old new (BeginsWithInjection u)
   comment_then u events a b = record {
     text = comment_of events u ++ b.0;
@@ -18,7 +18,7 @@ module _ (old mid new : Option (List ℕ)) where
     holds = (events, b.0, refl);
   }
 
-  -- some text, and the comment behind it
+  -- Some text, and the comment after it.
   pub then_begins : (u : Injection) → IsGrown old mid → HasPrinted mid new (BeginsWithInjection u) → HasPrinted old new (HasInjection u)
   then_begins u a b = record {
     text = a.0 ++ b.text;
@@ -26,7 +26,7 @@ module _ (old mid new : Option (List ℕ)) where
     holds = (b.holds.0, a.0, b.holds.1, ap (λ (t : List ℕ). a.0 ++ t) b.holds.2);
   }
 
-  -- more text behind it
+  -- More text after it.
   pub then_more : (u : Injection) → HasPrinted old mid (HasInjection u) → IsGrown mid new → HasPrinted old new (HasInjection u)
   then_more u a b = record {
     text = a.text ++ b.0;
@@ -41,7 +41,7 @@ module _ (old mid new : Option (List ℕ)) where
     );
   }
 
-  -- some text before it
+  -- Some text before it.
   pub more_before : (u : Injection) → IsGrown old mid → HasPrinted mid new (HasInjection u) → HasPrinted old new (HasInjection u)
   more_before u a b = record {
     text = a.0 ++ b.text;
@@ -54,11 +54,11 @@ module _ (old mid new : Option (List ℕ)) where
     );
   }
 
--- a text that begins with the comment has it
+-- A text that begins with the comment has it.
 pub has_begun : (old new : Option (List ℕ)) (u : Injection) → HasPrinted old new (BeginsWithInjection u) → HasPrinted old new (HasInjection u)
 has_begun old new u b = record { text = b.text; appended = b.appended; holds = (b.holds.0, [], b.holds.1, b.holds.2) }
 
--- a fact that a fact at `Ok` implies
+-- A fact that a fact at `Ok` implies.
 pub more_at_ok : {T E : Type 0} (r : Result T E) (P Q : Type 0) → (P → Q) → OnOk r P → OnOk r Q
 more_at_ok (Ok x) P Q f p = f p
 more_at_ok (Err e) P Q f p = tt

@@ -9,7 +9,7 @@ use Rattle.ring_node_spec.specs.Worlds.{order}
 use Rattle.ring_console.specs.Worlds.{WorldView, world_of}
 use Rattle.ring_sweep.specs.Legal.{IsLegal, ArePrefixes}
 
--- it holds of each number from 1 up to this one
+-- It holds of each number from 1 up to this one.
 abbrev pub UpTo : (ℕ → Type 0) → ℕ → Type 0
 UpTo P k = (node : ℕ) → 1 ≤ node → node ≤ k → P node
 
@@ -17,14 +17,14 @@ at_last : (P : ℕ → Type 0) (k node : ℕ) → UpTo P k → P (k + 1) → 1 �
 at_last P k node h here one most (inl below) = h node one (omega (arith, below))
 at_last P k node h here one most (inr last) = let same : k + 1 ≡ node = omega (arith, most, last) in subst P same here
 
--- one number more
+-- One more number.
 pub up_next : (P : ℕ → Type 0) (k : ℕ) → UpTo P k → P (k + 1) → UpTo P (k + 1)
 up_next P k h here node one most = at_last P k node h here one most (cases_lt node (k + 1))
 
 module _ {O A : Type 0} (object : Sequential O) (p : WorldView A) (calls : List (Call A)) (items : List (Item A))
     (is_order : calls ≡ order (world_of object p)) (is_history : items ≡ (world_of object p).history) (e : Bool)
     (explains : IsTrue e ↔ IsLinearization object calls items) where
-  -- the order is not legal for the history
+  -- The order is not legal for the history.
   pub legal_no : e ≡ false → IsTrue false ↔ IsLegal object p
   legal_no untrue = (
     λ untrue. absurd (cc (untrue)),
@@ -33,7 +33,7 @@ module _ {O A : Type 0} (object : Sequential O) (p : WorldView A) (calls : List 
         (subst (λ (xs : List (Item A)). IsLinearization object (order (world_of object p)) xs) (sym is_history) legal.explains)),
   )
 
-  -- the order is legal for the history
+  -- The order is legal for the history.
   pub legal_is : (f : Bool) → e ≡ true → (IsTrue f ↔ ArePrefixes object p calls) → IsTrue f ↔ IsLegal object p
   legal_is f true_is fronts = (
     λ are. record {

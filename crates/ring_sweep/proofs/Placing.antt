@@ -7,7 +7,7 @@ use Rattle.ring_sweep.specs.declared.injection.InjectionKind.TheVariants.{Stop, 
 use Rattle.ring_sweep.specs.declared.injection.Injection.{Injection}
 use Rattle.ring_sweep.specs.Variants.{injection_at}
 
--- a stop comes before a cut
+-- A stop comes before a cut.
 turn_of : InjectionKind → ℕ
 turn_of Stop = 0
 turn_of Cut = 1
@@ -23,7 +23,7 @@ same_blow Stop n is = subst (λ (k : ℕ). (if k == 0 then Stop else Cut) ≡ St
 same_blow Cut n is = subst (λ (k : ℕ). (if k == 0 then Stop else Cut) ≡ Cut) (sym is) refl
 
 module _ (count events : ℕ) (u : Injection) (first : 1 ≤ u.node) (last : u.node ≤ count) (within : u.before ≤ events) where
-  -- its index among those before the same event
+  -- Its index among those before the same event.
   here : ℕ
   here = (u.node - 1) * 2 + turn_of u.injection_kind
 
@@ -64,7 +64,7 @@ module _ (count events : ℕ) (u : Injection) (first : 1 ≤ u.node) (last : u.n
       mul_assoc 2 count (events + 1) ∙ (ap (λ (n : ℕ). 2 * n) (mul_comm count (events + 1)) ∙ sym (mul_assoc 2 (events + 1) count)) in
       omega (arith, room, same)
 
-  -- it is there
+  -- It is there.
   pub has_place : (n : ℕ) × (n < 2 * (events + 1) * count) × (injection_at count n ≡ u)
   has_place = (
     place,

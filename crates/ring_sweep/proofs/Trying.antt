@@ -21,7 +21,7 @@ use Rattle.ring_failure.specs.Shares.{share_begin}
 use Rattle.ring_failure.proofs.Sharing.{shares_end}
 
 module _ {O A : Type 0} (object : Sequential O) (group : Group) (lines : List (NumberedLine A)) where
-  -- the script's own run
+  -- The script's own run.
   pub has_events : (ls : List (NumberedLine A)) (run t : RunView A) (done ended events : ℕ) → ls ≡ lines → run ≡ run_opening group → done ≡ 0
       → AreStepsDone object (steps_of ls) done ended run t → events ≡ ended → HasEvents object group lines events
   has_events ls run t done ended events same_lines same_run same_done h same = (
@@ -32,7 +32,7 @@ module _ {O A : Type 0} (object : Sequential O) (group : Group) (lines : List (N
         (subst (λ (xs : List (NumberedLine A)). AreStepsDone object (steps_of xs) done ended run t) same_lines h))),
   )
 
-  -- a variant's run, and whether it is legal
+  -- A variant's run, and whether it is legal.
   pub is_tried : {E : Type 0} (r : Result Bool E) (u : Injection) (run : RunView A) (p : WorldView A)
       → IsVariant object (steps_of lines) u 0 (run_opening group) run → p ≡ run.world_view
       → IfOk r (λ is_legal. IsTrue is_legal ↔ IsLegal object p) → IfOk r (IsTried object group lines u)
@@ -40,19 +40,19 @@ module _ {O A : Type 0} (object : Sequential O) (group : Group) (lines : List (N
       (run, (variant, subst (λ (q : WorldView A). IsTrue is_legal ↔ IsLegal object q) same legal))
   is_tried (Err x) u run p variant same legal = tt
 
-  -- ---- ranges
+  -- ---- ranges.
 
-  -- the next variant's event is the same, or a later one
+  -- The next variant's event is the same, or a later one.
   pub before_next : (place most each : ℕ) → 0 < each → most ≤ place / each → most ≤ (place + 1) / each
   before_next place most each some le =
       let whole : most * each ≤ place = (le-div_iff_mul-le {k = each} {x = most} {y = place} some).0 le in
       (le-div_iff_mul-le {k = each} {x = most} {y = place + 1} some).1 (omega (arith, whole))
 
-  -- of none of the variants
+  -- Of none of the variants.
   pub tried_none : (a : ℕ) → AreTriedIn object group lines a a None
   tried_none a = (0, omega arith, refl)
 
-  -- one variant more
+  -- One more variant.
   pub tried_more : (a p : ℕ) (others : Option Injection) (last : Bool) (illegal : Option Injection) → AreTriedIn object group lines a p others
       → IsTried object group lines (injection_at group.count p) last → illegal ≡ first_illegal others last (injection_at group.count p)
       → AreTriedIn object group lines a (p + 1) illegal
@@ -101,18 +101,18 @@ module _ {O A : Type 0} (object : Sequential O) (group : Group) (lines : List (N
       ) in
       subst (λ (i : ℕ). AreTriedFrom object group lines a i (option_or f g)) many whole
 
-  -- the variants of one range, and those of the next
+  -- The variants of one range, and those of the next.
   pub tried_append : (a b c : ℕ) (f g : Option Injection) → AreTriedIn object group lines a b f → AreTriedIn object group lines b c g
       → AreTriedIn object group lines a c (option_or f g)
   tried_append a b c f g h k =
       let ends : c ≡ a + (h.0 + k.0) = let at = h.1 in let upto = k.1 in omega (arith, at, upto) in
       (h.0 + k.0, ends, append_from a h.0 k.0 f g h.2 (subst (λ (i : ℕ). AreTriedFrom object group lines i k.0 g) h.1 k.2))
 
-  -- none of them is left
+  -- None of them is left.
   pub tried_end : (a b : ℕ) → a ≤ b → b ≤ a → AreTriedIn object group lines a b None
   tried_end a b le ge = (0, omega (arith, le, ge), refl)
 
-  -- the variants of one range and those of the next, with the first of them that is not legal
+  -- The variants of one range and those of the next, with the first of them that is not legal.
   pub tried_rest : (a b c : ℕ) (f g all : Option Injection) → AreTriedIn object group lines a b f → AreTriedIn object group lines b c g
       → all ≡ option_or f g → AreTriedIn object group lines a c all
   tried_rest a b c f g all h k is = subst (λ (o : Option Injection). AreTriedIn object group lines a c o) (sym is) (tried_append a b c f g h k)
@@ -130,19 +130,19 @@ module _ {O A : Type 0} (object : Sequential O) (group : Group) (lines : List (N
         ),
       )
 
-  -- all of them
+  -- All of them.
   pub tried_all : (n : ℕ) (f : Option Injection) → AreTriedIn object group lines 0 n f → AreTried object group lines n f
   tried_all n f h =
       let same : h.0 ≡ n = let at = h.1 in omega (arith, at) in
       subst (λ (i : ℕ). AreTried object group lines i f) same (from_first h.0 f h.2)
 
-  -- where all of them are one range
+  -- If all of them are one range.
   pub tried_whole : {E : Type 0} (n : ℕ) (r : Result (Option Injection) E) → IfOk r (λ (f : Option Injection). 0 ≤ n → AreTriedIn object group lines 0 n f)
       → IfOk r (AreTried object group lines n)
   tried_whole n (Ok f) h = tried_all n f (h (omega arith))
   tried_whole n (Err e) h = tt
 
-  -- all of them in one share
+  -- All of them in one share.
   pub tried_alone : (n : ℕ) (f : Option Injection)
       → AreTriedIn object group lines (0 + share_begin (n - 0) 1 0) (0 + share_begin (n - 0) 1 (0 + 1)) f → AreTried object group lines n f
   tried_alone n f h =
@@ -151,14 +151,14 @@ module _ {O A : Type 0} (object : Sequential O) (group : Group) (lines : List (N
       tried_all n f (subst (λ (i : ℕ). AreTriedIn object group lines 0 i f) end
       (subst (λ (i : ℕ). AreTriedIn object group lines i (0 + share_begin (n - 0) 1 (0 + 1)) f) begin h))
 
-  -- one share more
+  -- One more share.
   pub tried_share : (from many shares k : ℕ) (f g : Option Injection) → AreTriedIn object group lines from (from + share_begin many shares k) f
       → AreTriedIn object group lines (from + share_begin many shares k) (from + share_begin many shares (k + 1)) g
       → AreTriedIn object group lines from (from + share_begin many shares (k + 1)) (option_or f g)
   tried_share from many shares k f g h more =
       tried_append from (from + share_begin many shares k) (from + share_begin many shares (k + 1)) f g h more
 
-  -- the printed text where all variants are legal
+  -- The printed text if all variants are legal.
   pub all_legal : (r : Result SweepResult Failure) (old new : Option (List ℕ)) → AllLegal r → IfOk r (IsSweepResult object group lines)
       → IfOk r (λ s. Appends old new (sweep_text s)) → HasPrinted old new (IsSweepText object group lines true)
   all_legal (Ok s) old new none is prints = record {
@@ -168,7 +168,7 @@ module _ {O A : Type 0} (object : Sequential O) (group : Group) (lines : List (N
   }
   all_legal (Err x) old new none is prints = absurd none
 
-  -- the printed text where a variant is not legal
+  -- The printed text if a variant is not legal.
   printed_illegal : (o : Option Injection) (s : SweepResult) (old new : Option (List ℕ)) → s.illegal ≡ o → (s.illegal ≡ None → ⊥)
       → IsSweepResult object group lines s → Appends old new (sweep_text s) → HasPrinted old new (IsSweepText object group lines false)
   printed_illegal None s old new illegal some is prints = absurd (some illegal)
@@ -178,7 +178,7 @@ module _ {O A : Type 0} (object : Sequential O) (group : Group) (lines : List (N
     holds = record { swept = s; is_swept = is; legal = ap are_legal illegal; whole = refl };
   }
 
-  -- at status 1 nothing is reported, or nothing is printed, or a variant is not legal
+  -- At status 1 nothing is reported, or nothing is printed, or a variant is not legal.
   pub not_all_legal : {status : ℕ} {Quiet Same : Type 0} (r : Result SweepResult Failure) (old new : Option (List ℕ)) → (r ≡ Err Output → Quiet)
       → IfErr r (λ (failure : Failure). (failure ≡ Output) ⊎ ((failure ≡ Refused Memory) × Same)) → (status ≡ 0 ↔ AllLegal r)
       → IfOk r (IsSweepResult object group lines) → IfOk r (λ s. Appends old new (sweep_text s)) → status ≡ 1
@@ -191,11 +191,11 @@ module _ {O A : Type 0} (object : Sequential O) (group : Group) (lines : List (N
   not_all_legal (Ok s) old new quiet why status is prints one_is =
       inr (inr (printed_illegal s.illegal s old new refl (λ none. let zero_is = status.1 none in absurd (omega (arith, zero_is, one_is))) is prints))
 
-  -- all of the first `n` variants are legal
+  -- All of the first `n` variants are legal.
   abbrev All : ℕ → Type 0
   All n = (k : ℕ) → k < n → IsTried object group lines (injection_at group.count k) true
 
-  -- the meaning of the first variant, of `n`, that is not legal
+  -- The meaning of the first variant, of `n`, that is not legal.
   abbrev pub Says : ℕ → Option Injection → Type 0
   Says n None = All n
   Says n (Some u) = IsFirstIllegal object group lines n u

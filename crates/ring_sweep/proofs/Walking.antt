@@ -17,7 +17,7 @@ use Rattle.ring_base.proofs.Rows.{take-more}
 use Rattle.ring_sweep.specs.Copies.{IsCopyOf}
 
 module _ {O A : Type 0} (object : Sequential O) where
-  -- ---- steps, one after another
+  -- ---- steps, one after another.
 
   pub passes_append : (xs ys : List (ScriptLine A)) (begun mid ended : ℕ) (s m t : RunView A) → AreStepsDone object xs begun mid s m
       → AreStepsDone object ys mid ended m t → AreStepsDone object (xs ++ ys) begun ended s t
@@ -26,7 +26,7 @@ module _ {O A : Type 0} (object : Sequential O) where
   passes_append (x ∷ xs) ys begun mid ended s m t h k =
       (h.0, (h.1.0, passes_append xs ys (begun + bit (is_event s x)) mid ended h.0 m t h.1.1 k))
 
-  -- one step is done, and it is counted
+  -- One step is done, and it is counted.
   pub step_ok : {T E : Type 0} (r : Result T E) (l : ScriptLine A) (is_one : Bool) (done done' : ℕ) (s s' t : RunView A) → is_one ≡ is_event s l
       → done' ≡ done + bit is_one → s' ≡ s → OnOk r (IsLineDone object l s' t) → OnOk r (AreStepsDone object (l ∷ []) done done' s t)
   step_ok (Ok x) l is_one done done' s s' t one more same h = (
@@ -35,7 +35,7 @@ module _ {O A : Type 0} (object : Sequential O) where
   )
   step_ok (Err x) l is_one done done' s s' t one more same h = tt
 
-  -- a turn does nothing where no copy is open
+  -- A turn does nothing if no copy is open.
   idle_turns : (n done : ℕ) (s : RunView A) → s.open_copies ≡ [] → AreStepsDone object (replicate n turn) done done s s
   idle_turns zero done s none = (refl, refl)
   idle_turns (suc n) done s none =
@@ -48,14 +48,14 @@ module _ {O A : Type 0} (object : Sequential O) where
         ),
       )
 
-  -- one turn more
+  -- One more turn.
   pub turns_more : (k begun mid ended : ℕ) (s m t : RunView A) → AreStepsDone object (replicate k turn) begun mid s m
       → AreStepsDone object (turn ∷ []) mid ended m t → AreStepsDone object (replicate (k + 1) turn) begun ended s t
   turns_more k begun mid ended s m t h step =
       subst (λ (ls : List (ScriptLine A)). AreStepsDone object ls begun ended s t) (sym (replicate_next k turn))
       (passes_append (replicate k turn) (turn ∷ []) begun mid ended s m t h step)
 
-  -- all turns; the remaining ones do nothing
+  -- All turns; the remaining ones do nothing.
   pub turns_idle : (turns k begun ended : ℕ) (s t : RunView A) → k ≤ turns → t.open_copies ≡ []
       → AreStepsDone object (replicate k turn) begun ended s t → AreStepsDone object (replicate turns turn) begun ended s t
   turns_idle turns k begun ended s t most none h =
@@ -64,7 +64,7 @@ module _ {O A : Type 0} (object : Sequential O) where
       subst (λ (ls : List (ScriptLine A)). AreStepsDone object ls begun ended s t) (sym parts)
       (passes_append (replicate k turn) (replicate (turns - k) turn) begun ended ended s t t h (idle_turns (turns - k) ended t none))
 
-  -- one line more
+  -- One more line.
   pub lines_more : (lines : List (NumberedLine A)) (k : ℕ) (l : NumberedLine A) → slice_get lines k ≡ Some l
       → steps_of (take (k + 1) lines) ≡ steps_of (take k lines) ++ steps_in l.line
   lines_more lines k l here =
@@ -79,9 +79,9 @@ module _ {O A : Type 0} (object : Sequential O) where
       subst (λ (ls : List (ScriptLine A)). AreStepsDone object ls begun ended s t) (sym (lines_more lines k l here))
       (passes_append (steps_of (take k lines)) (steps_in l.line) begun mid ended s m t h more)
 
-  -- ---- copies of lines
+  -- ---- copies of lines.
 
-  -- the request of a copy of a line is the request of the line
+  -- The request of a copy of a line is the request of the line.
   copy_does : (l copy : ScriptLine A) (r s : RunView A) → IsCopyOf l copy → IsLineDone object copy r s → IsLineDone object l r s
   copy_does (Noise node bytes) copy r s is h =
       subst (λ (xs : List ℕ). HasRunEvent object (events.Noise node xs) r s) is.2 (subst (λ (x : ScriptLine A). IsLineDone object x r s) is.1 h)
@@ -94,13 +94,13 @@ module _ {O A : Type 0} (object : Sequential O) where
   copy_does (Pump turns) copy r s is h = subst (λ (x : ScriptLine A). IsLineDone object x r s) is h
   copy_does Show copy r s is h = subst (λ (x : ScriptLine A). IsLineDone object x r s) is h
 
-  -- the request of a line was carried out, by a copy of it
+  -- The request of a line was carried out, by a copy of it.
   pub ends_does : {T E : Type 0} (r : Result T E) (l copy : ScriptLine A) (old new : RunView A) → IsCopyOf l copy → IsLineEnded object r copy old new
       → OnOk r (IsLineDone object l old new)
   ends_does (Ok x) l copy old new is h = copy_does l copy old new is h
   ends_does (Err x) l copy old new is h = tt
 
--- a copy of a line keeps the same limits
+-- A copy of a line is within the same limits.
 pub copy_fits : {A : Type 0} (l copy : ScriptLine A) → IsCopyOf l copy → IsFit l → IsFit copy
 copy_fits (Noise node bytes) copy is fits = subst IsFit (sym is.1) tt
 copy_fits (Call node call) copy is fits = subst IsFit (sym is) fits

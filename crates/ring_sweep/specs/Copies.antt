@@ -3,7 +3,7 @@ use Rattle.std.specs.Prelude.{◌≡◌, ℕ, Vec}
 use Rattle.ring_script.specs.declared.line.ScriptLine.{ScriptLine}
 use Rattle.ring_script.specs.declared.line.ScriptLine.TheVariants.{Call, Deliver, Timeout, Noise, Stop, Cut, Heal, Pump, Show}
 
--- a copy of a line is the line itself, or, for noise, a line with the same bytes
+-- A copy of a line is the line itself, or, for noise, a line with the same bytes.
 abbrev pub IsCopyOf : {A : Type 0} → ScriptLine A → ScriptLine A → Type 0
 IsCopyOf {A} (Noise node bytes) l = (copy : Vec ℕ A) × (l ≡ Noise node copy) × (copy.items ≡ bytes.items)
 IsCopyOf (Call node call) l = l ≡ Call node call

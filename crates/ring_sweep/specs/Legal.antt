@@ -12,7 +12,7 @@ use Rattle.ring_node_spec.specs.Worlds.{whole_epochs_in, order}
 use Rattle.ring_console.specs.Worlds.{WorldView, world_of}
 
 module _ {O : Type 0} (object : Sequential O) where
-  -- each node's committed calls, duplicates removed, are a prefix of these
+  -- Each node's committed calls, duplicates removed, are a prefix of these.
   abbrev pub ArePrefixes : {A : Type 0} → WorldView A → List (Call A) → Type 0
   ArePrefixes p calls = (node : ℕ) → 1 ≤ node → node ≤ p.group.count → IsListPrefix (deduplicated (committed_of p.group (whole_epochs_in (world_of object p) node))) calls
 

@@ -13,36 +13,36 @@ use Rattle.ring_sweep.specs.declared.injection.InjectionKind.TheVariants as blow
 use Rattle.ring_sweep.specs.declared.injection.Injection.{Injection}
 use Rattle.ring_sweep.specs.Variants.{HasEvents, AreTried}
 
--- whether all variants are legal: there is no first one that isn't
+-- Whether all variants are legal: there is no first one that isn't.
 abbrev pub are_legal : Option Injection → Bool
 are_legal None = true
 are_legal (Some u) = false
 
--- the sweep is complete, and all variants are legal
+-- The sweep is complete, and all variants are legal.
 abbrev pub AllLegal : Result SweepResult Failure → Type 0
 AllLegal (Ok swept) = swept.illegal ≡ None
 AllLegal (Err failure) = ⊥
 
--- the number of events, the number of variants, and whether all variants are legal
+-- The number of events, the number of variants, and whether all variants are legal.
 abbrev pub sweep_text : SweepResult → List ℕ
 sweep_text swept =
     line_of (codes "events " ++ decimal swept.events) ++ line_of (codes "variants " ++ decimal swept.variants)
     ++ line_of (legal_text (are_legal swept.illegal))
 
--- the kind of an injection, as a script names it
+-- The kind of an injection, as a script names it.
 abbrev pub injection_kind_name : InjectionKind → List ℕ
 injection_kind_name blows.Stop = codes "stop"
 injection_kind_name blows.Cut = codes "cut"
 
--- an injection into a run with this number of events; its event is counted from 1
+-- An injection into a run with this number of events; its event is counted from 1.
 abbrev pub injection_text : ℕ → Injection → List ℕ
 injection_text events u =
     injection_kind_name u.injection_kind ++ codes " " ++ decimal u.node
     ++ (if nat_lt u.before events then codes " before event " ++ decimal (u.before + 1) else codes " at the end")
 
 module _ {O : Type 0} (object : Sequential O) where
-  -- The result of a sweep of these lines: the number of events of their run, the number of variants, which is two for each node
-  -- before each event and at the end, and the first variant that is not legal.
+  -- The result of a sweep of these lines: the number of events of their run, the number of variants, which is two for
+  -- each node before each event and at the end, and the first variant that is not legal.
   pub record IsSweepResult {A : Type 0} (group : Group) (lines : List (NumberedLine A)) (swept : SweepResult) : Type 0 where
     pub events : HasEvents object group lines swept.events
     pub variants : swept.variants ≡ 2 * (swept.events + 1) * group.count

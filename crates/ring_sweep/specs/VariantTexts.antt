@@ -6,18 +6,18 @@ use Rattle.ring_failure.specs.Texts.{line_of}
 use Rattle.ring_sweep.specs.declared.injection.Injection.{Injection}
 use Rattle.ring_sweep.specs.SweepResult.{injection_text}
 
--- some text was appended
+-- Some text was appended.
 abbrev pub IsGrown : Option (List ℕ) → Option (List ℕ) → Type 0
 IsGrown old new = (text : List ℕ) × Appends old new text
 
--- the comment above an injected line, which names the injection
+-- The comment above an injected line, which names the injection.
 abbrev pub comment_of : ℕ → Injection → List ℕ
 comment_of events u = line_of (codes "# " ++ injection_text events u)
 
--- the text begins with the comment that names this injection
+-- The text begins with the comment that names this injection.
 abbrev pub BeginsWithInjection : Injection → List ℕ → Type 0
 BeginsWithInjection u text = (events : ℕ) × (after : List ℕ) × (text ≡ comment_of events u ++ after)
 
--- the text has the comment that names this injection
+-- The text has the comment that names this injection.
 abbrev pub HasInjection : Injection → List ℕ → Type 0
 HasInjection u text = (events : ℕ) × (before : List ℕ) × (after : List ℕ) × (text ≡ before ++ (comment_of events u ++ after))

@@ -1,4 +1,5 @@
-//! The script's own run, of which the runs of its variants are copies.
+//! The run of the script itself, of which the runs of its variants are copies.
+//!
 //! Formats: The command line
 
 ghost use Rattle.std.specs.Prelude.{◌≡◌, ◌≤◌, IfOk, IfErr, OnOk};
@@ -14,8 +15,10 @@ use ring_base::{Fault, Fixed};
 use ring_console::{NumberedLine, Script};
 use ring_object::Object;
 
-/// The run of the script itself, up to one of its events. The run of each variant with an injection before that event is a
-/// copy of it that goes on with the injection.
+/// The run of the script itself, up to one of its events.
+///
+/// The run of each variant with an injection before that event is a copy of it that goes on with the injection.
+///
 /// Formats: The command line
 #[derive(Drop)]
 pub(crate) struct BaseRun<O: Object> {
@@ -23,13 +26,14 @@ pub(crate) struct BaseRun<O: Object> {
     pub counted_run: CountedRun<O>,
     /// The number of lines that are carried out completely.
     pub lines: usize,
-    /// The number of turns taken of the next line, if that is a pump; else 0.
+    /// The number of turns taken of the next line, if that is a pump; otherwise 0.
     pub turns: u32,
 }
 
 impl<O: Object> BaseRun<O> {
     /// Creates a run with all nodes at their opening, before the first line.
-    /// Errors: `Memory`.
+    ///
+    /// Errors: `Memory` if an allocation fails.
     pub fn new(alloc: O::Alloc, nodes: Fixed) -> Result<BaseRun<O>, Fault>
         ensures counted_run { IfOk result (λ ahead. (ahead.counted_run.run ≡ run_opening nodes) × (ahead.counted_run.done ≡ 0)) }
         ensures place { IfOk result (λ ahead. (ahead.lines ≡ 0) × (ahead.turns ≡ 0)) }
@@ -43,9 +47,12 @@ impl<O: Object> BaseRun<O> {
         })
     }
 
-    /// Goes on until `before` events have been run and the next step is an event, or to the end of the script where there
-    /// are no more. At most `before` events have been run so far.
-    /// Errors: `Memory`; the run is then unspecified.
+    /// Continues until `before` events have been run and the next step is an event, or to the end of the script.
+    ///
+    /// At most `before` events may have been run so far.
+    ///
+    /// Errors: `Memory` if an allocation fails; the run is then unspecified.
+    ///
     /// Formats: The command line
     pub fn go_to(&mut self, script: &Script<O::Alloc>, before: u64) -> Result<(), Fault>
         requires fit { AreFit script.now.lines.items }
@@ -69,9 +76,12 @@ impl<O: Object> BaseRun<O> {
         Ok(())
     }
 
-    /// Runs the variant with this injection to the end of the script, in `copy`. This run is at the injection's event, and
-    /// `copy` is a copy of it.
-    /// Errors: `Memory`; the copy is then unspecified.
+    /// Runs the variant with this injection to the end of the script, in `copy`.
+    ///
+    /// This run must be at the injection's event, and `copy` must be a copy of it.
+    ///
+    /// Errors: `Memory` if an allocation fails; the copy is then unspecified.
+    ///
     /// Formats: The command line
     pub fn run_variant(
         &self,
@@ -90,7 +100,9 @@ impl<O: Object> BaseRun<O> {
         self.finish(copy, script.lines.as_slice())
     }
 
-    /// Carries out the rest of the lines in a copy; or `Memory`.
+    /// Carries out the rest of the lines in a copy.
+    ///
+    /// Errors: `Memory` if an allocation fails.
     fn finish(
         &self,
         copy: &mut CountedRun<O>,

@@ -1,4 +1,5 @@
 //! A running script with a count of its events.
+//!
 //! Formats: The command line
 
 ghost use Rattle.std.specs.Prelude.{◌≡◌, ◌+◌, ◌≤◌, ◌&&◌, ◌==◌, [], ◌∷◌, replicate, IfOk, IfErr, OnOk};
@@ -17,7 +18,10 @@ use ring_object::Object;
 use ring_session::copy_of;
 use std::alloc::Allocator;
 
-/// A running script with the number of its events that were run. An injected event isn't counted.
+/// A running script with the number of its events that were run.
+///
+/// An injected event isn't counted.
+///
 /// Formats: The command line
 #[derive(Drop)]
 pub(crate) struct CountedRun<O: Object> {
@@ -29,7 +33,8 @@ pub(crate) struct CountedRun<O: Object> {
 
 impl<O: Object> CountedRun<O> {
     /// Creates a run with all nodes at their opening, before the first event.
-    /// Errors: `Memory`.
+    ///
+    /// Errors: `Memory` if an allocation fails.
     pub fn new(alloc: O::Alloc, nodes: Fixed) -> Result<CountedRun<O>, Fault>
         ensures ok { IfOk result (λ counted_run. (counted_run.run ≡ run_opening nodes) × (counted_run.done ≡ 0)) }
         ensures refused { IfErr result (λ fault. fault ≡ Memory) }
@@ -38,8 +43,11 @@ impl<O: Object> CountedRun<O> {
         Ok(CountedRun { run, done: 0 })
     }
 
-    /// Returns a copy of this run. From then on the two are independent.
-    /// Errors: `Memory`; this run is unchanged.
+    /// Returns a copy of this run.
+    ///
+    /// From then on the two are independent.
+    ///
+    /// Errors: `Memory` if an allocation fails; this run is unchanged.
     pub fn copy(&self) -> Result<CountedRun<O>, Fault>
         ensures run { IfOk result (λ copy. copy.run ≡ self.now.run) }
         ensures done { IfOk result (λ copy. copy.done ≡ self.now.done) }
@@ -67,7 +75,10 @@ impl<O: Object> CountedRun<O> {
     }
 
     /// Carries out the requests of the lines in order, and counts their events.
-    /// Errors: `Memory`; the run is then unspecified.
+    ///
+    /// Errors: `Memory` if an allocation fails; the run is then unspecified.
+    ///
+    /// Formats: The command line
     pub fn run_lines(&mut self, lines: &[NumberedLine<O::Alloc>]) -> Result<(), Fault>
         requires { AreFit lines.now }
         ensures ok { OnOk result (AreStepsDone O.sequential (steps_of lines.now) self.old.done self.new.done self.old.run self.new.run) }
@@ -79,9 +90,13 @@ impl<O: Object> CountedRun<O> {
         Ok(())
     }
 
-    /// Carries out the request of a line, and counts its events. Of a pump the first `taken` turns are left out; of any
-    /// other line `taken` doesn't matter.
-    /// Errors: `Memory`; the run is then unspecified.
+    /// Carries out the request of a line, and counts its events.
+    ///
+    /// The first `taken` turns of a pump are left out; for other lines `taken` is ignored.
+    ///
+    /// Errors: `Memory` if an allocation fails; the run is then unspecified.
+    ///
+    /// Formats: The command line
     pub fn take_line(&mut self, line: &ScriptLine<O::Alloc>, taken: u32) -> Result<(), Fault>
         requires { IsFit line.now }
         ensures ok { OnOk result (AreStepsDone O.sequential (left_in line.now taken) self.old.done self.new.done self.old.run self.new.run) }
@@ -94,9 +109,14 @@ impl<O: Object> CountedRun<O> {
     }
 
     /// Carries out the request of a line from its turn `taken` on, counted from 0, but stops before the event after
-    /// `before` others. Returns the number of the line's turns before that event, or `None` where it isn't in this line.
-    /// Then the whole line is done.
-    /// Errors: `Memory`; the run is then unspecified.
+    /// `before` others.
+    ///
+    /// Returns the number of the line's turns before that event, or `None` if the event isn't in this line and the
+    /// whole line is done.
+    ///
+    /// Errors: `Memory` if an allocation fails; the run is then unspecified.
+    ///
+    /// Formats: The command line
     pub fn take_line_until(
         &mut self,
         line: &ScriptLine<O::Alloc>,
@@ -114,8 +134,13 @@ impl<O: Object> CountedRun<O> {
         }
     }
 
-    /// Carries out an injection: the node stops, or is cut off. It isn't counted.
-    /// Errors: `Memory`; the run is then unspecified.
+    /// Carries out an injection: the node stops, or is cut off.
+    ///
+    /// The injected event isn't counted.
+    ///
+    /// Errors: `Memory` if an allocation fails; the run is then unspecified.
+    ///
+    /// Formats: The command line
     pub fn put_in(&mut self, injection: Injection) -> Result<(), Fault>
         ensures ok { OnOk result (IsLineDone O.sequential (line_of_injection injection) self.old.run self.new.run) }
         ensures done { self.new.done ≡ self.old.done }
@@ -124,7 +149,9 @@ impl<O: Object> CountedRun<O> {
         self.run.perform(injection.line())
     }
 
-    /// Takes this number of turns. Where no copy is open, the remaining ones do nothing.
+    /// Takes `turns` turns of a pump.
+    ///
+    /// If no copy is open any more, the remaining ones do nothing.
     fn take_turns(&mut self, turns: u32) -> Result<(), Fault>
         ensures ok { OnOk result (AreStepsDone O.sequential (replicate turns turn) self.old.done self.new.done self.old.run self.new.run) }
         ensures refused { IfErr result (λ fault. fault ≡ Memory) }
@@ -146,7 +173,9 @@ impl<O: Object> CountedRun<O> {
         self.step(&ScriptLine::Pump { turns: 1 })
     }
 
-    /// Takes the turns after the first `from` of a pump, up to the event after `before` others.
+    /// Takes the turns of a pump after the first `from`, up to the event after `before` others.
+    ///
+    /// Returns the number of turns before that event, or `None` if it isn't in this pump.
     fn take_turns_until(&mut self, turns: u32, from: u32, before: u64) -> Result<Option<u32>, Fault>
         requires { from ≤ turns }
         ensures ok { IfOk result (λ taken. IsUntil O.sequential (Pump turns) from before taken self.old.done self.new.done self.old.run self.new.run) }
@@ -164,7 +193,7 @@ impl<O: Object> CountedRun<O> {
         Ok(None)
     }
 
-    /// Whether the next turn of a pump is the event after `before` others.
+    /// Returns whether the next turn of a pump is the event after `before` others.
     fn is_turn_due(&self, before: u64) -> bool
         ensures { result ≡ (is_event self.now.run turn && self.now.done == before) }
     {
@@ -184,7 +213,7 @@ impl<O: Object> CountedRun<O> {
         Ok(None)
     }
 
-    /// Whether the step is the event after `before` others.
+    /// Returns whether the step is the event after `before` others.
     fn comes(&self, line: &ScriptLine<O::Alloc>, before: u64) -> bool
         ensures { result ≡ (is_event self.now.run line.now && self.now.done == before) }
     {
@@ -202,7 +231,9 @@ impl<O: Object> CountedRun<O> {
         self.perform(line)
     }
 
-    /// Counts the step if it is an event. `Memory` where no u64 holds the count, which no world reaches.
+    /// Counts the step if it is an event.
+    ///
+    /// Errors: `Memory` if the count exceeds a u64, which no world reaches.
     fn count(&mut self, is_event: bool) -> Result<(), Fault>
         ensures ok { OnOk result (self.new.done ≡ self.old.done + bit is_event) }
         ensures run { self.new.run ≡ self.old.run }
@@ -225,7 +256,9 @@ impl<O: Object> CountedRun<O> {
         self.run.perform(copy)
     }
 
-    /// Whether the step is an event of the script: a turn is one where it delivers a copy.
+    /// Returns whether the step is an event of the script.
+    ///
+    /// A turn is one if it delivers a copy.
     fn is_event(&self, line: &ScriptLine<O::Alloc>) -> bool
         ensures { result ≡ is_event self.now.run line.now }
     {

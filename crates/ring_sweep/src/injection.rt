@@ -1,4 +1,5 @@
-//! Injections: the events put into the runs of a script, and their places.
+//! Injections: the events that are put into the runs of a script, and their positions.
+//!
 //! Formats: The command line
 
 ghost use Rattle.std.specs.Prelude.{◌≡◌};
@@ -10,32 +11,43 @@ use ring_console::{Groups, ScriptLine};
 use std::alloc::Allocator;
 use std::fmt;
 
-/// The kind of an injected event. It is displayed as the first word of its script line, `stop` or `cut`.
+/// The kind of an injected event.
+///
+/// It is displayed as the first word of its script line, `stop` or `cut`.
+///
 /// Formats: The command line
 #[derive(Clone, Copy, Debug, PartialEq, Eq)]
 pub enum InjectionKind {
     /// The node stops for good.
     Stop,
-    /// The node is cut off from all others. It replaces an earlier cut.
+    /// The node is cut off from all others.
+    ///
+    /// It replaces an earlier cut.
     Cut,
 }
 
 /// An event that a variant of a sweep puts into the run of a script: its position, its node and its kind.
+///
 /// Formats: The command line
 #[derive(Clone, Copy, Debug, PartialEq, Eq)]
 pub struct Injection {
-    /// The index, counted from 0, of the script's event before which it comes. It comes at the end where this is the number
-    /// of events.
+    /// The index, counted from 0, of the script's event before which it comes.
+    ///
+    /// If it is the number of events, the injection comes at the end.
     pub before: u64,
-    /// The node that stops or is cut off, 1 to N.
+    /// The node that stops or is cut off, from 1 to the number of nodes.
     pub node: Proc,
     /// Whether the node stops or is cut off.
     pub injection_kind: InjectionKind,
 }
 
 impl Injection {
-    /// Returns the injection of the variant with the index `place`, counted from 0, in a script of `count` nodes, 1 to 16.
+    /// Returns the injection of the variant with the index `place`, counted from 0, in a script of `count` nodes.
+    ///
+    /// `count` must be 1 to 16.
+    ///
     /// Before each event in turn, each node is first stopped and then cut off, in the order of the nodes.
+    ///
     /// Formats: The command line
     pub(crate) fn at(count: u8, place: u64) -> Injection
         requires { IsProc count }
@@ -56,6 +68,7 @@ impl Injection {
     }
 
     /// Returns the request of the script line that injects this event.
+    ///
     /// Formats: Scripts
     pub(crate) fn line<A: Allocator + Copy>(self) -> ScriptLine<A>
         ensures { result ≡ line_of_injection self }
@@ -82,7 +95,9 @@ impl fmt::Display for InjectionKind {
     }
 }
 
-/// An injection into a run, displayed as `stop I before event E`, with events counted from 1, or as `stop I at the end`.
+/// An injection into a run, displayed as `stop I before event E`, with events counted from 1, or as `stop I at the
+/// end`.
+///
 /// Formats: The command line
 #[derive(Clone, Copy)]
 pub(crate) struct InjectionText<'a> {

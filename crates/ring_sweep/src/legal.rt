@@ -1,4 +1,5 @@
-//! Whether a run is legal, decided from its world alone.
+//! The check whether a run is legal, which uses only the run's world.
+//!
 //! Rules: Sessions 10 and 11
 //! Formats: The command line
 
@@ -20,7 +21,9 @@ use std::alloc::Allocator;
 
 /// Returns whether a run is legal: the order of its world is legal for its history, and each node's committed calls,
 /// duplicates removed, are a prefix of the order.
-/// Errors: `Memory`.
+///
+/// Errors: `Memory` if an allocation fails.
+///
 /// Rules: Sessions 10 and 11
 /// Formats: The command line
 pub(crate) fn is_legal<O: Object>(alloc: O::Alloc, world: &World<O>) -> Result<bool, Fault>
@@ -33,7 +36,7 @@ pub(crate) fn is_legal<O: Object>(alloc: O::Alloc, world: &World<O>) -> Result<b
     }
 }
 
-/// As [`is_legal`], given the order of the world.
+/// Returns whether a run is legal as [`is_legal`] does, given the order of the world.
 fn is_legal_by<O: Object>(
     alloc: O::Alloc,
     world: &World<O>,
@@ -50,7 +53,9 @@ fn is_legal_by<O: Object>(
     are_prefixes(alloc, world, order)
 }
 
-/// Whether each node's committed calls, duplicates removed, are a prefix of the order; or `Memory`.
+/// Returns whether each node's committed calls, duplicates removed, are a prefix of the order.
+///
+/// Errors: `Memory` if an allocation fails.
 fn are_prefixes<O: Object>(
     alloc: O::Alloc,
     world: &World<O>,
@@ -69,7 +74,9 @@ fn are_prefixes<O: Object>(
     Ok(true)
 }
 
-/// Whether a node's committed calls, duplicates removed, are a prefix of the order; or `Memory`.
+/// Returns whether a node's committed calls, duplicates removed, are a prefix of the order.
+///
+/// Errors: `Memory` if an allocation fails.
 fn has_prefix<O: Object>(
     alloc: O::Alloc,
     world: &World<O>,
@@ -87,7 +94,9 @@ fn has_prefix<O: Object>(
     }
 }
 
-/// Whether the calls, duplicates removed, are a prefix of the order; or `Memory`.
+/// Returns whether the calls, duplicates removed, are a prefix of the order.
+///
+/// Errors: `Memory` if an allocation fails.
 fn is_prefix<A: Allocator + Copy + Drop>(
     alloc: A,
     calls: &[Call<A>],
@@ -100,7 +109,7 @@ fn is_prefix<A: Allocator + Copy + Drop>(
     Ok(begins(order, effects.as_slice()))
 }
 
-/// Whether the order begins with the calls.
+/// Returns whether the order begins with the calls.
 fn begins<A: Allocator + Copy>(order: &[Call<A>], calls: &[Call<A>]) -> bool
     ensures { IsTrue result ↔ IsListPrefix calls.now order.now }
 {
@@ -115,7 +124,7 @@ fn begins<A: Allocator + Copy>(order: &[Call<A>], calls: &[Call<A>]) -> bool
     true
 }
 
-/// Whether the two are the same call: the same client, number and operation.
+/// Returns whether the two are the same call: the same client, number and operation.
 fn is_same<A: Allocator + Copy>(call: &Call<A>, other: &Call<A>) -> bool
     ensures { IsTrue result ↔ (call.now ≡ other.now) }
 {

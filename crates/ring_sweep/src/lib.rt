@@ -1,4 +1,6 @@
-//! The command `sweep`: a script is run again with a stop, or with an isolation, of each node before each of its events.
+//! The command `sweep`: a script is run again with a stop, and with an isolation, of each node before each of its
+//! events.
+//!
 //! Formats: The command line
 #![tactic(auto)]
 

@@ -1,4 +1,5 @@
 //! Running a range of the variants.
+//!
 //! Formats: The command line
 
 ghost use Rattle.std.specs.Prelude.{◌≡◌, ◌-◌, ◌+◌, IfOk, IfErr};
@@ -19,7 +20,9 @@ use ring_console::Script;
 use ring_failure::share_begin;
 use ring_object::Object;
 
-/// A range of the variants of a sweep, by their indices, counted from 0. It is empty where `upto` isn't above `from`.
+/// A range of the variants of a sweep, by their indices, counted from 0.
+///
+/// It is empty if `upto` isn't above `from`.
 #[derive(Clone, Copy)]
 pub(crate) struct VariantRange {
     /// The index of the first variant.
@@ -37,10 +40,14 @@ impl VariantRange {
     }
 }
 
-/// Runs the variants of one of `shares` shares of this range, in order. `share` is the share's index, counted from 0; 0
-/// shares count as one. Returns the injection of the first variant that isn't legal, or `None` where all are legal. The
-/// script itself is run once, up to the event of the last variant, and each variant as a copy of that run.
-/// Errors: `Memory`.
+/// Runs the variants of one of `shares` shares of this range, in order.
+///
+/// `share` is the share's index, counted from 0. 0 shares are treated as 1. Returns the injection of the first variant
+/// that isn't legal, or `None` if all are legal. The script itself is run once, up to the event of the last variant,
+/// and each variant as a copy of that run.
+///
+/// Errors: `Memory` if an allocation fails.
+///
 /// Rules: Sessions 10 and 11
 /// Formats: The command line
 pub(crate) fn try_share<O: Object>(
@@ -61,7 +68,7 @@ pub(crate) fn try_share<O: Object>(
     }
 }
 
-/// As [`try_share`], with a base run at the script's opening.
+/// Runs a share as [`try_share`] does, with a base run that must be at the script's opening.
 fn try_from_base<O: Object>(
     alloc: O::Alloc,
     ahead: &mut BaseRun<O>,
@@ -95,7 +102,7 @@ fn try_from_base<O: Object>(
     Ok(illegal)
 }
 
-/// Keeps the injection of this variant if the variant is not legal and none is kept yet.
+/// Stores the injection of variant `place` in `first` if the variant isn't legal and none is stored yet.
 fn keep_first(first: &mut Option<Injection>, is_legal: bool, count: u8, place: u64)
     requires { IsProc count }
     ensures { first.new ≡ first_illegal first.old is_legal (injection_at count place) }
@@ -105,7 +112,9 @@ fn keep_first(first: &mut Option<Injection>, is_legal: bool, count: u8, place: u
     }
 }
 
-/// Runs the variant with this injection from the base run, which is at the injection's event. Returns whether it is legal.
+/// Runs the variant with this injection from the base run, which must be at the injection's event.
+///
+/// Returns whether it is legal.
 fn try_one<O: Object>(
     alloc: O::Alloc,
     ahead: &BaseRun<O>,
@@ -124,7 +133,7 @@ fn try_one<O: Object>(
     }
 }
 
-/// As [`try_one`], in this copy of the base run.
+/// Runs a variant as [`try_one`] does, in a given copy of the base run.
 fn try_in<O: Object>(
     alloc: O::Alloc,
     ahead: &BaseRun<O>,

@@ -1,4 +1,5 @@
-//! Running all variants, with several threads.
+//! Running all variants, on several threads.
+//!
 //! Formats: The command line
 
 ghost use Rattle.std.specs.Prelude.{◌≡◌, ℕ, ◌-◌, ◌+◌, ◌<◌, ◌≤◌, IfOk, IfErr, max, vec_len, slice_index_or};
@@ -21,9 +22,13 @@ use std::time::Clock;
 /// The number of variants for each thread in the first round.
 const FIRST: u64 = 4;
 
-/// Runs the first `variants` variants with this number of threads, or one if that is 0. Returns the injection of the first
-/// variant that isn't legal, or `None` where all are legal. Writes its progress to `progress`, if that is given.
-/// Errors: `Memory`.
+/// Runs the first `variants` variants on `threads` threads, or one if that is 0.
+///
+/// Returns the injection of the first variant that isn't legal, or `None` if all are legal. Writes its progress to
+/// `progress`, if that is given.
+///
+/// Errors: `Memory` if an allocation fails.
+///
 /// Formats: The command line
 pub(crate) fn try_by_threads<O: Object<Alloc = Global> + Send, R: Threads + Clock + Sync, P: Write>(
     rt: &R,
@@ -87,7 +92,9 @@ fn try_rounds<O: Object<Alloc = Global> + Send, R: Threads + Clock + Sync, P: Wr
     Ok(found.or(others))
 }
 
-/// Runs the variants of a range with this number of threads. Returns the first that is not legal.
+/// Runs the variants of a range on several threads.
+///
+/// Returns the injection of the first one that isn't legal.
 fn try_part<O: Object<Alloc = Global> + Send, R: Threads + Sync>(
     rt: &R,
     alloc: Global,
@@ -104,7 +111,7 @@ fn try_part<O: Object<Alloc = Global> + Send, R: Threads + Sync>(
     first_in::<O>(script, part, threads, shares)
 }
 
-/// Runs a range in this number of shares, each in a thread of its own where one can be started.
+/// Runs a range in `shares` shares, each on a thread of its own if one can be started.
 fn try_shares<O: Object<Alloc = Global> + Send, R: Threads + Sync>(
     rt: &R,
     alloc: Global,
@@ -129,7 +136,9 @@ fn try_shares<O: Object<Alloc = Global> + Send, R: Threads + Sync>(
     )
 }
 
-/// Returns the first variant of all shares that is not legal, given that of each share.
+/// Returns the first illegal variant of all shares, given that of each share.
+///
+/// Errors: the first error of a share.
 fn first_in<O: Object<Alloc = Global>>(
     script: &Script<Global>,
     part: VariantRange,

@@ -1,4 +1,5 @@
 //! The position of an injection among the lines of a script.
+//!
 //! Formats: The command line
 
 ghost use Rattle.std.specs.Prelude.{◌≡◌, IfOk, IfErr};
@@ -17,15 +18,18 @@ use ring_object::Object;
 pub(crate) struct ScriptPosition {
     /// The number of effective lines before it, without `nodes` and `votes`.
     pub lines: usize,
-    /// The number of turns before it of the next line, if that is a pump; else 0.
+    /// The number of turns of the next line before it if that line is a pump, otherwise 0.
     pub turns: u32,
     /// The number of events before it.
     pub events: u64,
 }
 
-/// Returns the position directly before the event after `before` others. Returns the position after all lines where the
-/// script has no such event. It runs the script up to there.
-/// Errors: `Memory`.
+/// Returns the position directly before the event after `before` others.
+///
+/// If the script has no such event, returns the position after all lines. Runs the script up to the position.
+///
+/// Errors: `Memory` if an allocation fails.
+///
 /// Formats: The command line
 pub(crate) fn position_of<O: Object>(
     alloc: O::Alloc,
@@ -42,7 +46,7 @@ pub(crate) fn position_of<O: Object>(
     }
 }
 
-/// As [`position_of`], with a base run at the script's opening.
+/// Finds a position as [`position_of`] does, with a base run that must be at the script's opening.
 fn position_from<O: Object>(
     ahead: &mut BaseRun<O>,
     script: &Script<O::Alloc>,

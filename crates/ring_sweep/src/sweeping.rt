@@ -1,4 +1,5 @@
 //! Sweeping a script, and printing the result.
+//!
 //! Formats: The command line
 
 ghost use Rattle.std.specs.Prelude.{◌≡◌, ℕ, ◌+◌, ◌*◌, ◌≤◌, ◌⊎◌, ◌↔◌, true, false, List, Some, None, Ok, Err, IfOk, IfErr, OnOk};
@@ -31,29 +32,37 @@ use std::thread::Threads;
 use std::time::Clock;
 
 /// The result of a complete sweep of a script.
+///
 /// Formats: The command line
 #[derive(Clone, Copy, Debug, PartialEq, Eq)]
 pub struct SweepResult {
-    /// The number of the script's events: each turn of a pump that delivers a copy is one.
+    /// The number of the script's events.
+    ///
+    /// Each turn of a pump that delivers a copy is one event.
     pub events: u64,
     /// The number of variants that were run: 2 * (M + 1) * N for M events and N nodes.
     pub variants: u64,
-    /// The injection of the first variant that isn't legal. It is `None` where all are legal.
+    /// The injection of the first variant that isn't legal, or `None` if all are legal.
     pub illegal: Option<Injection>,
 }
 
-/// Reads a script over the program's object, and runs it again with an injection before each of its events and at its end:
-/// each node stops, and each node is cut off from all others. A variant is legal if the order of its world is legal for its
-/// history, and each node's committed calls, duplicates removed, are a prefix of the order.
-/// Prints the number of events, the number of variants, and whether all are legal. Returns the exit status: 0, else 1.
+/// Reads a script for the standard object, and runs it again with each injection before each of its events and at its
+/// end.
+///
+/// An injection stops a node, or cuts it off from all others.
+///
+/// A variant is legal if the order of its world is legal for its history, and each node's committed calls, duplicates
+/// removed, are a prefix of the order. Prints the number of events, the number of variants, and whether all are legal.
+/// Returns the exit status: 0 if all variants are legal, otherwise 1.
 ///
 /// Errors:
+///
 /// - A variant isn't legal: `legal no` is printed, and the first such variant is reported on `err`.
-/// - `BadScript` where the input isn't a script: reported on `err`, and nothing is printed.
-/// - `Memory` where it is refused to the reading or to a run itself: reported on `err`, and nothing is printed.
+/// - `BadScript` if the input isn't a script: reported on `err`, and nothing is printed.
+/// - `Memory` if an allocation for the reading or for a run itself fails: reported on `err`, and nothing is printed.
 /// - `out` fails: nothing is reported.
 ///
-/// So where `out` and `err` both change, the text of the sweep is on `out`, with `legal no`.
+/// So if both `out` and `err` change, the text of the sweep is on `out`, with `legal no`.
 ///
 /// Rules: Sessions 10 and 11
 /// Formats: The command line
@@ -77,8 +86,12 @@ pub fn sweep<A: Allocator + Copy + Drop, R: Read, O: Write, E: Write>(
     sweep_of::<StandardObjects<A>, ShelfVocabulary, R, O, E>(alloc, input, out, err)
 }
 
-/// Sweeps a script as [`sweep`] does, over this object and vocabulary. Returns the exit status: 0, else 1.
+/// Sweeps a script as [`sweep`] does, for objects `T` with the vocabulary `V`.
+///
+/// Returns the exit status: 0 if all variants are legal, otherwise 1.
+///
 /// Errors: as for [`sweep`].
+///
 /// Rules: Sessions 10 and 11
 /// Formats: The command line
 pub fn sweep_of<T: Object, V: Vocabulary, R: Read, O: Write, E: Write>(
@@ -102,7 +115,7 @@ pub fn sweep_of<T: Object, V: Vocabulary, R: Read, O: Write, E: Write>(
     }
 }
 
-/// As [`sweep_of`], for a parsed script.
+/// Sweeps a parsed script as [`sweep_of`] does.
 fn sweep_script<T: Object, O: Write, E: Write>(
     alloc: T::Alloc,
     script: &Script<T::Alloc>,
@@ -121,10 +134,14 @@ fn sweep_script<T: Object, O: Write, E: Write>(
     verdict_status(err, done)
 }
 
-/// Sweeps a script as [`sweep`] does, with this number of threads, or one if that is 0. Neither output depends on that
-/// number. Where there is a `progress`, it gets the progress from the first second on, and at the end the sequence that
-/// clears it from a terminal. Returns the exit status: 0, else 1.
+/// Sweeps a script as [`sweep`] does, on `threads` threads, or one if that is 0.
+///
+/// Neither output depends on that number. If there is a `progress`, it gets the progress from the first second on, and
+/// at the end the sequence that clears it from a terminal. Returns the exit status: 0 if all variants are legal,
+/// otherwise 1.
+///
 /// Errors: as for [`sweep`]. Errors of `progress` are ignored.
+///
 /// Formats: The command line
 pub fn sweep_by_threads<R: Threads + Clock + Sync, I: Read, O: Write, E: Write, P: Write>(
     rt: &R,
@@ -151,8 +168,12 @@ pub fn sweep_by_threads<R: Threads + Clock + Sync, I: Read, O: Write, E: Write, 
     )
 }
 
-/// Sweeps a script as [`sweep_by_threads`] does, over this object and vocabulary. Returns the exit status: 0, else 1.
+/// Sweeps a script as [`sweep_by_threads`] does, for objects `T` with the vocabulary `V`.
+///
+/// Returns the exit status: 0 if all variants are legal, otherwise 1.
+///
 /// Errors: as for [`sweep_by_threads`].
+///
 /// Formats: The command line
 pub fn sweep_of_by_threads<
     T: Object<Alloc = Global> + Send,
@@ -189,7 +210,9 @@ pub fn sweep_of_by_threads<
     verdict_status(err, done)
 }
 
-/// Prints the result of a sweep. Errors: `Output`; or the sweep's own, `Refused` with `Memory`.
+/// Prints the result of a sweep.
+///
+/// Errors: `Output` if `out` fails; otherwise the fault of the sweep, as `Refused` with `Memory`.
 fn print_all<T: Object, O: Write>(
     script: &Script<T::Alloc>,
     swept: Result<SweepResult, Fault>,
@@ -208,8 +231,11 @@ fn print_all<T: Object, O: Write>(
     Ok(swept)
 }
 
-/// Returns the exit status of a sweep: 0 exactly where all variants are legal, else 1. Reports the first variant that isn't
-/// legal, or the failure, on `err`. A failed output isn't reported. Errors of `err` itself are ignored.
+/// Returns the exit status of a sweep: 0 exactly if all variants are legal, otherwise 1.
+///
+/// Reports the first variant that isn't legal, or the failure, on `err`. A failed output isn't reported. Errors of
+/// `err` itself are ignored.
+///
 /// Formats: The command line
 pub fn verdict_status<E: Write>(err: &mut E, done: Result<SweepResult, Failure>) -> u8
     ensures status { result ≤ 1 }
@@ -238,7 +264,7 @@ fn sweep_result_status<E: Write>(err: &mut E, swept: &SweepResult) -> u8
     }
 }
 
-/// Writes a line that names the variant of a script with this number of events, by its injection.
+/// Writes a line that names a variant by its injection, for a script with `events` events.
 fn report_illegal<E: Write>(err: &mut E, injection: &Injection, events: u64) -> io::Result<()>
     ensures { OnOk result (Appends (E.contents err.old) (E.contents err.new) (line_of (injection_text events injection.now))) }
 {
@@ -246,7 +272,9 @@ fn report_illegal<E: Write>(err: &mut E, injection: &Injection, events: u64) -> 
     writeln!(err, "{told}")
 }
 
-/// Prints the result of a sweep. `Output` where writing fails.
+/// Prints the result of a sweep.
+///
+/// Errors: `Output` if writing fails.
 fn print_result<O: Write>(swept: &SweepResult, out: &mut O) -> Result<(), Failure>
     ensures lines { OnOk result (Appends (O.contents out.old) (O.contents out.new) (sweep_text swept.now)) }
     ensures failed { IfErr result (λ failure. failure ≡ Output) }
@@ -272,7 +300,7 @@ fn run_all<O: Object>(alloc: O::Alloc, script: &Script<O::Alloc>) -> Result<Swee
     })
 }
 
-/// As `run_all`, with this number of threads, or one if that is 0.
+/// Runs the script and its variants as `run_all` does, on `threads` threads, or one if that is 0.
 fn run_all_by_threads<O: Object<Alloc = Global> + Send, R: Threads + Clock + Sync, P: Write>(
     rt: &R,
     alloc: Global,
@@ -306,7 +334,9 @@ fn count_events<O: Object>(alloc: O::Alloc, script: &Script<O::Alloc>) -> Result
     }
 }
 
-/// Returns the number of the script's events, by a run at its opening.
+/// Returns the number of the script's events.
+///
+/// `whole` must be a run at its opening.
 fn count_from<O: Object>(whole: &mut CountedRun<O>, script: &Script<O::Alloc>) -> Result<u64, Fault>
     requires fit { AreFit script.now.lines.items }
     requires opening { (whole.old.run ≡ run_opening script.now.nodes) × (whole.old.done ≡ 0) }
@@ -317,8 +347,9 @@ fn count_from<O: Object>(whole: &mut CountedRun<O>, script: &Script<O::Alloc>) -
     Ok(whole.done())
 }
 
-/// Returns the number of variants of a script with this number of events and nodes. `Memory` where no u64 holds it, which no
-/// world reaches.
+/// Returns the number of variants of a script with `events` events and `count` nodes.
+///
+/// Errors: `Memory` if the number exceeds a u64, which no world reaches.
 fn count_variants(events: u64, count: u8) -> Result<u64, Fault>
     ensures ok { IfOk result (λ variants. variants ≡ 2 * (events + 1) * count) }
     ensures refused { IfErr result (λ fault. fault ≡ Memory) }
@@ -328,7 +359,9 @@ fn count_variants(events: u64, count: u8) -> Result<u64, Fault>
     places.checked_mul(each).ok_or(Fault::Memory)
 }
 
-/// Runs the first `variants` variants. Returns the first that is not legal: `None` where all are.
+/// Runs the first `variants` variants on this thread.
+///
+/// Returns the injection of the first one that isn't legal, or `None` if all are.
 fn try_alone<O: Object>(
     alloc: O::Alloc,
     script: &Script<O::Alloc>,

@@ -1,4 +1,5 @@
-//! The script of a variant: the script's own text, with the line of the injection.
+//! The script of a variant: the text of the script, with the line of the injection added.
+//!
 //! Formats: The command line
 
 ghost use Rattle.std.specs.Prelude.{◌≡◌, ◌-◌, ◌≤◌, ◌⊎◌, Ok, IfErr, OnOk, length};
@@ -25,14 +26,16 @@ use ring_object::Object;
 use std::alloc::Allocator;
 use std::io::Write;
 
-/// Prints the script of the variant with the number `place`, counted from 1, of the sweep of a script over the program's
-/// object. It is the script's own text, with the injected line and a comment above it. A pump with the injection among its
-/// turns is split in two. Returns the exit status: 0, or one of these.
+/// Prints the script of the variant with the number `place`, counted from 1, of the sweep of a script for the standard
+/// object.
 ///
-/// - 2 where there is no such variant: reported on `err`, and nothing is printed.
-/// - 1 where the text isn't a script (`BadScript`) or memory is refused (`Memory`): reported on `err`, and nothing is
+/// It is the text of the script, with the injected line and a comment above it. A pump with the injection among its
+/// turns is split in two. Returns the exit status: 0, or one of the following:
+///
+/// - 2 if there is no such variant: reported on `err`, and nothing is printed.
+/// - 1 if the text isn't a script (`BadScript`) or an allocation fails (`Memory`): reported on `err`, and nothing is
 ///   printed.
-/// - 1 where `out` fails: nothing is reported.
+/// - 1 if `out` fails: nothing is reported.
 ///
 /// Formats: The command line
 pub fn print_variant<A: Allocator + Copy + Drop, O: Write, E: Write>(
@@ -56,9 +59,12 @@ pub fn print_variant<A: Allocator + Copy + Drop, O: Write, E: Write>(
     print_variant_of::<StandardObjects<A>, ShelfVocabulary, O, E>(alloc, text, place, out, err)
 }
 
-/// Prints the script of a variant as [`print_variant`] does, over this object and vocabulary. Returns the exit status, 0 to
-/// 2.
+/// Prints the script of a variant as [`print_variant`] does, for objects `T` with the vocabulary `V`.
+///
+/// Returns the exit status, 0 to 2.
+///
 /// Errors: as for [`print_variant`].
+///
 /// Formats: The command line
 pub fn print_variant_of<T: Object, V: Vocabulary, O: Write, E: Write>(
     alloc: T::Alloc,
@@ -84,7 +90,7 @@ pub fn print_variant_of<T: Object, V: Vocabulary, O: Write, E: Write>(
     }
 }
 
-/// As [`print_variant_of`], given the parsed script of the text.
+/// Prints the script of a variant as [`print_variant_of`] does, given the text's parsed script.
 fn print_variant_in<T: Object, O: Write, E: Write>(
     alloc: T::Alloc,
     text: &[u8],
@@ -117,7 +123,9 @@ fn print_variant_in<T: Object, O: Write, E: Write>(
     }
 }
 
-/// Prints a script's text with an injection at this position. `Output` where writing fails.
+/// Prints a script's text with an injection at this position.
+///
+/// Errors: `Output` if writing fails.
 fn print_with<A: Allocator + Copy, O: Write>(
     text: &[u8],
     script: &Script<A>,
@@ -141,7 +149,9 @@ fn print_with<A: Allocator + Copy, O: Write>(
     }
 }
 
-/// Prints a text with the injected lines before one of its lines, or after `taken` turns of that. `Output` where writing fails.
+/// Prints a text with the injected lines before the line `next`, or after `taken` turns of it.
+///
+/// Errors: `Output` if writing fails.
 fn print_with_line<A: Allocator + Copy, O: Write>(
     text: &[u8],
     next: &NumberedLine<A>,
@@ -160,7 +170,7 @@ fn print_with_line<A: Allocator + Copy, O: Write>(
     print_text(&behind[end..], out)
 }
 
-/// Returns the index of the first byte of the line of this number, counted from 1: the length of the text where it has no such
+/// Returns the index of the first byte of line `number`, counted from 1, or the length of the text if it has no such
 /// line.
 fn line_begin(text: &[u8], number: u64) -> usize
     ensures { result ≤ length text.now }
@@ -177,7 +187,9 @@ fn line_begin(text: &[u8], number: u64) -> usize
     text.len()
 }
 
-/// Prints a text, and the injected lines after it. `Output` where writing fails.
+/// Prints a text, and the injected lines after it.
+///
+/// Errors: `Output` if writing fails.
 fn print_with_end<O: Write>(text: &[u8], put_in: &InjectedLines, out: &mut O) -> Result<(), Failure>
     ensures printed { OnOk result (HasPrinted (O.contents out.old) (O.contents out.new) (HasInjection put_in.now.injection)) }
     ensures failed { IfErr result (λ failure. failure ≡ Output) }
@@ -186,8 +198,9 @@ fn print_with_end<O: Write>(text: &[u8], put_in: &InjectedLines, out: &mut O) ->
     print_injected(put_in, out)
 }
 
-/// Prints the injected lines before a line, or between its first `taken` turns and the others, as two pumps. `Output` where
-/// writing fails.
+/// Prints the injected lines before a line, or between its first `taken` turns and the others, which become two pumps.
+///
+/// Errors: `Output` if writing fails.
 fn print_line<A: Allocator + Copy, O: Write>(
     text: &[u8],
     line: &ScriptLine<A>,
@@ -204,7 +217,9 @@ fn print_line<A: Allocator + Copy, O: Write>(
     }
 }
 
-/// Prints the injected lines between the first `taken` turns of a pump and the others. `Output` where writing fails.
+/// Prints the injected lines between the first `taken` turns of a pump and the others.
+///
+/// Errors: `Output` if writing fails.
 fn print_split_pump<O: Write>(
     turns: u32,
     taken: u32,
@@ -219,7 +234,9 @@ fn print_split_pump<O: Write>(
     print_pump(turns.saturating_sub(taken), out)
 }
 
-/// Prints the injected lines before a text. `Output` where writing fails.
+/// Prints the injected lines before a text.
+///
+/// Errors: `Output` if writing fails.
 fn print_before<O: Write>(text: &[u8], put_in: &InjectedLines, out: &mut O) -> Result<(), Failure>
     ensures printed { OnOk result (HasPrinted (O.contents out.old) (O.contents out.new) (HasInjection put_in.now.injection)) }
     ensures failed { IfErr result (λ failure. failure ≡ Output) }
@@ -235,7 +252,9 @@ fn print_pump<O: Write>(turns: u32, out: &mut O) -> Result<(), Failure>
     output_result(writeln!(out, "pump {turns}"))
 }
 
-/// Prints a text, and a line feed if its last line has none. `Output` where writing fails.
+/// Prints a text, and a line feed if its last line has none.
+///
+/// Errors: `Output` if writing fails.
 fn print_text<O: Write>(text: &[u8], out: &mut O) -> Result<(), Failure>
     ensures printed { OnOk result (IsGrown (O.contents out.old) (O.contents out.new)) }
     ensures failed { IfErr result (λ failure. failure ≡ Output) }
@@ -254,8 +273,9 @@ fn print_bytes<O: Write>(bytes: &[u8], out: &mut O) -> Result<(), Failure>
     output_result(out.write_all(bytes))
 }
 
-/// The injected lines: a comment, and the line of the injection. The comment stays alone where a node of a group of one is to
-/// be cut off.
+/// The injected lines: a comment, and the line of the injection.
+///
+/// The line is missing if the only node of a group is to be cut off: only the comment is printed.
 #[derive(Clone, Copy)]
 struct InjectedLines {
     injection: Injection,
@@ -289,7 +309,9 @@ impl InjectedLines {
     }
 }
 
-/// Prints the injected lines. `Output` where writing fails.
+/// Prints the injected lines.
+///
+/// Errors: `Output` if writing fails.
 fn print_injected<O: Write>(put_in: &InjectedLines, out: &mut O) -> Result<(), Failure>
     ensures printed { OnOk result (HasPrinted (O.contents out.old) (O.contents out.new) (BeginsWithInjection put_in.now.injection)) }
     ensures failed { IfErr result (λ failure. failure ≡ Output) }
@@ -298,7 +320,9 @@ fn print_injected<O: Write>(put_in: &InjectedLines, out: &mut O) -> Result<(), F
     print_injection(put_in, out)
 }
 
-/// Prints the comment that names the injection. `Output` where writing fails.
+/// Prints the comment that names the injection.
+///
+/// Errors: `Output` if writing fails.
 fn print_comment<O: Write>(injection: &Injection, events: u64, out: &mut O) -> Result<(), Failure>
     ensures printed { OnOk result (Appends (O.contents out.old) (O.contents out.new) (comment_of events injection.now)) }
     ensures failed { IfErr result (λ failure. failure ≡ Output) }
@@ -307,7 +331,9 @@ fn print_comment<O: Write>(injection: &Injection, events: u64, out: &mut O) -> R
     output_result(writeln!(out, "# {told}"))
 }
 
-/// Prints the line of the injection, if it has one. `Output` where writing fails.
+/// Prints the line of the injection, if it has one.
+///
+/// Errors: `Output` if writing fails.
 fn print_injection<O: Write>(put_in: &InjectedLines, out: &mut O) -> Result<(), Failure>
     ensures printed { OnOk result (IsGrown (O.contents out.old) (O.contents out.new)) }
     ensures failed { IfErr result (λ failure. failure ≡ Output) }
@@ -336,7 +362,9 @@ fn print_node<O: Write>(number: u8, out: &mut O) -> Result<(), Failure>
     output_result(write!(out, "{number}"))
 }
 
-/// Prints all nodes of a group but this one, separated by commas. `Output` where writing fails.
+/// Prints all nodes of a group except `node`, separated by commas.
+///
+/// Errors: `Output` if writing fails.
 fn print_other_nodes<O: Write>(node: Proc, count: u8, out: &mut O) -> Result<(), Failure>
     ensures printed { OnOk result (IsGrown (O.contents out.old) (O.contents out.new)) }
     ensures failed { IfErr result (λ failure. failure ≡ Output) }

@@ -14,7 +14,7 @@ use Rattle.ring_core_proof.specs.Samples.{ring_of}
 use Rattle.ring_synchrony_examples.specs.Words.{call_of, long_call_of, call, long_call, call_content, head, head_after, part}
 use Rattle.ring_synchrony_examples.specs.Words.{pack, wrapped, message, token, join, report, commit}
 
--- the events, in order
+-- The events, in order.
 abbrev pub events : List (RingEvent Global)
 events =
     TimeEvent 1 JoinTime ∷ TimeEvent 2 JoinTime ∷ TimeEvent 3 JoinTime ∷ TimeEvent 4 JoinTime ∷ TimeEvent 5 JoinTime ∷ Deliver 2 1 ∷ Deliver 3 1 ∷
@@ -42,7 +42,7 @@ events =
     SendEvent 5 (part 0 (call_of 25 1 ∷ [])) ∷ Deliver 2 88 ∷ Deliver 1 89 ∷ Deliver 3 89 ∷ Deliver 5 52 ∷ Deliver 5 89 ∷ Deliver 1 90 ∷
     Deliver 3 90 ∷ Deliver 4 90 ∷ Deliver 5 90 ∷ Deliver 3 91 ∷ Deliver 5 76 ∷ Deliver 1 92 ∷ Deliver 4 92 ∷ []
 
--- the outputs in order, each with its processor
+-- The outputs in order, each with its processor.
 abbrev pub outs : List (ℕ × Out Global)
 outs =
     (1, SendOut 30 (join 1 0 31 0)) ∷ (2, SendOut 29 (join 2 0 31 0)) ∷ (3, SendOut 27 (join 3 0 31 0)) ∷ (4, SendOut 23 (join 4 0 31 0)) ∷
@@ -163,6 +163,6 @@ outs =
     (3, Agreed (ring_of 1 1) 18 (message (ring_of 1 1) 18 3 (part 0 (call_of 23 1 ∷ [])))) ∷
     (1, Agreed (ring_of 1 1) 11 (message (ring_of 1 1) 11 3 (call 8 1))) ∷ (4, Agreed (ring_of 1 1) 11 (message (ring_of 1 1) 11 3 (call 8 1))) ∷ []
 
--- the world to which the schedule leads
+-- The world to which the schedule leads.
 abbrev pub world : World Global
 world = run (unformed 5) events

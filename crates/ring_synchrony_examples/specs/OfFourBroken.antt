@@ -14,7 +14,7 @@ use Rattle.ring_core_proof.specs.Samples.{ring_of}
 use Rattle.ring_synchrony_examples.specs.Words.{call_of, long_call_of, call, long_call, call_content, head, head_after, pack}
 use Rattle.ring_synchrony_examples.specs.Words.{pack_content, wrapped, message, token, join, report, commit}
 
--- the events, in order
+-- The events, in order.
 abbrev pub events : List (RingEvent Global)
 events =
     TimeEvent 1 JoinTime ∷ TimeEvent 2 JoinTime ∷ TimeEvent 3 JoinTime ∷ TimeEvent 4 JoinTime ∷ Deliver 2 1 ∷ Deliver 3 1 ∷ Deliver 4 1 ∷
@@ -45,7 +45,7 @@ events =
     Deliver 3 139 ∷ Deliver 4 140 ∷ TimeEvent 1 Loss ∷ TimeEvent 2 Loss ∷ TimeEvent 3 Loss ∷ Deliver 1 141 ∷ Deliver 1 143 ∷ Deliver 2 142 ∷
     Deliver 4 143 ∷ []
 
--- the outputs in order, each with its processor
+-- The outputs in order, each with its processor.
 abbrev pub outs : List (ℕ × Out Global)
 outs =
     (1, SendOut 14 (join 1 0 15 0)) ∷ (2, SendOut 13 (join 2 0 15 0)) ∷ (3, SendOut 11 (join 3 0 15 0)) ∷ (4, SendOut 7 (join 4 0 15 0)) ∷
@@ -168,6 +168,6 @@ outs =
     (3, SendOut 8 (token (ring_of 2 1) 19 5 2 (Some 1) [])) ∷ (4, SendOut 1 (token (ring_of 2 1) 20 5 2 (Some 1) [])) ∷
     (1, SendOut 14 (join 1 2 15 0)) ∷ (2, SendOut 13 (join 2 2 15 0)) ∷ (3, SendOut 11 (join 3 2 15 0)) ∷ (4, SendOut 7 (join 4 2 15 0)) ∷ []
 
--- the world to which the schedule leads
+-- The world to which the schedule leads.
 abbrev pub world : World Global
 world = run (unformed 4) events

@@ -15,7 +15,7 @@ use Rattle.ring_core_proof.specs.Samples.{ring_of}
 use Rattle.ring_synchrony_examples.specs.Words.{call_of, call, call_content, head_after, head_content_after, pack, pack_content}
 use Rattle.ring_synchrony_examples.specs.Words.{wrapped, message, token, join, report, commit}
 
--- the events, in order
+-- The events, in order.
 abbrev pub events : List (RingEvent Global)
 events =
     Deliver 2 1 ∷ Deliver 3 2 ∷ Deliver 4 3 ∷ Deliver 1 4 ∷ Deliver 2 5 ∷ Deliver 3 6 ∷ Deliver 4 7 ∷ Deliver 1 8 ∷ Deliver 2 9 ∷ Deliver 3 10 ∷
@@ -33,7 +33,7 @@ events =
     Deliver 2 47 ∷ Deliver 3 48 ∷ Deliver 4 49 ∷ Deliver 1 50 ∷ Deliver 2 51 ∷ Deliver 3 52 ∷ Deliver 4 53 ∷ Deliver 1 54 ∷ Deliver 2 55 ∷
     Deliver 3 56 ∷ Deliver 4 57 ∷ Deliver 1 58 ∷ Deliver 2 59 ∷ []
 
--- the outputs in order, each with its processor
+-- The outputs in order, each with its processor.
 abbrev pub outs : List (ℕ × Out Global)
 outs =
     (2, SendOut 4 (token (ring_of 1 1) 2 0 0 None [])) ∷ (3, SendOut 8 (token (ring_of 1 1) 3 0 0 None [])) ∷
@@ -121,6 +121,6 @@ outs =
     (4, SendOut 1 (token (ring_of 2 1) 16 8 8 None [])) ∷ (1, SendOut 2 (token (ring_of 2 1) 17 8 8 None [])) ∷
     (2, SendOut 4 (token (ring_of 2 1) 18 8 8 None [])) ∷ []
 
--- the world to which the schedule leads
+-- The world to which the schedule leads.
 abbrev pub world : World Global
 world = run (ring_formed 4) events

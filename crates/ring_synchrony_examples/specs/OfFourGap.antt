@@ -14,7 +14,7 @@ use Rattle.ring_core_proof.specs.Worlds.{World, run, unformed}
 use Rattle.ring_core_proof.specs.Samples.{ring_of}
 use Rattle.ring_synchrony_examples.specs.Words.{call_of, call, call_content, part, wrapped, message, token, join, report, commit}
 
--- the events, in order
+-- The events, in order.
 abbrev pub events : List (RingEvent Global)
 events =
     TimeEvent 1 JoinTime ∷ TimeEvent 2 JoinTime ∷ TimeEvent 3 JoinTime ∷ TimeEvent 4 JoinTime ∷ Deliver 2 1 ∷ Deliver 3 1 ∷ Deliver 4 1 ∷
@@ -42,7 +42,7 @@ events =
     Deliver 4 90 ∷ Deliver 1 91 ∷ Deliver 1 92 ∷ Deliver 3 93 ∷ Deliver 2 94 ∷ Deliver 4 96 ∷ Deliver 1 97 ∷ Deliver 3 98 ∷ Deliver 3 99 ∷
     Deliver 2 100 ∷ Deliver 4 101 ∷ TimeEvent 3 Retransmit ∷ Deliver 4 102 ∷ []
 
--- the outputs in order, each with its processor
+-- The outputs in order, each with its processor.
 abbrev pub outs : List (ℕ × Out Global)
 outs =
     (1, SendOut 14 (join 1 0 15 0)) ∷ (2, SendOut 13 (join 2 0 15 0)) ∷ (3, SendOut 11 (join 3 0 15 0)) ∷ (4, SendOut 7 (join 4 0 15 0)) ∷
@@ -136,6 +136,6 @@ outs =
     (2, Regular (ring_of 2 1) 3) ∷ (2, Safe (ring_of 2 1) 4) ∷ (3, SendOut 8 (token (ring_of 3 3) 3 2 0 (Some 4) [])) ∷
     (4, SendOut 4 (token (ring_of 3 3) 4 2 2 None [])) ∷ []
 
--- the world to which the schedule leads
+-- The world to which the schedule leads.
 abbrev pub world : World Global
 world = run (unformed 4) events

@@ -16,7 +16,7 @@ use Rattle.ring_synchrony_examples.specs.Words.{call_of, long_call_of, call, lon
 use Rattle.ring_synchrony_examples.specs.Words.{head_content_after, pack, pack_content, wrapped, message, token, join, report}
 use Rattle.ring_synchrony_examples.specs.Words.{commit}
 
--- the events, in order
+-- The events, in order.
 abbrev pub events : List (RingEvent Global)
 events =
     TimeEvent 1 JoinTime ∷ TimeEvent 2 JoinTime ∷ TimeEvent 3 JoinTime ∷ TimeEvent 4 JoinTime ∷ Deliver 2 1 ∷ Deliver 3 1 ∷ Deliver 4 1 ∷
@@ -45,7 +45,7 @@ events =
     Deliver 3 126 ∷ Deliver 1 127 ∷ Deliver 1 69 ∷ Deliver 3 128 ∷ Deliver 1 129 ∷ Deliver 3 130 ∷ Deliver 1 131 ∷ Deliver 3 132 ∷ Deliver 1 133 ∷
     SendEvent 3 (call 32 1) ∷ SendEvent 2 (call 33 1) ∷ Deliver 3 134 ∷ Deliver 1 136 ∷ []
 
--- the outputs in order, each with its processor
+-- The outputs in order, each with its processor.
 abbrev pub outs : List (ℕ × Out Global)
 outs =
     (1, SendOut 14 (join 1 0 15 0)) ∷ (2, SendOut 13 (join 2 0 15 0)) ∷ (3, SendOut 11 (join 3 0 15 0)) ∷ (4, SendOut 7 (join 4 0 15 0)) ∷
@@ -165,6 +165,6 @@ outs =
     (3, SendOut 1 (MessageFrame (message (ring_of 2 1) 7 3 (call 32 1)))) ∷ (3, SendOut 1 (token (ring_of 2 1) 28 7 7 None [])) ∷
     (3, Agreed (ring_of 2 1) 7 (message (ring_of 2 1) 7 3 (call 32 1))) ∷ (1, SendOut 4 (token (ring_of 2 1) 29 7 6 (Some 1) (7 ∷ []))) ∷ []
 
--- the world to which the schedule leads
+-- The world to which the schedule leads.
 abbrev pub world : World Global
 world = run (unformed 4) events

@@ -11,7 +11,7 @@ use Rattle.ring_core_proof.specs.Worlds.{World, run, unformed}
 use Rattle.ring_core_proof.specs.Samples.{ring_of}
 use Rattle.ring_synchrony_examples.specs.Words.{call_of, call, call_content, head, head_after, pack, wrapped, message, token, report, commit}
 
--- the events, in order
+-- The events, in order.
 abbrev pub events : List (RingEvent Global)
 events =
     TimeEvent 1 JoinTime ∷ Deliver 1 1 ∷ Deliver 1 2 ∷ Deliver 1 3 ∷ Deliver 1 4 ∷ Deliver 1 5 ∷ Deliver 1 6 ∷ Deliver 1 7 ∷ Deliver 1 8 ∷
@@ -33,7 +33,7 @@ events =
     Deliver 1 123 ∷ Deliver 1 124 ∷ Deliver 1 125 ∷ Deliver 1 126 ∷ Deliver 1 127 ∷ Deliver 1 128 ∷ Deliver 1 129 ∷ Deliver 1 130 ∷ Deliver 1 131 ∷
     Deliver 1 132 ∷ Deliver 1 133 ∷ Deliver 1 134 ∷ Deliver 1 135 ∷ Deliver 1 136 ∷ []
 
--- the outputs in order, each with its processor
+-- The outputs in order, each with its processor.
 abbrev pub outs : List (ℕ × Out Global)
 outs =
     (1, SendOut 1 (commit (ring_of 1 1) 1 1 (report (ring_of 0 1) 0 0 0 ∷ []))) ∷
@@ -110,6 +110,6 @@ outs =
     (1, SendOut 1 (token (ring_of 2 1) 122 4 4 None [])) ∷ (1, SendOut 1 (token (ring_of 2 1) 123 4 4 None [])) ∷
     (1, SendOut 1 (token (ring_of 2 1) 124 4 4 None [])) ∷ (1, SendOut 1 (token (ring_of 2 1) 125 4 4 None [])) ∷ []
 
--- the world to which the schedule leads
+-- The world to which the schedule leads.
 abbrev pub world : World Global
 world = run (unformed 1) events

@@ -13,7 +13,7 @@ use Rattle.ring_core_proof.specs.Worlds.{World, run, unformed}
 use Rattle.ring_core_proof.specs.Samples.{ring_of}
 use Rattle.ring_synchrony_examples.specs.Words.{long_call_of, call, long_call, head, message, token, join, report, commit}
 
--- the events, in order
+-- The events, in order.
 abbrev pub events : List (RingEvent Global)
 events =
     TimeEvent 1 JoinTime ∷ TimeEvent 2 JoinTime ∷ TimeEvent 3 JoinTime ∷ TimeEvent 4 JoinTime ∷ TimeEvent 5 JoinTime ∷ TimeEvent 6 JoinTime ∷
@@ -42,7 +42,7 @@ events =
     Deliver 6 79 ∷ TimeEvent 1 Loss ∷ TimeEvent 2 Loss ∷ TimeEvent 3 Loss ∷ TimeEvent 4 Loss ∷ Deliver 1 80 ∷ Deliver 6 81 ∷ Deliver 1 82 ∷
     Deliver 6 83 ∷ Deliver 1 85 ∷ Deliver 3 86 ∷ Deliver 2 87 ∷ Deliver 5 88 ∷ Deliver 6 88 ∷ TimeEvent 2 Consensus ∷ TimeEvent 4 Consensus ∷ []
 
--- the outputs in order, each with its processor
+-- The outputs in order, each with its processor.
 abbrev pub outs : List (ℕ × Out Global)
 outs =
     (1, SendOut 62 (join 1 0 63 0)) ∷ (2, SendOut 61 (join 2 0 63 0)) ∷ (3, SendOut 59 (join 3 0 63 0)) ∷ (4, SendOut 55 (join 4 0 63 0)) ∷
@@ -131,6 +131,6 @@ outs =
     (6, SendOut 31 (join 6 2 63 0)) ∷ (2, SendOut 61 (join 2 2 63 57)) ∷ (4, SendOut 55 (join 4 2 63 55)) ∷
     (4, SendOut 8 (commit (ring_of 3 4) 8 1 (report (ring_of 1 1) 8 6 0 ∷ []))) ∷ []
 
--- the world to which the schedule leads
+-- The world to which the schedule leads.
 abbrev pub world : World Global
 world = run (unformed 6) events

@@ -14,7 +14,7 @@ use Rattle.ring_core_proof.specs.Worlds.{World, run, unformed}
 use Rattle.ring_core_proof.specs.Samples.{ring_of}
 use Rattle.ring_synchrony_examples.specs.Words.{call, call_content, head, head_content, wrapped, message, token, join, report, commit}
 
--- the events, in order
+-- The events, in order.
 abbrev pub events : List (RingEvent Global)
 events =
     TimeEvent 1 JoinTime ∷ TimeEvent 2 JoinTime ∷ TimeEvent 3 JoinTime ∷ Deliver 2 1 ∷ Deliver 2 1 ∷ Deliver 3 1 ∷ Deliver 1 2 ∷ Deliver 3 2 ∷
@@ -45,7 +45,7 @@ events =
     TimeEvent 1 Consensus ∷ TimeEvent 2 Consensus ∷ TimeEvent 3 Consensus ∷ Deliver 3 167 ∷ Deliver 1 168 ∷ Deliver 3 169 ∷ Deliver 1 170 ∷
     Deliver 3 171 ∷ Deliver 1 172 ∷ Deliver 3 175 ∷ Deliver 3 174 ∷ []
 
--- the outputs in order, each with its processor
+-- The outputs in order, each with its processor.
 abbrev pub outs : List (ℕ × Out Global)
 outs =
     (1, SendOut 6 (join 1 0 7 0)) ∷ (2, SendOut 5 (join 2 0 7 0)) ∷ (3, SendOut 3 (join 3 0 7 0)) ∷
@@ -178,6 +178,6 @@ outs =
     (1, SendOut 4 (MessageFrame (message (ring_of 5 1) 4 1 (wrapped (ring_of 3 1) 8 1 (call_content 6 1))))) ∷
     (1, SendOut 4 (MessageFrame (message (ring_of 5 1) 5 1 End))) ∷ (1, SendOut 4 (token (ring_of 5 1) 1 5 5 None [])) ∷ []
 
--- the world to which the schedule leads
+-- The world to which the schedule leads.
 abbrev pub world : World Global
 world = run (unformed 3) events

@@ -14,7 +14,7 @@ use Rattle.ring_core_proof.specs.Samples.{ring_of}
 use Rattle.ring_synchrony_examples.specs.Words.{call_of, long_call_of, call, long_call, call_content, head, head_after, part}
 use Rattle.ring_synchrony_examples.specs.Words.{wrapped, message, token, join, report, commit}
 
--- the events, in order
+-- The events, in order.
 abbrev pub events : List (RingEvent Global)
 events =
     TimeEvent 1 JoinTime ∷ TimeEvent 2 JoinTime ∷ TimeEvent 3 JoinTime ∷ Deliver 2 1 ∷ Deliver 3 1 ∷ Deliver 1 2 ∷ Deliver 3 2 ∷ Deliver 1 3 ∷
@@ -46,7 +46,7 @@ events =
     SendEvent 2 (part 0 (call_of 28 1 ∷ [])) ∷ TimeEvent 1 Loss ∷ TimeEvent 2 Loss ∷ TimeEvent 3 Loss ∷ Deliver 1 150 ∷ Deliver 2 150 ∷
     Deliver 3 151 ∷ Deliver 3 152 ∷ Deliver 3 153 ∷ Deliver 3 154 ∷ Deliver 3 155 ∷ []
 
--- the outputs in order, each with its processor
+-- The outputs in order, each with its processor.
 abbrev pub outs : List (ℕ × Out Global)
 outs =
     (1, SendOut 6 (join 1 0 7 0)) ∷ (2, SendOut 5 (join 2 0 7 0)) ∷ (3, SendOut 3 (join 3 0 7 0)) ∷
@@ -140,6 +140,6 @@ outs =
     (3, SendOut 4 (token (ring_of 5 3) 2 1 1 None [])) ∷ (3, Trans (ring_of 4 3) (ring_of 5 3) 4) ∷ (3, Regular (ring_of 5 3) 4) ∷
     (3, Safe (ring_of 5 3) 1) ∷ (3, SendOut 4 (token (ring_of 5 3) 3 1 1 None [])) ∷ (3, SendOut 4 (token (ring_of 5 3) 4 1 1 None [])) ∷ []
 
--- the world to which the schedule leads
+-- The world to which the schedule leads.
 abbrev pub world : World Global
 world = run (unformed 3) events

@@ -14,7 +14,7 @@ use Rattle.ring_core_proof.specs.Samples.{ring_of}
 use Rattle.ring_synchrony_examples.specs.Words.{call_of, long_call_of, call, long_call, call_content, head, head_after, part}
 use Rattle.ring_synchrony_examples.specs.Words.{pack, pack_content, wrapped, message, token, join, report, commit}
 
--- the events, in order
+-- The events, in order.
 abbrev pub events : List (RingEvent Global)
 events =
     SendEvent 1 (long_call 1 1) ∷ Deliver 2 1 ∷ Deliver 1 2 ∷ Deliver 2 3 ∷ Deliver 2 4 ∷ SendEvent 2 head ∷ SendEvent 2 (call 3 1) ∷
@@ -45,7 +45,7 @@ events =
     SendEvent 2 (call 40 1) ∷ SendEvent 2 (call 41 1) ∷ SendEvent 1 (call 42 1) ∷ TimeEvent 2 Loss ∷ Deliver 1 147 ∷ Deliver 1 148 ∷ Deliver 2 150 ∷
     Deliver 2 151 ∷ Deliver 2 152 ∷ Deliver 1 153 ∷ Deliver 2 154 ∷ Deliver 1 155 ∷ Deliver 2 156 ∷ Deliver 2 157 ∷ Deliver 2 158 ∷ []
 
--- the outputs in order, each with its processor
+-- The outputs in order, each with its processor.
 abbrev pub outs : List (ℕ × Out Global)
 outs =
     (2, SendOut 1 (token (ring_of 1 1) 2 0 0 None [])) ∷ (1, SendOut 2 (MessageFrame (message (ring_of 1 1) 1 1 (long_call 1 1)))) ∷
@@ -190,6 +190,6 @@ outs =
     (2, Agreed (ring_of 1 1) 28 (message (ring_of 1 1) 28 1 (pack (call_of 37 1 ∷ call_of 42 1 ∷ [])))) ∷
     (2, SendOut 1 (MessageFrame (message (ring_of 2 1) 3 2 End))) ∷ (2, SendOut 1 (token (ring_of 2 1) 2 3 3 None [])) ∷ []
 
--- the world to which the schedule leads
+-- The world to which the schedule leads.
 abbrev pub world : World Global
 world = run (ring_formed 2) events

@@ -13,7 +13,7 @@ use Rattle.ring_core_proof.specs.Worlds.{World, run, unformed}
 use Rattle.ring_core_proof.specs.Samples.{ring_of}
 use Rattle.ring_synchrony_examples.specs.Words.{call_of, call, call_content, head_after, part, pack, wrapped, message, token, join, report, commit}
 
--- the events, in order
+-- The events, in order.
 abbrev pub events : List (RingEvent Global)
 events =
     TimeEvent 2 Retransmit ∷ SendEvent 1 (call 1 1) ∷ SendEvent 1 (call 2 1) ∷ SendEvent 1 (call 3 1) ∷ SendEvent 1 (call 4 1) ∷
@@ -43,7 +43,7 @@ events =
     Deliver 1 167 ∷ Deliver 2 168 ∷ Deliver 1 170 ∷ Deliver 1 169 ∷ Deliver 2 171 ∷ Deliver 1 173 ∷ TimeEvent 1 Retransmit ∷ Deliver 2 174 ∷
     Deliver 2 175 ∷ Deliver 1 176 ∷ Deliver 1 36 ∷ []
 
--- the outputs in order, each with its processor
+-- The outputs in order, each with its processor.
 abbrev pub outs : List (ℕ × Out Global)
 outs =
     (1, SendOut 2 (join 1 0 3 2)) ∷ (1, SendOut 1 (commit (ring_of 1 1) 1 1 (report (ring_of 0 1) 0 0 0 ∷ []))) ∷ (2, SendOut 1 (join 2 0 3 1)) ∷
@@ -144,6 +144,6 @@ outs =
     (1, Rest (ring_of 2 1) 2 (message (ring_of 2 1) 2 1 (pack (call_of 13 1 ∷ call_of 16 1 ∷ [])))) ∷ (1, Regular (ring_of 3 1) 3) ∷
     (1, Safe (ring_of 3 1) 2) ∷ []
 
--- the world to which the schedule leads
+-- The world to which the schedule leads.
 abbrev pub world : World Global
 world = run (unformed 2) events

@@ -13,7 +13,7 @@ use Rattle.ring_core_proof.specs.Worlds.{World, run, unformed}
 use Rattle.ring_core_proof.specs.Samples.{ring_of}
 use Rattle.ring_synchrony_examples.specs.Words.{call_of, long_call_of, call, long_call, part, pack, message, token, join, report, commit}
 
--- the events, in order
+-- The events, in order.
 abbrev pub events : List (RingEvent Global)
 events =
     TimeEvent 1 Retransmit ∷ TimeEvent 1 Loss ∷ TimeEvent 2 Loss ∷ Deliver 2 1 ∷ Deliver 1 2 ∷ Deliver 2 3 ∷ Deliver 1 4 ∷ Deliver 2 5 ∷ Deliver 1 6 ∷
@@ -34,7 +34,7 @@ events =
     Deliver 2 109 ∷ Deliver 1 110 ∷ Deliver 2 111 ∷ Deliver 1 112 ∷ Deliver 2 113 ∷ Deliver 1 114 ∷ Deliver 2 115 ∷ Deliver 1 116 ∷ Deliver 2 117 ∷
     Deliver 1 118 ∷ Deliver 2 119 ∷ Deliver 1 120 ∷ Deliver 2 121 ∷ Deliver 1 122 ∷ Deliver 2 123 ∷ []
 
--- the outputs in order, each with its processor
+-- The outputs in order, each with its processor.
 abbrev pub outs : List (ℕ × Out Global)
 outs =
     (1, SendOut 2 (join 1 0 3 0)) ∷ (2, SendOut 1 (join 2 0 3 0)) ∷ (1, SendOut 2 (commit (ring_of 1 1) 3 1 (report (ring_of 0 1) 0 0 0 ∷ []))) ∷
@@ -121,6 +121,6 @@ outs =
     (2, SendOut 1 (token (ring_of 2 1) 18 2 2 None [])) ∷ (1, SendOut 2 (token (ring_of 2 1) 19 2 2 None [])) ∷
     (2, SendOut 1 (token (ring_of 2 1) 20 2 2 None [])) ∷ []
 
--- the world to which the schedule leads
+-- The world to which the schedule leads.
 abbrev pub world : World Global
 world = run (unformed 2) events

@@ -15,62 +15,62 @@ use Rattle.ring_wire.specs.declared.frame.Frame.TheVariants.{Token as TokenFrame
 pub use Rattle.ring_core_proof.specs.Samples.{message_of as message, join_frame as join, report_of as report, commit_frame as commit}
 pub use Rattle.ring_core_proof.specs.PackedCalls.{pack_of as pack}
 
--- call `number` of a client, without an operation
+-- Call `number` of a client, without an operation.
 abbrev pub call_of : ℕ → ℕ → Call Global
 call_of client number = record { client = client; number = number; op = [] }
 
--- the same with an operation of 900 bytes
+-- The same with an operation of 900 bytes.
 abbrev pub long_call_of : ℕ → ℕ → Call Global
 long_call_of client number = record { client = client; number = number; op = map (λ n. 7) (numbers_from 1 900) }
 
--- such a call as a payload
+-- Such a call as a payload.
 abbrev pub call : ℕ → ℕ → Payload Global
 call client number = CallPayload (call_of client number)
 
--- such a call as the content of a Wrapped
+-- Such a call as the content of a Wrapped.
 abbrev pub call_content : ℕ → ℕ → Content Global
 call_content client number = CallContent (call_of client number)
 
--- a call of 900 bytes as a payload
+-- A call of 900 bytes as a payload.
 abbrev pub long_call : ℕ → ℕ → Payload Global
 long_call client number = CallPayload (long_call_of client number)
 
--- a Pack of calls as the content of a Wrapped
+-- A Pack of calls as the content of a Wrapped.
 abbrev pub pack_content : List (Call Global) → Content Global
 pack_content calls = PackContent (record { calls = calls })
 
--- the Head of an empty log
+-- The Head of an empty log.
 abbrev pub empty_head : Head
 empty_head = record { last = None; length = 0; committed = 0; trimmed = 0 }
 
--- the Head of a log that was last in this primary ring
+-- The Head of a log that was last in this primary ring.
 abbrev pub head_of : RingId → ℕ → ℕ → Head
 head_of last length committed = record { last = Some last; length = length; committed = committed; trimmed = 0 }
 
--- the Head of an empty log as a payload
+-- The Head of an empty log as a payload.
 abbrev pub head : Payload Global
 head = HeadPayload empty_head
 
--- the Head of an empty log as the content of a Wrapped
+-- The Head of an empty log as the content of a Wrapped.
 abbrev pub head_content : Content Global
 head_content = HeadContent empty_head
 
--- the Head of a log that was in a primary ring, as a payload
+-- The Head of a log that was in a primary ring, as a payload.
 abbrev pub head_after : RingId → ℕ → ℕ → Payload Global
 head_after last length committed = HeadPayload (head_of last length committed)
 
--- the Head of a log that was in a primary ring, as the content of a Wrapped
+-- The Head of a log that was in a primary ring, as the content of a Wrapped.
 abbrev pub head_content_after : RingId → ℕ → ℕ → Content Global
 head_content_after last length committed = HeadContent (head_of last length committed)
 
--- a Part: the places of a log from `first` on
+-- A Part: the places of a log from `first` on.
 abbrev pub part : ℕ → List (Call Global) → Payload Global
 part first calls = PartPayload (record { first = first; calls = calls })
 
--- a Wrapped of an old ring's message
+-- A Wrapped of an old ring's message.
 abbrev pub wrapped : RingId → ℕ → ℕ → Content Global → Payload Global
 wrapped ring number sender content = Wrapped (record { ring = ring; number = number; sender = sender; payload = content })
 
--- a token
+-- A token.
 abbrev pub token : RingId → ℕ → ℕ → ℕ → Option ℕ → List ℕ → Frame Global
 token ring number seq aru aru_id requests = TokenFrame (record { ring = ring; number = number; seq = seq; aru = aru; aru_id = aru_id; requests = requests })

@@ -1,5 +1,7 @@
-//! Twelve random schedules of ring cores, with the outputs of an independent implementation, and the test of virtual
-//! synchrony for the ten that begin at the opening. And worked runs.
+//! Twelve random schedules of ring cores, with the outputs of an independent implementation, and worked runs.
+//!
+//! The ten schedules that begin at the opening are also tested for virtual synchrony.
+//!
 //! Rules: Rings and states 14; Outputs 11
 //! Formats: two tokens; runs of a queue
 #![tactic(auto)]

@@ -11,7 +11,7 @@ use Rattle.ring_core_proof.specs.FactWords.{IsIn}
 use Rattle.ring_core_proof.specs.Worlds.{World}
 use Rattle.ring_core_proof.specs.Texts.{text_of}
 
--- a processor has installed each ring in which its front covers the number of a user message of the ring's text
+-- A processor has installed each ring in which its front covers the number of a user message of the ring's text.
 abbrev pub HoldersHaveInstalled : {A : Type 0} → World A → Type 0
 HoldersHaveInstalled {A} w =
     (q : ℕ) (ring : RingId) (x : Message A) → IsIn x (text_of w ring) → is_user x.payload ≡ true → x.number ≤ front (w.cores q) ring →

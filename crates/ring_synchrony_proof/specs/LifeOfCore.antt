@@ -9,32 +9,32 @@ use Rattle.ring_core_spec.specs.Views.{front, mark, entries_for}
 use Rattle.ring_core_spec.specs.Giving.{users}
 use Rattle.ring_core_proof.specs.EpochHistories.{Stage, InRegular, InTransitional, Life}
 
--- the regular stage of an installed ring, with its agreed messages and its safe mark
+-- The regular stage of an installed ring, with its agreed messages and its safe mark.
 abbrev pub regular_stage : {A : Type 0} → Core A → Configuration → Stage A
 regular_stage c at = InRegular at (users c at.ring 0 (front c at.ring)) (mark c at.ring)
 
--- the plan by which a ring was installed after another
+-- The plan by which a ring was installed after another.
 abbrev pub plan_into : {A : Type 0} → Core A → Configuration → Configuration → Plan
 plan_into c next old = plan_of old.ring next.members (entries_for next.ring c.plans)
 
--- the transitional stage from the old ring to the next
+-- The transitional stage from the old ring to the next.
 abbrev pub between : {A : Type 0} → Core A → Configuration → Configuration → Stage A
 between c next old = InTransitional old.ring next.ring (plan_into c next old).transitional_members (rests (plan_into c next old) c.held)
 
--- the stages before an installed ring, from the rings installed before it, newest first
+-- The stages before an installed ring, from the rings installed before it, newest first.
 abbrev pub earlier_stages : {A : Type 0} → Core A → Configuration → List Configuration → List (Stage A)
 earlier_stages c next [] = []
 earlier_stages c next (old ∷ older) = between c next old ∷ regular_stage c old ∷ earlier_stages c old older
 
--- the life whose newest ring is this one, with the stages before it
+-- The life whose newest ring is this one, with the stages before it.
 abbrev pub core_life_in : {A : Type 0} → Core A → Configuration → List Configuration → Life A
 core_life_in c at older = record { newest = regular_stage c at; earlier = earlier_stages c at older }
 
--- the life through these rings, newest first; if there are none, in the present installed ring
+-- The life through these rings, newest first; if there are none, in the present installed ring.
 abbrev pub core_life_through : {A : Type 0} → Core A → List Configuration → Life A
 core_life_through c [] = core_life_in c c.installed []
 core_life_through c (at ∷ older) = core_life_in c at older
 
--- the life through all rings that a core installed
+-- The life through all rings that a core installed.
 abbrev pub core_life : {A : Type 0} → Core A → Life A
 core_life c = core_life_through c c.installs

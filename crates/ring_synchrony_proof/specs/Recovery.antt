@@ -16,7 +16,7 @@ use Rattle.ring_core_spec.specs.State.{Core}
 use Rattle.ring_core_spec.specs.Views.{front, mark, plan}
 use Rattle.ring_core_proof.specs.FactWords.{IsIn}
 
--- an End of processor i of the ring lies within the front
+-- An End of processor i of the ring lies within the front.
 pub record HoldsEnd {A : Type 0} (c : Core A) (ring : RingId) (i : ℕ) : Type 0 where
   pub message : Message A
   pub held : IsIn message c.held
@@ -25,18 +25,18 @@ pub record HoldsEnd {A : Type 0} (c : Core A) (ring : RingId) (i : ℕ) : Type 0
   pub ended : is_end message.payload ≡ true
   pub within : message.number ≤ front c ring
 
--- each member's End does so, for each ring installed after the opening
+-- Each member's End lies within the front, for each ring installed after the opening.
 abbrev pub HoldsEnds : {A : Type 0} → Core A → Type 0
 HoldsEnds c = (at : Configuration) → IsIn at c.installs → 0 < at.ring.seq → (i : ℕ) → IsIn i (elements at.members) → HoldsEnd c at.ring i
 
--- the core holds the inner messages that the running ring's messages wrap of the old ring
+-- The core holds the inner messages that the running ring's messages wrap of the old ring.
 abbrev pub HoldsInner : {A : Type 0} → Core A → Type 0
 HoldsInner {A} c =
     (x : Message A) → IsIn x c.held → x.ring ≡ c.running.ring → (w : WrappedMessage A) → x.payload ≡ Wrapped w → w.ring ≡ c.installed.ring →
     holds c.held c.installed.ring w.number ≡ true
 
--- the facts of a core in Recovery: it is a transitional member, the safe mark of the old ring is the greatest that
--- they report, one of them reported each number that it holds of that ring, and it holds each inner message
+-- The facts of a core in Recovery: it is a transitional member, the safe mark of the old ring is the greatest that they
+-- report, one of them reported each number that it holds of that ring, and it holds each inner message.
 pub record IsRecovering {A : Type 0} (c : Core A) : Type 0 where
   pub transitional_member : has (plan c).transitional_members c.me ≡ true
   pub marked : mark c c.installed.ring ≡ safe (plan c)

@@ -18,31 +18,31 @@ use Rattle.ring_payload.specs.declared.content.Wrapped.{Wrapped as WrappedMessag
 use Rattle.ring_payload.specs.SameCalls.{is_same}
 use Rattle.ring_wire.specs.declared.message.Message.{Message}
 
--- the calls are the same, one by one; each test here decides equality of two values in all their fields, and that of
--- lists also their length
+-- The calls are the same, one by one; each test here decides equality of two values in all their fields, and that of
+-- lists also their length.
 abbrev pub same_calls : {A : Type 0} → List (OneCall A) → List (OneCall A) → Bool
 same_calls cs ds = pointwise (λ (c : OneCall _) (d : OneCall _). is_same d c) cs ds
 
--- the last primaries are the same, or both are none
+-- The last primaries are the same, or both are none.
 abbrev pub same_last : Option RingId → Option RingId → Bool
 same_last None None = true
 same_last None (Some s) = false
 same_last (Some r) None = false
 same_last (Some r) (Some s) = same_ring r s
 
--- the Heads are the same
+-- The Heads are the same.
 abbrev pub same_head : OneHead → OneHead → Bool
 same_head a b = same_last a.last b.last && ((a.length == b.length) && ((a.committed == b.committed) && (a.trimmed == b.trimmed)))
 
--- the Parts are the same
+-- The Parts are the same.
 abbrev pub same_part : {A : Type 0} → OnePart A → OnePart A → Bool
 same_part a b = (a.first == b.first) && same_calls a.calls b.calls
 
--- the Snaps are the same
+-- The Snaps are the same.
 abbrev pub same_snap : {A : Type 0} → OneSnap A → OneSnap A → Bool
 same_snap a b = (a.at == b.at) && ((a.total == b.total) && ((a.offset == b.offset) && bytes_eq a.bytes b.bytes))
 
--- the contents of Wrapped are the same
+-- The contents of Wrapped are the same.
 abbrev pub same_content : {A : Type 0} → Content A → Content A → Bool
 same_content (CallContent a) (CallContent b) = is_same b a
 same_content (HeadContent a) (HeadContent b) = same_head a b
@@ -51,11 +51,11 @@ same_content (PackContent a) (PackContent b) = same_calls a.calls b.calls
 same_content (SnapContent a) (SnapContent b) = same_snap a b
 same_content _ _ = false
 
--- the Wrapped are the same
+-- The Wrapped are the same.
 abbrev pub same_wrapped : {A : Type 0} → WrappedMessage A → WrappedMessage A → Bool
 same_wrapped a b = same_ring a.ring b.ring && ((a.number == b.number) && ((a.sender == b.sender) && same_content a.payload b.payload))
 
--- the payloads are the same
+-- The payloads are the same.
 abbrev pub same_payload : {A : Type 0} → Payload A → Payload A → Bool
 same_payload (Call a) (Call b) = is_same b a
 same_payload (Wrapped a) (Wrapped b) = same_wrapped a b
@@ -66,10 +66,10 @@ same_payload (Pack a) (Pack b) = same_calls a.calls b.calls
 same_payload (Snap a) (Snap b) = same_snap a b
 same_payload _ _ = false
 
--- the messages are the same
+-- The messages are the same.
 abbrev pub same_message : {A : Type 0} → Message A → Message A → Bool
 same_message x y = same_ring x.ring y.ring && ((x.number == y.number) && ((x.sender == y.sender) && same_payload x.payload y.payload))
 
--- the lists of messages are the same
+-- The lists of messages are the same.
 abbrev pub same_messages : {A : Type 0} → List (Message A) → List (Message A) → Bool
 same_messages xs ys = pointwise same_message xs ys

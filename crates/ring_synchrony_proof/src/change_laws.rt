@@ -1,5 +1,6 @@
-//! Laws of every run from the opening: three of the five facts of virtual synchrony, and the fact from which the
-//! other two follow.
+//! Laws of every run from the opening: three of the five facts of virtual synchrony, and the fact from which the other
+//! two follow.
+//!
 //! Rules: Outputs 11; Recovery 3, 6 and 7
 
 ghost use Rattle.std.specs.Prelude.{◌≡◌, ℕ, List};
@@ -15,11 +16,13 @@ ghost use Rattle.ring_synchrony_proof.specs.Installed.{HoldersHaveInstalled};
 use std::alloc::{Allocator, Global};
 
 /// States three of the five facts of virtual synchrony, for every run from the opening.
-/// Suppose that two lives go from one regular configuration to the same next one. Then all three configurations have
-/// the same members in both, and the deliveries are the same, divided alike before and after the transitional one.
-/// A processor is a member of its configurations. Regular and transitional ones alternate, and the numbers of regular
-/// rings rise.
-/// A processor's own user messages of a ring are delivered before its next regular configuration.
+///
+/// - `same_deliveries`: if two lives go from one regular configuration to the same next one, all three configurations
+///   have the same members in both. The deliveries are the same, divided alike before and after the transitional one.
+/// - `configurations`: a processor is a member of its configurations, regular and transitional ones alternate, and the
+///   numbers of regular rings rise.
+/// - `own_delivery`: a processor's own user messages of a ring are delivered before its next regular configuration.
+///
 /// Rules: Outputs 11
 pub fn changes_law<A: Allocator + Copy>()
     ensures same_deliveries { (n : ℕ) (events : List (RingEvent A)) → DeliversAlike (run (unformed n) events) }
@@ -29,9 +32,14 @@ pub fn changes_law<A: Allocator + Copy>()
 {}
 
 /// States the facts of recovery, for every core of every run from the opening.
-/// The front of each installed ring covers every member's End. In Recovery the processor is one of its plan's
-/// transitional members, and its safe mark in the old ring is the greatest that one of them reported. Every number that
-/// it holds of that ring was reported by one of them, and it holds the inner messages of the running ring's messages.
+///
+/// The front of each installed ring covers every member's End. In Recovery:
+///
+/// - The processor is one of its plan's transitional members.
+/// - Its safe mark in the old ring is the greatest that one of them reported.
+/// - Every number that it holds of that ring was reported by one of them.
+/// - It holds the inner messages of the running ring's messages.
+///
 /// Rules: Recovery 1, 3, 6 and 7
 pub fn recovery_law<A: Allocator + Copy>()
     ensures ends { (n : ℕ) (events : List (RingEvent A)) (q : ℕ) → HoldsEnds ((run (unformed n) events).cores q) }
@@ -39,17 +47,20 @@ pub fn recovery_law<A: Allocator + Copy>()
         ≡ Recovery → IsRecovering ((run (unformed n) events).cores q) }
 {}
 
-/// States that a run from the opening is virtually synchronous where one more fact holds: a processor that holds a user
-/// message of a ring within its front has installed that ring.
-/// `ready_law` states that this fact holds for every run.
+/// States that a run from the opening is virtually synchronous if one more fact holds.
+///
+/// That fact is that a processor that holds a user message of a ring within its front has installed the ring.
+/// `ready_law` states it for every run.
+///
 /// Rules: Recovery 7; Outputs 11
 pub fn whole_law<A: Allocator + Copy>()
     ensures { (n : ℕ) (events : List (RingEvent A)) → HoldersHaveInstalled (run (unformed n) events) → IsVirtuallySynchronous (run (unformed n) events) }
 {}
 
-/// States for the allocator that programs use that deliveries are the same (the first fact of `changes_law`). Nothing
-/// calls this function.
-/// A law is proved for all allocators that meet its bounds, and this function shows one that does.
+/// States the first fact of [`changes_law`] for the allocator that programs use. Nothing calls this function.
+///
+/// A law is proved for all allocators that meet its bounds; this function shows that `Global` does.
+///
 /// Rules: Outputs 11
 pub fn changes_at_global()
     ensures { (n : ℕ) (events : List (RingEvent Heap)) → DeliversAlike (run (unformed n) events) }

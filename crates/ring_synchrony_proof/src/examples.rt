@@ -1,5 +1,5 @@
-//! Worked ring changes, for which all five facts are computed, and wrong lives: each breaks one fact and meets the
-//! others.
+//! Examples of ring changes that meet all five facts of virtual synchrony, and of wrong lives that break one of them.
+//!
 //! Rules: Outputs 11
 
 ghost use Rattle.std.specs.Prelude.{◌≡◌, true, ◌&&◌};
@@ -17,9 +17,11 @@ ghost use Rattle.ring_synchrony_proof.specs.WrongLives.{named_apart, names_a_str
 ghost use Rattle.ring_synchrony_proof.specs.WrongLives.{companion_left_out, joined_by_an_outsider, joined_after_another};
 ghost use Rattle.ring_synchrony_proof.specs.WrongLives.{named_alone, named_as_shared, ends_on_the_way};
 
-/// States worked examples: runs that are virtually synchronous. Two processors change rings with a call in flight,
-/// three gather and install their first ring, and one is alone. The lives from which the wrong examples below are made
-/// pass too.
+/// States examples of runs that are virtually synchronous.
+///
+/// Two processors change rings with a call in flight, three gather and install their first ring, and one is alone. The
+/// lives from which the wrong examples below are made pass too.
+///
 /// Rules: Outputs 11
 pub fn worked_changes()
     ensures two { is_virtually_synchronous changed ≡ true }
@@ -28,8 +30,10 @@ pub fn worked_changes()
     ensures right { is_virtually_synchronous right_lives ≡ true }
 {}
 
-/// States an example of wrong lives: one transitional member lacks a delivery that the other has. They break
-/// `same_deliveries` and meet the other four facts of virtual synchrony.
+/// States an example of wrong lives: one transitional member lacks a delivery that the other has.
+///
+/// They break `same_deliveries` and meet the other four facts of virtual synchrony.
+///
 /// Rules: Outputs 11
 pub fn a_companion_lacks_a_delivery()
     ensures refused { DeliversAlike lacks_delivery → ⊥ }
@@ -38,8 +42,10 @@ pub fn a_companion_lacks_a_delivery()
         ≡ true }
 {}
 
-/// States an example of a wrong life: the `Rest` messages of the old ring come out of order. It breaks `same_text` and
-/// meets the other four facts of virtual synchrony.
+/// States an example of a wrong life: the `Rest` messages of the old ring come out of order.
+///
+/// It breaks `same_text` and meets the other four facts of virtual synchrony.
+///
 /// Rules: Outputs 5 and 11
 pub fn the_rest_is_out_of_order()
     ensures refused { HasSameText rest_out_of_order → ⊥ }
@@ -48,8 +54,10 @@ pub fn the_rest_is_out_of_order()
         && delivers_own rest_out_of_order))) ≡ true }
 {}
 
-/// States an example of a wrong life: a call within the front isn't given as `Agreed`. It breaks `same_text` and meets
-/// the other four facts of virtual synchrony.
+/// States an example of a wrong life: a call within the front isn't given as `Agreed`.
+///
+/// It breaks `same_text` and meets the other four facts of virtual synchrony.
+///
 /// Rules: Outputs 3 and 11
 pub fn an_agreed_call_is_left_out()
     ensures refused { HasSameText agreed_left_out → ⊥ }
@@ -58,9 +66,11 @@ pub fn an_agreed_call_is_left_out()
         ≡ true }
 {}
 
-/// States examples of wrong lives: a member of the ring misses a message that another has delivered as safe. It never
-/// received the message, or never installed the ring, or left the ring without delivering the message.
-/// The lives break `safe_delivery`, one of the five facts of virtual synchrony.
+/// States examples of wrong lives: a member of the ring misses a message that another has delivered as safe.
+///
+/// It never received the message, or never installed the ring, or left the ring without delivering the message. The
+/// lives break `safe_delivery`. The first and the last meet the other four facts of virtual synchrony.
+///
 /// Rules: Outputs 11
 pub fn a_safe_delivery_is_missed()
     ensures never_got { DeliversSafely never_got → ⊥ }
@@ -71,8 +81,10 @@ pub fn a_safe_delivery_is_missed()
         && (delivers_alike left_without && (have_configurations left_without && delivers_own left_without))) ≡ true }
 {}
 
-/// States an example of wrong lives: a processor's own message is lost at a ring change, at all processors alike. They
-/// break `own_delivery` and meet the other four facts of virtual synchrony.
+/// States an example of wrong lives: a processor's own message is lost at a ring change, at all processors alike.
+///
+/// They break `own_delivery` and meet the other four facts of virtual synchrony.
+///
 /// Rules: Outputs 11
 pub fn an_own_message_is_lost()
     ensures refused { DeliversOwn own_message_lost → ⊥ }
@@ -81,8 +93,10 @@ pub fn an_own_message_is_lost()
         && (delivers_alike own_message_lost && have_configurations own_message_lost))) ≡ true }
 {}
 
-/// States an example of a wrong life: a processor installs a ring of which it isn't a member. It breaks
-/// `configurations` and meets the other four facts of virtual synchrony.
+/// States an example of a wrong life: a processor installs a ring of which it isn't a member.
+///
+/// It breaks `configurations` and meets the other four facts of virtual synchrony.
+///
 /// Rules: Outputs 11
 pub fn a_configuration_lacks_its_own_node()
     ensures refused { (IsNode without_own_node 2 → HasConfigurations without_own_node 2) → ⊥ }
@@ -91,16 +105,20 @@ pub fn a_configuration_lacks_its_own_node()
         ≡ true }
 {}
 
-/// States an example of a wrong life: a later `Safe` of a ring has a lower number. It breaks `configurations` and meets
-/// the other four facts of virtual synchrony.
+/// States an example of a wrong life: a later `Safe` of a ring has a lower number.
+///
+/// It breaks `configurations` and meets the other four facts of virtual synchrony.
+///
 /// Rules: Outputs 9 and 11
 pub fn what_is_safe_falls()
     ensures refused { (IsNode safe_falls 1 → HasConfigurations safe_falls 1) → ⊥ }
     ensures others { (has_same_text safe_falls && (delivers_safely safe_falls && (delivers_alike safe_falls && delivers_own safe_falls))) ≡ true }
 {}
 
-/// States examples of wrong lives: a call is given, as `Agreed` or as `Rest`, under a number that isn't its own. They
-/// break `configurations` and meet the other four facts of virtual synchrony.
+/// States examples of wrong lives: a call is given, as `Agreed` or as `Rest`, under a number that isn't its own.
+///
+/// They break `configurations` and meet the other four facts of virtual synchrony.
+///
 /// Rules: Outputs 9 and 11
 pub fn a_call_is_told_as_another()
     ensures agreed { (IsNode agreed_as_another 1 → HasConfigurations agreed_as_another 1) → ⊥ }
@@ -112,8 +130,10 @@ pub fn a_call_is_told_as_another()
         && (delivers_safely rest_as_another && (delivers_alike rest_as_another && delivers_own rest_as_another))) ≡ true }
 {}
 
-/// States examples of wrong lives: two lives name one ring with different members, or both name a member outside the
-/// group. They break `configurations` and meet the other four facts of virtual synchrony.
+/// States examples of wrong lives: two name one ring with different members, or both name a member outside the group.
+///
+/// They break `configurations` and meet the other four facts of virtual synchrony.
+///
 /// Rules: Outputs 11
 pub fn members_are_named_wrong()
     ensures apart { (IsNode named_apart 1 → HasConfigurations named_apart 1) → ⊥ }
@@ -124,9 +144,11 @@ pub fn members_are_named_wrong()
         && (delivers_safely names_a_stranger && (delivers_alike names_a_stranger && delivers_own names_a_stranger))) ≡ true }
 {}
 
-/// States examples of wrong lives: a transitional configuration has a member that comes from another ring or was in
-/// another ring in between, or leaves a member out. They break `configurations` and meet the other four facts of
-/// virtual synchrony.
+/// States examples of wrong lives: a transitional configuration has the wrong members.
+///
+/// One of them comes from another ring, or was in another ring in between; or a member is left out. The lives break
+/// `configurations` and meet the other four facts of virtual synchrony.
+///
 /// Rules: Outputs 11
 pub fn companions_are_told_wrong()
     ensures outsider { (IsNode joined_by_an_outsider 1 → HasConfigurations joined_by_an_outsider 1) → ⊥ }
@@ -140,9 +162,11 @@ pub fn companions_are_told_wrong()
         && (delivers_safely companion_left_out && (delivers_alike companion_left_out && delivers_own companion_left_out))) ≡ true }
 {}
 
-/// States examples of wrong lives: a configuration has other members than the ring that its processor took part in, with
-/// fewer members or with more; or a life ends with a transitional configuration. Each life agrees with all others. They break
-/// `configurations` and meet the other four facts of virtual synchrony.
+/// States examples of wrong lives that agree with all others: they name wrong members, or end too early.
+///
+/// A configuration has fewer or more members than the ring in which its processor took part; or a life ends with a
+/// transitional configuration. The lives break `configurations` and meet the other four facts of virtual synchrony.
+///
 /// Rules: Outputs 11
 pub fn rings_are_named_wrong()
     ensures alone { (IsNode named_alone 1 → HasConfigurations named_alone 1) → ⊥ }

@@ -1,4 +1,5 @@
-//! The meaning of the tests: each is passed exactly where its fact holds.
+//! The meaning of the tests: each succeeds exactly if its fact holds.
+//!
 //! Rules: Outputs 11
 
 ghost use Rattle.std.specs.Prelude.{ℕ};
@@ -11,9 +12,10 @@ ghost use Rattle.ring_synchrony_proof.specs.Tests.{has_same_text, delivers_safel
 
 use std::alloc::{Allocator, Global};
 
-/// States for each of the five facts of virtual synchrony that its test is passed exactly where the fact holds, and so
-/// for all five together.
-/// It holds for every world of ring cores, with any outputs.
+/// States that the test for each of the five facts of virtual synchrony succeeds exactly if the fact holds.
+///
+/// So does the test for all five together. The law holds for every world of ring cores, with any outputs.
+///
 /// Rules: Outputs 11
 pub fn tests_law<A: Allocator + Copy>()
     ensures same_text { (w : World A) → Decides (has_same_text w) (HasSameText w) }
@@ -24,9 +26,11 @@ pub fn tests_law<A: Allocator + Copy>()
     ensures all { (w : World A) → Decides (is_virtually_synchronous w) (IsVirtuallySynchronous w) }
 {}
 
-/// States for the allocator that programs use that the test of all five facts decides them. Nothing calls this
+/// States for the allocator that programs use that the test for all five facts decides them. Nothing calls this
 /// function.
-/// A law is proved for all allocators that meet its bounds, and this function shows one that does.
+///
+/// A law is proved for all allocators that meet its bounds; this function shows that `Global` does.
+///
 /// Rules: Outputs 11
 pub fn tests_at_global()
     ensures { (w : World Heap) → Decides (is_virtually_synchronous w) (IsVirtuallySynchronous w) }

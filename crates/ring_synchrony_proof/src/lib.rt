@@ -1,7 +1,9 @@
 //! Virtual synchrony: five facts that relate the lives of all processors, and the proof that every run meets them.
-//! There is a test for each fact, passed exactly where the fact holds, with worked ring changes that pass and wrong
-//! lives that don't. The proof shows that a life is what the core's facts say, and that a ring that is ready is
-//! complete and installed.
+//!
+//! For each fact there is a test that succeeds exactly if the fact holds, with examples of ring changes that pass and
+//! of wrong lives that don't. The proof shows that a life is what the core's facts say, and that a ring that is ready
+//! is complete and installed.
+//!
 //! Rules: Outputs 8 to 11; Recovery 1 and 3 to 8
 #![tactic(auto)]
 

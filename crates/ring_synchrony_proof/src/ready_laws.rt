@@ -1,4 +1,5 @@
 //! Laws of every run from the opening: when a ring is ready, and virtual synchrony.
+//!
 //! Rules: Recovery 4 to 8; Outputs 11
 
 ghost use Rattle.std.specs.Prelude.{◌≡◌, ℕ, List};
@@ -12,19 +13,26 @@ ghost use Rattle.ring_synchrony_proof.specs.InstallReadiness.{ReadyIsComplete, R
 
 use std::alloc::{Allocator, Global};
 
-/// States the order of a processor's messages in a ring, in every run from the opening.
-/// After its own End it sends user messages alone, and they have greater numbers than every member's End. The front
-/// that it reports of an installed ring covers every member's End. Its own End has a greater number than the Wrapped of
-/// each user message above the least front that it reported as held.
-/// Rules: Recovery 4 and 7
+/// States how a core's messages in a ring follow the Ends and the Wrapped messages, in every run from the opening.
+///
+/// - After its own End in a ring, a core sends only user messages there.
+/// - Each user message that it sends there has a greater number than every member's End.
+/// - Each front that it reports, except of its opening ring, covers every member's End.
+/// - Its own End has a greater number than the Wrapped messages that it had to wait for: one for each user message of
+///   the old ring that its commit entry reports as held and that is above `low`, the least reported front.
+///
+/// Rules: The commit token 2; Recovery 1, 4 and 7
 pub fn order_law<A: Allocator + Copy>()
     ensures { (n : ℕ) (events : List (RingEvent A)) (q : ℕ) → KeepsOrder ((run (unformed n) events).cores q) }
 {}
 
-/// States three facts of every run from the opening.
-/// A core whose recovery is ready holds every number that a transitional member holds, so the test for that never
-/// refuses. After each event every ring that is ready has been installed. A processor that holds a user message of a
-/// ring within its front has installed that ring.
+/// States three facts about rings that are ready to be installed, in every run from the opening.
+///
+/// - A core whose recovery is ready holds every number that a transitional member reported, so the test for that always
+///   succeeds.
+/// - After each event every ring that is ready has been installed.
+/// - A processor that holds a user message of a ring within its front has installed that ring.
+///
 /// Rules: Recovery 7 and 8
 pub fn ready_law<A: Allocator + Copy>()
     ensures complete { (n : ℕ) (events : List (RingEvent A)) (q : ℕ) → ReadyIsComplete ((run (unformed n) events).cores q) }
@@ -33,15 +41,19 @@ pub fn ready_law<A: Allocator + Copy>()
 {}
 
 /// States that every run from the opening is virtually synchronous.
-/// Each ring has one text, and delivery is safe. Processors that go on together have the same deliveries.
-/// Configurations alternate. Each processor delivers its own messages.
+///
+/// Each ring has one text, and delivery is safe. Processors that go on together have the same deliveries. Regular and
+/// transitional configurations alternate. Each processor delivers its own messages.
+///
 /// Rules: Outputs 11
 pub fn virtual_synchrony_law<A: Allocator + Copy>()
     ensures { (n : ℕ) (events : List (RingEvent A)) → IsVirtuallySynchronous (run (unformed n) events) }
 {}
 
-/// States `virtual_synchrony_law` for the allocator that programs use. Nothing calls this function.
-/// A law is proved for all allocators that meet its bounds, and this function shows one that does.
+/// States [`virtual_synchrony_law`] for the allocator that programs use. Nothing calls this function.
+///
+/// A law is proved for all allocators that meet its bounds; this function shows that `Global` does.
+///
 /// Rules: Outputs 11
 pub fn laws_at_global()
     ensures { (n : ℕ) (events : List (RingEvent Heap)) → IsVirtuallySynchronous (run (unformed n) events) }

@@ -32,8 +32,8 @@ reply_to counts (Some (Add key amount)) =
 reply_to counts (Some (Read key)) = 0 ∷ big_bytes 8 (slice_index counts key)
 reply_to counts None = unreadable
 
--- The counts after a decoded operation. An add increases its key's count unless the sum is above 2^64 - 1; all else is
--- unchanged.
+-- The counts after a decoded operation. An add increases its key's count unless the sum is above 2^64 - 1; otherwise
+-- nothing changes.
 abbrev pub after : List ℕ → Option CounterOperation → List ℕ
 after counts (Some (Add key amount)) =
     if nat_lt (slice_index counts key + amount) (2 ^ 64) then slice_set counts key (slice_index counts key + amount) else counts

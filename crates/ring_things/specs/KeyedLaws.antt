@@ -14,7 +14,7 @@ use Rattle.ring_things.specs.KeyedOperation.{encoding, decoding, KeyedFits}
 use Rattle.ring_things.specs.Reads.{Reads}
 use Rattle.ring_things.specs.declared.keyed.KeyedOperation.{KeyedOperation}
 
--- The bytes of an operation decode to it.
+-- The bytes of an operation are decoded to it.
 pub encoded_read : (keyed : KeyedOperation) → ValueFits keyed.value → decoding (encoding keyed) ≡ Some keyed
 encoded_read keyed fits = rw (value_in-bytes keyed.value fits) refl
 

@@ -17,7 +17,7 @@ use Rattle.ring_object.specs.Operations.{unreadable}
 use Rattle.ring_things.specs.declared.names.NameOperation.{NameOperation}
 use Rattle.ring_things.specs.declared.names.NameOperation.TheVariants.{Insert, Remove, Has}
 
--- The most names in a set.
+-- The maximum number of names in a set.
 abbrev pub most : ℕ
 most = 1024
 
@@ -31,7 +31,7 @@ pub record IsName (name : List ℕ) : Type 0 where
 abbrev pub is_name : List ℕ → Bool
 is_name name = nat_le 1 (length name) && nat_le (length name) 64
 
--- The order of names: lexicographic by bytes, a prefix first.
+-- The order of names: lexicographic by bytes, so that a proper prefix is below the whole.
 abbrev pub by_bytes : List ℕ → List ℕ → Ordering
 by_bytes = slice_cmp nat_cmp
 
@@ -53,33 +53,33 @@ same name other = is_eq (by_bytes other name)
 abbrev pub has : List ℕ → List (List ℕ) → Bool
 has name names = list_any (same name) names
 
--- The number of names below the name: its position.
+-- The number of names below the name, which is its index in the set.
 unfoldable pub below : List ℕ → List (List ℕ) → ℕ
 below name [] = 0
 below name (other ∷ names) = if is_lt (by_bytes other name) then suc (below name names) else 0
 
--- The set with the name inserted at its position; for sets without the name.
+-- The set with the name inserted at its index; for sets without the name.
 abbrev pub with_name : List ℕ → List (List ℕ) → List (List ℕ)
 with_name name names = insert names (below name names) name
 
--- The set without the name; the whole set if the name isn't in it.
+-- The set without the name; the same set if the name isn't in it.
 abbrev pub without : List ℕ → List (List ℕ) → List (List ℕ)
 without name names = filter (λ other. not (same name other)) names
 
--- The name is in the set, at this position.
+-- The name is in the set, at this index.
 pub record IsFound (name : List ℕ) (names : List (List ℕ)) (place : ℕ) : Type 0 where
   pub there : has name names ≡ true
   pub within : place < length names
   pub others : remove names place ≡ without name names
 
--- The name isn't in the set, and belongs at this position.
+-- The name isn't in the set, and belongs at this index.
 pub record IsMissing (name : List ℕ) (names : List (List ℕ)) (place : ℕ) : Type 0 where
   pub nowhere : has name names ≡ false
   pub within : place ≤ length names
   pub with_it : insert names place name ≡ with_name name names
   pub others : names ≡ without name names
 
--- The operation of a code with a name, if there is one of this code.
+-- The operation with a code and a name, if the code is one.
 abbrev pub name_operation : ℕ → List ℕ → Option NameOperation
 name_operation code name =
     if code == 1 then Some (Insert name)
@@ -102,15 +102,16 @@ encoding (Has name) = 3 ∷ name
 abbrev pub is_readable : List ℕ → Bool
 is_readable op = is_some (decoding op)
 
--- The reply to a decoded operation. Insert: `01` if the name is present, else `02` with 1,024 names, else `00`. Remove and
--- has: `00` if it is present, `01` if it is absent. Bytes that are no operation: `FF`.
+-- The reply to a decoded operation. Insert: `01` if the name is present, otherwise `02` with 1,024 names, otherwise
+-- `00`. Remove and has: `00` if it is present, `01` if it is absent. Bytes that are no operation: `FF`.
 abbrev pub reply_to : List (List ℕ) → Option NameOperation → List ℕ
 reply_to names (Some (Insert name)) = if has name names then 1 ∷ [] else if length names == most then 2 ∷ [] else 0 ∷ []
 reply_to names (Some (Remove name)) = if has name names then 0 ∷ [] else 1 ∷ []
 reply_to names (Some (Has name)) = if has name names then 0 ∷ [] else 1 ∷ []
 reply_to names None = unreadable
 
--- The set after a decoded operation. An insert adds its name if there is room, a remove removes it; all else is unchanged.
+-- The set after a decoded operation. An insert adds its name if there is room, a remove removes it; otherwise nothing
+-- changes.
 abbrev pub after : List (List ℕ) → Option NameOperation → List (List ℕ)
 after names (Some (Insert name)) = if has name names then names else if length names == most then names else with_name name names
 after names (Some (Remove name)) = without name names
@@ -125,27 +126,27 @@ reply names op = reply_to names (decoding op)
 abbrev pub next : List (List ℕ) → List ℕ → List (List ℕ)
 next names op = after names (decoding op)
 
--- The bytes of a list of names: each its length in one byte, and its bytes.
+-- The bytes of a list of names: for each name its length in one byte, then its bytes.
 abbrev pub list_encoding : List (List ℕ) → List ℕ
 list_encoding names = flat_map (λ name. length name ∷ name) names
 
--- The snapshot of a set: the number of names in 2 bytes, and the names, ascending.
+-- The snapshot of a set: the number of names in 2 bytes, then the names, ascending.
 abbrev pub snapshot_of : List (List ℕ) → List ℕ
 snapshot_of names = big_bytes 2 (length names) ++ list_encoding names
 
--- The name at the start of the bytes, if it is above the last one.
+-- The name at the start of the bytes, if there is one and it is above the last name.
 abbrev pub next_name : List ℕ → List ℕ → Option (List ℕ)
 next_name last [] = None
 next_name last (len ∷ bytes) =
     if (nat_le 1 len && nat_le len 64) && (nat_le len (length bytes) && is_lt (by_bytes last (take len bytes))) then Some (take len bytes) else None
 
--- The names that the bytes encode, if they are exactly `count` ascending names above the last one.
+-- The names that the bytes encode, if they are exactly `count` ascending names above the last name.
 unfoldable pub names_of : ℕ → List ℕ → List ℕ → Option (List (List ℕ))
 names_of zero last bytes = if length bytes == 0 then Some [] else None
 names_of (suc count) last bytes =
     option_and_then (λ name. option_map (λ names. name ∷ names) (names_of count name (drop (suc (length name)) bytes))) (next_name last bytes)
 
--- The set of which the bytes are the snapshot, if any; the empty text is below every name.
+-- The set whose snapshot is the bytes, if they are one. The empty text is below every name.
 abbrev pub set_of : List ℕ → Option (List (List ℕ))
 set_of bytes =
     if nat_le 2 (length bytes) && nat_le (big_number 2 bytes) most then names_of (big_number 2 bytes) [] (drop 2 bytes) else None

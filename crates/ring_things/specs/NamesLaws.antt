@@ -75,7 +75,7 @@ All-insert : (P : List ℕ → Type 0) (names : List (List ℕ)) (i : ℕ) (name
 All-insert P names i name each this = All-append P (take i names) (name ∷ drop i names) (All-take P i names each)
     (All-cons P name (drop i names) this (All-drop P i names each))
 
--- A set stays ascending with a name inserted at its position.
+-- A set stays ascending if a name is inserted at its index.
 pub AreAscending-with_name : (name : List ℕ) (names : List (List ℕ)) → has name names ≡ false → AreAscending names → AreAscending (with_name name names)
 unfolding IsStrictlySortedBy below
 AreAscending-with_name name [] missing ascending = (tt, tt)
@@ -101,7 +101,7 @@ length-without name (x ∷ xs) =
     let others = length-without name xs in
     cond_both (not (same name x)) (x ∷ without name xs) (without name xs) (λ ys. length ys ≤ length (x ∷ xs)) (λ _. omega arith) (λ _. omega arith)
 
--- A set with room is still a set with a name inserted.
+-- A set with room is still a set after a name is inserted.
 pub IsSet-with_name : (name : List ℕ) (names : List (List ℕ)) → IsName name → has name names ≡ false
     → length names < most → IsSet names → IsSet (with_name name names)
 IsSet-with_name name names fits missing room is = record {
@@ -110,7 +110,7 @@ IsSet-with_name name names fits missing room is = record {
   ascending = AreAscending-with_name name names missing is.ascending;
 }
 
--- A set is still a set with a name removed.
+-- A set is still a set after a name is removed.
 pub IsSet-without : (name : List ℕ) (names : List (List ℕ)) → IsSet names → IsSet (without name names)
 IsSet-without name names is = record {
   few = omega (arith, length-without name names, is.few);
@@ -147,7 +147,7 @@ replies_fit names op are is = reply_fits names (decoding op)
 pub ignored : (names : List (List ℕ)) (op : List ℕ) → is_readable op ≡ false → (reply names op ≡ unreadable) × (next names op ≡ names)
 ignored names op none = rw (none_of (decoding op) none) (refl, refl)
 
--- The encoding of a name, with any bytes after it, decodes to that name.
+-- The encoding of a name above the last one, followed by any bytes, is decoded to that name.
 next_first : (last name rest : List ℕ) → IsName name → by_bytes last name ≡ Less → next_name last (length name ∷ (name ++ rest)) ≡ Some name
 next_first last name rest is up =
     let front : take (length name) (name ++ rest) ≡ name = take_at name rest (length name) refl in
@@ -157,7 +157,7 @@ next_first last name rest is up =
     and_from _ _ (and_from _ _ (le-leb _ _ is.some) (le-leb _ _ is.short)) (and_from _ _ (le-leb _ _ long) (rw (front, up) refl)) in
     cond-true _ _ _ test ∙ ap Some front
 
--- The encoding of ascending names above the last one decodes to these names.
+-- The encoding of ascending names above the last one is decoded to these names.
 again : (last : List ℕ) (names : List (List ℕ)) → All IsName names → AreAscending (last ∷ names) → names_of (length names) last (list_encoding names) ≡ Some names
 unfolding names_of IsStrictlySortedBy
 again last [] each ascending = refl
@@ -167,7 +167,7 @@ again last (x ∷ xs) each ascending =
     let others : names_of (length xs) x (list_encoding xs) ≡ Some xs = again x xs (All-tail IsName x xs each) ascending.1 in
     rw (flat_map-cons (λ (name : List ℕ). length name ∷ name) x xs, first, rest, others) refl
 
--- A decoded name: a name above the last one, whose encoding the bytes begin with.
+-- A decoded name is above the last one, and the bytes begin with its encoding.
 record IsNext (last bytes name : List ℕ) : Type 0 where
   is : IsName name
   up : by_bytes last name ≡ Less
@@ -192,7 +192,7 @@ next_exact last (len ∷ rest) name are is =
       text = rw size (ap (λ xs. len ∷ xs) (take-append-drop len rest));
     })
 
--- Decoded names: exactly `count` of them, ascending, above the last one, and the bytes are their encoding.
+-- Decoded names are exactly `count`, ascending and above the last one, and the bytes are their encoding.
 record AreNext (count : ℕ) (last bytes : List ℕ) (names : List (List ℕ)) : Type 0 where
   many : length names ≡ count
   each : All IsName names

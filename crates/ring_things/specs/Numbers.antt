@@ -27,13 +27,13 @@ AreNumbers width numbers = All (λ number. number < 256 ^ width) numbers
 pub big_number-lt : (width : ℕ) (bytes : List ℕ) → AreBytes bytes → big_number width bytes < 256 ^ width
 big_number-lt width bytes are = big_from-lt 0 width bytes (bytes_everywhere bytes are)
 
--- Only the first `width` bytes count.
+-- Only the first `width` bytes matter for the number.
 pub big_number-take : (width : ℕ) (bytes : List ℕ) → width ≤ length bytes → big_number width bytes ≡ big_number width (take width bytes)
 big_number-take width bytes long =
     ap (big_number width) (sym (take-append-drop width bytes)) ∙ big_from-append width (take width bytes)
     (drop width bytes) (omega (arith, length-take width bytes))
 
--- The width is exact: a decoded number encodes to its bytes.
+-- The width is exact: a number decoded from bytes of this width is encoded to these bytes.
 abbrev pub IsExact : ℕ → Type 0
 IsExact width = (bytes : List ℕ) → length bytes ≡ width → AreBytes bytes → big_bytes width (big_number width bytes) ≡ bytes
 
@@ -45,7 +45,7 @@ exact_8 bytes len are = be_bytes_8 bytes _ len (bytes_everywhere bytes are) (ome
 pub exact_2 : IsExact 2
 exact_2 bytes len are = be_bytes_2 bytes _ len (bytes_everywhere bytes are) (omega arith)
 
--- The number at the start of the bytes encodes to them.
+-- The number at the start of the bytes is encoded to their first `width` bytes.
 pub big_bytes-big_number : (width : ℕ) → IsExact width → (bytes : List ℕ) → width ≤ length bytes → AreBytes bytes
     → big_bytes width (big_number width bytes) ++ drop width bytes ≡ bytes
 big_bytes-big_number width exact bytes long are =
@@ -77,7 +77,7 @@ AreNumbers-numbers_of width (suc count) bytes are =
     All-cons (λ number. number < 256 ^ width) (big_number width bytes) (numbers_of width count (drop width bytes)) (big_number-lt width bytes are)
     (AreNumbers-numbers_of width count (drop width bytes) (All-drop (λ byte. byte < 256) width bytes are))
 
--- Encoded numbers decode to themselves.
+-- Encoded numbers are decoded to themselves.
 pub numbers_of-list_encoding : (width : ℕ) (numbers : List ℕ) → AreNumbers width numbers → numbers_of width (length numbers) (list_encoding width numbers) ≡ numbers
 unfolding numbers_of
 numbers_of-list_encoding width [] are = refl
@@ -89,7 +89,7 @@ numbers_of-list_encoding width (x ∷ xs) are =
     let others : numbers_of width (length xs) (list_encoding width xs) ≡ xs = numbers_of-list_encoding width xs (All-tail (λ number. number < 256 ^ width) x xs are) in
     rw (flat_map-cons (λ number. big_bytes width number) x xs, first, rest, others) refl
 
--- Decoded numbers encode to the bytes.
+-- Decoded numbers are encoded to the bytes.
 pub list_encoding-numbers_of : (width : ℕ) → IsExact width → (count : ℕ) (bytes : List ℕ) → length bytes ≡ width * count
     → AreBytes bytes → list_encoding width (numbers_of width count bytes) ≡ bytes
 unfolding numbers_of
@@ -103,7 +103,7 @@ list_encoding-numbers_of width exact (suc count) bytes len are =
       others,
     ) (big_bytes-big_number width exact bytes (omega arith) are)
 
--- An encoded number decodes to itself.
+-- An encoded number is decoded to itself.
 pub big_number-whole : (width number : ℕ) → number < 256 ^ width → big_number width (big_bytes width number) ≡ number
 big_number-whole width number fits =
     ap (big_number width) (sym (append-nil (big_bytes width number))) ∙ big_number-reads_back width number [] fits

@@ -1,4 +1,4 @@
--- A reply: the outcome of an operation as its first byte, and an optional value after it.
+-- A reply: the outcome of an operation as its first byte, then an optional value.
 -- Formats: Operations and replies
 use Rattle.std.specs.Prelude.{ℕ, ◌^◌, ◌<◌, ◌==◌, if◌then◌else◌, List, [], ◌∷◌, length, Option, Some, None}
 use Rattle.std.specs.Option.{option_map, option_and_then}
@@ -14,7 +14,7 @@ code_of NotDone = 1
 code_of Full = 2
 code_of Unreadable = 255
 
--- The outcome of a byte, if it is one.
+-- The outcome with this byte, if there is one.
 abbrev pub outcome_of : ℕ → Option Outcome
 outcome_of code =
     if code == 0 then Some Done
@@ -28,7 +28,8 @@ abbrev pub value_bytes : Option ℕ → List ℕ
 value_bytes (Some value) = big_bytes 8 value
 value_bytes None = []
 
--- The optional value that the bytes encode: none for no bytes, a value for 8 bytes; no other length is one.
+-- The optional value that the bytes encode: none for no bytes, a value for 8 bytes. Bytes of any other length encode
+-- nothing.
 abbrev pub value_in : List ℕ → Option (Option ℕ)
 value_in bytes = if length bytes == 0 then Some None else if length bytes == 8 then Some (Some (big_number 8 bytes)) else None
 

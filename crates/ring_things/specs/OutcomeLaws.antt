@@ -21,16 +21,16 @@ outcome_of-code NotDone = refl
 outcome_of-code Full = refl
 outcome_of-code Unreadable = refl
 
--- The bytes of an optional value decode to it.
+-- The bytes of an optional value are decoded to it.
 pub value_in-bytes : (value : Option ℕ) → ValueFits value → value_in (value_bytes value) ≡ Some value
 value_in-bytes (Some value) fits = ap (λ n. Some (Some n)) (big_number-whole 8 value fits)
 value_in-bytes None fits = refl
 
--- The bytes of a reply decode to it.
+-- The bytes of a reply are decoded to it.
 pub decoding-encoding : (replied : ReplyParts) → ValueFits replied.value → decoding (encoding replied) ≡ Some replied
 decoding-encoding replied fits = rw (outcome_of-code replied.outcome, value_in-bytes replied.value fits) refl
 
--- The outcome of a byte has this byte as its code.
+-- The outcome that a byte encodes has this byte as its code.
 IsCode : ℕ → Option Outcome → Type 0
 IsCode code found = (outcome : Outcome) → found ≡ Some outcome → code_of outcome ≡ code
 
@@ -43,7 +43,7 @@ code_of-outcome code =
     (λ _. cond_both (code == 255) _ _ (IsCode code) (λ is outcome found. ap code_of (sym (same_Some _ _ found)) ∙ sym (eqb-true _ _ is))
     (λ _ outcome found. absurd cc))))
 
--- A decoded value encodes to the bytes.
+-- A decoded value is encoded to the bytes.
 HasBytes : List ℕ → Option (Option ℕ) → Type 0
 HasBytes bytes found = (value : Option ℕ) → found ≡ Some value → value_bytes value ≡ bytes
 
@@ -56,7 +56,7 @@ value_bytes-value bytes are =
     (λ eight value found. ap value_bytes (sym (same_Some _ _ found)) ∙ exact_8 bytes (eqb-true _ _ eight) are)
     (λ _ value found. absurd cc))
 
--- A decoded reply encodes to the bytes.
+-- A decoded reply is encoded to the bytes.
 pub encoding-decoding : (bytes : List ℕ) (replied : ReplyParts) → AreBytes bytes → decoding bytes ≡ Some replied → encoding replied ≡ bytes
 unfolding IsCode HasBytes
 encoding-decoding [] replied are is = absurd cc
@@ -67,7 +67,7 @@ encoding-decoding (code ∷ rest) replied are is =
     let others : value_bytes value.0 ≡ rest = value_bytes-value rest (AreBytes-rest code rest are) value.0 value.1 in
     ap encoding (sym value.2) ∙ rw (first, others) refl
 
--- The same for a result of the decoding.
+-- The same, for a result that equals the decoding.
 pub found-decoding : (bytes : List ℕ) (read : Option ReplyParts) → AreBytes bytes → read ≡ decoding bytes → IfSome read (λ replied. encoding replied ≡ bytes)
 found-decoding bytes (Some replied) are is = encoding-decoding bytes replied are (sym is)
 found-decoding bytes None are is = tt

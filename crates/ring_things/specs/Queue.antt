@@ -8,11 +8,11 @@ use Rattle.ring_things.specs.Numbers.{list_encoding, numbers_of, AreNumbers}
 use Rattle.ring_things.specs.declared.queue.QueueOperation.{QueueOperation}
 use Rattle.ring_things.specs.declared.queue.QueueOperation.TheVariants.{Push, Pop, Count}
 
--- The most values in a queue.
+-- The maximum number of values in a queue.
 abbrev pub most : ℕ
 most = 1024
 
--- A queue's content: at most 1,024 values of 8 bytes, first in first.
+-- The content of a queue: at most 1,024 values of 8 bytes, the oldest first.
 pub record IsQueue (items : List ℕ) : Type 0 where
   pub few : length items ≤ most
   pub numbers : AreNumbers 8 items
@@ -45,8 +45,8 @@ reply_to (item ∷ items) (Some Pop) = 0 ∷ big_bytes 8 item
 reply_to items (Some Count) = 0 ∷ big_bytes 8 (length items)
 reply_to items None = unreadable
 
--- The values after a decoded operation. A push appends its value if there is room, a pop removes the first; all else is
--- unchanged.
+-- The values after a decoded operation. A push appends its value if there is room, a pop removes the first; otherwise
+-- nothing changes.
 abbrev pub after : List ℕ → Option QueueOperation → List ℕ
 after items (Some (Push value)) = if length items == most then items else items ++ value ∷ []
 after items (Some Pop) = drop 1 items
@@ -61,7 +61,7 @@ reply items op = reply_to items (decoding op)
 abbrev pub next : List ℕ → List ℕ → List ℕ
 next items op = after items (decoding op)
 
--- The snapshot of a queue: the number of values in 2 bytes, and the values, first in first.
+-- The snapshot of a queue: the number of values in 2 bytes, then the values, the oldest first.
 abbrev pub snapshot_of : List ℕ → List ℕ
 snapshot_of items = big_bytes 2 (length items) ++ list_encoding 8 items
 
@@ -69,6 +69,6 @@ snapshot_of items = big_bytes 2 (length items) ++ list_encoding 8 items
 abbrev pub is_snapshot : List ℕ → Bool
 is_snapshot bytes = nat_le 2 (length bytes) && (nat_le (big_number 2 bytes) most && length (drop 2 bytes) == 8 * big_number 2 bytes)
 
--- The values of which the bytes are the snapshot, if any.
+-- The values whose snapshot is the bytes, if they are one.
 abbrev pub queue_of : List ℕ → Option (List ℕ)
 queue_of bytes = if is_snapshot bytes then Some (numbers_of 8 (big_number 2 bytes) (drop 2 bytes)) else None

@@ -1,4 +1,4 @@
--- When values are decoded from bytes and encoded as bytes, inversely to each other.
+-- Encodings and decodings that are inverse to each other.
 use Rattle.std.proofs.Common.{◌≡◌, ℕ, List, Option, Some, sym, ap, ◌∙◌, subst}
 use Rattle.std.specs.Option.{option_and_then}
 use Rattle.ring_object.specs.Bytes.{AreBytes}
@@ -9,7 +9,7 @@ pub record Reads {T : Type 0} (Fits : T → Type 0) (encoding : T → List ℕ) 
   pub same : (value : T) → Fits value → decoding (encoding value) ≡ Some value
   pub only : (bytes : List ℕ) (value : T) → AreBytes bytes → decoding bytes ≡ Some value → Fits value × (encoding value ≡ bytes)
 
--- The same for values that are represented by others: their encoding is that of their representation.
+-- The same for values represented by others, whose encoding is that of their representation.
 pub by_parts : {T U : Type 0} (Fits : U → Type 0) (encoding : U → List ℕ) (decoding : List ℕ → Option U) → Reads Fits encoding decoding
     → (parts_of : T → U) (of_parts : U → Option T) → ((value : T) → of_parts (parts_of value) ≡ Some value)
     → ((parts : U) (value : T) → of_parts parts ≡ Some value → parts_of value ≡ parts)

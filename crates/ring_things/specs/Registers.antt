@@ -35,8 +35,8 @@ reply_to values (Some (CompareAndSet key expected new)) =
     if slice_index values key == expected then 0 ∷ [] else 1 ∷ big_bytes 8 (slice_index values key)
 reply_to values None = unreadable
 
--- The values after a decoded operation. A put stores its value, a compare-and-set does if the value is the expected one;
--- all else is unchanged.
+-- The values after a decoded operation. A put stores its value, and a compare-and-set does so if the value there is the
+-- expected one; otherwise nothing changes.
 abbrev pub after : List ℕ → Option RegisterOperation → List ℕ
 after values (Some (Get key)) = values
 after values (Some (Put key value)) = slice_set values key value

@@ -7,7 +7,7 @@ use Rattle.byteorder.specs.Numbers.{length-bytes_high_first}
 use Rattle.ring_object.specs.Bytes.{AreBytes}
 use Rattle.ring_object.specs.Operations.{IsReply}
 
--- The elements after the first of bytes are bytes.
+-- Bytes without their first byte are bytes.
 pub AreBytes-rest : (byte : ℕ) (bytes : List ℕ) → AreBytes (byte ∷ bytes) → AreBytes bytes
 AreBytes-rest byte bytes are = All-tail (λ b. b < 256) byte bytes are
 
@@ -15,7 +15,7 @@ AreBytes-rest byte bytes are = All-tail (λ b. b < 256) byte bytes are
 pub AreBytes-take : (n : ℕ) (bytes : List ℕ) → AreBytes bytes → AreBytes (take n bytes)
 AreBytes-take n bytes are = All-take (λ b. b < 256) n bytes are
 
--- The rest of bytes is bytes.
+-- Bytes without their first n are bytes.
 pub AreBytes-drop : (n : ℕ) (bytes : List ℕ) → AreBytes bytes → AreBytes (drop n bytes)
 AreBytes-drop n bytes are = All-drop (λ b. b < 256) n bytes are
 

@@ -18,11 +18,11 @@ use Rattle.ring_things.specs.Replies.{code_fits, AreBytes-rest, AreBytes-drop, A
 use Rattle.ring_things.specs.Shelf.{shelf_readable, shelf_reply, shelf_next, first_text, texts_of}
 use Rattle.ring_things.specs.Shelf.{shelf_snapshot, both_of, four_of, objects_of, shelf_of}
 
--- Each object has a content of its type.
+-- Each of the four objects has a valid content of its type.
 abbrev pub AreContents : {P Q R S : Type 0} → (P → Type 0) → (Q → Type 0) → (R → Type 0) → (S → Type 0) → P × Q × R × S → Type 0
 AreContents p q r s objects = p objects.0 × q objects.1 × r objects.2 × s objects.3
 
--- An object's content is a content after every operation.
+-- Every operation leads from a valid content of the object to a valid content.
 abbrev Keeps : {O : Type 0} → (O → Type 0) → (O → List ℕ → O) → Type 0
 Keeps {O} IsContent next = (o : O) (op : List ℕ) → AreBytes op → IsContent o → IsContent (next o op)
 
@@ -35,7 +35,7 @@ abbrev Ignores : {O : Type 0} → (List ℕ → Bool) → (O → List ℕ → Li
 Ignores {O} is_readable reply next = (o : O) (op : List ℕ) → is_readable op ≡ false → (reply o op ≡ unreadable) × (next o op ≡ o)
 
 module _ {P Q R S : Type 0} (IsP : P → Type 0) (IsQ : Q → Type 0) (IsR : R → Type 0) (IsS : S → Type 0) where
-  -- The shelf's content is a content after every operation, if that holds of each object.
+  -- Every operation leads from a valid content of the shelf to a valid content, if that holds of each object.
   pub shelf_kept : (p : P → List ℕ → P) (q : Q → List ℕ → Q) (r : R → List ℕ → R) (s : S → List ℕ → S) → Keeps IsP p → Keeps IsQ q → Keeps IsR r → Keeps IsS s →
       (objects : P × Q × R × S) (op : List ℕ) → AreBytes op → AreContents IsP IsQ IsR IsS objects → AreContents IsP IsQ IsR IsS (shelf_next p q r s objects op)
   shelf_kept p q r s kp kq kr ks objects [] are is = is
@@ -59,7 +59,7 @@ module _ {P Q R S : Type 0} (IsP : P → Type 0) (IsQ : Q → Type 0) (IsR : R �
       (λ _. cond_both (which == 2) _ _ IsReply (λ _. rr objects.2 op bytes is.2)
       (λ _. cond_both (which == 3) _ _ IsReply (λ _. rs objects.3 op bytes is.3) (λ _. code_fits 255 (omega arith)))))
 
--- A choice between four objects ignores what it can't read, if each object does.
+-- A choice among four objects ignores what it can't read, if each object does.
 ignored_by : {O : Type 0} (a b c d p q r s : Bool) (reply_p reply_q reply_r reply_s : List ℕ) (next_p next_q next_r next_s o : O) →
     (p ≡ false → (reply_p ≡ unreadable) × (next_p ≡ o)) → (q ≡ false → (reply_q ≡ unreadable) × (next_q ≡ o)) →
     (r ≡ false → (reply_r ≡ unreadable) × (next_r ≡ o)) → (s ≡ false → (reply_s ≡ unreadable) × (next_s ≡ o)) →
@@ -91,7 +91,7 @@ module _ {P Q R S : Type 0} (rp : P → List ℕ → List ℕ) (rq : Q → List 
       (λ e. let i = is objects.3 op e in (i.0, ap (λ (x : S). (objects.0, objects.1, objects.2, x)) i.1))
       none
 
--- A text after its length is read from the start of the bytes.
+-- A text preceded by its length is read from the start of the bytes.
 first_text-sized : (width : ℕ) (text rest : List ℕ) → length text < 256 ^ width → first_text width (sized width text ++ rest) ≡ Some (text, rest)
 unfolding first_text sized
 first_text-sized width text rest fits =
@@ -105,7 +105,7 @@ first_text-sized width text rest fits =
     cond-true _ _ _ (and_from _ _ (le-leb _ _ long) (le-leb _ _ fit))
     ∙ rw (number, behind, take_at text rest (length text) refl, drop_at text rest (length text) refl) refl
 
--- What is read from the start of the bytes is a text after its length.
+-- What is read from the start of the bytes is a text preceded by its length.
 record IsFirst (width : ℕ) (bytes : List ℕ) (parts : List ℕ × List ℕ) : Type 0 where
   whole : sized width parts.0 ++ parts.1 ≡ bytes
   text : AreBytes parts.0
@@ -130,7 +130,7 @@ first_text-exact width exact bytes parts are is =
       rest = AreBytes-drop number behind behind_bytes;
     })
 
--- Four texts, each after its length.
+-- Four texts, each preceded by its length.
 abbrev all_sized : List ℕ → List ℕ → List ℕ → List ℕ → List ℕ
 all_sized a b c d = sized 8 a ++ (sized 8 b ++ (sized 8 c ++ sized 8 d))
 
@@ -156,7 +156,7 @@ texts_of-sized a b c d short =
     let fourth : first_text 8 (sized 8 d) ≡ Some (d, []) = subst Holds (append-nil (sized 8 d)) (first_text-sized 8 d [] (omega arith)) in
     rw (first, second, third, fourth) refl
 
--- The bytes are exactly these texts, each after its length.
+-- The bytes are exactly these texts, each preceded by its length.
 record AreTexts (bytes : List ℕ) (texts : List ℕ × List ℕ × List ℕ × List ℕ) : Type 0 where
   whole : all_sized texts.0 texts.1 texts.2 texts.3 ≡ bytes
   first : AreBytes texts.0

@@ -17,7 +17,7 @@ use Rattle.ring_things.specs.Numbers.{AreNumbers-numbers_of, numbers_of-list_enc
 abbrev pub keys : ℕ
 keys = 256
 
--- A table's content: a number of 8 bytes for each of n keys.
+-- The content of a table: a number of 8 bytes for each of n keys.
 pub record IsTable (n : ℕ) (table : List ℕ) : Type 0 where
   pub all_keys : length table ≡ n
   pub numbers : AreNumbers 8 table
@@ -30,7 +30,7 @@ zeros n = replicate n 0
 abbrev pub snapshot_of : List ℕ → List ℕ
 snapshot_of numbers = list_encoding 8 numbers
 
--- The table of which the bytes are the snapshot, if any.
+-- The table whose snapshot is the bytes, if they are one.
 abbrev pub table_of : ℕ → List ℕ → Option (List ℕ)
 table_of n bytes = if length bytes == 8 * n then Some (numbers_of 8 n bytes) else None
 
@@ -38,7 +38,7 @@ table_of n bytes = if length bytes == 8 * n then Some (numbers_of 8 n bytes) els
 pub zeros_IsTable : (n : ℕ) → IsTable n (zeros n)
 zeros_IsTable n = record { all_keys = length-replicate {A = ℕ} n 0; numbers = All-replicate (λ number. number < 256 ^ 8) n 0 (omega arith) }
 
--- A table is still a table with a number stored.
+-- A table is still a table after a number is stored.
 pub IsTable-set : (n : ℕ) (numbers : List ℕ) (key number : ℕ) → number < 256 ^ 8 → IsTable n numbers → IsTable n (slice_set numbers key number)
 IsTable-set n numbers key number fits is = record {
   all_keys = length-set numbers key number ∙ is.all_keys;

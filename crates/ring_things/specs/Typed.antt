@@ -12,19 +12,19 @@ pub use Rattle.ring_things.specs.declared.replies.Outcome.TheVariants.{Done, Not
 pub use Rattle.ring_things.specs.declared.replies.ReplyParts.{ReplyParts}
 use Rattle.ring_things.specs.Reads.{Reads}
 
--- The operation was done; no value.
+-- The operation was done, and the reply has no value.
 abbrev pub done : ReplyParts
 done = record { outcome = Done; value = None }
 
--- The operation was done, with a value.
+-- The operation was done, and the reply has a value.
 abbrev pub done_with : ℕ → ReplyParts
 done_with value = record { outcome = Done; value = Some value }
 
--- The content didn't allow the operation; with a value.
+-- The content didn't allow the operation, and the reply has a value.
 abbrev pub refused_with : ℕ → ReplyParts
 refused_with value = record { outcome = NotDone; value = Some value }
 
--- The bytes of a reply; `FF` for an operation that couldn't be decoded.
+-- The bytes of a reply; the byte `FF` for an operation that couldn't be decoded.
 abbrev pub replied : Option ReplyParts → List ℕ
 replied (Some reply) = encoding reply
 replied None = unreadable
@@ -78,7 +78,7 @@ kept : {C T : Type 0} (IsContent : C → Type 0) (after : C → T → C) (conten
 kept IsContent after content (Some op) keeps is = keeps op refl
 kept IsContent after content None keeps is = is
 
--- After every operation the content is one, if that holds after every operation that fits.
+-- Every operation leads from a content to a content, if every decoded operation that fits does.
 pub typed_keeps : {C T : Type 0} (IsContent : C → Type 0) (Fits : T → Type 0) (encoding : T → List ℕ) (decoding : List ℕ → Option T)
     → Reads Fits encoding decoding → (after : C → T → C)
     → ((content : C) (op : T) → Fits op → IsContent content → IsContent (after content op))

@@ -1,4 +1,5 @@
 //! Counters: a count for each of 256 keys, with the operations add and read.
+//!
 //! Rules: Objects 2 to 5
 //! Formats: Operations and replies, Snapshots
 
@@ -14,14 +15,17 @@ use ring_object::{Object, Reply};
 use std::alloc::{Allocator, Global};
 use std::marker::Model;
 
-/// 256 counts of 64 bits under the keys 0 to 255, all 0 at the start. No operation takes memory.
+/// A count of 64 bits for each of the keys 0 to 255, all 0 at the start.
+///
+/// No operation allocates.
 ///
 /// | Operation | Bytes | Reply |
 /// |---|---|---|
 /// | add | `01` key amount | `00` and the new count; `01`, and no change, if the new count would be above 2^64 - 1 |
 /// | read | `02` key | `00` count |
 ///
-/// The snapshot is the counts in the order of their keys, 2,048 bytes.
+/// The snapshot is the counts in the order of their keys, 8 bytes each, big-endian: 2,048 bytes.
+///
 /// Rules: Objects 5
 /// Formats: Operations and replies, Snapshots
 #[derive(Drop)]
@@ -94,10 +98,14 @@ impl<A: Allocator + Copy + Drop> Object for Counters<A> {
 }
 
 /// The operations of counters, as bytes.
+///
+/// Formats: Operations and replies
 impl Counters {
     ghost use Rattle.ring_things.specs.declared.counters.CounterOperation.TheVariants.{Add, Read};
 
-    /// Returns the operation that adds an amount to the count under a key: `01`, the key, and the amount in 8 bytes.
+    /// Returns the operation that adds `amount` to the count for `key`: `01`, the key, and the amount in 8 bytes,
+    /// big-endian.
+    ///
     /// Formats: Operations and replies
     #[tactic(auto, using(crate::proofs::OperationsRead::add_read))]
     pub fn add(key: u8, amount: u64) -> Operation
@@ -107,7 +115,8 @@ impl Counters {
         key_value_operation(1, key, amount)
     }
 
-    /// Returns the operation that reads the count under a key: `02` and the key.
+    /// Returns the operation that reads the count for `key`: `02` and the key.
+    ///
     /// Formats: Operations and replies
     pub fn read(key: u8) -> Operation
         ensures bytes { result ≡ encoding (Read key) }
@@ -117,7 +126,7 @@ impl Counters {
     }
 }
 
-/// An operation of counters.
+/// An operation of counters, decoded.
 enum CounterOperation {
     /// The key and the amount to add to its count.
     Add(u8, u64),
@@ -126,6 +135,7 @@ enum CounterOperation {
 }
 
 impl CounterOperation {
+    /// Decodes an operation of counters, or returns `None` for bytes that aren't one.
     fn read(op: &[u8]) -> Option<CounterOperation>
         ensures { result ≡ decoding op.now }
     {

@@ -1,9 +1,9 @@
-//! Objects to replicate: registers, counters, a queue, a set of names, and a shelf of any four.
+//! Objects to replicate: registers, counters, a queue, a set of names, and a shelf of any four objects.
 //!
-//! Operations, replies and snapshots are bytes; each type lists its own in hexadecimal. A key is one byte, a value 8 bytes,
-//! and all numbers are big-endian. Bytes that aren't an operation change nothing, and the reply to them is `FF`. In `specs/`
-//! each object is a table: how an operation is decoded, the reply to it, and the content after it. [`Table`] is the content
-//! of registers and counters; user-defined objects may use it too.
+//! Operations, replies and snapshots are bytes; each type lists its own in hexadecimal. A key is one byte, a value 8
+//! bytes, and all numbers are big-endian. Bytes that aren't an operation change nothing, and the reply to them is `FF`.
+//! In `specs/` each object is a table: how an operation is decoded, the reply to it, and the content after it.
+//! [`Table`] is the content of registers and counters; user-defined objects may use it too.
 //!
 //! Rules: Objects 1 to 6
 //! Formats: Operations and replies, Snapshots

@@ -1,4 +1,5 @@
 //! A set of names, with the operations insert, remove and has.
+//!
 //! Rules: Objects 2 to 5
 //! Formats: Operations and replies, Snapshots
 
@@ -17,25 +18,28 @@ use ring_object::{Object, Reply, ShortBytes};
 use std::alloc::{Allocator, Global};
 use std::marker::Model;
 
-/// The most names that a set holds.
+/// The maximum number of names in a set.
 const MAX_NAMES: usize = 1024;
 
-/// The greatest length of a name in bytes.
+/// The maximum length of a name in bytes.
 const MAX_NAME_LENGTH: usize = 64;
 
 /// A name, 1 to 64 bytes.
 type Name = ShortBytes<MAX_NAME_LENGTH>;
 
-/// A set of at most 1,024 names of 1 to 64 bytes, empty at the start. A name is found in logarithmic time.
+/// A set of at most 1,024 names of 1 to 64 bytes, empty at the start.
+///
+/// A name is found in logarithmic time.
 ///
 /// | Operation | Bytes | Reply |
 /// |---|---|---|
-/// | insert | `01` name | `01` if the name is present; else `02` if there are 1,024 names; else `00`, and the name is added |
+/// | insert | `01` name | `00`, and the name is added; `01` if it is present; `02` if it is absent and the set full |
 /// | remove | `02` name | `00`, and the name is removed; `01` if it is absent |
 /// | has | `03` name | `00` if the name is present, `01` if it is absent |
 ///
-/// The snapshot is the number of names in 2 bytes, then the names, ascending by their bytes, each after its length in
-/// one byte.
+/// The snapshot is the number of names in 2 bytes, big-endian, then the names, ascending by their bytes, each preceded
+/// by its length in one byte.
+///
 /// Rules: Objects 5
 /// Formats: Operations and replies, Snapshots
 #[derive(Drop)]
@@ -121,7 +125,9 @@ impl<A: Allocator + Copy + Drop> Names<A> {
     ghost use Rattle.ring_things.specs.Names.{reply_to, after};
     ghost use Rattle.ring_things.specs.declared.names.NameOperation.TheVariants.{Insert, Remove, Has};
 
-    /// Adds the name to the set if there is room.
+    /// Adds the name to the set, unless it is there already or the set is full, and returns the reply.
+    ///
+    /// Errors: `Memory` if an allocation fails; the set is then unchanged.
     fn insert_name(&mut self, name: Name) -> Result<Reply, Fault>
         requires { IsName name }
         ensures reply { IfOk result (λ r. r ≡ reply_to self.old (Some (Insert name))) }
@@ -141,6 +147,7 @@ impl<A: Allocator + Copy + Drop> Names<A> {
         }
     }
 
+    /// Removes the name from the set if it is there, and returns the reply.
     fn remove_name(&mut self, name: &Name) -> Reply
         ensures reply { result ≡ reply_to self.old (Some (Remove name.now)) }
         ensures after { self.new ≡ after self.old (Some (Remove name.now)) }
@@ -154,7 +161,7 @@ impl<A: Allocator + Copy + Drop> Names<A> {
         }
     }
 
-    /// Replies whether the name is in the set.
+    /// Returns the reply that says whether the name is in the set.
     fn reply_of(&self, name: &Name) -> Reply
         ensures { result ≡ reply_to self.now (Some (Has name.now)) }
     {
@@ -165,14 +172,20 @@ impl<A: Allocator + Copy + Drop> Names<A> {
     }
 }
 
-/// The operations of a set of names, as bytes. A name has 1 to 64 bytes; that it has at least one is the caller's condition.
+/// The operations of a set of names, as bytes.
+///
+/// A name has 1 to 64 bytes.
+///
+/// Formats: Operations and replies
 impl Names {
     ghost use Rattle.ring_things.specs.declared.names.NameOperation.TheVariants.{Insert, Remove, Has};
 
-    /// Returns the operation that adds a name to the set: `01` and the name.
-    /// The name has 1 to 64 bytes; that it isn't empty is the caller's condition.
+    /// Returns the operation that adds `name` to the set: `01` and the name.
     ///
-    /// Errors: `OpTooLong` for a name of more than 64 bytes.
+    /// `name` must not be empty.
+    ///
+    /// Errors: `OpTooLong` if `name` has more than 64 bytes.
+    ///
     /// Formats: Operations and replies
     #[tactic(auto, using(crate::proofs::OperationsRead::named_read))]
     pub fn insert(name: &[u8]) -> Result<Operation, Fault>
@@ -185,10 +198,12 @@ impl Names {
         named(1, name)
     }
 
-    /// Returns the operation that removes a name from the set: `02` and the name.
-    /// The name has 1 to 64 bytes; that it isn't empty is the caller's condition.
+    /// Returns the operation that removes `name` from the set: `02` and the name.
     ///
-    /// Errors: `OpTooLong` for a name of more than 64 bytes.
+    /// `name` must not be empty.
+    ///
+    /// Errors: `OpTooLong` if `name` has more than 64 bytes.
+    ///
     /// Formats: Operations and replies
     #[tactic(auto, using(crate::proofs::OperationsRead::named_read))]
     pub fn remove(name: &[u8]) -> Result<Operation, Fault>
@@ -201,10 +216,12 @@ impl Names {
         named(2, name)
     }
 
-    /// Returns the operation that asks whether a name is in the set: `03` and the name.
-    /// The name has 1 to 64 bytes; that it isn't empty is the caller's condition.
+    /// Returns the operation that asks whether `name` is in the set: `03` and the name.
     ///
-    /// Errors: `OpTooLong` for a name of more than 64 bytes.
+    /// `name` must not be empty.
+    ///
+    /// Errors: `OpTooLong` if `name` has more than 64 bytes.
+    ///
     /// Formats: Operations and replies
     #[tactic(auto, using(crate::proofs::OperationsRead::named_read))]
     pub fn has(name: &[u8]) -> Result<Operation, Fault>
@@ -218,9 +235,9 @@ impl Names {
     }
 }
 
-/// Returns the operation of a code and a name.
+/// Returns the operation that has a code and a name.
 ///
-/// Errors: `OpTooLong` for a name of more than 64 bytes.
+/// Errors: `OpTooLong` if `name` has more than 64 bytes.
 fn named(code: u8, name: &[u8]) -> Result<Operation, Fault>
     ensures bytes { IfOk result (λ op. op ≡ code ∷ name.now) }
     ensures short { OnOk result (length name.now ≤ 64) }
@@ -232,7 +249,7 @@ fn named(code: u8, name: &[u8]) -> Result<Operation, Fault>
     Ok(with_head_byte(code, name))
 }
 
-/// An operation of a set of names.
+/// An operation of a set of names, decoded.
 enum NameOperation {
     Insert(Name),
     Remove(Name),
@@ -240,6 +257,7 @@ enum NameOperation {
 }
 
 impl NameOperation {
+    /// Decodes an operation of a set of names, or returns `None` for bytes that aren't one.
     fn read(op: &[u8]) -> Option<NameOperation>
         ensures value { result ≡ decoding op.now }
         ensures fits { Fits result }
@@ -260,8 +278,9 @@ impl NameOperation {
     }
 }
 
-/// Returns the position of a name among ascending names, counted from 0.
-/// As `Err` it returns the position at which to insert a name that is absent.
+/// Returns the index of `name` among ascending names, counted from 0.
+///
+/// If it is absent, returns as `Err` the index at which to insert it.
 fn place_of(names: &[Name], name: &Name) -> Result<usize, usize>
     requires { AreAscending names.now }
     ensures found { IfOk result (IsFound name.now names.now) }
@@ -270,13 +289,16 @@ fn place_of(names: &[Name], name: &Name) -> Result<usize, usize>
     names.binary_search_by(|other| other.as_slice().cmp(name.as_slice()))
 }
 
+/// Returns whether `name` is below `other`: at the first byte that differs, or as its proper prefix.
 fn is_below(name: &Name, other: &Name) -> bool
     ensures { result ≡ is_lt (by_bytes name.now other.now) }
 {
     name.as_slice().cmp(other.as_slice()).is_lt()
 }
 
-/// Decodes the name at the start of the bytes. `None` if there is none, or if it isn't above `last`.
+/// Decodes the name at the start of `bytes`.
+///
+/// Returns `None` if there is none, or if it isn't above `last`.
 fn next_name(last: &Name, bytes: &[u8]) -> Option<Name>
     ensures value { result ≡ name_at last.now bytes.now }
     ensures within { IfSome result (λ name. length name < length bytes.now) }
@@ -295,7 +317,7 @@ fn next_name(last: &Name, bytes: &[u8]) -> Option<Name>
     Some(name)
 }
 
-/// Returns the bytes after the encoding of this name, which begins the bytes.
+/// Returns the bytes after the encoding of `name`, with which `bytes` must begin.
 fn behind<'a>(name: &Name, bytes: &'a [u8]) -> &'a [u8]
     requires { length name.now < length bytes.now }
     ensures { result.now ≡ drop (suc (length name.now)) bytes.now }
@@ -303,7 +325,7 @@ fn behind<'a>(name: &Name, bytes: &'a [u8]) -> &'a [u8]
     &bytes[name.len() + 1..]
 }
 
-/// Returns whether the bytes are exactly `count` names, ascending.
+/// Returns whether the bytes are exactly the encodings of `count` names, strictly ascending.
 fn are_names(count: usize, bytes: &[u8]) -> bool
     ensures { result ≡ is_some (names_of count [] bytes.now) }
 {
@@ -319,7 +341,11 @@ fn are_names(count: usize, bytes: &[u8]) -> bool
     rest.is_empty()
 }
 
-/// Decodes `count` names, which the bytes are known to be. The only refusal is `Memory`.
+/// Decodes `count` names.
+///
+/// The bytes must be exactly their encodings.
+///
+/// Errors: `Memory` if an allocation fails.
 fn read_names<A: Allocator + Copy + Drop>(
     alloc: A,
     count: usize,
@@ -341,7 +367,9 @@ fn read_names<A: Allocator + Copy + Drop>(
     Ok(names)
 }
 
-/// Appends the number of names and the names. `Memory` may leave a prefix of them appended.
+/// Appends the number of names to `out`, then the names, each preceded by its length.
+///
+/// Errors: `Memory` if an allocation fails; some of the bytes may then have been appended.
 fn append_names<A: Allocator + Copy + Drop>(
     out: &mut Vec<u8, A>,
     names: &[Name],

@@ -7,8 +7,9 @@ use byteorder::{BigEndian, ByteOrder};
 use ring_base::Fault;
 use std::alloc::Allocator;
 
-/// Appends the numbers to `out`, in order, in 8 bytes each, big-endian.
-/// That `out` has room for them is the caller's condition.
+/// Appends `numbers` to `out`, in order, in 8 bytes each, big-endian.
+///
+/// `out` must have room for them. Does not allocate.
 pub(crate) fn append_numbers<A: Allocator>(out: &mut Vec<u8, A>, numbers: &[u64])
     requires { vec_len out.old + 8 * length numbers.now ≤ vec_capacity out.old }
     ensures items { out.new.items ≡ out.old.items ++ list_encoding 8 numbers.now }
@@ -23,9 +24,10 @@ pub(crate) fn append_numbers<A: Allocator>(out: &mut Vec<u8, A>, numbers: &[u64]
 }
 
 /// Decodes `count` numbers of 8 bytes each, big-endian, into a new vector.
-/// That `bytes` has exactly 8 * `count` bytes is the caller's condition.
 ///
-/// Errors: `Memory`.
+/// `bytes` must have exactly 8 * `count` bytes.
+///
+/// Errors: `Memory` if an allocation fails.
 pub(crate) fn read_numbers<A: Allocator + Copy + Drop>(
     alloc: A,
     count: usize,

@@ -1,4 +1,6 @@
-//! Operations of the objects as byte strings stored inline.
+//! The operations of the objects, as byte strings stored inline.
+//!
+//! Formats: Operations and replies
 
 ghost use Rattle.std.specs.Prelude.{◌≡◌, ◌<◌, [], ◌∷◌, length};
 ghost use Rattle.byteorder.specs.Endian.{big_bytes};
@@ -6,17 +8,22 @@ ghost use Rattle.byteorder.specs.Endian.{big_bytes};
 use byteorder::{BigEndian, ByteOrder};
 use ring_object::ShortBytes;
 
-/// An operation of an object that isn't on a shelf, 1 to 65 bytes, for the object's
-/// [`apply`](ring_object::Object::apply).
+/// An operation of an object that isn't on a shelf, for the object's [`apply`](ring_object::Object::apply).
+///
+/// It has 1 to 65 bytes.
+///
 /// Formats: Operations and replies
 pub type Operation = ShortBytes<65>;
 
-/// An operation of an object on a shelf, 2 to 66 bytes, for the shelf's [`apply`](ring_object::Object::apply).
-/// The first byte is the object's number, 0 to 3.
+/// An operation of an object on a shelf, for the shelf's [`apply`](ring_object::Object::apply).
+///
+/// It has 2 to 66 bytes. The first byte is the object's number, 0 to 3.
+///
 /// Formats: Operations and replies
 pub type ShelfOperation = ShortBytes<66>;
 
-/// Returns the operation of two bytes, the code and the key.
+/// Returns the operation of two bytes: the code and the key.
+///
 /// Formats: Operations and replies
 pub fn key_operation(code: u8, key: u8) -> Operation
     ensures { result ≡ code ∷ key ∷ [] }
@@ -25,6 +32,7 @@ pub fn key_operation(code: u8, key: u8) -> Operation
 }
 
 /// Returns the operation of ten bytes: the code, the key, and the value in 8 bytes, big-endian.
+///
 /// Formats: Operations and replies
 pub fn key_value_operation(code: u8, key: u8, value: u64) -> Operation
     ensures { result ≡ code ∷ key ∷ big_bytes 8 value }
@@ -35,8 +43,7 @@ pub fn key_value_operation(code: u8, key: u8, value: u64) -> Operation
     Operation::from_slice(&bytes)
 }
 
-/// Returns the byte `head` followed by the bytes `text`.
-/// That `text` has fewer than `N` bytes is the caller's condition.
+/// Returns the byte `head` followed by the bytes `text`, which must be fewer than `N`.
 pub fn with_head_byte<const N: usize>(head: u8, text: &[u8]) -> ShortBytes<N>
     requires { length text.now < N }
     ensures { result ≡ head ∷ text.now }

@@ -1,4 +1,5 @@
 //! A first-in first-out queue of values, with the operations push, pop and length.
+//!
 //! Rules: Objects 2 to 5
 //! Formats: Operations and replies, Snapshots
 
@@ -15,10 +16,10 @@ use std::alloc::{Allocator, Global};
 use std::collections::VecDeque;
 use std::marker::Model;
 
-/// The most values that a queue holds.
+/// The maximum number of values in a queue.
 const MAX_ITEMS: usize = 1024;
 
-/// A queue of at most 1,024 values of 64 bits, first in first out, empty at the start.
+/// A first-in first-out queue of at most 1,024 values of 64 bits, empty at the start.
 ///
 /// | Operation | Bytes | Reply |
 /// |---|---|---|
@@ -28,6 +29,7 @@ const MAX_ITEMS: usize = 1024;
 ///
 /// The snapshot is the number of values in 2 bytes, then the values in 8 bytes each, oldest first. All numbers are
 /// big-endian.
+///
 /// Rules: Objects 5
 /// Formats: Operations and replies, Snapshots
 #[derive(Drop)]
@@ -120,10 +122,13 @@ impl<A: Allocator + Copy + Drop> Object for Queue<A> {
 }
 
 /// The operations of a queue, as bytes.
+///
+/// Formats: Operations and replies
 impl Queue {
     ghost use Rattle.ring_things.specs.declared.queue.QueueOperation.TheVariants.{Push, Pop, Count};
 
-    /// Returns the operation that appends a value to the queue: `01` and the value in 8 bytes.
+    /// Returns the operation that appends `value` to the queue: `01` and the value in 8 bytes, big-endian.
+    ///
     /// Formats: Operations and replies
     #[tactic(auto, using(crate::proofs::OperationsRead::push_read))]
     pub fn push(value: u64) -> Operation
@@ -136,6 +141,7 @@ impl Queue {
     }
 
     /// Returns the operation that removes the oldest value and replies with it: `02`.
+    ///
     /// Formats: Operations and replies
     pub fn pop() -> Operation
         ensures bytes { result ≡ encoding Pop }
@@ -144,7 +150,8 @@ impl Queue {
         Operation::from_slice(&[2])
     }
 
-    /// Returns the operation that asks for the number of values in the queue: `03`.
+    /// Returns the operation that reads the number of values in the queue: `03`.
+    ///
     /// Formats: Operations and replies
     pub fn length() -> Operation
         ensures bytes { result ≡ encoding Count }
@@ -154,15 +161,18 @@ impl Queue {
     }
 }
 
-/// An operation of a queue.
+/// An operation of a queue, decoded.
 enum QueueOperation {
     /// The value to append.
     Push(u64),
+    /// The oldest value is removed and returned.
     Pop,
+    /// The number of values is read.
     Count,
 }
 
 impl QueueOperation {
+    /// Decodes an operation of a queue, or returns `None` for bytes that aren't one.
     fn read(op: &[u8]) -> Option<QueueOperation>
         ensures { result ≡ decoding op.now }
     {

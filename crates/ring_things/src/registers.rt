@@ -1,4 +1,5 @@
 //! Registers: a value for each of 256 keys, with the operations get, put and compare-and-set.
+//!
 //! Rules: Objects 2 to 5
 //! Formats: Operations and replies, Snapshots
 
@@ -14,15 +15,18 @@ use ring_object::{Object, Reply};
 use std::alloc::{Allocator, Global};
 use std::marker::Model;
 
-/// 256 values of 64 bits under the keys 0 to 255, all 0 at the start. No operation takes memory.
+/// A value of 64 bits for each of the keys 0 to 255, all 0 at the start.
+///
+/// No operation allocates.
 ///
 /// | Operation | Bytes | Reply |
 /// |---|---|---|
 /// | get | `01` key | `00` value |
 /// | put | `02` key value | `00` |
-/// | compare and set | `03` key expected new | `00`, and new is stored, if the value is expected; else `01` value |
+/// | compare and set | `03` key expected new | `00`, and new is stored, if the value is expected; if not, `01` value |
 ///
-/// The snapshot is the values in the order of their keys, 2,048 bytes.
+/// The snapshot is the values in the order of their keys, 8 bytes each, big-endian: 2,048 bytes.
+///
 /// Rules: Objects 5
 /// Formats: Operations and replies, Snapshots
 #[derive(Drop)]
@@ -96,10 +100,13 @@ impl<A: Allocator + Copy + Drop> Object for Registers<A> {
 }
 
 /// The operations of registers, as bytes.
+///
+/// Formats: Operations and replies
 impl Registers {
     ghost use Rattle.ring_things.specs.declared.registers.RegisterOperation.TheVariants.{Get, Put, CompareAndSet};
 
-    /// Returns the operation that reads the value under a key: `01` and the key.
+    /// Returns the operation that reads the value for `key`: `01` and the key.
+    ///
     /// Formats: Operations and replies
     pub fn get(key: u8) -> Operation
         ensures bytes { result ≡ encoding (Get key) }
@@ -108,7 +115,8 @@ impl Registers {
         key_operation(1, key)
     }
 
-    /// Returns the operation that stores a value under a key: `02`, the key, and the value in 8 bytes.
+    /// Returns the operation that stores `value` for `key`: `02`, the key, and the value in 8 bytes, big-endian.
+    ///
     /// Formats: Operations and replies
     #[tactic(auto, using(crate::proofs::OperationsRead::put_read))]
     pub fn put(key: u8, value: u64) -> Operation
@@ -118,8 +126,11 @@ impl Registers {
         key_value_operation(2, key, value)
     }
 
-    /// Returns the operation that stores `new` under a key if the value there is `expected`: `03`, the key, and both
-    /// values in 8 bytes each. Otherwise the value stays, and the reply has it.
+    /// Returns the operation that stores `new` for `key` if the value there is `expected`.
+    ///
+    /// It is `03`, the key, and both values in 8 bytes each, big-endian. If the value there is another one, it is
+    /// unchanged and is the reply's value.
+    ///
     /// Formats: Operations and replies
     #[tactic(auto, using(crate::proofs::OperationsRead::compare_and_set_read))]
     pub fn compare_and_set(key: u8, expected: u64, new: u64) -> Operation
@@ -134,7 +145,7 @@ impl Registers {
     }
 }
 
-/// An operation of registers.
+/// An operation of registers, decoded.
 enum RegisterOperation {
     /// The key whose value is read.
     Get(u8),
@@ -145,6 +156,7 @@ enum RegisterOperation {
 }
 
 impl RegisterOperation {
+    /// Decodes an operation of registers, or returns `None` for bytes that aren't one.
     fn read(op: &[u8]) -> Option<RegisterOperation>
         ensures { result ≡ decoding op.now }
     {

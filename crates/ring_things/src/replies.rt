@@ -1,4 +1,5 @@
-//! The replies of the objects: an outcome in one byte, alone or followed by a value of 8 bytes.
+//! The replies of the objects: an outcome in one byte, followed by a value of 8 bytes or by nothing.
+//!
 //! Formats: Operations and replies
 
 ghost use Rattle.std.specs.Prelude.{◌≡◌, [], ◌∷◌, Some, IfSome};
@@ -9,22 +10,35 @@ ghost use Rattle.ring_things.specs.declared.replies.ReplyParts.{ReplyParts as On
 use byteorder::{BigEndian, ByteOrder};
 use ring_object::Reply;
 
-/// The outcome of an operation: the first byte of the reply. The discriminant is that byte.
+/// The outcome of an operation, which is the first byte of the reply.
+///
+/// The discriminant is that byte.
+///
 /// Formats: Operations and replies
 #[derive(Clone, Copy, Debug, PartialEq, Eq)]
 pub enum Outcome {
-    /// The operation was done. A value follows in the reply if the operation reads one.
+    /// The operation was done.
+    ///
+    /// The reply also has a value if the operation returns one.
     Done = 0,
-    /// The content of the object didn't allow the operation. Nothing changed.
+    /// The content of the object didn't allow the operation.
+    ///
+    /// Nothing changed.
     NotDone = 1,
-    /// The object is full. Nothing changed.
+    /// The object is full.
+    ///
+    /// Nothing changed.
     Full = 2,
-    /// The bytes aren't an operation of the object. Nothing changed.
+    /// The bytes aren't an operation of the object.
+    ///
+    /// Nothing changed.
     Unreadable = 255,
 }
 
 impl Outcome {
-    /// Decodes an outcome; `None` for other bytes.
+    /// Decodes the byte of an outcome.
+    ///
+    /// Returns `None` for other bytes.
     fn of(code: u8) -> Option<Outcome>
         ensures { result ≡ outcome_of code }
     {
@@ -38,19 +52,22 @@ impl Outcome {
     }
 }
 
-/// A decoded reply: the outcome of the operation, and a value if the object replied with one.
+/// A decoded reply: the outcome of the operation, and a value if the reply has one.
+///
 /// Formats: Operations and replies
 #[derive(Clone, Copy, Debug, PartialEq, Eq)]
 pub struct ReplyParts {
-    /// The outcome of the operation, which the first byte of the reply encodes.
+    /// The outcome of the operation, which is the first byte of the reply.
     pub outcome: Outcome,
-    /// The value that the object replied with, or `None` for a reply of one byte.
+    /// The value in the reply, or `None` for a reply of one byte.
     pub value: Option<u64>,
 }
 
 impl ReplyParts {
-    /// Decodes a reply: the byte of an outcome, alone or followed by a value of 8 bytes, big-endian.
+    /// Decodes a reply: the byte of an outcome, followed by a value of 8 bytes, big-endian, or by nothing.
+    ///
     /// Returns `None` for all other bytes.
+    ///
     /// Formats: Operations and replies
     pub fn read(reply: &[u8]) -> Option<ReplyParts>
         ensures value { result ≡ decoding reply.now }
@@ -61,6 +78,7 @@ impl ReplyParts {
     }
 }
 
+/// Decodes a reply, as [`ReplyParts::read`] does.
 fn reply_in(bytes: &[u8]) -> Option<ReplyParts>
     ensures { result ≡ decoding bytes.now }
 {
@@ -76,7 +94,8 @@ fn reply_in(bytes: &[u8]) -> Option<ReplyParts>
     Some(ReplyParts { outcome, value })
 }
 
-/// Returns the reply of one byte, which encodes the outcome.
+/// Returns the reply of one byte, which encodes `outcome`.
+///
 /// Formats: Operations and replies
 pub fn reply(outcome: Outcome) -> Reply
     ensures { result ≡ code_of outcome ∷ [] }
@@ -84,7 +103,8 @@ pub fn reply(outcome: Outcome) -> Reply
     Reply::from_slice(&[outcome as u8])
 }
 
-/// Returns the reply of nine bytes: the byte of the outcome, and the value in 8 bytes, big-endian.
+/// Returns the reply of nine bytes: the byte of `outcome`, then `value` in 8 bytes, big-endian.
+///
 /// Formats: Operations and replies
 pub fn reply_with(outcome: Outcome, value: u64) -> Reply
     ensures { result ≡ code_of outcome ∷ big_bytes 8 value }

@@ -1,4 +1,5 @@
 //! A shelf: four objects as one object.
+//!
 //! Rules: Objects 1 to 6
 //! Formats: Operations and replies, Snapshots
 
@@ -20,9 +21,11 @@ use ring_object::{Object, Reply, append_sized};
 use std::marker::Model;
 
 /// A composite object: four objects of any types as one object.
+///
 /// The first byte of an operation, 0 to 3, is the number of an object. The rest is an operation of that object, whose
-/// reply is the reply. Other first bytes are unreadable, and so is an operation without bytes. The snapshot is, for
-/// each object in turn, the length of its snapshot in 8 bytes and that snapshot.
+/// reply is the reply. An operation with another first byte, or without bytes, is unreadable. The snapshot is, for each
+/// object in turn, the length of its snapshot in 8 bytes, big-endian, and that snapshot.
+///
 /// Rules: Objects 5
 /// Formats: Operations and replies, Snapshots
 #[derive(Drop)]
@@ -33,7 +36,10 @@ pub struct Shelf<P: Drop, Q: Drop, R: Drop, S: Drop> {
     fourth: S,
 }
 
-/// The program's object: a shelf of registers, counters, a queue and names, with the numbers 0 to 3 in this order.
+/// The standard object, which the program replicates: a shelf of registers, counters, a queue and names.
+///
+/// Their numbers on the shelf are 0 to 3, in this order.
+///
 /// Rules: Objects 6
 pub type StandardObjects<A> = Shelf<Registers<A>, Counters<A>, Queue<A>, Names<A>>;
 
@@ -145,23 +151,28 @@ impl<
     }
 }
 
-/// The place of an object on a shelf. Its discriminant is the object's number, 0 to 3.
+/// The position of an object on a shelf.
+///
+/// Its discriminant is the object's number, 0 to 3.
+///
 /// Formats: Operations and replies
 #[derive(Clone, Copy, Debug, PartialEq, Eq)]
 pub enum ShelfPlace {
-    /// The place of the shelf's first object, number 0.
+    /// The shelf's first object, number 0.
     First = 0,
-    /// The place of the shelf's second object, number 1.
+    /// The shelf's second object, number 1.
     Second = 1,
-    /// The place of the shelf's third object, number 2.
+    /// The shelf's third object, number 2.
     Third = 2,
-    /// The place of the shelf's fourth object, number 3.
+    /// The shelf's fourth object, number 3.
     Fourth = 3,
 }
 
 impl ShelfPlace {
-    /// Returns the shelf's operation that applies `operation` to the object at this place: the object's number in one
-    /// byte, then the bytes of `operation`.
+    /// Returns the shelf's operation that applies `operation` to the object at this position.
+    ///
+    /// It is the object's number in one byte, then the bytes of `operation`.
+    ///
     /// Formats: Operations and replies
     pub fn operation(self, operation: &Operation) -> ShelfOperation
         ensures { result ≡ number_of self ∷ operation.now }
@@ -170,7 +181,9 @@ impl ShelfPlace {
     }
 }
 
-/// Appends four snapshots, each after its length. `Memory` may leave a prefix of them appended.
+/// Appends the snapshots of four objects to `out`, each preceded by its length.
+///
+/// Errors: `Memory` if an allocation fails; some of the bytes may then have been appended.
 fn append_all<
     P: Object,
     Q: Object<Alloc = P::Alloc>,
@@ -192,7 +205,9 @@ fn append_all<
     append_sized(fourth, out)
 }
 
-/// Splits the bytes into a text after its length, and the rest.
+/// Splits the bytes into a text preceded by its length, and the rest.
+///
+/// Returns `None` if they are too short.
 fn split_text(bytes: &[u8]) -> Option<(&[u8], &[u8])>
     ensures { option_map (λ parts. (parts.0.now, parts.1.now)) result ≡ first_text 8 bytes.now }
 {
@@ -207,7 +222,9 @@ fn split_text(bytes: &[u8]) -> Option<(&[u8], &[u8])>
     Some(rest.split_at(len as usize))
 }
 
-/// Splits the bytes into exactly four texts, each after its length.
+/// Splits the bytes into exactly four texts, each preceded by its length.
+///
+/// Returns `None` if they are anything else.
 fn split_all(bytes: &[u8]) -> Option<(&[u8], &[u8], &[u8], &[u8])>
     ensures { option_map (λ texts. (texts.0.now, texts.1.now, texts.2.now, texts.3.now)) result
         ≡ texts_of bytes.now }
@@ -222,7 +239,9 @@ fn split_all(bytes: &[u8]) -> Option<(&[u8], &[u8], &[u8], &[u8])>
     Some((first, second, third, fourth))
 }
 
-/// Returns both restored objects, else the refusal: `BadSnapshot` before `Memory`.
+/// Returns both restored objects.
+///
+/// Errors: `BadSnapshot` if either result has it; otherwise `Memory`.
 fn both<X: Drop, Y: Drop>(
     first: Result<X, Fault>,
     second: Result<Y, Fault>,

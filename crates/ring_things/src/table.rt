@@ -1,4 +1,5 @@
 //! A table: a number for each of 256 keys.
+//!
 //! Formats: Snapshots
 
 ghost use Rattle.std.specs.Prelude.{◌≡◌, ◌++◌, slice_index, slice_set, Some, IfOk, IfErr, OnOk, OnErr};
@@ -9,12 +10,17 @@ use ring_base::Fault;
 use std::alloc::{Allocator, Global};
 use std::marker::Model;
 
-/// The number of keys: a key is one byte.
+/// The number of keys.
+///
+/// A key is one byte.
 const KEYS: usize = 256;
 
-/// 256 numbers of 64 bits under the keys 0 to 255, all 0 at the start. Contracts see the list of them.
+/// A number of 64 bits for each of the keys 0 to 255, all 0 at the start.
+///
+/// Contracts see the list of the numbers.
 ///
 /// The snapshot is the numbers in the order of their keys, 8 bytes each, big-endian: 2,048 bytes.
+///
 /// Formats: Snapshots
 #[derive(Drop)]
 pub struct Table<A: Allocator + Copy = Global> {
@@ -36,9 +42,10 @@ impl<A: Allocator + Copy + Drop> Table<A> {
     ghost use Rattle.ring_things.specs.Table.{IsTable, keys, zeros, table_of};
     ghost use Rattle.ring_object.specs.Snapshots.{IsSnapshotRefusal};
 
-    /// Returns a table with the number 0 under each of the 256 keys, in memory of `alloc`.
+    /// Returns a table that has the number 0 for each of the 256 keys, in memory of `alloc`.
     ///
-    /// Errors: `Memory`.
+    /// Errors: `Memory` if an allocation fails.
+    ///
     /// Rules: Objects 5
     pub fn zeros(alloc: A) -> Result<Table<A>, Fault>
         ensures ok { IfOk result (λ table. table ≡ zeros keys) }
@@ -48,23 +55,27 @@ impl<A: Allocator + Copy + Drop> Table<A> {
         Ok(Table { numbers })
     }
 
-    /// Returns the number that the table has under a key. In a new table it is 0.
+    /// Returns the number for `key`.
     pub fn get(&self, key: u8) -> u64
         ensures { result ≡ slice_index self.now key }
     {
         self.numbers[key as usize]
     }
 
-    /// Stores a number under a key, in place of the number there. The call takes no memory.
+    /// Stores `number` for `key`, in place of the number there.
+    ///
+    /// Does not allocate.
     pub fn set(&mut self, key: u8, number: u64)
         ensures { self.new ≡ slice_set self.old key number }
     {
         self.numbers[key as usize] = number;
     }
 
-    /// Appends the snapshot, 2,048 bytes, to `out`, and changes nothing before it.
+    /// Appends the snapshot of 2,048 bytes to `out`, and changes nothing before it.
     ///
-    /// Errors: `Memory`; `out` is then unchanged.
+    /// Errors: `Memory` if an allocation fails; the bytes of `out` are then unchanged.
+    ///
+    /// Rules: Objects 3 and 4
     /// Formats: Snapshots
     pub fn snapshot(&self, out: &mut Vec<u8, A>) -> Result<(), Fault>
         ensures content { OnOk result (IsTable keys self.now) }
@@ -79,7 +90,9 @@ impl<A: Allocator + Copy + Drop> Table<A> {
 
     /// Returns the table whose snapshot is `bytes`, in memory of `alloc`.
     ///
-    /// Errors: `BadSnapshot`, exactly if `bytes` hasn't 2,048 bytes; `Memory`, only if it has.
+    /// Errors: `BadSnapshot`, exactly if there aren't 2,048 bytes. `Memory` if there are and an allocation fails.
+    ///
+    /// Rules: Objects 3
     /// Formats: Snapshots
     pub fn restore(alloc: A, bytes: &[u8]) -> Result<Table<A>, Fault>
         ensures ok { IfOk result (λ table. table_of keys bytes.now ≡ Some table) }

@@ -1,4 +1,5 @@
-//! Encoding of replies, and the replies of typed operations.
+//! Encoding of decoded replies, and the replies of typed operations.
+//!
 //! Formats: Operations and replies
 
 ghost use Rattle.std.specs.Prelude.{◌≡◌};
@@ -7,8 +8,10 @@ ghost use Rattle.ring_things.specs.Typed.{replied, done, done_with, refused_with
 use crate::replies::{Outcome, ReplyParts, reply, reply_with};
 use ring_object::Reply;
 
-/// Returns the bytes of a decoded reply: the byte of the outcome, and the value in 8 bytes if there is one.
-/// Returns the byte `FF` for `None`, which stands for an unreadable operation.
+/// Returns the bytes of a decoded reply: the byte of the outcome, then the value in 8 bytes if there is one.
+///
+/// For `None`, which stands for an unreadable operation, it returns the byte `FF`.
+///
 /// Formats: Operations and replies
 pub fn reply_of(answer: Option<ReplyParts>) -> Reply
     ensures { result ≡ replied answer }
@@ -30,7 +33,8 @@ pub fn reply_of(answer: Option<ReplyParts>) -> Reply
     }
 }
 
-/// Returns the decoded reply with the outcome `Done` and no value: the operation was done.
+/// Returns the decoded reply that an operation was done, without a value: the outcome is `Done`.
+///
 /// Formats: Operations and replies
 pub fn done() -> ReplyParts
     ensures { result ≡ done }
@@ -41,7 +45,8 @@ pub fn done() -> ReplyParts
     }
 }
 
-/// Returns the decoded reply with the outcome `Done` and `value`: the operation was done.
+/// Returns the decoded reply that an operation was done, with `value`: the outcome is `Done`.
+///
 /// Formats: Operations and replies
 pub fn done_with(value: u64) -> ReplyParts
     ensures { result ≡ done_with value }
@@ -52,8 +57,9 @@ pub fn done_with(value: u64) -> ReplyParts
     }
 }
 
-/// Returns the decoded reply with the outcome `NotDone` and `value`: the content of the object didn't allow the
-/// operation.
+/// Returns the decoded reply that the object's content didn't allow the operation, with `value`: the outcome is
+/// `NotDone`.
+///
 /// Formats: Operations and replies
 pub fn refused_with(value: u64) -> ReplyParts
     ensures { result ≡ refused_with value }

@@ -1,4 +1,4 @@
--- The events at a node's timers, and the timeouts that begin anew at each.
+-- The events at a node's timers, and the timeouts that begin again at each.
 -- Rules: A node with a clock 2, 4 and 5
 use Rattle.std.specs.Prelude.{ℕ, ◌≡◌, ◌⊎◌, max, ◌||◌, ◌&&◌, not, Bool, true, false, if◌then◌else◌, List, [], ◌∷◌, ◌++◌, All, Option, Some}
 use Rattle.ring_base.specs.declared.kind.Kind.{Kind}
@@ -12,7 +12,7 @@ pub data TimerAction : Type 0 where
   Timeout : (taken : Option Kind) → TimerAction
   Step : (outcome : StepOutcome) → TimerAction
 
--- an event: what happens, and the time that is brought with it
+-- an event: what happens, and the time that is passed with it
 pub record TimerEvent : Type 0 where
   pub time : ℕ
   pub action : TimerAction
@@ -37,7 +37,7 @@ is_of_kind timeout kind = false
 abbrev pub has_unprompted_join : StepOutcome → Bool
 has_unprompted_join outcome = outcome.sent_join && not (is_of_kind outcome.timeout Join)
 
--- whether a timeout begins anew where this happens
+-- whether a timeout begins again if this happens
 abbrev pub begins_anew : TimerAction → Kind → Bool
 begins_anew (Timeout taken) kind = is_of_kind taken kind
 begins_anew (Step outcome) Join = false
@@ -70,12 +70,12 @@ abbrev pub latest_time : ℕ → List TimerEvent → ℕ
 latest_time opening [] = opening
 latest_time opening (event ∷ events) = latest_time (max opening event.time) events
 
--- the timeout begins anew at none of these events
+-- the timeout begins again at none of these events
 abbrev pub NeverBeginsAnew : List TimerEvent → Kind → Type 0
 NeverBeginsAnew events kind = All (λ (event : TimerEvent). begins_anew event.action kind ≡ false) events
 
--- Among these events is one at which the timeout begins anew, for the last time, and the number is the time of that event:
--- the latest one that was brought until then.
+-- Among these events is one at which the timeout begins again, for the last time, and the number is the time of that
+-- event: the latest one that was passed until then.
 pub record BeginsLastAt (opening : ℕ) (events : List TimerEvent) (kind : Kind) (time : ℕ) : Type 0 where
   pub before : List TimerEvent
   pub event : TimerEvent
@@ -85,6 +85,7 @@ pub record BeginsLastAt (opening : ℕ) (events : List TimerEvent) (kind : Kind)
   pub last : NeverBeginsAnew after kind
   pub at : time ≡ latest_time opening (before ++ event ∷ [])
 
--- A timeout has counted since this time: since the last event at which it began anew, or since the opening if there is none.
+-- A timeout has counted since this time: since the last event at which it began again, or since the opening if there is
+-- none.
 abbrev pub HasCountedSince : ℕ → List TimerEvent → Kind → ℕ → Type 0
 HasCountedSince opening events kind time = BeginsLastAt opening events kind time ⊎ (NeverBeginsAnew events kind × (time ≡ opening))

@@ -6,7 +6,7 @@ use Rattle.ring_base.specs.declared.kind.Kind.TheVariants.{Join, Retransmit, Con
 use Rattle.ring_timers.specs.declared.periods.Periods.{Periods}
 use Rattle.ring_timers.specs.Periods.{period_of}
 
--- Timers as contracts see them: the periods, the latest time brought, and the time at which each timeout last began to
+-- Timers as contracts see them: the periods, the latest time passed, and the time at which each timeout last began to
 -- count. Periods and times are numbers of milliseconds.
 pub record TimersView : Type 0 where
   pub periods : Periods
@@ -31,11 +31,11 @@ beginning_of timers Loss = timers.loss
 abbrev pub due_at : TimersView → Kind → ℕ
 due_at timers kind = beginning_of timers kind + period_of timers.periods kind
 
--- the time that counts where `now` is brought: never before the latest one brought
+-- the present time once `now` is passed: never before the latest one passed
 abbrev pub time_at : TimersView → ℕ → ℕ
 time_at timers now = max timers.time now
 
--- whether a timeout is due where `now` is brought
+-- whether a timeout is due once `now` is passed
 abbrev pub is_due : TimersView → ℕ → Kind → Bool
 is_due timers now kind = nat_le (due_at timers kind) (time_at timers now)
 
@@ -43,7 +43,7 @@ is_due timers now kind = nat_le (due_at timers kind) (time_at timers now)
 abbrev pub kinds_in_order : List Kind
 kinds_in_order = Join ∷ Retransmit ∷ Consensus ∷ Loss ∷ []
 
--- the timeouts that are due where `now` is brought, in order
+-- the timeouts that are due once `now` is passed, in order
 abbrev pub due_timeouts : TimersView → ℕ → List Kind
 due_timeouts timers now = filter (is_due timers now) kinds_in_order
 

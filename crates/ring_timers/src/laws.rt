@@ -1,4 +1,5 @@
-//! Laws of the definitions: each clause holds for all values that it names. Also a worked example.
+//! Laws of the timers' definitions, for all values, and a worked example.
+//!
 //! Rules: A node with a clock 2 to 7
 
 ghost use Rattle.std.specs.Prelude.{◌≡◌, ℕ, ◌-◌, ◌^◌, ◌<◌, ◌≤◌, List, [], ◌∷◌, None, IsSome};
@@ -10,12 +11,12 @@ ghost use Rattle.ring_timers.specs.Timers.{TimersView, timers_opened, beginning_
 ghost use Rattle.ring_timers.specs.TimerEvents.{TimerEvent, timeout_at, timers_after, timers_after_all, latest_time, HasCountedSince};
 ghost use Rattle.ring_timers.specs.TimerExamples.{timers_at_0, timers_at_10, timers_at_20, timers_at_25, timers_at_40};
 
-/// Law: what the timers are after any events, and what a caller is given.
+/// States what the timers are after any events, and which timeouts a caller gets.
 ///
-/// - Each timeout has counted since the last event at which it began anew, or since the opening. The time that counts is the
-///   latest one brought, and the periods stay.
-/// - A caller that asks at one time again and again is given each timeout that is due at it once, in order.
-/// - Before the next time no timeout is due, and from it on one is.
+/// - Each timeout has counted since the last event at which it began again, or since the opening. The present time is
+///   the latest one passed, and the periods never change.
+/// - A caller that asks repeatedly at one time gets each timeout that is due at it once, in order.
+/// - Before `next_time` no timeout is due, and from then on one is.
 ///
 /// Rules: A node with a clock 2, 4 to 7
 pub fn timers_law()
@@ -31,7 +32,8 @@ pub fn timers_law()
     ensures from { (timers : TimersView) (now : ℕ) → next_time timers < 2 ^ 64 - 1 → next_time timers ≤ time_at timers now → IsSome (first_due timers now) }
 {}
 
-/// Law: a worked example, of timers with the default periods that open at 0.
+/// States a worked example of timers with the default periods that open at time 0.
+///
 /// Rules: A node with a clock 3 to 7
 pub fn timers_examples_law()
     ensures at_0 { (due_timeouts timers_at_0 9 ≡ []) × (next_time timers_at_0 ≡ 10) }

@@ -1,7 +1,7 @@
 //! The timers of a node that a program drives: when each of its four timeouts is due.
-//! The timers measure no time. The program brings the time, in milliseconds.
 //!
-//! Nothing here waits, takes memory or refuses.
+//! The timers measure no time: the program passes the time, in milliseconds. Nothing here waits, allocates or fails.
+//!
 //! Rules: A node with a clock 1 to 8
 #![tactic(auto)]
 

@@ -1,11 +1,13 @@
 //! The periods of the four timeouts.
+//!
 //! Rules: A node with a clock 3
 
 ghost use Rattle.std.specs.Prelude.{◌≡◌, ◌≤◌, ◌↔◌, IsSome, IfSome};
 
 use ring_base::Kind;
 
-/// The period of each timeout: the number of milliseconds, 1 to 2^32 - 1, from its beginning until it is due.
+/// The period of each timeout: how many milliseconds, 1 to 2^32 - 1, pass from its beginning until it is due.
+///
 /// Rules: A node with a clock 3
 #[derive(Clone, Copy, Debug, PartialEq, Eq)]
 pub struct Periods {
@@ -16,7 +18,8 @@ pub struct Periods {
     pub ghost positive: { (1 ≤ join) × (1 ≤ retransmit) × (1 ≤ consensus) × (1 ≤ loss) },
 }
 
-/// The default periods: 10, 20, 100 and 300 milliseconds.
+/// The default periods: 10, 20, 100 and 300 milliseconds, in the order join, retransmit, consensus, loss.
+///
 /// Rules: A node with a clock 3
 impl Default for Periods {
     ghost use Rattle.ring_timers.specs.Periods.{default_periods};
@@ -37,6 +40,9 @@ impl Periods {
     ghost use Rattle.ring_timers.specs.Periods.{shared_periods, period_of};
 
     /// Returns the periods for nodes that share a machine with other programs: 50, 100, 500 and 1,000 milliseconds.
+    ///
+    /// They are in the order join, retransmit, consensus, loss.
+    ///
     /// Rules: A node with a clock 3
     pub fn shared() -> Periods
         ensures { result ≡ shared_periods }
@@ -50,6 +56,7 @@ impl Periods {
     }
 
     /// Returns these periods, in milliseconds, or `None` if one of them is 0.
+    ///
     /// Rules: A node with a clock 3
     pub fn new(join: u32, retransmit: u32, consensus: u32, loss: u32) -> Option<Periods>
         ensures positive { IsSome result ↔ ((1 ≤ join) × (1 ≤ retransmit) × (1 ≤ consensus) × (1 ≤ loss)) }
@@ -69,7 +76,9 @@ impl Periods {
         })
     }
 
-    /// Returns the period of a timeout, in milliseconds.
+    /// Returns the period of the timeout `kind` in milliseconds, at least 1.
+    ///
+    /// Rules: A node with a clock 3
     pub fn period(self, kind: Kind) -> u32
         ensures value { result ≡ period_of self kind }
         ensures positive { 1 ≤ result }

@@ -1,4 +1,5 @@
 //! The timers of a node.
+//!
 //! Rules: A node with a clock 1 to 8
 
 ghost use Rattle.std.specs.Prelude.{◌≡◌, ◌-◌, ◌^◌, ◌≤◌, min};
@@ -8,14 +9,15 @@ use crate::step_outcome::StepOutcome;
 use ring_base::Kind;
 use std::marker::Model;
 
-/// The timers of a node: the periods, the latest time brought, and the time at which each timeout last began to count.
-/// Times are in milliseconds. They never go back: a time before the latest one brought counts as that one.
-/// The program that drives the node
+/// The timers of a node: the periods, the latest time passed, and the time at which each timeout last began to count.
 ///
-/// - calls [`next_due`](Timers::next_due) with the present time until it returns `None`, and steps the node on each
-///   timeout that it returns;
-/// - calls [`note_step`](Timers::note_step) after each step, also after those on frames;
-/// - waits for frames until [`next_time`](Timers::next_time).
+/// Times are in milliseconds. They never go back: a time before the latest one is treated as the latest one. The
+/// program that drives the node repeats this:
+///
+/// - It calls [`next_due`](Timers::next_due) with the present time until that returns `None`, and runs a step of the
+///   node on each timeout returned.
+/// - It calls [`note_step`](Timers::note_step) after each step, including those on frames.
+/// - It waits for frames until [`next_time`](Timers::next_time).
 ///
 /// Rules: A node with a clock 1 to 8
 #[derive(Debug, Drop)]
@@ -50,7 +52,10 @@ impl Timers {
     ghost use Rattle.ring_timers.specs.Timers.{timers_opened, beginning_of, due_at, is_due, first_due, next_time};
     ghost use Rattle.ring_timers.specs.TimerEvents.{timers_after, timeout_at, step_at};
 
-    /// Returns timers with these periods that open at this time, in milliseconds. All four timeouts begin to count at it.
+    /// Creates timers with these periods that open at time `now`, in milliseconds.
+    ///
+    /// All four timeouts begin to count then.
+    ///
     /// Rules: A node with a clock 2 and 4
     pub fn new(periods: Periods, now: u64) -> Timers
         ensures { result ≡ timers_opened periods now }
@@ -65,8 +70,11 @@ impl Timers {
         }
     }
 
-    /// Takes the first timeout that is due at this time, in milliseconds, in the order join, retransmit, consensus, loss. It
-    /// begins to count anew at this time, and the others stay due. Returns `None` if none is due.
+    /// Takes the first timeout that is due at time `now`, in milliseconds, or returns `None` if none is due.
+    ///
+    /// The order is join, retransmit, consensus, loss. The timeout begins to count again at this time, and the others
+    /// stay due.
+    ///
     /// Rules: A node with a clock 2, 5 and 6
     pub fn next_due(&mut self, now: u64) -> Option<Kind>
         ensures due { result ≡ first_due self.old now }
@@ -84,9 +92,11 @@ impl Timers {
         due
     }
 
-    /// Notes a step of the node that was done at this time, in milliseconds. If the node took a token or a commit token,
-    /// retransmit, consensus and loss begin to count anew. If it sent a join at an input that is no join timeout, consensus
-    /// and loss do.
+    /// Notes that the node ran a step at time `now`, in milliseconds, with this outcome.
+    ///
+    /// If the node took a token or a commit token, retransmit, consensus and loss begin to count again. If it sent a
+    /// join on any input but a join timeout, consensus and loss do.
+    ///
     /// Rules: A node with a clock 2 and 5
     pub fn note_step(&mut self, now: u64, outcome: StepOutcome)
         ensures { self.new ≡ timers_after self.old (step_at now outcome) }
@@ -102,7 +112,10 @@ impl Timers {
         }
     }
 
-    /// Returns the earliest time at which a timeout is due, in milliseconds, at most `u64::MAX`. Before it none is due.
+    /// Returns the earliest time at which a timeout is due, in milliseconds.
+    ///
+    /// No timeout is due before it. It saturates at `u64::MAX`, and no timeout need be due then.
+    ///
     /// Rules: A node with a clock 7
     pub fn next_time(&self) -> u64
         ensures { result ≡ next_time self.now }
@@ -113,7 +126,10 @@ impl Timers {
             .min(self.due_at(Kind::Loss))
     }
 
-    /// Returns the time from which on a timeout is due, in milliseconds, at most `u64::MAX`.
+    /// Returns the time from which on the timeout `kind` is due, in milliseconds.
+    ///
+    /// It saturates at `u64::MAX`.
+    ///
     /// Rules: A node with a clock 4 and 7
     pub fn due_at(&self, kind: Kind) -> u64
         ensures { result ≡ min (due_at self.now kind) (2 ^ 64 - 1) }
@@ -122,7 +138,8 @@ impl Timers {
             .saturating_add(u64::from(self.periods.period(kind)))
     }
 
-    /// Returns whether a timeout is due at this time, in milliseconds.
+    /// Returns whether the timeout `kind` is due at time `now`, in milliseconds.
+    ///
     /// Rules: A node with a clock 2 and 4
     pub fn is_due(&self, kind: Kind, now: u64) -> bool
         ensures { result ≡ is_due self.now now kind }
@@ -130,7 +147,7 @@ impl Timers {
         self.time.max(now) - self.beginning(kind) >= u64::from(self.periods.period(kind))
     }
 
-    /// Returns the first timeout that is due at this time, in the order join, retransmit, consensus, loss.
+    /// Returns the first timeout that is due at time `now`, in the order join, retransmit, consensus, loss.
     fn first_due(&self, now: u64) -> Option<Kind>
         ensures { result ≡ first_due self.now now }
     {
@@ -149,7 +166,7 @@ impl Timers {
         None
     }
 
-    /// Returns the time at which a timeout last began to count.
+    /// Returns the time at which the timeout last began to count.
     fn beginning(&self, kind: Kind) -> u64
         ensures value { result ≡ beginning_of self.now kind }
         ensures past { result ≤ self.now.time }

@@ -1,4 +1,5 @@
--- All that a member did with the tokens of one ring, as contracts see it, and the numbers that the code keeps of it.
+-- All that a member did with the tokens of one ring, as contracts see it, and the three numbers that the code keeps of
+-- it.
 -- Rules: Token and window 3, 6, 7 and 10
 use Rattle.std.specs.Prelude.{◌≡◌, ℕ, suc, max, List, [], ◌∷◌, length}
 use Rattle.std.specs.List.{AllByRecursion}
@@ -19,7 +20,8 @@ pub record TokenHistory (A : Type 0) : Type 0 where
 abbrev pub without_visits : {A : Type 0} → ℕ → RingId → TokenHistory A
 without_visits me ring = record { me = me; ring = ring; turns = []; raises = [] }
 
--- A visit of the token, from the front with the new messages held, these messages, and the requests of the forwarded token.
+-- A visit of the token: the token received, the front with the new messages held, these messages, and the token
+-- forwarded with these requests.
 abbrev pub turn_by : {A : Type 0} → ℕ → ℕ → List (Payload A) → List ℕ → Token → TokenVisit A
 turn_by me front fresh requests t = record { received = t; front = front; fresh = fresh; forwarded = token_after me front (length fresh) requests t }
 

@@ -9,7 +9,7 @@ least_first [] (y ∷ ys) = Some y
 least_first (x ∷ xs) [] = Some x
 least_first (x ∷ xs) (y ∷ ys) = Some (min x y)
 
--- The numbers after n if it is the first, else all.
+-- The list without its first number if that is n, otherwise the whole list.
 abbrev pub after : ℕ → List ℕ → List ℕ
 after n [] = []
 after n (x ∷ xs) = if x == n then xs else x ∷ xs

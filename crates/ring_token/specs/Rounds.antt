@@ -18,8 +18,8 @@ abbrev pub token_arrived : {A : Type 0} → RingId → List (VisitBy A) → Toke
 token_arrived ring [] = first_token ring
 token_arrived ring (v ∷ vs) = v.turn.forwarded
 
--- v is the next visit after vs: of the token as forwarded, by the member whose turn it is, and by the rules of a visit; no
--- number above the token's `seq` is held after it.
+-- v is the next visit after vs. Its token is the one forwarded last, its member is the one whose turn it is, and the
+-- rules of a visit hold. No number above the token's `seq` is held after it.
 pub record IsNext {A : Type 0} (members : ℕ) (ring : RingId) (v : VisitBy A) (vs : List (VisitBy A)) : Type 0 where
   pub comes : v.turn.received ≡ token_arrived ring vs
   pub turn : v.who ≡ at members (length vs % size members)

@@ -1,4 +1,4 @@
--- The visits of the token that a node did, the tokens that it accepts, and the safe mark.
+-- The visits that a node made, the tokens that it accepts, and the safe mark.
 -- Rules: Token and window 3, 6 and 10; The commit token 7; Recovery 3
 use Rattle.std.specs.Prelude.{ℕ, min, max, Bool, ◌&&◌, nat_lt, nat_le, List, [], ◌∷◌, map, filter, None}
 use Rattle.std.specs.List.{list_all}
@@ -35,20 +35,20 @@ turns_of ring turns = filter (λ v. same_ring v.received.ring ring) turns
 abbrev pub is_newer : {A : Type 0} → List (TokenVisit A) → Token → Bool
 is_newer turns t = list_all (λ (v : TokenVisit _). nat_lt v.received.number t.number) (turns_of t.ring turns)
 
--- Token and window 6: a token of the running ring is accepted if its number is newer and below the greatest. Its `seq` is
--- at least the highest number held.
+-- Token and window 6: a token is accepted if it belongs to the running ring, its number is newer and below `MAX`, and
+-- its `seq` is at least the highest number held.
 abbrev pub is_accepted : {A : Type 0} → RingId → List (TokenVisit A) → ℕ → Token → Bool
 is_accepted running turns highest t = same_ring t.ring running && is_newer turns t && nat_lt t.number max_number && nat_le highest t.seq
 
 -- The safe mark
 
--- For a list of `aru` values forwarded at successive visits, newest first, after one of a: the greatest of the lesser of
--- two neighbours.
+-- The safe mark after visits that forwarded a, and before that the `aru` values of the list, newest first: the
+-- greatest, over all pairs of neighbours, of the lesser of the two.
 abbrev pub mark_after : ℕ → List ℕ → ℕ
 mark_after a [] = 0
 mark_after a (b ∷ rest) = max (min a b) (mark_after b rest)
 
--- The same for all visits; one visit makes nothing safe.
+-- The safe mark after all visits, from the `aru` values that they forwarded, newest first. After one visit it is 0.
 abbrev pub mark_by : List ℕ → ℕ
 mark_by [] = 0
 mark_by (a ∷ rest) = mark_after a rest

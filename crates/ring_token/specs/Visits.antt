@@ -1,5 +1,5 @@
--- One visit of the token, step by step: the requests in it, the new messages, the `aru`, and the requests of the forwarded
--- token.
+-- One visit of the token, step by step: the requests in it, the new messages, the `aru`, and the requests of the
+-- forwarded token.
 -- Rules: Token and window 7 to 9
 use Rattle.std.specs.Prelude.{ℕ, suc, ◌+◌, ◌-◌, min, Bool, true, not, ◌&&◌, ◌||◌, ◌==◌, nat_lt, if◌then◌else◌, List, [], ◌∷◌, filter, take, Option, Some, None}
 use Rattle.ring_base.specs.Numbers.{window_size, visit_limit, max_number, merged}
@@ -25,7 +25,7 @@ above_mark mark requests = filter (nat_lt mark) requests
 
 -- (b) The new messages, Token and window 9
 
--- The most new messages: the limit of a visit, the end of the window, and the greatest number bound it.
+-- The maximum number of new messages, bounded by the limit of a visit, the end of the window, and `MAX`.
 abbrev pub room : ℕ → ℕ → ℕ
 room mark seq = min visit_limit (min (mark + window_size - seq) (max_number - seq))
 
@@ -41,7 +41,7 @@ abbrev pub is_mine : ℕ → Option ℕ → Bool
 is_mine me None = true
 is_mine me (Some i) = i == me
 
--- Whether a node may set the `aru`: its front is behind it, or no other node holds it back.
+-- Whether a node may set the `aru`: its front is below the `aru`, or no other node holds the `aru` back.
 abbrev pub may_set : ℕ → ℕ → Token → Bool
 may_set me front t = nat_lt front t.aru || is_mine me t.aru_id
 

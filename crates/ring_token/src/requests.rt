@@ -1,5 +1,6 @@
 //! The requests that a token carries after a visit.
-//! Rules: Token and window 7
+//!
+//! Rules: Token and window 7 and 15
 
 ghost use Rattle.std.specs.Prelude.{◌≡◌, List, ℕ, Bool, take};
 ghost use Rattle.std.specs.List.Sorted.{IsStrictlyIncreasing};
@@ -9,9 +10,12 @@ ghost use Rattle.ring_token.specs.Requesting.{least_first, after};
 
 use ring_wire::{MAX_REQUESTS, Requests};
 
-/// Returns the requests that stay in the token: the numbers above the member's safe mark `mark` whose messages the
-/// member doesn't hold, in their order. `holds` returns whether the member holds a number.
-/// Rules: Token and window 7
+/// Returns the requests that stay in the token when a member visits it, in their order.
+///
+/// A requested number stays if it is above `mark`, the member's safe mark, and the member doesn't hold it. `holds`
+/// returns whether the member holds a number.
+///
+/// Rules: Token and window 7 and 15
 pub fn requests_left<F: Fn(u64) -> bool>(requests: &Requests, mark: u64, holds: F) -> Requests
     requires { F.IsAlwaysCallable holds }
     ensures { (held : ℕ → Bool) → ((n : ℕ) (r : Bool) → F.post holds n r → r ≡ held n) → result ≡ requests_left mark held requests.now }
@@ -27,9 +31,11 @@ pub fn requests_left<F: Fn(u64) -> bool>(requests: &Requests, mark: u64, holds: 
 }
 
 /// Returns the requests of the forwarded token: the 32 smallest numbers of both lists, ascending, each once.
-/// `missing` has the first 32 numbers that the member lacks, or all if there are fewer: more aren't needed. That
-/// `remaining_requests` ascends strictly is the caller's condition.
-/// Rules: Token and window 7
+///
+/// If there are fewer than 32, returns all of them. `remaining_requests` must be strictly ascending. `missing` must
+/// have the first 32 numbers that the member lacks, or all if there are fewer.
+///
+/// Rules: Token and window 7 and 15
 pub fn requests_after(remaining_requests: &Requests, missing: &Requests) -> Requests
     requires { IsStrictlyIncreasing remaining_requests.now }
     ensures { (lacking : List ℕ) → missing.now ≡ take max_requests lacking → result ≡ requests_after remaining_requests.now lacking }
@@ -61,7 +67,7 @@ fn least_first(requests_left: &[u64], lacking: &[u64]) -> Option<u64>
     }
 }
 
-/// Returns the numbers after the first if the first is `number`, else all numbers.
+/// Returns `numbers` without its first number if that is `number`, otherwise unchanged.
 fn after(number: u64, numbers: &[u64]) -> &[u64]
     ensures { result.now ≡ after number numbers.now }
 {

@@ -1,4 +1,5 @@
-//! A member's visits of one ring's token.
+//! A member's visits of the token of one ring.
+//!
 //! Rules: Token and window 6 to 8, 10 and 15; Recovery 3
 
 ghost use Rattle.std.specs.Prelude.{◌≡◌, ℕ, ◌+◌, ◌<◌, ◌≤◌, ◌&&◌, List, length, nat_lt, nat_le, true};
@@ -14,8 +15,10 @@ use ring_wire::{Requests, Token};
 use std::alloc::{AllocError, Allocator, Global};
 use std::marker::{Model, PhantomData};
 
-/// All visits of one ring's token to a member, and each mark to which the member's safe mark was raised, as contracts
-/// see them. No value of this type is made.
+/// All visits of one ring's token by a member, and each mark to which its safe mark was raised, as contracts see them.
+///
+/// Code never creates a value of this type.
+///
 /// Rules: Token and window 10
 pub struct Visits<A: Allocator + Copy = Global> {
     allocator: PhantomData<A>,
@@ -30,14 +33,17 @@ impl<A: Allocator + Copy> Model for Visits<A> {
     ghost view = { λ _. none_visited 0 (record { seq = 0; rep = 0 }) };
 }
 
-/// A member's state for the token of one ring: the greatest token number accepted, the `aru` forwarded last, and the
-/// safe mark. Contracts see a `TokenHistory`: each visit, and each mark to which the safe mark was raised.
-/// Rules: Token and window 15
+/// A member's state for the token of one ring: what it needs to accept and visit the next token.
+///
+/// It keeps the greatest token number accepted, the `aru` forwarded last, and the safe mark. Contracts see a
+/// `TokenHistory`: each visit, and each mark to which the safe mark was raised.
+///
+/// Rules: Token and window 6, 10 and 15
 #[derive(Drop)]
 pub struct Visit<A: Allocator + Copy = Global> {
     me: Proc,
     ring: RingId,
-    /// The least number that the next accepted token may have.
+    /// The least number that the next accepted token may have, 0 before the first visit.
     next: u64,
     /// The `aru` that the last visit forwarded, 0 before the first.
     aru: u64,
@@ -57,7 +63,8 @@ impl<A: Allocator + Copy> Model for Visit<A> {
 }
 
 impl<A: Allocator + Copy> Visit<A> {
-    /// Returns the state of the member `me` before the first visit of the token of `ring`. The safe mark is 0.
+    /// Creates the state of member `me` before its first visit of the token of `ring`. The safe mark is 0.
+    ///
     /// Rules: Token and window 3 and 10
     pub fn new(me: Proc, ring: RingId) -> Visit<A>
         ensures { result ≡ without_visits me ring }
@@ -74,21 +81,26 @@ impl<A: Allocator + Copy> Visit<A> {
     }
 
     /// Returns whether the member accepts the token.
-    /// `high` is the greatest message number that it holds. The token is accepted if it is of the ring, its number is
-    /// above the number of each token accepted and below `MAX`, and its `seq` is at least `high`. The state of the node
-    /// isn't asked for.
-    /// Rules: Token and window 6
+    ///
+    /// `high` is the greatest message number that the member holds, 0 if none. The token is accepted if it belongs to
+    /// this ring, its number is above that of every token accepted so far and below `MAX`, and its `seq` is at least
+    /// `high`. The node's state is not checked.
+    ///
+    /// Rules: Token and window 6 and 15
     pub fn accepts(&self, token: &Token, high: u64) -> bool
         ensures { result ≡ is_accepted self.now.ring self.now.turns high token.now }
     {
         is_acceptable(&self.ring, self.next, high, token)
     }
 
-    /// Does the visit of an accepted token and returns the token to forward.
+    /// Performs the visit of an accepted token, and returns the token to forward.
+    ///
     /// `sent` is the number of new messages, `front` the front once the member holds these, and `requests` the requests
-    /// of the forwarded token. That the token is accepted, and its `seq` plus `sent` at most `MAX`, is the caller's
-    /// condition. The ring core visits a token that it keeps: [`visit_into`](Visit::visit_into).
-    /// Rules: Token and window 7, 8 and 10
+    /// of the forwarded token. The token must belong to this ring, and its number must be below `MAX`, as
+    /// [`accepts`](Visit::accepts) checks; its `seq` plus `sent` must be at most `MAX`.
+    /// [`visit_into`](Visit::visit_into), which the ring core uses, writes the token into an existing one.
+    ///
+    /// Rules: Token and window 7, 8, 10 and 15
     pub fn visit(&mut self, token: Token, front: u64, sent: u64, requests: Requests) -> Token
         ghost fresh: { List (OnePayload A) }
         requires ring { token.ring ≡ self.old.ring }
@@ -110,9 +122,11 @@ impl<A: Allocator + Copy> Visit<A> {
         forwarded
     }
 
-    /// Does [`visit`](Visit::visit) for a token that the caller keeps, under the same conditions.
-    /// Writes the token to forward over `forwarded`, but for its requests, which stay: the caller has made them.
-    /// Rules: Token and window 7, 8 and 10
+    /// Performs [`visit`](Visit::visit) under the same conditions, and writes the token to forward into `forwarded`.
+    ///
+    /// The requests of `forwarded` stay: the caller has set them before.
+    ///
+    /// Rules: Token and window 7, 8, 10 and 15
     pub fn visit_into(&mut self, token: &Token, front: u64, sent: u64, forwarded: &mut Token)
         ghost fresh: { List (OnePayload A) }
         requires ring { token.now.ring ≡ self.old.ring }
@@ -131,17 +145,19 @@ impl<A: Allocator + Copy> Visit<A> {
     }
 
     /// Returns the safe mark: every member of the ring holds the messages up to it.
+    ///
     /// It is 0 until two visits or a plan have raised it, and never falls.
-    /// Rules: Token and window 3 and 10
+    ///
+    /// Rules: Token and window 3, 10 and 15
     pub fn safe(&self) -> u64
         ensures { result ≡ mark_of self.now }
     {
         self.safe
     }
 
-    /// Raises the safe mark to `mark`, which a member reported in a commit token.
-    /// A safe mark that is at least `mark` stays.
-    /// Rules: Recovery 3
+    /// Raises the safe mark to `mark`, which a member has reported in a commit token. A lower `mark` changes nothing.
+    ///
+    /// Rules: Recovery 3; Token and window 15
     pub fn raise(&mut self, mark: u64)
         ensures { self.new ≡ with_raise self.old mark }
     {
@@ -166,21 +182,21 @@ impl<A: Allocator + Copy> Clone for Visit<A> {
     }
 }
 
-/// Returns whether a token is of this ring, has a number from `next` to below `MAX`, and a `seq` of at least `high`.
+/// Returns whether a token belongs to `ring`, has a number from `next` to below `MAX`, and a `seq` of at least `high`.
 fn is_acceptable(ring: &RingId, next: u64, high: u64, token: &Token) -> bool
     ensures { result ≡ (same_ring token.now.ring ring.now && nat_le next token.now.number && nat_lt token.now.number max_number && nat_le high token.now.seq) }
 {
     token.ring == *ring && next <= token.number && token.number < MAX && high <= token.seq
 }
 
-/// Returns whether a member may set `aru` to its front: the front is behind `aru`, or no other member holds `aru` back.
+/// Returns whether a member may set `aru` to its front: the front is below `aru`, or no other member holds `aru` back.
 fn may_set(me: Proc, front: u64, token: &Token) -> bool
     ensures { result ≡ may_set me front token.now }
 {
     front < token.aru || token.aru_id.is_none_or(|holder| holder == me)
 }
 
-/// Makes `forwarded` the token to forward; its requests stay.
+/// Writes the token to forward into `forwarded`, except for its requests, which stay.
 fn forward(me: Proc, token: &Token, front: u64, sent: u64, forwarded: &mut Token)
     requires number { token.now.number < max_number }
     requires seq { token.now.seq + sent ≤ max_number }

@@ -1,4 +1,4 @@
--- A view of a node alone: the opening, the changes since then, and the reason why a call waits at the node.
+-- A single view of a node: the opening, the changes since then, and the reason why a call waits at the node.
 -- Formats: The command line
 use Rattle.std.specs.Prelude.{◌≡◌, ℕ, Bool, true, false, List, [], ◌∷◌}
 use Rattle.ring_base.specs.declared.state.State.{State}
@@ -13,7 +13,7 @@ use Rattle.ring_trace_words.specs.declared.why.WaitReason.TheVariants as wait
 use Rattle.ring_trace.specs.NodeViews.{ring_change}
 use Rattle.ring_trace.specs.declared.node_view.NodeView.{NodeView}
 
--- The view is that of a node at its opening: it gathers, alone in a ring of number 0, and has committed and dropped nothing.
+-- The view is that of a node at its opening: it is in Gather, alone in ring 0, and has committed and dropped nothing.
 pub record IsOpening (node : ℕ) (view : NodeView) : Type 0 where
   pub state : view.state ≡ Gather
   pub ring : view.ring ≡ record { seq = 0; rep = node }
@@ -21,7 +21,7 @@ pub record IsOpening (node : ℕ) (view : NodeView) : Type 0 where
   pub committed : view.committed ≡ 0
   pub trimmed : view.trimmed ≡ 0
 
--- the state of a node as a change since its opening; an operational one is told by its ring
+-- The state of a node as a change since its opening; the state operational is reported by its ring.
 abbrev pub state_change : Group → NodeView → State → Change
 state_change nodes view Gather = change.State Gather
 state_change nodes view Commit = change.State Commit
@@ -29,16 +29,17 @@ state_change nodes view Recovery = change.State Recovery
 state_change nodes view Operational = ring_change nodes view
 state_change nodes view Stopped = change.State Stopped
 
--- the changes of a node since its opening, in this order: its state or its ring, its committed length, its trimmed length
+-- The changes of a node since its opening, in this order: its state or its ring, its committed length, its trimmed
+-- length.
 abbrev pub changes_since_opening : Group → NodeView → List Change
 changes_since_opening nodes view = state_change nodes view view.state ∷ change.Committed view.committed ∷ change.Trimmed view.trimmed ∷ []
 
--- the node is operational, in a ring that is primary or not
+-- The node is operational, in a ring that is primary or not.
 abbrev pub IsOperational : Group → Bool → NodeView → Type 0
 IsOperational nodes is_in_primary view = (view.state ≡ Operational) × (is_primary nodes view.members ≡ is_in_primary)
 
--- The first reason that holds why a call waits at a node: it has stopped, it is not operational, its ring is not primary, it has
--- not sent the call, or the call is not known to be safe.
+-- The first reason that applies why a call waits at a node: it has stopped, it is not operational, its ring is not
+-- primary, it has not sent the call, or the call is not known to be safe.
 abbrev pub IsReason : Group → NodeView → Bool → WaitReason → Type 0
 IsReason nodes view is_sent wait.Stopped = view.state ≡ Stopped
 IsReason nodes view is_sent (wait.State state) = (view.state ≡ state) × (state ≡ Stopped → ⊥) × (state ≡ Operational → ⊥)

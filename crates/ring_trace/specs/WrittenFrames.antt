@@ -7,7 +7,7 @@ use Rattle.ring_script.specs.declared.scripts.Script.{Script}
 use Rattle.ring_console.specs.Worlds.{text_of, world_of}
 use Rattle.ring_console.specs.Running.{RunView, run_opening, AreLinesDone}
 
--- there is a run of all of a script's lines, and the encodings of all frames sent in it were written, in order
+-- Some run carries out all of a script's lines, and the encodings of all frames sent in it were written, in order.
 abbrev pub HasWrittenFrames : {O A : Type 0} → Sequential O → Script A → Option (List ℕ) → Option (List ℕ) → Type 0
 HasWrittenFrames {A = A} object script written written' =
     (run : RunView A) × (text : List ℕ) × AreLinesDone object script.lines.items (run_opening script.nodes) run text

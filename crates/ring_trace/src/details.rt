@@ -1,4 +1,5 @@
-//! What programs read of events beside their words: inputs, and the frames that are sent.
+//! The details of events for programs, in addition to their words: inputs, and the frames that are sent.
+//!
 //! Formats: The command line
 
 ghost use Rattle.std.specs.Prelude.{◌≡◌, IfErr};
@@ -15,9 +16,12 @@ use ring_trace_formats::{DeliveryKind, InputValue, SendValue, TraceVocabulary};
 use ring_wire::Frame;
 use std::alloc::{Allocator, Global};
 
-/// Returns the input of a line's event. `kind` says how the frame of a line `deliver` comes. Returns `None` where the line isn't
-/// an event or is a pump.
-/// Errors: only `Memory`.
+/// Returns the input of a line's event.
+///
+/// `kind` is the kind of delivery of a line `deliver`. Returns `None` if the line isn't an event or is a pump.
+///
+/// Errors: `Memory` if an allocation fails.
+///
 /// Formats: The command line
 pub(crate) fn input_of_line<A: Allocator + Copy>(
     alloc: Global,
@@ -38,7 +42,8 @@ pub(crate) fn input_of_line<A: Allocator + Copy>(
     }
 }
 
-/// Returns the input of an event that is a turn of a pump; `None` of any other.
+/// Returns the input of an event if it is a turn of a pump, otherwise `None`.
+///
 /// Formats: The command line
 pub(crate) fn input_of_turn(event_subject: &EventSubject) -> Option<InputValue> {
     match event_subject.pair {
@@ -50,8 +55,10 @@ pub(crate) fn input_of_turn(event_subject: &EventSubject) -> Option<InputValue> 
     }
 }
 
-/// Returns what programs read of the frames with numbers above `before`.
-/// Errors: only `Memory`.
+/// Returns the details of the frames with numbers above `before`, for programs.
+///
+/// Errors: `Memory` if an allocation fails.
+///
 /// Formats: The command line
 pub(crate) fn send_values<O: Object>(
     alloc: Global,
@@ -77,7 +84,7 @@ fn listing_line(alloc: Global, bytes: &[u8]) -> Result<String, Fault> {
     let mut rest = bytes;
     let mut line = Vec::new(alloc);
     let mut err = Vec::new(alloc);
-    // Of a frame that was sent, only memory can be refused.
+    // For a frame that was sent, the listing can fail only because an allocation fails.
     if frames(alloc, &mut rest, &mut line, &mut err) != 0 {
         return Err(Fault::Memory);
     }

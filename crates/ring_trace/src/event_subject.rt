@@ -1,4 +1,5 @@
 //! The node of an event, and the description of the event.
+//!
 //! Formats: The command line
 
 use ring_base::Proc;
@@ -9,12 +10,12 @@ use ring_trace_formats::{CallWords, DeliveryKind, TraceVocabulary, WaitingCall};
 use std::alloc::{AllocError, Allocator};
 use std::fmt::Write;
 
-/// The node of an event, and the frame or the call that the event brings to it.
+/// The node of an event, and the frame or the call that reaches the node in it.
 #[derive(Clone, Copy)]
 pub(crate) struct EventSubject {
     /// The node at which the event happens.
     pub node: Proc,
-    /// The number of the frame that a turn or a line gives to the node, if a u64 holds it.
+    /// The number of the frame that a turn or a line delivers to the node, if a u64 holds it.
     pub frame: Option<u64>,
     /// What counts of the input, where it is neither a frame nor a call.
     pub counted: Option<CountedInput>,
@@ -24,8 +25,10 @@ pub(crate) struct EventSubject {
     pub call: Option<WaitingCall>,
 }
 
-/// Returns the node of a line's event, and the call that the line submits there. Returns `None` where the line isn't an
-/// event or is a pump.
+/// Returns the node of a line's event, and the call that the line submits there.
+///
+/// Returns `None` if the line isn't an event or is a pump.
+///
 /// Formats: The command line
 pub(crate) fn event_subject_of<A: Allocator + Copy>(line: &ScriptLine<A>) -> Option<EventSubject> {
     let mut submitted = None;
@@ -63,9 +66,12 @@ pub(crate) fn event_subject_of<A: Allocator + Copy>(line: &ScriptLine<A>) -> Opt
     })
 }
 
-/// Appends the description of a line's event to `what`, in the words of the object. `kind` says how the frame of a line
-/// `deliver` comes. Nothing is appended where the line isn't an event or is a pump.
-/// Errors: only that memory is refused; a part may be appended.
+/// Appends the description of a line's event to `what`, in the words of the object.
+///
+/// `kind` is the kind of delivery of a line `deliver`. Nothing is appended if the line isn't an event or is a pump.
+///
+/// Errors: `AllocError` if an allocation fails; a part may then have been appended.
+///
 /// Formats: The command line
 pub(crate) fn write_what<A: Allocator + Copy>(
     what: &mut String<A>,
@@ -97,7 +103,9 @@ pub(crate) fn write_what<A: Allocator + Copy>(
 }
 
 /// Appends the description of a turn that delivers this copy to `what`.
-/// Errors: only that memory is refused; a part may be appended.
+///
+/// Errors: `AllocError` if an allocation fails; a part may then have been appended.
+///
 /// Formats: The command line
 pub(crate) fn write_turn<A: Allocator + Copy>(
     what: &mut String<A>,

@@ -1,5 +1,7 @@
-//! The command `trace`: the effect of each event of a script, and at the end why calls have no answer. The run is that of
-//! `ring_console`; a trace inspects it after each event.
+//! The command `trace`: the effect of each event of a script, and at the end why calls have no answer.
+//!
+//! The run is that of `ring_console`; a trace inspects it after each event.
+//!
 //! Formats: The command line
 #![tactic(auto)]
 

@@ -1,4 +1,5 @@
-//! The views that a trace has of nodes, and the changes between them.
+//! Views of nodes for a trace, and the changes between them.
+//!
 //! Formats: The command line
 
 ghost use Rattle.std.specs.Prelude.{◌≡◌, ◌↔◌, IsTrue};
@@ -13,29 +14,36 @@ use ring_base::{Fault, Fixed, Proc, ProcSet, RingId, State};
 use ring_trace_formats::{Change, VoteShare, WaitReason};
 use std::alloc::Allocator;
 
-/// A view of a node at one moment: the facts that a trace shows. Two views of a node give the node's changes between them.
+/// A view of a node at one moment: the facts that a trace shows.
+///
+/// Two views of a node give the node's changes between them.
 #[derive(Clone, Copy)]
 pub(crate) struct NodeView {
     /// The state of the node.
     pub state: State,
-    /// The last ring that the node installed. Before any, it is the ring of number 0 of the node itself.
+    /// The last ring that the node installed.
+    ///
+    /// Before the first installation, it is ring 0 of the node itself.
     pub ring: RingId,
-    /// The members of that ring. Before any ring, it is the node alone.
+    /// The members of that ring.
+    ///
+    /// Before the first installation, the node is the only member.
     pub members: ProcSet,
     /// The committed length of the node, dropped places included.
     pub committed: u64,
-    /// The number of first places of the log that the node keeps as a snapshot.
+    /// The number of places at the beginning of the log that a snapshot replaces.
     pub trimmed: u64,
     /// The length of the log, dropped places included.
     pub log: u64,
-    /// The most places of a snapshot of which the node was given a piece.
+    /// The most places that a snapshot replaces of which the node received a piece.
     pub offered: u64,
-    /// The number of places of the snapshot that the node's last step restored, if it restored one.
+    /// The number of places that the snapshot replaces that the node's last step restored, if it restored one.
     pub restored: Option<u64>,
 }
 
 impl NodeView {
     /// Returns the view of a node at its opening.
+    ///
     /// Formats: The command line
     pub fn opening(node: Proc) -> NodeView
         ensures { IsOpening node result }
@@ -60,7 +68,11 @@ impl NodeView {
     }
 
     /// Returns the changes of the node since its opening: its state or its ring, its committed length, and its trimmed
-    /// length. The lengths are listed also where they are 0.
+    /// length.
+    ///
+    /// The lengths are listed even if they are 0.
+    ///
+    /// Formats: The command line
     pub fn changes(&self, nodes: Fixed) -> [Change; 3]
         ensures { result ≡ changes_since_opening nodes self.now }
     {
@@ -75,10 +87,15 @@ impl NodeView {
         ]
     }
 
-    /// Adds the changes of the node since the view `before`, one step earlier, to the list: its ring, its state, its committed
-    /// length, each only if it changed; the snapshot that the step restored; and its trimmed length, if it dropped more. A new ring
-    /// implies the state operational, which is then not a change of its own.
-    /// Errors: `Memory`; a prefix of the changes may be added.
+    /// Adds the changes of the node since the view `before`, one step earlier, to the list.
+    ///
+    /// They are its ring, its state and its committed length, each only if it changed; the snapshot that the step
+    /// restored, if it restored one; and its trimmed length, if it dropped more.
+    ///
+    /// A new ring implies the state operational, which is then not a change of its own.
+    ///
+    /// Errors: `Memory` if an allocation fails; a prefix of the changes may then have been added.
+    ///
     /// Formats: The command line
     pub fn add_changes<A: Allocator>(
         &self,
@@ -103,14 +120,14 @@ impl NodeView {
         add_if(changes, is_trimmed, Change::Trimmed(self.trimmed))
     }
 
-    /// Whether the node installed another ring.
+    /// Returns whether the node installed another ring.
     fn is_new_ring(&self, before: &NodeView) -> bool
         ensures { result ≡ is_new_ring before.now self.now }
     {
         self.ring != before.ring
     }
 
-    /// Whether the node's state changed, and no new ring implies it.
+    /// Returns whether the node's state changed, other than by a new ring, which implies its state.
     fn is_new_state(&self, before: &NodeView) -> bool
         ensures { result ≡ is_new_state before.now self.now }
     {
@@ -129,22 +146,28 @@ impl NodeView {
         }
     }
 
-    /// Returns the change that the step restored a snapshot. It has no meaning where it restored none.
+    /// Returns the change that the step restored a snapshot.
+    ///
+    /// It has no meaning if the step restored none.
     fn restored_change(&self) -> Change
         ensures { result ≡ restored_change self.now }
     {
         Change::Restored(self.restored.unwrap_or(0))
     }
 
-    /// Whether the node dropped first places: more than it had dropped before, or than the snapshot has that it restored.
+    /// Returns whether the node dropped first places.
+    ///
+    /// It did if it dropped more than it had dropped before, or more than the snapshot replaces that its step restored.
     fn is_trimmed(&self, before: &NodeView) -> bool
         ensures { result ≡ is_trimmed before.now self.now }
     {
         self.trimmed != self.restored.unwrap_or(before.trimmed)
     }
 
-    /// Returns the first reason that holds why a call waits at the node. `is_sent` says whether the node has sent it, or
-    /// has it in its log where the node is alone in its ring.
+    /// Returns the reason why a call waits at the node: the first that applies.
+    ///
+    /// `is_sent` says whether the node has sent the call, or has it in its log if the node is alone in its ring.
+    ///
     /// Formats: The command line
     pub fn reason(&self, nodes: Fixed, is_sent: bool) -> WaitReason
         ensures { IsReason nodes self.now is_sent result }
@@ -161,7 +184,9 @@ impl NodeView {
     }
 }
 
-/// Adds a change if it is to be reported. `Memory`: it isn't added.
+/// Adds a change if `is_told`.
+///
+/// Errors: `Memory` if an allocation fails; nothing is added.
 fn add_if<A: Allocator>(
     changes: &mut Vec<Change, A>,
     is_told: bool,

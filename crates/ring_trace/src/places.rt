@@ -1,4 +1,5 @@
 //! The committed places of a run, for programs.
+//!
 //! Formats: The command line
 
 use ring_base::{Fault, Proc};
@@ -8,9 +9,12 @@ use ring_session::Sessions;
 use ring_trace_formats::{TracePrinter, TraceVocabulary};
 use std::io::Write;
 
-/// Prints a line for each place of the longest committed log: its call, and the answer that the sessions give to it, also where
-/// no node answered it.
-/// Errors: `Output` where `out` fails; `Refused` with `Memory`. The lines before are then on `out`.
+/// Prints a line for each place of the longest committed log: its call, and the answer that the sessions give to it,
+/// even if no node answered it.
+///
+/// Errors: `Output` if `out` fails; `Refused` with `Memory` if an allocation fails. The earlier lines are then on
+/// `out`.
+///
 /// Formats: The command line
 pub(crate) fn print_places<O: Object, W: Write>(
     alloc: O::Alloc,
@@ -26,7 +30,9 @@ pub(crate) fn print_places<O: Object, W: Write>(
     printed
 }
 
-/// Prints the line of each place, with these sessions, which have applied no call.
+/// Prints the line of each place.
+///
+/// `sessions` must not have applied any call yet.
 fn print_each_place<O: Object, W: Write>(
     form: TracePrinter,
     trace_vocabulary: &TraceVocabulary,
@@ -43,7 +49,7 @@ fn print_each_place<O: Object, W: Write>(
     Ok(())
 }
 
-/// Returns the node that has committed most, the first of several.
+/// Returns the node with the greatest committed length, the first one if there are several.
 fn longest_of<O: Object>(world: &World<O>) -> Result<Proc, Fault> {
     let nodes = world.fixed();
     let mut longest = nodes.proc(1)?;

@@ -1,4 +1,5 @@
 //! The events to report.
+//!
 //! Formats: The command line
 
 ghost use Rattle.std.specs.Prelude.{◌≡◌, ◌≤◌, ◌↔◌, IsTrue};
@@ -8,13 +9,18 @@ use ring_base::Proc;
 use ring_trace_formats::Format;
 use std::fmt;
 
-/// The selection of the events to report: of one node or of all, with numbers in a range. Events are counted from 1.
+/// The selection of the events to report: of one node or of all, with numbers in a range.
+///
+/// Events are counted from 1.
+///
 /// Formats: The command line
 #[derive(Clone, Copy)]
 pub struct Selection {
-    /// The node whose events are reported. It is `None` for all nodes.
+    /// The node whose events are reported, or `None` for all nodes.
     pub node: Option<Proc>,
-    /// The number of the first event to report. From 0 on, cuts before the first event are reported, too.
+    /// The number of the first event to report.
+    ///
+    /// If it is 0, cuts before the first event are reported, too.
     pub from: u64,
     /// The number of the last event to report, not below `from`.
     pub to: u64,
@@ -32,16 +38,22 @@ impl Selection {
         }
     }
 
-    /// Returns whether the event of this number, at this node, is reported. A cut or the end of a cut is at no node: every
-    /// selection of a node includes it, and `event` is then the number of events before it.
+    /// Returns whether event `event`, at the node `at`, is reported.
+    ///
+    /// A cut or the end of a cut is at no node. Every selection of a node includes it, and `event` is then the number
+    /// of events before it.
+    ///
+    /// Formats: The command line
     pub fn has(&self, event: u64, at: Option<Proc>) -> bool
         ensures { IsTrue result ↔ ((self.now.from ≤ event) × (event ≤ self.now.to) × IsOf self.now.node at) }
     {
         self.from <= event && event <= self.to && self.is_of(at)
     }
 
-    /// Returns why the selection can hold nothing of a script with this number of nodes, or isn't for the format: a page has
-    /// the whole run.
+    /// Returns why the selection is empty for a script with `nodes` nodes, or isn't for the format.
+    ///
+    /// A page always has the whole run. Returns `None` if there is no such fault.
+    ///
     /// Formats: The command line
     pub(crate) fn fault_of(&self, nodes: u8, format: Format) -> Option<SelectionFault> {
         let is_whole = self.node.is_none() && self.from == 0 && self.to == u64::MAX;
@@ -59,7 +71,8 @@ impl Selection {
         }
     }
 
-    /// Returns why the selection has no event of a run with this number of events, where it begins behind the last.
+    /// Returns the fault of a selection that begins after the last of `events` events, or `None` if it doesn't.
+    ///
     /// Formats: The command line
     pub(crate) fn fault_behind(&self, events: u64) -> Option<SelectionFault> {
         if self.from <= events {
@@ -71,7 +84,7 @@ impl Selection {
         })
     }
 
-    /// Whether events at this node are reported.
+    /// Returns whether events at this node are reported.
     fn is_of(&self, at: Option<Proc>) -> bool
         ensures { IsTrue result ↔ IsOf self.now.node at }
     {
@@ -82,13 +95,16 @@ impl Selection {
     }
 }
 
-/// Why a selection can hold nothing. It is displayed as its line on standard error, without its line feed.
+/// The reason why a selection is empty or isn't for the format.
+///
+/// It is displayed as its line on standard error, without its line feed.
+///
 /// Formats: The command line
 #[derive(Clone, Copy, Debug, PartialEq, Eq)]
 pub(crate) enum SelectionFault {
     /// The script has only this number of nodes.
     Node { node: u8, nodes: u8 },
-    /// The first event is behind the last.
+    /// The first event is after the last.
     Range { from: u64, to: u64 },
     /// The run has only this number of events.
     Event { event: u64, events: u64 },

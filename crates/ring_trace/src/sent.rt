@@ -1,4 +1,5 @@
 //! The frames sent in a run: the calls that they carry, and the file that they are written to.
+//!
 //! Formats: The command line
 
 ghost use Rattle.std.specs.Prelude.{OnOk};
@@ -15,7 +16,9 @@ use std::alloc::Allocator;
 use std::io::Write;
 
 /// Writes the encodings of all frames sent in the run, one after another, in the order of sending.
-/// Errors: `Output` where the writer fails. A part may be written.
+///
+/// Errors: `Output` if `frames` fails. How much has been written is then unspecified.
+///
 /// Formats: The command line
 pub(crate) fn write_frames<O: Object, F: Write>(
     world: &World<O>,
@@ -28,9 +31,12 @@ pub(crate) fn write_frames<O: Object, F: Write>(
         .map_err(|_| Failure::Output)
 }
 
-/// Returns for each of the calls, in their order, whether its node has sent it since it was submitted. A call is sent where
-/// a message of the node's own carries it, as a Call or in a Pack.
-/// Errors: only `Memory`.
+/// Returns for each of the calls, in their order, whether its node has sent it since it was submitted.
+///
+/// A call is sent if a message of the node itself carries it, as a Call or in a Pack.
+///
+/// Errors: `Memory` if an allocation fails.
+///
 /// Formats: The command line
 pub(crate) fn sent_of<O: Object>(
     alloc: O::Alloc,
@@ -51,7 +57,9 @@ pub(crate) fn sent_of<O: Object>(
     }
 }
 
-/// Marks the calls that the frames of a world carry. Each frame is decoded in place of the one before it.
+/// Marks the calls that the frames of a world carry.
+///
+/// Each frame is decoded in place of the one before it.
 fn note_frames<O: Object>(
     alloc: O::Alloc,
     world: &World<O>,
@@ -77,7 +85,7 @@ fn note_frames<O: Object>(
     Ok(())
 }
 
-/// Marks the calls that a message carries, which this node sent as the frame of this number.
+/// Marks the calls that a message carries, which this node sent as frame `number`.
 fn note_payload<A: Allocator + Copy>(
     payload: &Payload<A>,
     from: Proc,
@@ -96,7 +104,7 @@ fn note_payload<A: Allocator + Copy>(
     }
 }
 
-/// Marks a call that was sent.
+/// Marks the waiting call that equals a call that was sent, if there is one.
 fn note_call<A: Allocator + Copy>(
     call: &Call<A>,
     from: Proc,
@@ -111,7 +119,7 @@ fn note_call<A: Allocator + Copy>(
     }
 }
 
-/// Whether a waiting call is this one, which its node sent as the frame of this number.
+/// Returns whether a waiting call is the call that its node sent in frame `number` after its submission.
 fn is_in<A: Allocator + Copy>(
     waiting: &WaitingCall,
     call: &Call<A>,

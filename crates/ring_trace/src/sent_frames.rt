@@ -1,4 +1,5 @@
-//! The frames sent so far, and the nodes that were given each.
+//! The frames sent so far, and the nodes that received each.
+//!
 //! Formats: The command line
 
 use ring_base::{Fault, Proc, ProcSet, RingId};
@@ -10,7 +11,7 @@ use ring_trace_formats::DeliveryKind;
 use ring_wire::{Frame, Message};
 use std::alloc::Allocator;
 
-/// A message, by its ring and its number there.
+/// The name of a message: its ring, and its number there.
 #[derive(Clone, Copy, PartialEq, Eq)]
 struct MessageName {
     ring: RingId,
@@ -24,28 +25,32 @@ pub(crate) struct SentFrame {
     pub from: Proc,
     /// The receivers.
     pub to: ProcSet,
-    /// The number of bytes that the encodings of the frames before it take.
+    /// The length in bytes of the encodings of all earlier frames.
     pub begin: usize,
-    /// The same with its own encoding.
+    /// The length in bytes of these encodings and its own.
     pub end: usize,
     /// The message that it has, if it has one.
     message: Option<MessageName>,
-    /// What counts of it.
+    /// What is counted of it, if it is counted.
     pub counted: Option<CountedFrame>,
-    /// The number of places of the snapshot of which its message carries a piece, if it carries one.
+    /// The number of places that the snapshot replaces of which its message carries a piece, if it carries one.
     pub snapshot: Option<u64>,
-    /// The nodes that were given it.
+    /// The nodes that received it.
     given: ProcSet,
 }
 
-/// The frames sent so far, in the order of sending. They are numbered from 1.
+/// The frames sent so far, in the order of sending.
+///
+/// They are numbered from 1.
 #[derive(Drop)]
 pub(crate) struct SentFrames<A: Allocator> {
     frames: Vec<SentFrame, A>,
 }
 
 impl<A: Allocator + Copy> SentFrames<A> {
-    /// Returns the list without frames, which takes no memory yet.
+    /// Creates an empty list.
+    ///
+    /// Does not allocate.
     pub fn new(alloc: A) -> SentFrames<A> {
         SentFrames {
             frames: Vec::new(alloc),
@@ -57,7 +62,7 @@ impl<A: Allocator + Copy> SentFrames<A> {
         self.frames.len() as u64
     }
 
-    /// Returns the frame of this number, if there is one.
+    /// Returns frame `number`, or `None` if there is none.
     pub fn frame(&self, number: u64) -> Option<SentFrame> {
         let before = number.checked_sub(1)?;
         self.frames.get(before as usize).copied()
@@ -68,7 +73,11 @@ impl<A: Allocator + Copy> SentFrames<A> {
         self.frames.get(before as usize..).unwrap_or(&[])
     }
 
-    /// Returns how a frame comes to a node where a line gives it.
+    /// Returns the kind of delivery that it would be to give frame `number` to `node` now.
+    ///
+    /// Frames are numbered from 1 in the order of sending. `None` stands for a number of 2^64 or more; like the number
+    /// of a frame that wasn't sent, it yields `NotSent`.
+    ///
     /// Formats: The command line
     pub fn kind_of(&self, number: Option<u64>, node: Proc) -> DeliveryKind {
         let Some(frame) = number.and_then(|number| self.frame(number)) else {
@@ -85,7 +94,7 @@ impl<A: Allocator + Copy> SentFrames<A> {
         }
     }
 
-    /// Whether the node sent the message of this frame, or was given it.
+    /// Returns whether the node sent or received the message of this frame.
     fn has_message_of(&self, frame: &SentFrame, node: Proc) -> bool {
         let mut has_message = false;
         for other in &self.frames {
@@ -96,7 +105,9 @@ impl<A: Allocator + Copy> SentFrames<A> {
         has_message
     }
 
-    /// Records that the node is given the frame of this number.
+    /// Records that the node receives frame `number`.
+    ///
+    /// Formats: The command line
     pub fn give(&mut self, number: u64, node: Proc) {
         let before = number.saturating_sub(1);
         if let Some(frame) = self.frames.get_mut(before as usize) {
@@ -104,8 +115,11 @@ impl<A: Allocator + Copy> SentFrames<A> {
         }
     }
 
-    /// Adds a frame, which follows all others and whose encoding is at the front of these bytes. It is decoded into `place`.
-    /// Errors: `Memory`; it isn't added.
+    /// Adds the next frame, whose encoding `bytes` begin with.
+    ///
+    /// It is decoded into `place`.
+    ///
+    /// Errors: `Memory` if an allocation fails; nothing is added.
     fn add(
         &mut self,
         alloc: A,
@@ -131,7 +145,7 @@ impl<A: Allocator + Copy> SentFrames<A> {
         Ok(())
     }
 
-    /// Returns the number of bytes of all encodings.
+    /// Returns the total length in bytes of all encodings.
     fn end(&self) -> usize {
         match self.frames.last() {
             Some(frame) => frame.end,
@@ -141,7 +155,9 @@ impl<A: Allocator + Copy> SentFrames<A> {
 }
 
 /// Adds the frames that were sent since the last call.
-/// Errors: `Memory`; a part may be added.
+///
+/// Errors: `Memory` if an allocation fails; some of the frames may have been added.
+///
 /// Formats: The command line
 pub(crate) fn add_sent_frames<O: Object>(
     alloc: O::Alloc,
@@ -196,7 +212,8 @@ fn snapshot_in<A: Allocator + Copy>(frame: &Option<Frame<A>>) -> Option<u64> {
     }
 }
 
-/// Returns the same of a message, which carries the piece as it was sent, or wrapped.
+/// Returns the number of places that the snapshot replaces of which a message carries a piece, directly or in a
+/// Wrapped.
 fn snapshot_of<A: Allocator + Copy>(message: &Message<A>) -> Option<u64> {
     match &message.payload {
         Payload::Snap(snap) => Some(snap.at),

@@ -1,13 +1,17 @@
 //! The sides of a cut.
+//!
 //! Formats: The command line
 
 use ring_base::{Fault, Fixed, Proc, ProcSet};
 use ring_console::Groups;
 use std::alloc::Allocator;
 
-/// Returns the sides into which a cut splits these nodes, ordered by their least members. Each node is in exactly one of
-/// them.
-/// Errors: only `Memory`.
+/// Returns the sides into which a cut splits these nodes, ordered by their least members.
+///
+/// Each node is in exactly one of them.
+///
+/// Errors: `Memory` if an allocation fails.
+///
 /// Formats: The command line
 pub(crate) fn sides_of<A: Allocator + Copy>(
     alloc: A,
@@ -27,7 +31,7 @@ pub(crate) fn sides_of<A: Allocator + Copy>(
     Ok(sides)
 }
 
-/// Returns the nodes that are connected with this one.
+/// Returns the nodes that are connected to `node`.
 fn side_of(nodes: Fixed, groups: Groups, node: Proc) -> Result<ProcSet, Fault> {
     let mut side = ProcSet::new();
     for before in 0..nodes.count() {

@@ -1,4 +1,5 @@
 //! A running script with a report of each event.
+//!
 //! Formats: The command line
 
 ghost use Rattle.std.specs.Prelude.{◌≡◌, ℕ, List, drop, Some, None, OnOk, IfOk};
@@ -31,6 +32,7 @@ use std::io::Write;
 use std::mem;
 
 /// A running script, and the state of its trace: what was reported so far, and the picture.
+///
 /// Formats: The command line
 #[derive(Drop)]
 pub(crate) struct Tracer<O: Object> {
@@ -60,20 +62,26 @@ pub(crate) struct Tracer<O: Object> {
     fold: Fold,
     /// The description of the current event.
     what: String<O::Alloc>,
-    /// Its input, where it isn't a turn.
+    /// The input of the current event, unless it is a turn.
     input: Option<InputValue>,
-    /// The length of its node's log, where it changed that.
+    /// The length of the log of the event's node, if the event changed it.
     log: Option<u64>,
-    /// The frames that it sent. It is empty in formats without details, as are the input and the turns.
+    /// The frames that the current event sent.
+    ///
+    /// It is empty in formats without details, as are the input and the turns.
     sends: Vec<SendValue>,
     /// The turns of the fold.
     turns: Vec<TurnValue>,
 }
 
 impl<O: Object> Tracer<O> {
-    /// Creates the trace of a script, with all nodes at their opening and nothing reported. `form` has the format, and
-    /// `selection` the events to report.
-    /// Errors: only `Memory`.
+    /// Creates the trace of a script, with all nodes at their opening and nothing reported.
+    ///
+    /// `form` has the format, and `selection` the events to report.
+    ///
+    /// Errors: `Memory` if an allocation fails.
+    ///
+    /// Formats: The command line
     pub fn new(
         alloc: O::Alloc,
         form: TracePrinter,
@@ -117,10 +125,15 @@ impl<O: Object> Tracer<O> {
         })
     }
 
-    /// Carries out all lines, and reports the selected events on `out`. Then reports the counts and the waiting calls, and
-    /// prints the picture, as the format has them. At the end it writes the frames that were sent to `frames`.
-    /// Errors: `Refused` with `Memory`; `Output` where `out` or `frames` fails, and where the selection begins behind the last
-    /// event, which is then stored in `fault`. The reports before are then on `out`, and perhaps a part of the next.
+    /// Carries out all lines, and reports the selected events on `out`.
+    ///
+    /// Then prints the counts, the waiting calls and the picture, as far as the format has them. At the end it writes
+    /// the frames that were sent to `frames`.
+    ///
+    /// Errors: `Refused` with `Memory` if an allocation fails; `Output` if `out` or `frames` fails, or if the selection
+    /// begins after the last event, which is then stored in `fault`. The earlier reports are then on `out`, and perhaps
+    /// a part of the next one.
+    ///
     /// Formats: The command line
     pub fn trace_run<W: Write, F: Write>(
         &mut self,
@@ -145,7 +158,9 @@ impl<O: Object> Tracer<O> {
         write_frames(self.run.world(), frames)
     }
 
-    /// Carries out all lines and reports their events. The run is that of the script.
+    /// Carries out all lines and reports their events.
+    ///
+    /// The run is that of the script.
     fn take<W: Write>(&mut self, script: Script<O::Alloc>, out: &mut W) -> Result<(), Failure>
         requires { AreFit script.lines.items }
         ensures { OnOk result ((text : List ℕ) × AreLinesDone O.sequential script.lines.items self.old.run self.new.run text) }
@@ -207,7 +222,7 @@ impl<O: Object> Tracer<O> {
         Ok(())
     }
 
-    /// Draws a heal: a wall where there was a cut, else an empty column.
+    /// Draws a heal: a wall if there was a cut, otherwise an empty column.
     fn draw_heal(&mut self, is_cut: bool) -> Result<(), Fault>
         ensures { self.new.run ≡ self.old.run }
     {
@@ -239,7 +254,7 @@ impl<O: Object> Tracer<O> {
         }
     }
 
-    /// Returns how the frame of an event comes to its node, where a line gives it.
+    /// Returns the kind of delivery of an event's frame by a line `deliver`.
     fn kind_of(&self, event_subject: &Option<EventSubject>) -> DeliveryKind {
         match event_subject {
             Some(event_subject) => self.sent.kind_of(event_subject.frame, event_subject.node),
@@ -247,7 +262,7 @@ impl<O: Object> Tracer<O> {
         }
     }
 
-    /// Keeps the description of a line's event, and for programs its input.
+    /// Stores the description of a line's event, and its input if the format has details.
     fn describe(&mut self, line: &ScriptLine<O::Alloc>, kind: DeliveryKind) -> Result<(), Fault>
         ensures { self.new.run ≡ self.old.run }
     {
@@ -259,7 +274,7 @@ impl<O: Object> Tracer<O> {
         Ok(())
     }
 
-    /// Takes this number of turns, fewer if no copy is open.
+    /// Takes `turns` turns, or fewer if no copy is open any more.
     fn pump<W: Write>(&mut self, turns: u32, out: &mut W) -> Result<(), Failure>
         ensures { OnOk result (IsPumpDone O.sequential turns self.old.run self.new.run) }
     {
@@ -275,7 +290,9 @@ impl<O: Object> Tracer<O> {
         Ok(())
     }
 
-    /// Finds what the step of a turn restores, before it is made. A copy that is lost makes none.
+    /// Finds what the step of a turn restores, before it is made.
+    ///
+    /// A copy that is lost makes none.
     fn foresee_turn(&mut self, pair: OpenCopy, is_heard: bool) -> Result<(), Fault>
         ensures { self.new.run ≡ self.old.run }
     {
@@ -300,8 +317,10 @@ impl<O: Object> Tracer<O> {
         }
     }
 
-    /// Finds what the node's step on the frame of this number restores, before it is made. A node restores a snapshot only of more
-    /// places than it has committed, and only if it was given all pieces of it. So a node that was given none isn't asked.
+    /// Finds what the node's step on the frame of this number restores, before it is made.
+    ///
+    /// A node restores a snapshot only of more places than it has committed, and only if it received all pieces of it.
+    /// So a node that received none isn't asked.
     fn foresee(&mut self, node: Proc, number: u64) -> Result<(), Fault>
         ensures { self.new.run ≡ self.old.run }
     {
@@ -326,7 +345,7 @@ impl<O: Object> Tracer<O> {
         Ok(())
     }
 
-    /// Reports the effect of a turn: this copy was delivered, or lost.
+    /// Reports the effect of a turn, in which a copy was delivered or lost.
     fn trace_turn<W: Write>(
         &mut self,
         pair: OpenCopy,
@@ -352,8 +371,9 @@ impl<O: Object> Tracer<O> {
         Ok(())
     }
 
-    /// Adds a turn to those of the fold, where the format has details. `event` is the number of its event, if the copy was
-    /// delivered.
+    /// Adds a turn to those of the fold if the format has details.
+    ///
+    /// `event` is the number of its event, if the copy was delivered.
     fn add_turn(&mut self, pair: OpenCopy, event: Option<u64>) -> Result<(), Fault>
         ensures { self.new.run ≡ self.old.run }
     {
@@ -372,7 +392,7 @@ impl<O: Object> Tracer<O> {
         Ok(())
     }
 
-    /// Takes the details of the current event, if there is one. They are empty afterwards.
+    /// Returns the details of the current event, if there is one, and clears them.
     fn take_details(&mut self, is_event: bool) -> EventDetails
         ensures { self.new.run ≡ self.old.run }
     {
@@ -420,7 +440,7 @@ impl<O: Object> Tracer<O> {
         }
     }
 
-    /// Draws and prints an event, with the reports from this index on.
+    /// Draws and prints an event, with the reports from the index `told` on.
     fn report_event<W: Write>(
         &mut self,
         event_subject: &EventSubject,
@@ -436,7 +456,7 @@ impl<O: Object> Tracer<O> {
         self.print_event(event_subject, told, out)
     }
 
-    /// Records that the event's node was given its frame.
+    /// Records that the event's node received the frame.
     fn note_given(&mut self, event_subject: &EventSubject)
         ensures { self.new.run ≡ self.old.run }
     {
@@ -510,7 +530,7 @@ impl<O: Object> Tracer<O> {
         Ok(())
     }
 
-    /// Draws the state of the run, if a picture begins with the next event and that is not the first.
+    /// Draws the state of the run if the picture begins with the next event and that isn't the first event.
     fn begin_picture(&mut self) -> Result<(), Fault>
         ensures { self.new.run ≡ self.old.run }
     {
@@ -554,7 +574,7 @@ impl<O: Object> Tracer<O> {
         Ok(())
     }
 
-    /// Draws an event, with the reports from this index on.
+    /// Draws an event, with the reports from the index `told` on.
     fn draw_event(&mut self, event_subject: &EventSubject, told: usize) -> Result<(), Fault>
         ensures { self.new.run ≡ self.old.run }
     {
@@ -573,7 +593,7 @@ impl<O: Object> Tracer<O> {
         )
     }
 
-    /// Finds the changes of the event's node, and keeps the node's new view.
+    /// Finds the changes of the event's node, and stores the node's new view.
     fn find_changes(&mut self, event_subject: &EventSubject) -> Result<(), Fault>
         ensures { self.new.run ≡ self.old.run }
     {
@@ -604,7 +624,7 @@ impl<O: Object> Tracer<O> {
         now.add_changes(&before, self.nodes, &mut self.changes)
     }
 
-    /// Removes the calls that were answered or refused from the waiting ones.
+    /// Removes the calls that were answered or refused from the waiting calls.
     fn remove_answered(&mut self) -> Result<(), Fault>
         ensures { self.new.run ≡ self.old.run }
     {
@@ -620,7 +640,7 @@ impl<O: Object> Tracer<O> {
         Ok(())
     }
 
-    /// Prints an event, with the reports from this index on.
+    /// Prints an event, with the reports from the index `told` on.
     fn print_event<W: Write>(
         &mut self,
         event_subject: &EventSubject,
@@ -670,7 +690,7 @@ impl<O: Object> Tracer<O> {
         self.form.print_fold(out, &fold, turns)
     }
 
-    /// Prints what follows the events: the lines of the whole run, the picture, and what a page has around it.
+    /// Prints what follows the events: the lines of the whole run, the picture, and the parts of a page around it.
     fn print_end<W: Write>(&self, out: &mut W) -> Result<(), Failure> {
         self.print_last_lines(out)?;
         self.form.print_page_middle(out)?;
@@ -745,8 +765,10 @@ impl<O: Object> Tracer<O> {
         Ok(())
     }
 
-    /// Whether a call is in the log of its node, where the node is alone in its ring and these calls were submitted before.
-    /// There, the places that are not committed are the node's own calls, in the order in which they were submitted.
+    /// Returns whether a waiting call is in the log of its node, if the node is alone in its ring.
+    ///
+    /// `before` are the waiting calls submitted earlier. The uncommitted places of such a node are its own calls, in
+    /// the order of submission.
     fn is_logged(&self, node: Proc, before: &[WaitingCall]) -> Result<bool, Fault> {
         let world = self.run.world();
         let of = world.node(world.fixed().proc(node.number())?);
@@ -760,8 +782,10 @@ impl<O: Object> Tracer<O> {
         Ok(many < open)
     }
 
-    /// Returns the reason why a call waits at a node, given whether the node has sent it, and whether it is in the log of a
-    /// node that is alone.
+    /// Returns the reason why a call waits at a node.
+    ///
+    /// `is_sent` says whether the node has sent it, and `is_logged` whether it is in the log of a node that is alone in
+    /// its ring.
     fn reason(&self, node: Proc, is_sent: bool, is_logged: bool) -> WaitReason {
         let place = usize::from(node.number()) - 1;
         match self.node_views.get(place) {
@@ -774,7 +798,7 @@ impl<O: Object> Tracer<O> {
     }
 }
 
-/// Returns the reports from this index on.
+/// Returns the reports from the index `before` on.
 fn told_since<A: Allocator + Copy>(told: &[Told<A>], before: usize) -> &[Told<A>]
     ensures { result.now ≡ drop before told.now }
 {

@@ -1,4 +1,5 @@
 //! Tracing a script, and printing the trace.
+//!
 //! Formats: The command line
 
 ghost use Rattle.std.specs.Prelude.{◌≡◌, ◌≤◌, Ok, OnOk};
@@ -19,6 +20,7 @@ use std::alloc::Global;
 use std::io::{BufWriter, Write};
 
 /// The options of a trace.
+///
 /// Formats: The command line
 #[derive(Clone, Copy)]
 pub struct TraceOptions {
@@ -28,18 +30,21 @@ pub struct TraceOptions {
     pub selection: Selection,
 }
 
-/// Parses a text as a script over the program's object, runs it, and prints the effects of the selected events in the
-/// chosen format on `out`. After that it writes the frames that were sent to `frames`. Returns the exit status: 0 where all
-/// was done, else 1.
+/// Parses a text as a script for the standard object, runs it, and prints the effects of the selected events in the
+/// chosen format on `out`.
+///
+/// Then writes the frames that were sent to `frames`. Returns the exit status: 0 if all was done, otherwise 1.
 ///
 /// Errors:
-/// - `BadScript` where the text isn't a script: reported on `err`, and nothing is printed.
-/// - `Memory`: reported on `err`. The text printed before is on `out`.
-/// - The selection can hold nothing, or isn't for the format: reported on `err`, with what there is. Of a run, nothing but what
-///   comes before all events is printed.
+///
+/// - `BadScript` if the text isn't a script: reported on `err`, and nothing is printed.
+/// - `Memory` if an allocation fails: reported on `err`. The earlier text is on `out`.
+/// - The selection is empty, or isn't for the format: reported on `err`, with the nodes or events that there are. Only
+///   the part of the trace that comes before all events may be printed.
 /// - `out` or `frames` fails: nothing is reported.
 ///
 /// At status 0, the text is a script, it was run to its end, and `frames` has the frames of that run.
+///
 /// Formats: The command line
 pub fn trace<O: Write, F: Write, E: Write>(
     alloc: Global,
@@ -60,9 +65,12 @@ pub fn trace<O: Write, F: Write, E: Write>(
     )
 }
 
-/// Traces a script as [`trace`] does, over this object, with the words that `V` has for operations and replies. Returns the
-/// exit status: 0 or 1.
+/// Traces a script as [`trace`] does, for objects `T` with the vocabulary `V` for operations and replies.
+///
+/// Returns the exit status: 0 or 1.
+///
 /// Errors: as for [`trace`].
+///
 /// Formats: The command line
 pub fn trace_of<
     T: Object<Alloc = Global>,
@@ -94,8 +102,9 @@ pub fn trace_of<
     }
 }
 
-/// Writes the line of a selection that can hold nothing, if there is one, to `err`. Returns the exit status: 1 with such a
-/// line, else this one. An error of `err` itself is ignored.
+/// Writes the line of a selection's fault, if there is one, to `err`.
+///
+/// Returns the exit status: 1 after such a line, otherwise `status`. An error of `err` itself is ignored.
 fn report_selection<E: Write>(err: &mut E, status: u8, fault: Option<SelectionFault>) -> u8
     requires { status ≤ 1 }
     ensures status { result ≤ 1 }
@@ -111,8 +120,10 @@ fn report_selection<E: Write>(err: &mut E, status: u8, fault: Option<SelectionFa
     }
 }
 
-/// Parses a text as a script, runs it, prints the effects of its events, and writes the frames that were sent. Where the
-/// selection can hold nothing, that is stored in `fault`, and the failure is `Output`, which has no line of its own.
+/// Parses a text as a script, runs it, prints the effects of its events, and writes the frames that were sent.
+///
+/// If the selection is empty or isn't for the format, that is stored in `fault`, and the failure is `Output`, which has
+/// no line of its own.
 fn trace_text<T: Object<Alloc = Global>, V: Vocabulary + ReplyVocabulary, W: Write, F: Write>(
     alloc: Global,
     text: &[u8],
@@ -134,8 +145,9 @@ fn trace_text<T: Object<Alloc = Global>, V: Vocabulary + ReplyVocabulary, W: Wri
     Ok(())
 }
 
-/// Runs a script, prints the effects of its events, and writes the frames that were sent. Where the selection begins behind the
-/// last event, that is stored in `fault`, and the failure is `Output`.
+/// Runs a script, prints the effects of its events, and writes the frames that were sent.
+///
+/// If the selection begins after the last event, that is stored in `fault`, and the failure is `Output`.
 fn trace_script<O: Object<Alloc = Global>, V: Vocabulary + ReplyVocabulary, W: Write, F: Write>(
     alloc: Global,
     script: Script,

@@ -1,5 +1,7 @@
-//! Printing a trace in the requested format. A picture has no lines: it is printed on its own, in a page between two parts of the
-//! page.
+//! Printing a trace in the requested format.
+//!
+//! A picture has no lines. It is printed separately; in a page it comes between two parts of the page.
+//!
 //! Formats: The command line
 
 ghost use Rattle.std.specs.Prelude.{◌≡◌, IfErr};
@@ -19,6 +21,7 @@ use std::alloc::{Allocator, Global};
 use std::io::Write;
 
 /// The format in which a trace is printed.
+///
 /// Formats: The command line
 #[derive(Clone, Copy, Debug, PartialEq, Eq)]
 pub enum Format {
@@ -33,18 +36,25 @@ pub enum Format {
 }
 
 impl Format {
-    /// Returns whether lines for programs are printed, which have the details of events.
+    /// Returns whether the format has lines for programs, with the details of events: `Json` and `Html`.
+    ///
+    /// Formats: The command line
     pub fn has_details(self) -> bool {
         self == Format::Json || self == Format::Html
     }
 
-    /// Returns whether a picture is printed.
+    /// Returns whether the format has a picture: `Svg` and `Html`.
+    ///
+    /// Formats: The command line
     pub fn has_picture(self) -> bool {
         self == Format::Svg || self == Format::Html
     }
 }
 
-/// A printer of a trace in one format. In the format `Svg` it prints nothing: the picture itself is printed apart.
+/// A printer of a trace in one format.
+///
+/// In the format `Svg` it prints nothing, since the picture is printed separately.
+///
 /// Formats: The command line
 #[derive(Clone, Copy)]
 pub struct TracePrinter {
@@ -55,7 +65,7 @@ pub struct TracePrinter {
 }
 
 impl TracePrinter {
-    /// Returns the printer of lines in JSON.
+    /// Returns a printer of the lines in JSON.
     fn json(self) -> JsonPrinter {
         JsonPrinter {
             alloc: self.alloc,
@@ -63,8 +73,11 @@ impl TracePrinter {
         }
     }
 
-    /// Prints what comes before all lines: for JSON the line of the nodes, and for a page its first part before that.
+    /// Prints what comes before all other lines: for JSON the line of the nodes, and for a page also the page's first
+    /// part.
+    ///
     /// Errors: as for [`print_event`](TracePrinter::print_event).
+    ///
     /// Formats: The command line
     pub fn print_opening<W: Write>(self, out: &mut W, nodes: Fixed) -> Result<(), Failure>
         ensures picture { self.format ≡ Format.Svg → out.new ≡ out.old }
@@ -80,9 +93,14 @@ impl TracePrinter {
         }
     }
 
-    /// Prints the line of an event: its description, its changes to the node, and the node's reports, in the words of the
-    /// object. Formats for programs have its details too.
-    /// Errors: `Output` where the writer fails; for JSON also `Refused` with `Memory`. A part of the line may be written.
+    /// Prints the line of an event: its description, its changes to the node, and the node's reports, in the words of
+    /// the object.
+    ///
+    /// The formats for programs also have its details.
+    ///
+    /// Errors: `Output` if `out` fails; for JSON also `Refused` with `Memory` if an allocation fails. How much has been
+    /// written is then unspecified.
+    ///
     /// Formats: The command line
     pub fn print_event<A: Allocator + Copy, W: Write>(
         self,
@@ -110,9 +128,12 @@ impl TracePrinter {
         }
     }
 
-    /// Prints the line of a fold: events in which frames were delivered and nothing changed. Formats for programs have its turns
-    /// too.
+    /// Prints the line of a fold: events in which frames were delivered and nothing changed.
+    ///
+    /// The formats for programs also have its turns.
+    ///
     /// Errors: as for [`print_event`](TracePrinter::print_event).
+    ///
     /// Formats: The command line
     pub fn print_fold<W: Write>(
         self,
@@ -131,7 +152,9 @@ impl TracePrinter {
     }
 
     /// Prints the line of a cut of the nodes into these groups.
+    ///
     /// Errors: as for [`print_event`](TracePrinter::print_event).
+    ///
     /// Formats: The command line
     pub fn print_cut<W: Write>(self, out: &mut W, groups: &[ProcSet]) -> Result<(), Failure>
         ensures picture { self.format ≡ Format.Svg → out.new ≡ out.old }
@@ -145,7 +168,9 @@ impl TracePrinter {
     }
 
     /// Prints the line that says that a cut has healed.
+    ///
     /// Errors: as for [`print_event`](TracePrinter::print_event).
+    ///
     /// Formats: The command line
     pub fn print_heal<W: Write>(self, out: &mut W) -> Result<(), Failure>
         ensures picture { self.format ≡ Format.Svg → out.new ≡ out.old }
@@ -158,8 +183,10 @@ impl TracePrinter {
         }
     }
 
-    /// Prints the counts of the events and frames of the whole run: two lines as text, one in JSON.
+    /// Prints the numbers of events and frames of the whole run: two lines in text, one in JSON.
+    ///
     /// Errors: as for [`print_event`](TracePrinter::print_event).
+    ///
     /// Formats: The command line
     pub fn print_counts<W: Write>(self, out: &mut W, counts: Counts) -> Result<(), Failure>
         ensures picture { self.format ≡ Format.Svg → out.new ≡ out.old }
@@ -187,7 +214,9 @@ impl TracePrinter {
     }
 
     /// Prints the line of a call that has no answer at the end of the run, with the reason.
+    ///
     /// Errors: as for [`print_event`](TracePrinter::print_event).
+    ///
     /// Formats: The command line
     pub fn print_waiting<W: Write>(
         self,
@@ -205,9 +234,12 @@ impl TracePrinter {
         }
     }
 
-    /// Prints the line of a committed place of the log, counted from 0, with its call and the answer to it. Only formats for
-    /// programs have such lines.
+    /// Prints the line of a committed place of the log, counted from 0, with its call and the answer to it.
+    ///
+    /// Only the formats for programs have such lines.
+    ///
     /// Errors: as for [`print_event`](TracePrinter::print_event).
+    ///
     /// Formats: The command line
     pub fn print_place<A: Allocator + Copy, W: Write>(
         self,
@@ -228,8 +260,12 @@ impl TracePrinter {
         }
     }
 
-    /// Prints the part of a page between its lines and its picture. Only a page has it.
-    /// Errors: `Output` where the writer fails. A part may be written.
+    /// Prints the part of a page between its lines and its picture.
+    ///
+    /// Other formats have no such part.
+    ///
+    /// Errors: `Output` if `out` fails. How much has been written is then unspecified.
+    ///
     /// Formats: The command line
     pub fn print_page_middle<W: Write>(self, out: &mut W) -> Result<(), Failure>
         ensures picture { self.format ≡ Format.Svg → out.new ≡ out.old }
@@ -241,8 +277,12 @@ impl TracePrinter {
         }
     }
 
-    /// Prints the part of a page behind its picture. Only a page has it.
-    /// Errors: `Output` where the writer fails. A part may be written.
+    /// Prints the part of a page after its picture.
+    ///
+    /// Other formats have no such part.
+    ///
+    /// Errors: `Output` if `out` fails. How much has been written is then unspecified.
+    ///
     /// Formats: The command line
     pub fn print_page_tail<W: Write>(self, out: &mut W) -> Result<(), Failure>
         ensures picture { self.format ≡ Format.Svg → out.new ≡ out.old }

@@ -1,4 +1,5 @@
 //! The formats of a trace: text, JSON, a picture in SVG, and a page in HTML.
+//!
 //! Formats: The command line
 #![tactic(auto)]
 

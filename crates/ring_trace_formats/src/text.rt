@@ -1,4 +1,5 @@
 //! The text format of a trace.
+//!
 //! Formats: The command line
 
 ghost use Rattle.std.specs.Prelude.{◌≡◌, IfErr};
@@ -15,7 +16,9 @@ use std::io::Write;
 
 /// Prints the line of an event: its description, its changes to the node, and the node's reports, in the words of the
 /// object.
-/// Errors: `Output` where the writer fails. A part of the line may be written.
+///
+/// Errors: `Output` if `out` fails. How much has been written is then unspecified.
+///
 /// Formats: The command line
 pub(crate) fn print_event<A: Allocator + Copy, W: Write>(
     out: &mut W,
@@ -42,7 +45,9 @@ pub(crate) fn print_event<A: Allocator + Copy, W: Write>(
 }
 
 /// Prints the line of a fold: events in which frames were delivered and nothing changed.
-/// Errors: `Output` where the writer fails. A part of the line may be written.
+///
+/// Errors: `Output` if `out` fails. How much has been written is then unspecified.
+///
 /// Formats: The command line
 pub(crate) fn print_fold<W: Write>(out: &mut W, fold: &Fold) -> Result<(), Failure>
     ensures { IfErr result (λ failure. failure ≡ Output) }
@@ -51,7 +56,9 @@ pub(crate) fn print_fold<W: Write>(out: &mut W, fold: &Fold) -> Result<(), Failu
 }
 
 /// Prints the line of a cut of the nodes into these groups.
-/// Errors: `Output` where the writer fails. A part of the line may be written.
+///
+/// Errors: `Output` if `out` fails. How much has been written is then unspecified.
+///
 /// Formats: The command line
 pub(crate) fn print_cut<W: Write>(out: &mut W, groups: &[ProcSet]) -> Result<(), Failure>
     ensures { IfErr result (λ failure. failure ≡ Output) }
@@ -64,7 +71,9 @@ pub(crate) fn print_cut<W: Write>(out: &mut W, groups: &[ProcSet]) -> Result<(),
 }
 
 /// Prints the line that says that a cut has healed.
-/// Errors: `Output` where the writer fails. A part of the line may be written.
+///
+/// Errors: `Output` if `out` fails. How much has been written is then unspecified.
+///
 /// Formats: The command line
 pub(crate) fn print_heal<W: Write>(out: &mut W) -> Result<(), Failure>
     ensures { IfErr result (λ failure. failure ≡ Output) }
@@ -73,7 +82,9 @@ pub(crate) fn print_heal<W: Write>(out: &mut W) -> Result<(), Failure>
 }
 
 /// Prints two lines: the number of events and the number of frames of the whole run.
-/// Errors: `Output` where the writer fails. A part of the line may be written.
+///
+/// Errors: `Output` if `out` fails. How much has been written is then unspecified.
+///
 /// Formats: The command line
 pub(crate) fn print_counts<W: Write>(out: &mut W, counts: Counts) -> Result<(), Failure>
     ensures { IfErr result (λ failure. failure ≡ Output) }
@@ -92,7 +103,9 @@ pub(crate) fn print_totals<W: Write>(out: &mut W, totals: &NodeTotals) -> Result
 }
 
 /// Prints the line of a call that has no answer at the end of the run, with the reason.
-/// Errors: `Output` where the writer fails. A part of the line may be written.
+///
+/// Errors: `Output` if `out` fails. How much has been written is then unspecified.
+///
 /// Formats: The command line
 pub(crate) fn print_waiting<W: Write>(
     out: &mut W,

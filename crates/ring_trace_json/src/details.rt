@@ -1,4 +1,6 @@
-//! What programs read of an event beside its words: its input, the frames that it sent, the turns of a fold.
+//! The details of an event for programs, in addition to its words: its input, the frames that it sent, and the turns of
+//! a fold.
+//!
 //! Formats: The command line
 
 ghost use Rattle.std.specs.Prelude.{◌≡◌, IfErr};
@@ -12,6 +14,7 @@ use serde::Serialize;
 use std::alloc::{Allocator, Global};
 
 /// The input of an event, under its name.
+///
 /// Formats: The command line
 #[derive(Drop, Serialize)]
 #[serde(rename_all = "snake_case")]
@@ -20,17 +23,21 @@ pub enum InputValue {
     Call(CallInput),
     /// A turn of a pump delivers a copy.
     Turn(TurnInput),
-    /// The line `deliver` gives a frame.
+    /// The line `deliver` delivers a frame.
     Delivery(DeliveryInput),
-    /// A timeout of this name.
+    /// A timeout with this name.
     Timeout(&'static str),
-    /// This number of bytes that are noise.
+    /// This number of bytes of noise.
     Noise(u64),
-    /// The node is stopped. The value is true.
+    /// The node is stopped.
+    ///
+    /// The value is always true.
     Stop(bool),
 }
 
 /// A call that is submitted, with its operation in words.
+///
+/// Formats: The command line
 #[derive(Drop, Serialize)]
 pub struct CallInput {
     client: u32,
@@ -39,13 +46,17 @@ pub struct CallInput {
 }
 
 /// A frame that a turn delivers, and its sender.
+///
+/// Formats: The command line
 #[derive(Drop, Serialize)]
 pub struct TurnInput {
     frame: u64,
     from: u8,
 }
 
-/// The number of a frame that a line gives, if a u64 holds it, and how it comes.
+/// The frame number in a line `deliver`, `None` from 2^64 on, and the kind of delivery.
+///
+/// Formats: The command line
 #[derive(Drop, Serialize)]
 pub struct DeliveryInput {
     frame: Option<u64>,
@@ -54,7 +65,9 @@ pub struct DeliveryInput {
 
 impl InputValue {
     /// Returns the input of a call that is submitted.
-    /// Errors: only `Memory`.
+    ///
+    /// Errors: `Memory` if an allocation fails.
+    ///
     /// Formats: The command line
     pub fn of_call<A: Allocator + Copy>(
         alloc: Global,
@@ -74,7 +87,9 @@ impl InputValue {
         }))
     }
 
-    /// Returns the input of a turn that delivers this frame of this sender.
+    /// Returns the input of a turn that delivers frame `frame` from `from`.
+    ///
+    /// Formats: The command line
     pub fn of_turn(frame: u64, from: Proc) -> InputValue {
         InputValue::Turn(TurnInput {
             frame,
@@ -82,7 +97,9 @@ impl InputValue {
         })
     }
 
-    /// Returns the input of a line that gives a frame.
+    /// Returns the input of a line `deliver`.
+    ///
+    /// Formats: The command line
     pub fn of_delivery(frame: Option<u64>, kind: DeliveryKind) -> InputValue {
         InputValue::Delivery(DeliveryInput {
             frame,
@@ -92,6 +109,7 @@ impl InputValue {
 }
 
 /// A frame that an event sent.
+///
 /// Formats: The command line
 #[derive(Drop, Serialize)]
 pub struct SendValue {
@@ -102,9 +120,11 @@ pub struct SendValue {
 }
 
 impl SendValue {
-    /// Returns the frame of this number to these nodes, with its line in a listing of frames, and the names of the calls that it
+    /// Returns frame `frame`, sent to the nodes `to`, with its line in a listing and the names of the calls that it
     /// carries.
-    /// Errors: only `Memory`.
+    ///
+    /// Errors: `Memory` if an allocation fails.
+    ///
     /// Formats: The command line
     pub fn new(
         alloc: Global,
@@ -124,11 +144,12 @@ impl SendValue {
     }
 }
 
-/// A turn of a fold: an event in which a frame is delivered, or a copy that a cut lost, which has no event.
+/// A turn of a fold: an event that delivers a frame, or a copy that a cut lost, which has no event.
+///
 /// Formats: The command line
 #[derive(Drop, Serialize)]
 pub struct TurnValue {
-    /// The number of the event, counted from 1.
+    /// The number of the event, counted from 1, or `None` for a lost copy.
     #[serde(skip_serializing_if = "Option::is_none")]
     pub event: Option<u64>,
     /// The receiver.
@@ -137,20 +158,21 @@ pub struct TurnValue {
     pub frame: u64,
     /// The sender.
     pub from: u8,
-    /// The length of the receiver's log, where the event changed it.
+    /// The length of the receiver's log, if the event changed it.
     #[serde(skip_serializing_if = "Option::is_none")]
     pub log: Option<u64>,
     /// The frames that the event sent.
     pub sends: Vec<SendValue>,
 }
 
-/// What programs read of an event beside its words.
+/// The details of an event for programs, in addition to its words.
+///
 /// Formats: The command line
 #[derive(Drop)]
 pub struct EventDetails {
     /// The input.
     pub input: Option<InputValue>,
-    /// The length of the node's log, where the event changed it.
+    /// The length of the node's log, if the event changed it.
     pub log: Option<u64>,
     /// The frames that the event sent.
     pub sends: Vec<SendValue>,

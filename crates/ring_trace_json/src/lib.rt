@@ -1,4 +1,5 @@
-//! A trace as JSON: an object a line, with the version of the format and the kind of the line.
+//! A trace as JSON: one object per line, with the version of the format and the kind of the line.
+//!
 //! Formats: The command line
 #![tactic(auto)]
 

@@ -1,4 +1,5 @@
 //! The lines of a trace, as values for JSON.
+//!
 //! Formats: The command line
 
 use crate::details::{InputValue, SendValue, TurnValue};
@@ -42,7 +43,7 @@ pub(crate) struct FoldLine {
     pub turns: Vec<TurnValue>,
 }
 
-/// A cut into groups; or a heal, without groups.
+/// A cut into groups, or a heal, which has no groups.
 #[derive(Drop, Serialize)]
 pub(crate) struct CutLine {
     pub version: u8,

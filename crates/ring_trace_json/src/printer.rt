@@ -1,4 +1,5 @@
 //! Printing the lines of a trace as JSON.
+//!
 //! Formats: The command line
 
 ghost use Rattle.std.specs.Prelude.{◌≡◌, IfErr};
@@ -25,18 +26,22 @@ use std::alloc::{Allocator, Global};
 use std::io::Write;
 
 /// A printer of the lines of a trace as JSON.
+///
 /// Formats: The command line
 #[derive(Clone, Copy)]
 pub struct JsonPrinter {
     /// The allocator for the text of a line.
     pub alloc: Global,
-    /// Whether the lines are embedded in a page. Then `<` is written as `\u003c`, so that no string in them ends the page's
-    /// element that has them.
+    /// Whether the lines are embedded in a page.
+    ///
+    /// Then `<` is written as `\u003c`, so that no string in them ends the page's element that contains them.
     pub is_embedded: bool,
 }
 
 impl JsonPrinter {
-    /// Prints a value as a line.
+    /// Prints a value as a line of JSON.
+    ///
+    /// Errors: `Output` if `out` fails; `Refused` with `Memory` if an allocation fails.
     fn print_line<T: Serialize, W: Write>(self, out: &mut W, line: &T) -> Result<(), Failure>
         ensures { IfErr result IsOutputOrMemory }
     {
@@ -48,7 +53,10 @@ impl JsonPrinter {
     }
 
     /// Prints the object of the nodes: the votes of each.
-    /// Errors: `Output` where the writer fails; `Refused` with `Memory`. A part of the line may be written.
+    ///
+    /// Errors: `Output` if `out` fails; `Refused` with `Memory` if an allocation fails. How much has been written is
+    /// then unspecified.
+    ///
     /// Formats: The command line
     pub fn print_nodes<W: Write>(self, out: &mut W, nodes: Fixed) -> Result<(), Failure>
         ensures { IfErr result IsOutputOrMemory }
@@ -62,9 +70,12 @@ impl JsonPrinter {
         self.print_line(out, &line)
     }
 
-    /// Prints the object of an event: its description and its input, its changes to the node, the node's reports, and the frames
-    /// that it sent.
-    /// Errors: `Output` where the writer fails; `Refused` with `Memory`. A part of the line may be written.
+    /// Prints the object of an event: its description and its input, its changes to the node, the node's reports, and
+    /// the frames that it sent.
+    ///
+    /// Errors: `Output` if `out` fails; `Refused` with `Memory` if an allocation fails. How much has been written is
+    /// then unspecified.
+    ///
     /// Formats: The command line
     pub fn print_event<A: Allocator + Copy, W: Write>(
         self,
@@ -94,7 +105,9 @@ impl JsonPrinter {
     }
 
     /// Prints the object of a fold, events in which frames were delivered and nothing changed, with its turns.
+    ///
     /// Errors: as for [`print_event`](JsonPrinter::print_event).
+    ///
     /// Formats: The command line
     pub fn print_fold<W: Write>(
         self,
@@ -117,9 +130,12 @@ impl JsonPrinter {
         self.print_line(out, &line)
     }
 
-    /// Prints the object of a cut into these groups, for which `kind` is `cut`. After a cut has healed, `kind` is `heal` and
-    /// there are no groups.
+    /// Prints the object of a cut into these groups, or of a heal.
+    ///
+    /// `kind` must be `cut`, or `heal` without groups.
+    ///
     /// Errors: as for [`print_event`](JsonPrinter::print_event).
+    ///
     /// Formats: The command line
     pub fn print_cut<W: Write>(
         self,
@@ -139,7 +155,9 @@ impl JsonPrinter {
     }
 
     /// Prints the object with the counts of the events and frames of the whole run.
+    ///
     /// Errors: as for [`print_event`](JsonPrinter::print_event).
+    ///
     /// Formats: The command line
     pub fn print_counts<W: Write>(self, out: &mut W, counts: Counts) -> Result<(), Failure>
         ensures { IfErr result IsOutputOrMemory }
@@ -183,7 +201,9 @@ impl JsonPrinter {
     }
 
     /// Prints the object of a call that has no answer at the end of the run, with the reason by its name and in words.
+    ///
     /// Errors: as for [`print_event`](JsonPrinter::print_event).
+    ///
     /// Formats: The command line
     pub fn print_waiting<W: Write>(
         self,
@@ -210,8 +230,11 @@ impl JsonPrinter {
         self.print_line(out, &line)
     }
 
-    /// Prints the object of a committed place of the log, counted from 0: its call, and the answer of the sessions to it.
+    /// Prints the object of a committed place of the log, counted from 0: its call, and the answer of the sessions to
+    /// it.
+    ///
     /// Errors: as for [`print_event`](JsonPrinter::print_event).
+    ///
     /// Formats: The command line
     pub fn print_place<A: Allocator + Copy, W: Write>(
         self,
@@ -238,7 +261,9 @@ impl JsonPrinter {
     }
 }
 
-/// Prints a line of JSON that has no `<`: it is only in strings, where `\u003c` stands for it.
+/// Prints a line of JSON with each `<` as `\u003c`.
+///
+/// A `<` occurs only in strings.
 fn print_embedded<W: Write>(out: &mut W, text: &str) -> Result<(), Failure>
     ensures { IfErr result (λ failure. failure ≡ Output) }
 {

@@ -1,4 +1,5 @@
 //! Changes of nodes and their reports on calls, as values for JSON.
+//!
 //! Formats: The command line
 
 ghost use Rattle.std.specs.Prelude.{◌≡◌, IfErr};
@@ -15,6 +16,7 @@ use serde::Serialize;
 use std::alloc::{AllocError, Allocator, Global};
 
 /// A change of a node, under its name.
+///
 /// Formats: The command line
 #[derive(Drop, Serialize)]
 #[serde(rename_all = "snake_case")]
@@ -60,6 +62,7 @@ pub(crate) fn frame_counts_value(counts: FrameCounts) -> FrameCountsValue {
 }
 
 /// A node's report on a call: the call, the outcome, and the reply or the refusal in words.
+///
 /// Formats: The command line
 #[derive(Drop, Serialize)]
 pub(crate) struct ToldValue {
@@ -70,8 +73,10 @@ pub(crate) struct ToldValue {
     pub reply: String,
 }
 
-/// Converts the changes of a node, and the length of its log where that changed, to values.
-/// Errors: only `Memory`.
+/// Converts the changes of a node, and the length `log` of its log if that changed, to values.
+///
+/// Errors: `Memory` if an allocation fails.
+///
 /// Formats: The command line
 pub(crate) fn change_values(
     alloc: Global,
@@ -118,7 +123,9 @@ fn change_value(alloc: Global, change: &Change) -> Result<ChangeValue, Fault>
 }
 
 /// Converts a node's reports to values for JSON, in the words of the object, in order.
-/// Errors: only `Memory`.
+///
+/// Errors: `Memory` if an allocation fails.
+///
 /// Formats: The command line
 pub(crate) fn told_values<A: Allocator + Copy>(
     alloc: Global,
@@ -145,7 +152,9 @@ pub(crate) fn told_values<A: Allocator + Copy>(
 }
 
 /// Converts an answer to a value, in the words of the object.
-/// Errors: only `Memory`.
+///
+/// Errors: `Memory` if an allocation fails.
+///
 /// Formats: The command line
 pub(crate) fn answer_value<A: Allocator + Copy>(
     alloc: Global,
@@ -162,7 +171,7 @@ pub(crate) fn answer_value<A: Allocator + Copy>(
     }
 }
 
-/// Converts a refusal with this number to a value.
+/// Converts the refusal of a call, with the number `reason` of its fault, to a value.
 fn refusal_value<A: Allocator + Copy>(
     alloc: Global,
     trace_vocabulary: &TraceVocabulary,
@@ -220,7 +229,8 @@ fn told_value<A: Allocator + Copy>(
 }
 
 /// Returns the numbers of a set's members.
-/// Errors: only that memory is refused.
+///
+/// Errors: `AllocError` if an allocation fails.
 pub(crate) fn numbers_of(alloc: Global, set: ProcSet) -> Result<Vec<u8>, AllocError> {
     let mut numbers = Vec::new(alloc);
     for node in set.iter() {

@@ -6,7 +6,7 @@ use Rattle.ring_base.proofs.Rows.{take-more}
 use Rattle.ring_trace_picture.specs.PictureModels.{PictureModel, mark_added}
 use Rattle.ring_trace_picture.specs.declared.mark.PictureMark.{PictureMark}
 
--- the marks of one more element of a list
+-- The marks of one more element of a list.
 pub drawn_more : {X : Type 0} (f : X → List PictureMark) (old now new : PictureModel) (xs : List X) (k : ℕ) (x : X) → slice_get xs k ≡ Some x
     → now ≡ fold mark_added old (flat_map f (take k xs)) → new ≡ fold mark_added now (f x) → new ≡ fold mark_added old (flat_map f (take (k + 1) xs))
 drawn_more f old now new xs k x at was is =
@@ -15,7 +15,7 @@ drawn_more f old now new xs k x at was is =
     ∙ ap (fold mark_added old) (ap (λ (ms : List PictureMark). flat_map f (take k xs) ++ ms) (sym (append-nil (f x)))
     ∙ sym (flat_map-append f (take k xs) (x ∷ [])) ∙ ap (flat_map f) (sym (take-more xs k x at)))
 
--- the same where each element has one mark
+-- The same where each element has one mark.
 pub marked_more : {X : Type 0} (f : X → PictureMark) (old now new : PictureModel) (xs : List X) (k : ℕ) (x : X) → slice_get xs k ≡ Some x
     → now ≡ fold mark_added old (map f (take k xs)) → new ≡ mark_added now (f x) → new ≡ fold mark_added old (map f (take (k + 1) xs))
 marked_more f old now new xs k x at was is =

@@ -5,8 +5,8 @@ use Rattle.ring_base.specs.Group.{Group}
 use Rattle.ring_trace_picture.specs.declared.mark.PictureMark.{PictureMark}
 use Rattle.ring_trace_picture.specs.declared.mark.PlacedMark.{PlacedMark}
 
--- the view that contracts have of a picture: its nodes, the node with the only lane, if there is one, the number of its
--- columns, its marks, and the first event without a column
+-- The view that contracts have of a picture: its nodes, the node with the only lane, if there is one, the number of its
+-- columns, its marks, and the first event without a column.
 pub record PictureModel : Type 0 where
   pub nodes : Group
   pub only : Option ℕ
@@ -14,17 +14,17 @@ pub record PictureModel : Type 0 where
   pub placed : List PlacedMark
   pub rest : Option ℕ
 
--- the picture of nodes at their opening
+-- The picture of nodes at their opening.
 abbrev pub opening_picture : Group → Option ℕ → PictureModel
 opening_picture nodes only = record { nodes = nodes; only = only; columns = 0; placed = []; rest = None }
 
--- begins a column for an event, of 2,000 at most; the first event without a column is kept
+-- Begins a column for an event, up to 2,000; the first event without a column is recorded.
 abbrev pub column_begun : PictureModel → ℕ → PictureModel
 column_begun s event =
     if nat_lt s.columns 2000 then record s { columns = s.columns + 1 }
     else record s { rest = Some (unwrap_or s.rest event) }
 
--- adds a mark to the last column, unless an event has no column
+-- Adds a mark to the last column, unless an event has no column.
 abbrev pub mark_added : PictureModel → PictureMark → PictureModel
 mark_added s mark = elim s.rest [
   | None ↦ record s { placed = s.placed ++ record { column = s.columns; mark = mark } ∷ [] }

@@ -11,17 +11,17 @@ use Rattle.ring_trace_words.specs.declared.change.Change.{Change}
 use Rattle.ring_trace_words.specs.declared.change.Change.TheVariants as change
 use Rattle.ring_trace_words.specs.declared.waiting.WaitingCall.{WaitingCall}
 
--- a submitted call
+-- A submitted call.
 abbrev pub submit_mark : WaitingCall → PictureMark
 submit_mark call = mark.Submit call.node call.client call.number
 
--- the submitted call, if there is one
+-- The submitted call, if there is one.
 abbrev pub submit_marks : Option WaitingCall → List PictureMark
 submit_marks None = []
 submit_marks (Some call) = submit_mark call ∷ []
 
--- a change of a node: its lane gets the colour of its state or, for a new ring, that of an operating node or of a minority; a
--- snapshot of no place has no mark
+-- A change of a node: its lane gets the colour of its state or, for a new ring, that of an operational node or of a
+-- minority. A snapshot of no places has no mark.
 abbrev pub change_marks : ℕ → Change → List PictureMark
 change_marks node (change.State state) = mark.LaneColour node (colour.State state) ∷ []
 change_marks node (change.Ring ring members share) =
@@ -30,12 +30,12 @@ change_marks node (change.Committed length) = mark.Committed node length ∷ []
 change_marks node (change.Trimmed length) = if length == 0 then [] else mark.Trimmed node ∷ []
 change_marks node (change.Restored length) = mark.Trimmed node ∷ []
 
--- a call that a node answered or refused, so it no longer waits
+-- A call that a node answered or refused, so it no longer waits.
 abbrev pub outcome_mark : {A : Type 0} → Told A → PictureMark
 outcome_mark (Answer node call answer) = mark.Answer node call.client call.number
 outcome_mark (Refused node call fault) = mark.Answer node call.client call.number
 
--- an event: its number, the submitted call, the changes of the node, and its reports
+-- An event: its number, the submitted call, the changes of the node, and its reports.
 abbrev pub event_marks : {A : Type 0} → ℕ → ℕ → Option WaitingCall → List Change → List (Told A) → List PictureMark
 event_marks event node submitted changes told =
     mark.Event event ∷ (submit_marks submitted ++ flat_map (change_marks node) changes ++ map outcome_mark told)

@@ -1,4 +1,5 @@
 //! The arcs of a picture: calls, from their submission to their answers.
+//!
 //! Formats: The command line
 
 ghost use Rattle.std.specs.Prelude.{◌≡◌, IfErr};
@@ -8,20 +9,22 @@ use ring_base::{Fault, Proc};
 use std::alloc::Allocator;
 
 /// How a call of an arc ended.
+///
 /// Formats: The command line
 #[derive(Clone, Copy, Debug, PartialEq, Eq)]
 pub(crate) enum ArcEnd {
-    /// It has no answer.
+    /// The call has no answer.
     Waiting,
-    /// It took effect with its answer.
+    /// The call took effect, with its answer.
     Done,
-    /// It was answered from before.
+    /// The call had taken effect before; the node repeated its answer.
     Kept,
-    /// The sessions refused it, or the node did not take it.
+    /// The sessions refused the call, or the node didn't accept it.
     Refused,
 }
 
 /// A call, with its first and last column.
+///
 /// Formats: The command line
 #[derive(Drop)]
 pub(crate) struct CallArc<A: Allocator> {
@@ -31,17 +34,18 @@ pub(crate) struct CallArc<A: Allocator> {
     pub client: u32,
     /// The number that the client gave it.
     pub number: u64,
-    /// The column in which it was submitted, or in which a picture begins while it waits.
+    /// The column in which the call was submitted, or the picture's first column if it waited there.
     pub from: u64,
     /// The column in which it ended, if it ended.
     pub to: Option<u64>,
     /// How it ended.
     pub end: ArcEnd,
-    /// What is said of it: the event that submitted it, or its answer.
+    /// The text that the picture shows for it: the event that submitted it, or its answer.
     pub title: String<A>,
 }
 
 /// The arcs of a picture, in the order of their first columns.
+///
 /// Formats: The command line
 #[derive(Drop)]
 pub(crate) struct CallArcs<A: Allocator> {
@@ -49,20 +53,23 @@ pub(crate) struct CallArcs<A: Allocator> {
 }
 
 impl<A: Allocator + Copy> CallArcs<A> {
-    /// Returns a list without arcs, which takes no memory yet.
+    /// Creates an empty list.
+    ///
+    /// Does not allocate.
     pub fn new(alloc: A) -> CallArcs<A> {
         CallArcs {
             arcs: Vec::new(alloc),
         }
     }
 
-    /// Returns all arcs.
+    /// Returns all arcs, in the order of their first columns.
     pub fn arcs(&self) -> &[CallArc<A>] {
         self.arcs.as_slice()
     }
 
     /// Adds the arc of a call at the end.
-    /// Errors: `Memory`; it isn't added.
+    ///
+    /// Errors: `Memory` if an allocation fails; nothing is added.
     pub fn add(&mut self, arc: CallArc<A>) -> Result<(), Fault>
         ensures { IfErr result (λ fault. fault ≡ Memory) }
     {
@@ -70,7 +77,9 @@ impl<A: Allocator + Copy> CallArcs<A> {
         Ok(())
     }
 
-    /// Ends the first arc of this call that has no end, in this column. Nothing changes where there is none.
+    /// Ends the first open arc of this call in column `column`.
+    ///
+    /// If there is none, nothing changes.
     pub fn end(
         &mut self,
         (node, client, number): (Proc, u32, u64),

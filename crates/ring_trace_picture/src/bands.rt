@@ -1,4 +1,5 @@
-//! The bands of a picture: in each its columns of the run.
+//! The bands of a picture, each with some columns of the run.
+//!
 //! Formats: The command line
 
 use crate::arcs::CallArc;
@@ -15,8 +16,10 @@ use ring_base::{Proc, ProcSet};
 use std::alloc::Allocator;
 use std::io::{self, Write};
 
-/// Writes a band: the nodes' names, and its columns of all lanes.
-/// Errors: those of `out`. A part may then be written.
+/// Writes a band: the nodes' names, and the band's columns of all lanes.
+///
+/// Errors: any error of `out`. How much has been written is then unspecified.
+///
 /// Formats: The command line
 pub(crate) fn write_band<W: Write, A: Allocator>(
     out: &mut W,
@@ -59,7 +62,7 @@ fn write_folds<W: Write>(
     Ok(())
 }
 
-/// Writes the arcs of a node's calls, as far as the band has a part of them.
+/// Writes the parts of a node's call arcs that are in the band.
 fn write_arcs<W: Write, A: Allocator>(
     out: &mut W,
     canvas: Canvas,
@@ -119,7 +122,7 @@ fn digits(number: u64) -> u64 {
     many
 }
 
-/// Writes a node's committed lengths in the band, and where it dropped places.
+/// Writes a node's committed lengths in the band, and marks the columns in which it dropped places.
 fn write_lengths<W: Write>(
     out: &mut W,
     canvas: Canvas,
@@ -162,7 +165,7 @@ fn write_walls<W: Write>(
     Ok(())
 }
 
-/// Writes a mark if it is of a wall.
+/// Writes a mark if it belongs to a wall.
 fn write_wall_mark<W: Write>(
     out: &mut W,
     canvas: Canvas,
@@ -212,7 +215,7 @@ pub(crate) fn letters_of(set: ProcSet) -> u64 {
     letters
 }
 
-/// Writes what stands below the lanes of the band: rounds, lost copies, and the events' numbers.
+/// Writes the texts below the lanes of the band: rounds, lost copies, and the events' numbers.
 fn write_feet<W: Write>(
     out: &mut W,
     canvas: Canvas,

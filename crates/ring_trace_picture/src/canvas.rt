@@ -1,9 +1,14 @@
-//! The layout of a picture. A run is one long strip of columns, which is cut into bands of equal width, one below the other.
+//! The layout of a picture.
+//!
+//! A run is one long strip of columns, which is divided into bands of equal width, one below the other.
+//!
 //! Formats: The command line
 
 use ring_base::{MAX_PROCESSORS, Proc};
 
-/// The width of a column, in points, as all lengths of a picture.
+/// The width of a column.
+///
+/// All lengths of a picture are in points.
 const COLUMN: u64 = 16;
 
 /// The height of the space above all lanes, for the sides of cuts.
@@ -27,14 +32,17 @@ const BEHIND: u64 = 80;
 /// The width of a picture.
 const WIDTH: u64 = 1_200;
 
-/// The most columns of a band.
+/// The maximum number of columns of a band.
 const MOST: u64 = 66;
 
 /// The height of the legend.
 const LEGEND: u64 = 92;
 
-/// The size of a picture. A strip shows the whole run in one row, and each band of the picture shows some columns of the strip.
-/// All lengths and positions are in points, from the left and from the top.
+/// The size of a picture.
+///
+/// A strip shows the whole run in one row, and each band of the picture shows some columns of the strip. All lengths
+/// and positions are in points, from the left and from the top.
+///
 /// Formats: The command line
 #[derive(Clone, Copy)]
 pub(crate) struct Canvas {
@@ -47,6 +55,7 @@ pub(crate) struct Canvas {
 }
 
 /// A band of a picture: the columns from `begin` to below `end`, counted from 0.
+///
 /// Formats: The command line
 #[derive(Clone, Copy)]
 pub(crate) struct Band {
@@ -54,7 +63,7 @@ pub(crate) struct Band {
     pub index: u64,
     /// The first column.
     pub begin: u64,
-    /// The first column behind it.
+    /// The first column after it.
     pub end: u64,
 }
 
@@ -66,7 +75,7 @@ impl Band {
 }
 
 impl Canvas {
-    /// Returns the node with the lane of this index, counted from 0.
+    /// Returns the node whose lane has the index `before`, counted from 0.
     pub fn node(self, before: u8) -> Proc {
         let number = self.first.saturating_add(before);
         if 1 <= number && number <= MAX_PROCESSORS {
@@ -76,12 +85,14 @@ impl Canvas {
         }
     }
 
-    /// Returns the left edge of the column with this index, counted from 0, in the strip.
+    /// Returns the left edge of column `column`, counted from 0, in the strip.
     pub fn x(self, column: u64) -> u64 {
         column.saturating_mul(COLUMN)
     }
 
-    /// Returns the upper edge of a node's bar, in the strip and in a band. The node has a lane.
+    /// Returns the upper edge of a node's bar, in the strip and in a band.
+    ///
+    /// The node must have a lane.
     pub fn y(self, node: Proc) -> u64 {
         let before = node.number().saturating_sub(self.first);
         u64::from(before)
@@ -106,14 +117,16 @@ impl Canvas {
         (self.columns.saturating_sub(1) / MOST).saturating_add(1)
     }
 
-    /// Returns the number of columns of a band, at most 66. The last band may have fewer.
+    /// Returns the number of columns of a band, at most 66.
+    ///
+    /// The last band may have fewer.
     fn columns_of_band(self) -> u64 {
         let bands = self.bands();
         let rounded = self.columns.saturating_add(bands).saturating_sub(1);
         if bands == 0 { MOST } else { rounded / bands }
     }
 
-    /// Returns the band of this index, counted from 0.
+    /// Returns band `index`, counted from 0.
     pub fn band(self, index: u64) -> Band {
         let columns = self.columns_of_band();
         let begin = index.saturating_mul(columns);
@@ -134,13 +147,14 @@ impl Canvas {
         MARGIN
     }
 
-    /// Returns the width of what a band shows of the strip: its columns, and the space behind them.
+    /// Returns the width of the part of the strip that a band shows: its columns, and the space to their right.
     pub fn shown(self) -> u64 {
         self.x(self.columns_of_band()).saturating_add(BEHIND)
     }
 
-    /// Returns the left edge in the strip of a text of this width, which begins at `x` in a band: further left where the band
-    /// ends before the text.
+    /// Returns the left edge in the strip for a text of this width at `x` in a band.
+    ///
+    /// It is further left than `x` if the text would reach beyond the band.
     pub fn fitted(self, band: Band, x: u64, width: u64) -> u64 {
         let end = self.x(band.begin).saturating_add(self.shown());
         x.min(end.saturating_sub(width)).max(self.x(band.begin))

@@ -1,7 +1,10 @@
 //! Rows of labels that don't cover one another.
+//!
 //! Formats: The command line
 
-/// Two rows of labels, one above the other. Labels are placed from left to right.
+/// Two rows of labels, one above the other.
+///
+/// Labels are placed from left to right.
 #[derive(Clone, Copy)]
 pub(crate) struct LabelRows {
     /// The right edge of the last label in the lower row.
@@ -23,8 +26,10 @@ impl LabelRows {
         LabelRows { lower: 0, upper: 0 }
     }
 
-    /// Places a label with this left edge and width, and returns its row: the lower one where it is free there. Returns `None`
-    /// where neither is free.
+    /// Places a label with the left edge `x` and this width, and returns its row: the lower one if there is room,
+    /// otherwise the upper one.
+    ///
+    /// Returns `None` if neither has room.
     pub fn place(&mut self, x: u64, width: u64) -> Option<LabelRow> {
         let end = x.saturating_add(width);
         if self.lower <= x {
@@ -38,7 +43,9 @@ impl LabelRows {
         None
     }
 
-    /// Places a label as `place` does, in the lower row or nowhere. Returns whether it is placed.
+    /// Places a label as `place` does, but only in the lower row.
+    ///
+    /// Returns whether it was placed.
     pub fn place_below(&mut self, x: u64, width: u64) -> bool {
         let is_free = self.lower <= x;
         if is_free {

@@ -1,4 +1,5 @@
 //! The lane of a node in a band: the boxes of its states and rings.
+//!
 //! Formats: The command line
 
 use crate::bands::letters_of;
@@ -12,21 +13,25 @@ use std::io::{self, Write};
 #[derive(Clone, Copy)]
 struct LaneBox {
     colour: LaneColour,
-    /// The ring that the node installed where the box begins, if it installed one.
+    /// The ring that the node installed at the beginning of the box, if any.
     ring: Option<(RingId, ProcSet)>,
     /// The first column.
     from: u64,
 }
 
-/// The name of a ring that isn't written yet, since the next name of the lane decides how long it may be.
+/// The name of a ring that isn't written yet, since its maximum length depends on the next name of the lane.
 #[derive(Clone, Copy)]
 struct RingLabel {
     ring: (RingId, ProcSet),
     column: u64,
 }
 
-/// Writes a node's lane in a band. The marks are those of the whole picture.
-/// Errors: those of `out`. A part may then be written.
+/// Writes a node's lane in a band.
+///
+/// `placed` must hold the marks of the whole picture.
+///
+/// Errors: any error of `out`. How much has been written is then unspecified.
+///
 /// Formats: The command line
 pub(crate) fn write_lane<W: Write>(
     out: &mut W,
@@ -62,7 +67,7 @@ pub(crate) fn write_lane<W: Write>(
     write_last_box(out, canvas, band, lane, last, &mut label)
 }
 
-/// Writes the last box of a lane, to the end or with the mark that the node stopped, and the name that isn't written yet.
+/// Writes the last box of a lane, up to the end or to the mark of the node's stop, and the pending name.
 fn write_last_box<W: Write>(
     out: &mut W,
     canvas: Canvas,
@@ -82,8 +87,9 @@ fn write_last_box<W: Write>(
     write_label(out, canvas, lane, label, end)
 }
 
-/// Writes the part of a box that a band has, up to this column. The name of its ring is kept for later, where it has one, and
-/// the name kept before it is written.
+/// Writes the part of a box that is in the band, up to column `to`.
+///
+/// If the box has a ring, its name becomes the pending one, and the name that was pending is written.
 fn write_lane_box<W: Write>(
     out: &mut W,
     canvas: Canvas,
@@ -108,8 +114,9 @@ fn write_lane_box<W: Write>(
     write_bar(out, canvas, lane, lane_box.colour, from, to)
 }
 
-/// Writes the name that is kept, if there is one, so that it ends before `end`: with the ring's members, without them, or not at
-/// all.
+/// Writes the pending name, if there is one, so that it ends before `end`.
+///
+/// It is written with the ring's members, without them, or not at all.
 fn write_label<W: Write>(
     out: &mut W,
     canvas: Canvas,

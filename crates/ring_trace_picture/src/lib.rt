@@ -1,4 +1,5 @@
 //! A trace as a picture in SVG.
+//!
 //! Formats: The command line
 #![tactic(auto)]
 

@@ -1,4 +1,5 @@
 //! A picture under construction.
+//!
 //! Formats: The command line
 
 ghost use Rattle.std.specs.Prelude.{◌≡◌, OnOk, OnErr, IfErr};
@@ -16,22 +17,25 @@ use std::alloc::Allocator;
 use std::io::{self, Write};
 use std::marker::Model;
 
-/// The most columns of a picture.
+/// The maximum number of columns of a picture.
 const MAX_COLUMNS: u64 = 2_000;
 
-/// The picture of a run under construction, with a column for each event shown. Contracts see it as a `PictureModel`.
+/// The picture of a run under construction, with a column for each event shown.
+///
+/// Contracts see it as a `PictureModel`.
+///
 /// Formats: The command line
 #[derive(Drop)]
 pub struct Picture<A: Allocator> {
     alloc: A,
     nodes: Fixed,
-    /// The node with the only lane, or `None` for a lane each.
+    /// The node with the only lane, or `None` if each node has a lane.
     only: Option<Proc>,
     columns: u64,
     placed: Vec<PlacedMark, A>,
-    /// The first event without a column, if there is one.
+    /// The first event that has no column, if there is one.
     rest: Option<u64>,
-    /// The calls, as far as they have columns.
+    /// The arcs of the calls that have columns.
     arcs: CallArcs<A>,
 }
 
@@ -47,8 +51,11 @@ impl<A: Allocator> Model for Picture<A> {
 }
 
 impl<A: Allocator + Copy> Picture<A> {
-    /// Creates the picture of these nodes at their opening. It has a lane for each node, or for `only` alone if that is
-    /// given. The last column is column 0, which comes before all events.
+    /// Creates the picture of these nodes at their opening.
+    ///
+    /// It has a lane for each node, or only for `only` if that is given. The last column is column 0, which comes
+    /// before all events.
+    ///
     /// Formats: The command line
     pub fn new(alloc: A, nodes: Fixed, only: Option<Proc>) -> Picture<A>
         ensures { result ≡ opening_picture nodes only }
@@ -64,8 +71,10 @@ impl<A: Allocator + Copy> Picture<A> {
         }
     }
 
-    /// Begins the next column, for this event. A picture has at most 2,000 columns: once an event has no column, all later
-    /// marks are left out.
+    /// Begins the next column, for event `event`.
+    ///
+    /// A picture has at most 2,000 columns: once an event has no column, all later marks are left out.
+    ///
     /// Formats: The command line
     pub fn begin(&mut self, event: u64)
         ensures { self.new ≡ column_begun self.old event }
@@ -78,7 +87,10 @@ impl<A: Allocator + Copy> Picture<A> {
     }
 
     /// Adds a mark to the last column, unless an event before has no column.
-    /// Errors: `Memory`; nothing is added.
+    ///
+    /// Errors: `Memory` if an allocation fails; nothing is added.
+    ///
+    /// Formats: The command line
     pub fn add(&mut self, mark: PictureMark) -> Result<(), Fault>
         ensures ok { OnOk result (self.new ≡ mark_added self.old mark) }
         ensures err { OnErr result (self.new ≡ self.old) }
@@ -91,9 +103,11 @@ impl<A: Allocator + Copy> Picture<A> {
         Ok(())
     }
 
-    /// Begins the arc of a call in the last column, unless an event before has no column. `what` is what is said of the call
-    /// until it ends.
-    /// Errors: `Memory`; it isn't begun.
+    /// Begins the arc of a call in the last column, unless an event before has no column.
+    ///
+    /// `what` is the text shown for the call until it ends.
+    ///
+    /// Errors: `Memory` if an allocation fails; no arc is begun.
     pub(crate) fn begin_arc(&mut self, call: &WaitingCall, what: &str) -> Result<(), Fault>
         ensures same { self.new ≡ self.old }
         ensures refused { IfErr result (λ fault. fault ≡ Memory) }
@@ -113,7 +127,9 @@ impl<A: Allocator + Copy> Picture<A> {
         })
     }
 
-    /// Ends the arc of a call in the last column, unless an event before has no column. The title is what is said of the call.
+    /// Ends the arc of a call in the last column, unless an event before has no column.
+    ///
+    /// `title` is the text shown for the call.
     pub(crate) fn end_arc(&mut self, call: (Proc, u32, u64), end: ArcEnd, title: String<A>)
         ensures { self.new ≡ self.old }
     {
@@ -122,9 +138,12 @@ impl<A: Allocator + Copy> Picture<A> {
         }
     }
 
-    /// Writes the picture as SVG. Where events are left out, it names the first of them and `last`, the last event asked
-    /// for.
-    /// Errors: those of the writer. A part of the picture may be written.
+    /// Writes the picture as SVG.
+    ///
+    /// If events are left out, it names the first of them and `last`, the last requested event.
+    ///
+    /// Errors: any error of `out`. How much has been written is then unspecified.
+    ///
     /// Formats: The command line
     pub fn write<W: Write>(&self, out: &mut W, last: u64) -> io::Result<()> {
         let canvas = self.canvas();

@@ -1,4 +1,5 @@
 //! The shapes of a picture, in SVG.
+//!
 //! Formats: The command line
 
 use crate::arcs::{ArcEnd, CallArc};
@@ -16,11 +17,14 @@ const BAR: u64 = 16;
 /// The distance from a bar's upper edge to the base line of its text.
 const BASE: u64 = 12;
 
-/// The width of a letter, about.
+/// The approximate width of a letter.
 pub(crate) const LETTER: u64 = 6;
 
-/// Opens the picture, and defines the hatching of rings that aren't primary: a gradient, which is drawn faster than a pattern.
-/// Errors: those of `out`. A part may then be written.
+/// Opens the picture, and defines the hatching of rings that aren't primary: a gradient, which is drawn faster than a
+/// pattern.
+///
+/// Errors: any error of `out`. How much has been written is then unspecified.
+///
 /// Formats: The command line
 pub(crate) fn write_head<W: Write>(out: &mut W, canvas: Canvas) -> io::Result<()> {
     let (width, height) = (canvas.width(), canvas.height());
@@ -38,8 +42,12 @@ pub(crate) fn write_head<W: Write>(out: &mut W, canvas: Canvas) -> io::Result<()
     )
 }
 
-/// Opens the part of the strip that a band shows. Its shapes follow.
-/// Errors: those of `out`. A part may then be written.
+/// Opens the part of the strip that a band shows.
+///
+/// Its shapes follow.
+///
+/// Errors: any error of `out`. How much has been written is then unspecified.
+///
 /// Formats: The command line
 pub(crate) fn write_band_head<W: Write>(out: &mut W, canvas: Canvas, band: Band) -> io::Result<()> {
     write_view(
@@ -50,8 +58,12 @@ pub(crate) fn write_band_head<W: Write>(out: &mut W, canvas: Canvas, band: Band)
     )
 }
 
-/// Opens a part of a band that ends with the band's columns. Its shapes follow.
-/// Errors: those of `out`. A part may then be written.
+/// Opens a part of a band that ends with the band's columns.
+///
+/// Its shapes follow.
+///
+/// Errors: any error of `out`. How much has been written is then unspecified.
+///
 /// Formats: The command line
 pub(crate) fn write_columns_head<W: Write>(
     out: &mut W,
@@ -63,7 +75,7 @@ pub(crate) fn write_columns_head<W: Write>(
     write_view(out, (begin, 0), (begin, width), canvas.bottom())
 }
 
-/// Opens a view at a place, of the strip from `begin` on, with this width and height.
+/// Opens a view at (`x`, `y`) that shows the strip from `begin` on, with this width and height.
 fn write_view<W: Write>(
     out: &mut W,
     (x, y): (u64, u64),
@@ -77,7 +89,9 @@ fn write_view<W: Write>(
 }
 
 /// Closes the picture, a band, or a part of one, after all its shapes.
-/// Errors: those of `out`. A part may then be written.
+///
+/// Errors: any error of `out`. How much has been written is then unspecified.
+///
 /// Formats: The command line
 pub(crate) fn write_end<W: Write>(out: &mut W) -> io::Result<()> {
     writeln!(out, "</svg>")
@@ -95,7 +109,9 @@ fn fill_of(colour: LaneColour) -> &'static str {
     }
 }
 
-/// Writes text at a place, with further attributes, each with a space before it.
+/// Writes text at (`x`, `y`).
+///
+/// `style` has further attributes, each with a space before it.
 fn write_text<W: Write, D: Display + Drop>(
     out: &mut W,
     (x, y): (u64, u64),
@@ -106,7 +122,9 @@ fn write_text<W: Write, D: Display + Drop>(
 }
 
 /// Writes a node's name, left of the node's lane in a band.
-/// Errors: those of `out`. A part may then be written.
+///
+/// Errors: any error of `out`. How much has been written is then unspecified.
+///
 /// Formats: The command line
 pub(crate) fn write_name<W: Write>(
     out: &mut W,
@@ -124,8 +142,10 @@ pub(crate) fn write_name<W: Write>(
     )
 }
 
-/// Writes a bar of a lane in this colour, from the left edge of one column to that of another.
-/// Errors: those of `out`. A part may then be written.
+/// Writes a bar of a lane in this colour, from the left edge of column `from` to that of column `to`.
+///
+/// Errors: any error of `out`. How much has been written is then unspecified.
+///
 /// Formats: The command line
 pub(crate) fn write_bar<W: Write>(
     out: &mut W,
@@ -156,7 +176,9 @@ fn write_box<W: Write>(
 }
 
 /// Writes the end of a lane in the column in which the node stopped.
-/// Errors: those of `out`. A part may then be written.
+///
+/// Errors: any error of `out`. How much has been written is then unspecified.
+///
 /// Formats: The command line
 pub(crate) fn write_stop<W: Write>(
     out: &mut W,
@@ -174,8 +196,12 @@ pub(crate) fn write_stop<W: Write>(
     write_text(out, beside, " fill=\"#cc0000\"", "stopped")
 }
 
-/// Writes the name of a ring into the box of the ring, which begins in this column, with the ring's members if `has_members`.
-/// Errors: those of `out`. A part may then be written.
+/// Writes the name of a ring into the ring's box, which begins in column `column`.
+///
+/// The ring's members follow if `has_members`.
+///
+/// Errors: any error of `out`. How much has been written is then unspecified.
+///
 /// Formats: The command line
 pub(crate) fn write_ring<W: Write>(
     out: &mut W,
@@ -199,7 +225,9 @@ pub(crate) fn write_ring<W: Write>(
 }
 
 /// Writes a node's committed length below the node's bar, in this column.
-/// Errors: those of `out`. A part may then be written.
+///
+/// Errors: any error of `out`. How much has been written is then unspecified.
+///
 /// Formats: The command line
 pub(crate) fn write_committed<W: Write>(
     out: &mut W,
@@ -213,7 +241,9 @@ pub(crate) fn write_committed<W: Write>(
 }
 
 /// Underlines a node's committed length in this column: a snapshot replaces the first places of the log.
-/// Errors: those of `out`. A part may then be written.
+///
+/// Errors: any error of `out`. How much has been written is then unspecified.
+///
 /// Formats: The command line
 pub(crate) fn write_trimmed<W: Write>(
     out: &mut W,
@@ -232,7 +262,9 @@ pub(crate) fn write_trimmed<W: Write>(
 }
 
 /// Writes the name of a call, `C.N`, at `x` above its node's bar, in this row.
-/// Errors: those of `out`. A part may then be written.
+///
+/// Errors: any error of `out`. How much has been written is then unspecified.
+///
 /// Formats: The command line
 pub(crate) fn write_call_name<W: Write, A: Allocator>(
     out: &mut W,
@@ -252,9 +284,13 @@ pub(crate) fn write_call_name<W: Write, A: Allocator>(
     writeln!(out, "</text>")
 }
 
-/// Writes a call as an arc from the column of its submission to that of its answer, with its title. A call without an answer has
-/// a dashed arc to the end. A refused call ends in a cross, one that was answered from before in a ring.
-/// Errors: those of `out`. A part may then be written.
+/// Writes a call as an arc from the column of its submission to that of its answer, with its title.
+///
+/// A call without an answer has a dashed arc to the end. The arc of a refused call ends in a cross, that of a call with
+/// a repeated answer in a circle.
+///
+/// Errors: any error of `out`. How much has been written is then unspecified.
+///
 /// Formats: The command line
 pub(crate) fn write_call<W: Write, A: Allocator>(
     out: &mut W,
@@ -284,7 +320,7 @@ fn stroke_of(end: ArcEnd) -> &'static str {
     }
 }
 
-/// Writes the mark at the end of an arc, where it has one.
+/// Writes the mark at the end of an arc, if it has one.
 fn write_arc_end<W: Write>(out: &mut W, end: ArcEnd, x: u64, y: u64) -> io::Result<()> {
     let stroke = stroke_of(end);
     match end {
@@ -306,7 +342,7 @@ fn write_arc_end<W: Write>(out: &mut W, end: ArcEnd, x: u64, y: u64) -> io::Resu
     }
 }
 
-/// Writes a title, which a browser shows for the shape that has it.
+/// Writes a shape's title, which a browser shows when the pointer is on the shape.
 fn write_title<W: Write>(out: &mut W, words: &str) -> io::Result<()> {
     write!(out, "<title>")?;
     for letter in words.chars() {
@@ -319,8 +355,10 @@ fn write_title<W: Write>(out: &mut W, words: &str) -> io::Result<()> {
     write!(out, "</title>")
 }
 
-/// Writes a wall of this colour through all lanes, where a cut begins or has healed.
-/// Errors: those of `out`. A part may then be written.
+/// Writes a wall of this colour through all lanes, for the beginning of a cut or its end.
+///
+/// Errors: any error of `out`. How much has been written is then unspecified.
+///
 /// Formats: The command line
 pub(crate) fn write_wall<W: Write>(
     out: &mut W,
@@ -336,7 +374,9 @@ pub(crate) fn write_wall<W: Write>(
 }
 
 /// Writes a side of a cut at the top of the cut's wall, at `x`.
-/// Errors: those of `out`. A part may then be written.
+///
+/// Errors: any error of `out`. How much has been written is then unspecified.
+///
 /// Formats: The command line
 pub(crate) fn write_side<W: Write>(
     out: &mut W,
@@ -352,8 +392,10 @@ pub(crate) fn write_side<W: Write>(
     )
 }
 
-/// Writes the word `heals` at the top of the wall where a cut has healed, at `x`.
-/// Errors: those of `out`. A part may then be written.
+/// Writes the word `heals` at `x`, at the top of the wall for the end of a cut.
+///
+/// Errors: any error of `out`. How much has been written is then unspecified.
+///
 /// Formats: The command line
 pub(crate) fn write_heal<W: Write>(out: &mut W, x: u64, row: LabelRow) -> io::Result<()> {
     write_text(out, (x, base_of(row)), " fill=\"#38761d\"", "heals")
@@ -365,7 +407,9 @@ fn base_of(row: LabelRow) -> u64 {
 }
 
 /// Writes the grey background of a column of rounds in which nothing changed.
-/// Errors: those of `out`. A part may then be written.
+///
+/// Errors: any error of `out`. How much has been written is then unspecified.
+///
 /// Formats: The command line
 pub(crate) fn write_fold<W: Write>(out: &mut W, canvas: Canvas, column: u64) -> io::Result<()> {
     let (x, width, foot) = (canvas.x(column), canvas.x(1), canvas.foot());
@@ -376,8 +420,12 @@ pub(crate) fn write_fold<W: Write>(out: &mut W, canvas: Canvas, column: u64) -> 
     )
 }
 
-/// Writes the number of rounds in which nothing changed, below all lanes. Nothing is written for 0.
-/// Errors: those of `out`. A part may then be written.
+/// Writes the number of rounds in which nothing changed, below all lanes.
+///
+/// Nothing is written for 0.
+///
+/// Errors: any error of `out`. How much has been written is then unspecified.
+///
 /// Formats: The command line
 pub(crate) fn write_rounds<W: Write>(
     out: &mut W,
@@ -392,8 +440,12 @@ pub(crate) fn write_rounds<W: Write>(
     write_text(out, below, " fill=\"#666666\"", format_args!("x{rounds}"))
 }
 
-/// Writes the number of lost copies, below the rounds. Nothing is written for 0.
-/// Errors: those of `out`. A part may then be written.
+/// Writes the number of lost copies, below the rounds.
+///
+/// Nothing is written for 0.
+///
+/// Errors: any error of `out`. How much has been written is then unspecified.
+///
 /// Formats: The command line
 pub(crate) fn write_lost<W: Write>(
     out: &mut W,
@@ -408,9 +460,13 @@ pub(crate) fn write_lost<W: Write>(
     write_text(out, below, " fill=\"#cc0000\"", format_args!("-{lost}"))
 }
 
-/// Writes the number of an event at the bottom. Numbers from 100 on are written in two rows, and from 100,000 on in every other
-/// pair of columns only, so that they fit.
-/// Errors: those of `out`. A part may then be written.
+/// Writes the number of an event at the bottom.
+///
+/// Numbers from 100 on are written in two rows, and from 100,000 on in every other pair of columns only, so that they
+/// fit.
+///
+/// Errors: any error of `out`. How much has been written is then unspecified.
+///
 /// Formats: The command line
 pub(crate) fn write_event<W: Write>(
     out: &mut W,
@@ -431,7 +487,9 @@ pub(crate) fn write_event<W: Write>(
 }
 
 /// Writes the legend: the meanings of the colours and of the shapes.
-/// Errors: those of `out`. A part may then be written.
+///
+/// Errors: any error of `out`. How much has been written is then unspecified.
+///
 /// Formats: The command line
 pub(crate) fn write_legend<W: Write>(out: &mut W, canvas: Canvas) -> io::Result<()> {
     let mut x = 8u64;
@@ -488,7 +546,9 @@ fn write_colour<W: Write>(
 }
 
 /// Writes into the legend that the events from `from` to `to`, both included, are left out.
-/// Errors: those of `out`. A part may then be written.
+///
+/// Errors: any error of `out`. How much has been written is then unspecified.
+///
 /// Formats: The command line
 pub(crate) fn write_rest<W: Write>(
     out: &mut W,

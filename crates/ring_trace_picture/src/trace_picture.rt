@@ -1,4 +1,5 @@
 //! The marks that a trace puts into a picture.
+//!
 //! Formats: The command line
 
 ghost use Rattle.std.specs.Prelude.{◌≡◌, IfErr, OnOk, OnErr, fold, flat_map, map};
@@ -19,7 +20,8 @@ use ring_trace_words::{Change, Fold, Told, ToldWords, TraceVocabulary, TracedEve
 use std::alloc::Allocator;
 use std::io::{ErrorKind, Write};
 
-/// A picture of a trace under construction: it turns what a trace reports into marks.
+/// A picture of a trace under construction, which turns the trace's reports into marks.
+///
 /// Formats: The command line
 #[derive(Drop)]
 pub struct TracePicture<A: Allocator> {
@@ -28,7 +30,9 @@ pub struct TracePicture<A: Allocator> {
 }
 
 impl<A: Allocator + Copy> TracePicture<A> {
-    /// Creates the picture of these nodes at their opening, with a lane for each, or for `only` alone if that is given.
+    /// Creates the picture of these nodes at their opening, with a lane for each, or only for `only` if that is given.
+    ///
+    /// Formats: The command line
     pub fn new(alloc: A, nodes: Fixed, only: Option<Proc>) -> TracePicture<A>
         ensures { result.picture ≡ opening_picture nodes only }
     {
@@ -38,9 +42,13 @@ impl<A: Allocator + Copy> TracePicture<A> {
         }
     }
 
-    /// Draws changes of a node into the last column. Where a picture begins later than the run, these are the changes since
-    /// the node's opening.
-    /// Errors: `Memory`; a part may be drawn.
+    /// Draws changes of a node into the last column.
+    ///
+    /// If a picture begins later than the run, these are the changes since the node's opening.
+    ///
+    /// Errors: `Memory` if an allocation fails; a part may then have been drawn.
+    ///
+    /// Formats: The command line
     pub fn add_node_view(&mut self, node: Proc, standing: &[Change]) -> Result<(), Fault>
         ensures ok { OnOk result (self.new.picture ≡ fold mark_added self.old.picture (flat_map (change_marks node) standing.now)) }
         ensures refused { IfErr result (λ fault. fault ≡ Memory) }
@@ -51,9 +59,13 @@ impl<A: Allocator + Copy> TracePicture<A> {
         Ok(())
     }
 
-    /// Draws a call into the last column: it is submitted there, or it waits where the picture begins. `what` is what is said of
-    /// it until it is answered.
-    /// Errors: `Memory`; it isn't drawn.
+    /// Draws a call into the last column: it is submitted there, or waits there at the beginning of the picture.
+    ///
+    /// `what` is the text shown for it until it is answered.
+    ///
+    /// Errors: `Memory` if an allocation fails; nothing is drawn.
+    ///
+    /// Formats: The command line
     pub fn add_call(&mut self, call: &WaitingCall, what: &str) -> Result<(), Fault>
         ensures ok { OnOk result (self.new.picture ≡ mark_added self.old.picture (submit_mark call.now)) }
         ensures err { OnErr result (self.new.picture ≡ self.old.picture) }
@@ -67,9 +79,15 @@ impl<A: Allocator + Copy> TracePicture<A> {
         })
     }
 
-    /// Draws an event into a column of its own: its number, the call that it submits, its changes to the node, and the
-    /// node's reports, in the words of the object. `what` describes the event.
-    /// Errors: `Memory`; a part may be drawn.
+    /// Draws an event into a column of its own.
+    ///
+    /// The column has the event's number, the call that it submits, its changes to the node, and the node's reports, in
+    /// the words of the object.
+    ///
+    /// `what` describes the event.
+    ///
+    /// Errors: `Memory` if an allocation fails; a part may then have been drawn.
+    ///
     /// Formats: The command line
     pub fn add_event(
         &mut self,
@@ -93,7 +111,9 @@ impl<A: Allocator + Copy> TracePicture<A> {
         self.add_outcomes(trace_vocabulary, told)
     }
 
-    /// Draws a node's reports on calls; or `Memory`.
+    /// Draws a node's reports on calls.
+    ///
+    /// Errors: `Memory` if an allocation fails.
     fn add_outcomes(
         &mut self,
         trace_vocabulary: &TraceVocabulary,
@@ -143,7 +163,7 @@ impl<A: Allocator + Copy> TracePicture<A> {
         }
     }
 
-    /// Gives a lane this colour from this column on.
+    /// Gives the node's lane this colour from the last column on.
     fn colour(&mut self, node: Proc, colour: LaneColour) -> Result<(), Fault>
         ensures ok { OnOk result (self.new.picture ≡ mark_added self.old.picture (ShadeMark node colour)) }
         ensures refused { IfErr result (λ fault. fault ≡ Memory) }
@@ -181,7 +201,9 @@ impl<A: Allocator + Copy> TracePicture<A> {
     }
 
     /// Draws a fold, events in which frames were delivered and nothing changed, into one column.
-    /// Errors: `Memory`; a part may be drawn.
+    ///
+    /// Errors: `Memory` if an allocation fails; a part may then have been drawn.
+    ///
     /// Formats: The command line
     pub fn add_fold(&mut self, fold: &Fold) -> Result<(), Fault>
         ensures ok { OnOk result (self.new.picture ≡
@@ -193,9 +215,13 @@ impl<A: Allocator + Copy> TracePicture<A> {
         self.picture.add(PictureMark::Lost(fold.lost))
     }
 
-    /// Draws a cut into these groups into a column of its own. `events` is the number of events before it. The column of a cut
-    /// into a single group stays empty, as that of a heal where there is no cut.
-    /// Errors: `Memory`; a part may be drawn.
+    /// Draws a cut into these groups into a column of its own.
+    ///
+    /// `events` is the number of events before it. The column of a cut into a single group stays empty, as does that of
+    /// a heal without a cut.
+    ///
+    /// Errors: `Memory` if an allocation fails; a part may then have been drawn.
+    ///
     /// Formats: The command line
     pub fn add_cut(&mut self, events: u64, groups: &[ProcSet]) -> Result<(), Fault>
         ensures { IfErr result (λ fault. fault ≡ Memory) }
@@ -216,8 +242,12 @@ impl<A: Allocator + Copy> TracePicture<A> {
         Ok(())
     }
 
-    /// Draws into a column of its own that a cut has healed. `events` is the number of events before it.
-    /// Errors: `Memory`; the column is begun and stays empty.
+    /// Draws into a column of its own that a cut has healed.
+    ///
+    /// `events` is the number of events before it.
+    ///
+    /// Errors: `Memory` if an allocation fails; the column is begun and stays empty.
+    ///
     /// Formats: The command line
     pub fn add_heal(&mut self, events: u64) -> Result<(), Fault>
         ensures ok { OnOk result (self.new.picture ≡ mark_added (column_begun self.old.picture events) Heal) }
@@ -227,16 +257,24 @@ impl<A: Allocator + Copy> TracePicture<A> {
         self.picture.add(PictureMark::Heal)
     }
 
-    /// Begins an empty column. `events` is the number of events before it.
+    /// Begins an empty column.
+    ///
+    /// `events` is the number of events before it.
+    ///
+    /// Formats: The command line
     pub fn add_nothing(&mut self, events: u64)
         ensures { self.new.picture ≡ column_begun self.old.picture events }
     {
         self.picture.begin(events);
     }
 
-    /// Writes the picture as SVG. `last` is the number of the last event that was asked for.
-    /// Errors: `Output` where the writer fails; `Refused` with `Memory` where it fails for want of memory. A part of the
-    /// picture may be written.
+    /// Writes the picture as SVG.
+    ///
+    /// `last` is the number of the last requested event.
+    ///
+    /// Errors: `Output` if `out` fails; `Refused` with `Memory` if it fails because an allocation failed. How much has
+    /// been written is then unspecified.
+    ///
     /// Formats: The command line
     pub fn print<W: Write>(&self, out: &mut W, last: u64) -> Result<(), Failure>
         ensures { IfErr result IsOutputOrMemory }
@@ -259,7 +297,7 @@ fn call_in<A: Allocator + Copy>(told: &Told<A>) -> (Proc, u32, u64) {
     }
 }
 
-/// Returns how a call ends with a report.
+/// Returns the end of the arc of a call with this report.
 fn arc_end_of<A: Allocator + Copy>(told: &Told<A>) -> ArcEnd {
     match told {
         Told::Answer(_, _, Answer::Done(_)) => ArcEnd::Done,

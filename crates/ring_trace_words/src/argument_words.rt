@@ -1,17 +1,19 @@
 //! Arguments of operations and of replies, in words.
+//!
 //! Formats: The command line
 
 use ring_script::{Argument, is_name};
 use std::fmt;
 
-/// The arguments that bytes encode, displayed as words with a space between them: keys and values in decimal, names as they
-/// are.
+/// The arguments that bytes encode, displayed as words with a space between them: keys and values in decimal, names as
+/// they are.
+///
 /// Formats: The command line
 #[derive(Clone, Copy)]
 pub(crate) struct ArgumentWords<'a> {
     /// The kinds of the arguments, in order.
     pub arguments: &'a [Argument],
-    /// The bytes, which are exactly these arguments.
+    /// The bytes, which must be exactly the encodings of these arguments.
     pub bytes: &'a [u8],
     /// Whether a space comes before the first argument, too.
     pub is_behind: bool,
@@ -39,6 +41,7 @@ impl fmt::Display for ArgumentWords<'_> {
 }
 
 /// Bytes that have no form, displayed as `raw` and two lower-case hex digits a byte.
+///
 /// Formats: Scripts; The command line
 #[derive(Clone, Copy)]
 pub(crate) struct RawWords<'a>(pub &'a [u8]);
@@ -58,7 +61,7 @@ pub(crate) fn is_form(first: &[u8], arguments: &[Argument], bytes: &[u8]) -> boo
     bytes.starts_with(first) && are_arguments(arguments, bytes.get(first.len()..).unwrap_or(&[]))
 }
 
-/// Whether the bytes are exactly these arguments.
+/// Returns whether the bytes are exactly these arguments.
 fn are_arguments(arguments: &[Argument], bytes: &[u8]) -> bool {
     let mut rest = bytes;
     for argument in arguments {
@@ -71,7 +74,9 @@ fn are_arguments(arguments: &[Argument], bytes: &[u8]) -> bool {
     rest.is_empty()
 }
 
-/// Returns the length of an argument at the front of these bytes: a name has all of them.
+/// Returns the length of the argument that these bytes begin with.
+///
+/// A name takes all of them.
 fn length_in(argument: Argument, bytes: &[u8]) -> usize {
     match argument {
         Argument::Key => 1,

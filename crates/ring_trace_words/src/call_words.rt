@@ -1,4 +1,5 @@
 //! Calls and their answers, in words.
+//!
 //! Formats: The command line
 
 use crate::operation_words::OperationWords;
@@ -12,6 +13,7 @@ use std::alloc::Allocator;
 use std::fmt;
 
 /// A call, displayed as its client, a dot, its number, and its operation in words.
+///
 /// Formats: The command line
 #[derive(Drop)]
 pub struct CallWords<'a, A: Allocator + Copy> {
@@ -33,6 +35,7 @@ impl<A: Allocator + Copy> fmt::Display for CallWords<'_, A> {
 }
 
 /// The answer to a call, displayed as its reply in words, or as the reason why the sessions refuse the call.
+///
 /// Formats: The command line
 #[derive(Drop)]
 pub(crate) struct AnswerWords<'a, A: Allocator + Copy> {

@@ -1,4 +1,5 @@
 //! The changes of a node in an event.
+//!
 //! Formats: The command line
 
 use crate::share::VoteShare;
@@ -7,22 +8,27 @@ use ring_failure::state_name;
 use std::fmt;
 
 /// One change of a node in an event, displayed in words that follow the node's name.
+///
 /// Formats: The command line
 #[derive(Clone, Copy)]
 pub enum Change {
-    /// The node is in this state now. A new ring already implies the state operational.
+    /// The node's new state.
+    ///
+    /// A new ring already implies the state operational.
     State(State),
-    /// The node installed this ring, with these members. `share` is the share of the members in all votes.
+    /// The node installed this ring, with these members.
+    ///
+    /// `share` is the share of the members in all votes.
     Ring {
         ring: RingId,
         members: ProcSet,
         share: VoteShare,
     },
-    /// The node's committed length is this now, dropped places included.
+    /// The node's new committed length, dropped places included.
     Committed(u64),
-    /// The node dropped first places of its log, which are this number now, and keeps their snapshot.
+    /// The node dropped the first places of its log, this number in all by now, and keeps their snapshot.
     Trimmed(u64),
-    /// The node restored a snapshot in place of this number of first places.
+    /// The node restored a snapshot, which replaces this number of places at the beginning of the log.
     Restored(u64),
 }
 

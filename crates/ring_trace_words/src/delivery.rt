@@ -1,27 +1,32 @@
-//! How the line `deliver` comes to its node: as a frame for it, or as one that changes nothing.
+//! The kinds of delivery by the line `deliver`: a frame for the node, or one that changes nothing.
+//!
 //! Formats: The command line
 
 use std::fmt;
 
-/// How a frame comes to a node by the line `deliver`. It is displayed in words that follow the frame's number. The first that
-/// holds counts, in the order from `NotSent` to `First`.
+/// The kind of delivery of a frame by the line `deliver`.
+///
+/// It is displayed in words that follow the frame's number. It is the first one that applies, in the order from
+/// `NotSent` to `First`.
+///
 /// Formats: The command line
 #[derive(Clone, Copy, Debug, PartialEq, Eq)]
 pub enum DeliveryKind {
-    /// No frame of this number was sent.
+    /// No frame with this number was sent.
     NotSent,
     /// The frame was sent to other nodes only.
     NotForNode,
-    /// The node was given this frame before.
+    /// The node received this frame before.
     Again,
-    /// The frame has a message that the node sent, or was given by another frame.
+    /// The frame has a message that the node sent itself, or received in another frame.
     KnownMessage,
-    /// None of these holds.
+    /// None of the others applies.
     First,
 }
 
 impl DeliveryKind {
-    /// Returns the name by which programs read the kind.
+    /// Returns the kind's name in JSON.
+    ///
     /// Formats: The command line
     pub fn code(self) -> &'static str {
         match self {

@@ -1,4 +1,5 @@
 //! Folds of events in which frames are delivered and nothing else changes.
+//!
 //! Formats: The command line
 
 ghost use Rattle.std.specs.Prelude.{◌≡◌, ◌↔◌, IsTrue};
@@ -8,14 +9,20 @@ ghost use Rattle.ring_trace_words.specs.Folds.{IsEmpty, HasFrame};
 use ring_base::Proc;
 use std::fmt;
 
-/// Consecutive events in which frames are delivered and nothing changes that a trace shows, with the copies lost among
-/// them. It is displayed as its line in a trace, without the line feed.
+/// Consecutive events that deliver frames and change nothing that a trace shows, with the copies lost between them.
+///
+/// It is displayed as its line in a trace, without the line feed.
+///
 /// Formats: The command line
 #[derive(Clone, Copy)]
 pub struct Fold {
-    /// The number of the first event, counted from 1. It has no meaning without a frame.
+    /// The number of the first event, counted from 1.
+    ///
+    /// It has no meaning if no frame was delivered.
     pub first: u64,
-    /// The number of the last event, counted from 1. It has no meaning without a frame.
+    /// The number of the last event, counted from 1.
+    ///
+    /// It has no meaning if no frame was delivered.
     pub last: u64,
     /// The number of delivered frames.
     pub frames: u64,
@@ -43,15 +50,22 @@ impl Fold {
         }
     }
 
-    /// Returns whether the fold has no frame and no lost copy, so that a trace shows no line of it.
+    /// Returns whether the fold has no frame and no lost copy.
+    ///
+    /// A trace has no line for such a fold.
+    ///
+    /// Formats: The command line
     pub fn is_empty(&self) -> bool
         ensures { IsTrue result ↔ IsEmpty self.now }
     {
         self.frames == 0 && self.lost == 0
     }
 
-    /// Adds a frame that is delivered to the node in the event of this number. Events are added in the order of their
-    /// numbers.
+    /// Adds the frame that event `event` delivers to `node`.
+    ///
+    /// Events must be added in the order of their numbers.
+    ///
+    /// Formats: The command line
     pub fn add_frame(&mut self, event: u64, node: Proc)
         ensures { HasFrame event node self.old self.new }
     {
@@ -66,7 +80,11 @@ impl Fold {
         self.frames = self.frames.saturating_add(1);
     }
 
-    /// Adds a copy that a cut lost.
+    /// Counts one more copy that was lost to a cut.
+    ///
+    /// The count saturates at `u64::MAX`.
+    ///
+    /// Formats: The command line
     pub fn add_lost(&mut self)
         ensures { self.new ≡ record self.old { lost = following self.old.lost } }
     {
@@ -74,13 +92,13 @@ impl Fold {
     }
 }
 
-/// A number of things, displayed with their name.
+/// A number, displayed with the name of what is counted.
 #[derive(Clone, Copy)]
 struct CountedThings {
     number: u64,
-    /// The name of one.
+    /// The name in the singular.
     one: &'static str,
-    /// The name of several.
+    /// The name in the plural.
     many: &'static str,
 }
 

@@ -1,5 +1,6 @@
-//! The words of a trace: for the changes of a node, its reports, folds of events in which nothing changes, and the reasons why
-//! calls have no answer.
+//! The words of a trace: for a node's changes and reports, for folds of events in which nothing changes, and for the
+//! reasons why calls have no answer.
+//!
 //! Formats: The command line
 #![tactic(auto)]
 

@@ -1,4 +1,5 @@
 //! Operations, in the words of a script.
+//!
 //! Formats: Scripts; The command line
 
 use crate::argument_words::{ArgumentWords, RawWords, is_form};
@@ -6,6 +7,7 @@ use crate::trace_vocabulary::TraceVocabulary;
 use std::fmt;
 
 /// An operation, displayed as in a script: by the first form that reads all its bytes, or as `raw` and hex digits.
+///
 /// Formats: Scripts; The command line
 #[derive(Clone, Copy)]
 pub struct OperationWords<'a> {

@@ -1,4 +1,5 @@
-//! The reasons why calls are refused, in words.
+//! The reasons for refusing calls, in words.
+//!
 //! Rules: Refusals 1; Sessions 3
 //! Formats: The command line
 
@@ -8,8 +9,10 @@ ghost use Rattle.ring_base.specs.Fault.{fault_number};
 use ring_base::Fault;
 use std::fmt;
 
-/// The reason why a node or the sessions refuse a call, by the refusal's number. It is displayed as the refusal's text, or
-/// as `refused` where no call can be refused with this number.
+/// The reason why a node or the sessions refuse a call, by its fault's number.
+///
+/// It is displayed as the fault's text, or as `refused` if no call can be refused with this number.
+///
 /// Rules: Refusals 1; Sessions 3
 /// Formats: The command line
 #[derive(Clone, Copy)]
@@ -24,7 +27,7 @@ impl fmt::Display for ReasonWords {
     }
 }
 
-/// Returns the refusal with this number, if a call can be refused with it.
+/// Returns the fault with this number, or `None` if no call can be refused with it.
 fn reason_of(number: u8) -> Option<Fault>
     ensures { IfSome result (λ fault. fault_number fault ≡ number) }
 {

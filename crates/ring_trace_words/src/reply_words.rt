@@ -1,4 +1,5 @@
 //! Replies, in words.
+//!
 //! Formats: The command line
 
 use crate::argument_words::{ArgumentWords, RawWords, is_form};
@@ -6,6 +7,7 @@ use crate::trace_vocabulary::TraceVocabulary;
 use std::fmt;
 
 /// The reply to an operation, displayed by the first form that has the whole reply, or as `raw` and hex digits.
+///
 /// Formats: The command line
 #[derive(Clone, Copy)]
 pub struct ReplyWords<'a> {

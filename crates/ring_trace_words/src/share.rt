@@ -1,4 +1,5 @@
 //! The share of a set of nodes in all votes.
+//!
 //! Rules: Processors and sets 4
 
 ghost use Rattle.std.specs.Prelude.{◌≡◌};
@@ -8,20 +9,22 @@ use ring_base::{Fixed, ProcSet};
 use std::fmt;
 
 /// The share of a set of nodes in all votes, displayed as `V of W votes`.
+///
 /// Rules: Processors and sets 4
 /// Formats: The command line
 #[derive(Clone, Copy)]
 pub struct VoteShare {
-    /// The votes of the set's members, together.
+    /// The sum of the votes of the set's members.
     pub own: u32,
-    /// The votes of all nodes, together.
+    /// The sum of the votes of all nodes.
     pub all: u32,
     /// Whether the set is primary: it has more than half of all votes.
     pub is_primary: bool,
 }
 
 impl VoteShare {
-    /// Returns the share of the set in the votes of these nodes.
+    /// Returns the share of the set `set` in the votes of `nodes`.
+    ///
     /// Rules: Processors and sets 4
     pub fn of(nodes: Fixed, set: ProcSet) -> VoteShare
         ensures value { result ≡ vote_share nodes set }

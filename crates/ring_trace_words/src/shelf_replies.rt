@@ -1,4 +1,5 @@
-//! The words for the replies of the program's object.
+//! The words for the replies of the standard object.
+//!
 //! Formats: The command line
 
 use crate::trace_vocabulary::{ReplyForm, ReplyVocabulary};

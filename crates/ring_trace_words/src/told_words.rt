@@ -1,4 +1,5 @@
 //! The reports of nodes, in words.
+//!
 //! Formats: The command line
 
 use crate::call_words::{AnswerWords, CallWords};
@@ -8,8 +9,9 @@ use ring_node_spec::Told;
 use std::alloc::Allocator;
 use std::fmt;
 
-/// A node's report on a call, displayed in words that follow the node's name: an answer, or that the node does not take the
-/// call.
+/// A node's report on a call, displayed in words that follow the node's name: an answer, or the fault because of which
+/// the node refused the call.
+///
 /// Formats: The command line
 #[derive(Drop)]
 pub struct ToldWords<'a, A: Allocator + Copy> {

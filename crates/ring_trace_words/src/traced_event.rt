@@ -1,9 +1,11 @@
 //! The events and counts of a trace.
+//!
 //! Formats: The command line
 
 use ring_base::Proc;
 
 /// An event of a run, as a trace names it.
+///
 /// Formats: The command line
 #[derive(Clone, Copy)]
 pub struct TracedEvent<'a> {
@@ -11,11 +13,12 @@ pub struct TracedEvent<'a> {
     pub event: u64,
     /// The node at which it happens.
     pub node: Proc,
-    /// The description of the event, without its number: WHAT of the formats.
+    /// The description of the event, without its number (WHAT in FORMATS).
     pub what: &'a str,
 }
 
-/// The counts that end a trace, over the whole run.
+/// The numbers of events and frames of a whole run, which end a trace.
+///
 /// Formats: The command line
 #[derive(Clone, Copy)]
 pub struct Counts {

@@ -1,4 +1,5 @@
 //! Calls that wait for their answers.
+//!
 //! Formats: The command line
 
 ghost use Rattle.std.specs.Prelude.{◌≡◌, ◌-◌, [], ◌∷◌, ◌++◌, length, take, OnOk, OnErr, IfErr, position};
@@ -10,7 +11,8 @@ use ring_payload::Call;
 use std::alloc::Allocator;
 use std::marker::Model;
 
-/// A call that its node took and has not answered.
+/// A call that its node accepted and has not answered yet.
+///
 /// Formats: The command line
 #[derive(Clone, Copy)]
 pub struct WaitingCall {
@@ -25,7 +27,9 @@ pub struct WaitingCall {
 }
 
 impl WaitingCall {
-    /// Returns the waiting call for a call that was submitted at this node after `frames` frames.
+    /// Creates the waiting call for a call that was submitted at `node` after `frames` frames.
+    ///
+    /// Formats: The command line
     pub fn of<A: Allocator + Copy>(node: Proc, call: &Call<A>, frames: u64) -> WaitingCall
         ensures { result ≡ record { node = node; client = call.now.client; number = call.now.number; frames = frames } }
     {
@@ -38,6 +42,8 @@ impl WaitingCall {
     }
 
     /// Returns the same call, but as submitted after `frames` frames.
+    ///
+    /// Formats: The command line
     pub fn behind(&self, frames: u64) -> WaitingCall
         ensures { result ≡ record self.now { frames = frames } }
     {
@@ -50,7 +56,10 @@ impl WaitingCall {
     }
 }
 
-/// The waiting calls of all nodes, in the order in which they were submitted. Contracts see their list.
+/// The waiting calls of all nodes, in the order in which they were submitted.
+///
+/// Contracts see their list.
+///
 /// Formats: The command line
 #[derive(Drop)]
 pub struct WaitingCalls<A: Allocator> {
@@ -67,7 +76,9 @@ impl<A: Allocator> Model for WaitingCalls<A> {
 }
 
 impl<A: Allocator + Copy> WaitingCalls<A> {
-    /// Returns an empty list, which takes no memory yet.
+    /// Creates an empty list.
+    ///
+    /// Does not allocate.
     pub fn new(alloc: A) -> WaitingCalls<A>
         ensures { result ≡ [] }
     {
@@ -84,7 +95,8 @@ impl<A: Allocator + Copy> WaitingCalls<A> {
     }
 
     /// Adds a call at the end.
-    /// Errors: `Memory`; the call isn't added.
+    ///
+    /// Errors: `Memory` if an allocation fails; nothing is added.
     pub fn add(&mut self, call: WaitingCall) -> Result<(), Fault>
         ensures ok { OnOk result (self.new ≡ self.old ++ call ∷ []) }
         ensures err { OnErr result (self.new ≡ self.old) }
@@ -94,14 +106,20 @@ impl<A: Allocator + Copy> WaitingCalls<A> {
         Ok(())
     }
 
-    /// Removes the call that was added last. An empty list stays empty.
+    /// Removes the call that was added last.
+    ///
+    /// An empty list stays empty.
     pub fn remove_newest(&mut self)
         ensures { self.new ≡ take (length self.old - 1) self.old }
     {
         let _ = self.calls.pop();
     }
 
-    /// Removes the oldest call with the same node, client and number as this one. Nothing changes where there is none.
+    /// Removes the oldest call with the same node, client and number as `call`.
+    ///
+    /// If there is none, nothing changes.
+    ///
+    /// Formats: The command line
     pub fn take(&mut self, call: WaitingCall)
         ensures { self.new ≡ without call self.old }
     {
@@ -111,14 +129,14 @@ impl<A: Allocator + Copy> WaitingCalls<A> {
     }
 }
 
-/// Returns the index of the first such call.
+/// Returns the index of the first call with the same node, client and number as `call`, or `None` if there is none.
 fn place_of(calls: &[WaitingCall], call: &WaitingCall) -> Option<usize>
     ensures { result ≡ position (is_same call.now) calls.now }
 {
     calls.iter().position(|waiting| is_same(call, waiting))
 }
 
-/// Whether the two have the same node, client and number.
+/// Returns whether the two have the same node, client and number.
 fn is_same(one: &WaitingCall, other: &WaitingCall) -> bool
     ensures { result ≡ is_same one.now other.now }
 {

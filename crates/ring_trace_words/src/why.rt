@@ -1,4 +1,5 @@
 //! The reasons why calls have no answer.
+//!
 //! Formats: The command line
 
 use crate::share::VoteShare;
@@ -7,6 +8,7 @@ use ring_failure::state_name;
 use std::fmt;
 
 /// The reason why a node has not answered a call, displayed in words.
+///
 /// Formats: The command line
 #[derive(Clone, Copy)]
 pub enum WaitReason {
@@ -18,13 +20,15 @@ pub enum WaitReason {
     Minority { members: ProcSet, share: VoteShare },
     /// The node is operational in a primary ring and has not sent the call yet.
     NotSent,
-    /// The node is operational in a primary ring and has sent the call, which isn't known to be safe. A node that is alone
-    /// in its ring sends no frame: there the call is in the log.
+    /// The node is operational in a primary ring and has sent the call, which isn't known to be safe yet.
+    ///
+    /// A node that is alone in its ring sends no frame; the call is then in its log.
     NotSafe,
 }
 
 impl WaitReason {
-    /// Returns the name by which programs read the reason.
+    /// Returns the reason's name in JSON.
+    ///
     /// Formats: The command line
     pub fn code(&self) -> &'static str {
         match *self {

@@ -1,5 +1,5 @@
--- Held numbers as bits. A window has four words of 64 bits, one bit for each number after the safe mark. A commit entry has
--- a bit for each of the 256 numbers after the front.
+-- Held numbers as bits. A window has four words of 64 bits, one bit for each number after the safe mark. A commit entry
+-- has a bit for each of the 256 numbers after the front.
 -- Rules: The commit token 2
 -- Formats: The commit entry
 use Rattle.std.specs.Prelude.{◌≡◌, ℕ, zero, suc, ◌+◌, ◌/◌, ◌%◌, ◌<◌, ◌≤◌, Bool, true, false, List, [], ◌∷◌, slice_index}
@@ -8,7 +8,7 @@ use Rattle.ring_base.specs.declared.ring_id.RingId.{RingId}
 use Rattle.ring_wire.specs.declared.message.Message.{Message}
 use Rattle.ring_window.specs.Held.{holds, front_of}
 
--- `count` bytes of eight tests each; a byte's first test is its lowest bit.
+-- `count` bytes of eight tests each, from `first` on. The first test of a byte is its lowest bit.
 abbrev pub bytes_of : (ℕ → Bool) → ℕ → ℕ → List ℕ
 bytes_of test first zero = []
 bytes_of test first (suc count) = word_of test first 8 ∷ bytes_of test (first + 8) count

@@ -8,15 +8,15 @@ use Rattle.ring_base.specs.Rings.{same_ring}
 use Rattle.ring_base.specs.declared.ring_id.RingId.{RingId}
 use Rattle.ring_wire.specs.declared.message.Message.{Message}
 
--- Whether the message has this ring and this number.
+-- Whether the message belongs to this ring and has number n.
 abbrev pub is_numbered : {A : Type 0} → RingId → ℕ → Message A → Bool
 is_numbered ring n x = same_ring x.ring ring && (x.number == n)
 
--- The ring's message of this number, if it was held.
+-- Message n of the ring, if it was held.
 abbrev pub found : {A : Type 0} → List (Message A) → RingId → ℕ → Option (Message A)
 found held ring n = find (is_numbered ring n) held
 
--- Token and window 1: whether the number was held.
+-- Token and window 1: whether number n of the ring was held.
 abbrev pub holds : {A : Type 0} → List (Message A) → RingId → ℕ → Bool
 holds held ring n = list_any (is_numbered ring n) held
 

@@ -1,5 +1,5 @@
--- The state that the code keeps of a window, and how it represents all that was ever held: 256 places for messages, and a
--- bit for each number of the window.
+-- The state that the code keeps of a window, and how it represents all that was ever held. The state is 256 slots for
+-- messages, and a bit for each number of the window.
 -- Rules: Token and window 14
 use Rattle.std.specs.Prelude.{◌≡◌, ℕ, ◌+◌, ◌-◌, ◌%◌, ◌<◌, ◌≤◌, false, List, length, Option, None, slice_index_or}
 use Rattle.ring_wire.specs.declared.message.Message.{Message}
@@ -8,16 +8,16 @@ use Rattle.ring_window.specs.Held.{found, holds, front_of, highest}
 use Rattle.ring_window.specs.Windows.{WindowHistory}
 use Rattle.ring_base.specs.Numbers.{window_size}
 
--- The place of number n: (n - 1) mod 256.
+-- The slot of number n: (n - 1) mod 256.
 abbrev pub place_of : ℕ → ℕ
 place_of n = (n - 1) % window_size
 
--- The message in the place of a number, if any.
+-- The message in the slot of number n, if any.
 abbrev pub in_place : {A : Type 0} → List (Option (Message A)) → ℕ → Option (Message A)
 in_place places n = slice_index_or places (place_of n) None
 
--- Each number of the window has its message in its place, and its bit says whether it was held. Nothing above the window
--- was held, nor the number 0; all numbers up to the safe mark were.
+-- Each number of the window has its message in its slot, and its bit is set exactly if it was held. Neither a number
+-- above the window nor number 0 was held; all numbers up to the safe mark were.
 pub record IsWindow {A : Type 0} (w : WindowHistory A) (front top : ℕ) (words : List ℕ) (places : List (Option (Message A))) : Type 0 where
   pub front_is : front ≡ front_of w.held w.ring
   pub top_is : top ≡ highest w.held w.ring

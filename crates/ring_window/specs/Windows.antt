@@ -1,5 +1,5 @@
--- A window as contracts see it: all messages of one ring that were ever held, newest first, and the safe mark, up to which
--- the code may have dropped them.
+-- A window as contracts see it: all messages of one ring that were ever held, newest first, and the safe mark. The code
+-- may have dropped the messages up to the mark.
 -- Rules: Token and window 1, 2, 4 and 14
 use Rattle.std.specs.Prelude.{ℕ, max, Bool, ◌&&◌, nat_lt, if◌then◌else◌, List, [], ◌∷◌, take, Option, None}
 use Rattle.ring_base.specs.Rings.{same_ring}
@@ -18,11 +18,11 @@ pub record WindowHistory (A : Type 0) : Type 0 where
 abbrev pub opened : {A : Type 0} → RingId → WindowHistory A
 opened ring = record { ring = ring; mark = 0; held = [] }
 
--- Whether a message is taken: it is of the ring, and its number is new.
+-- Whether a message is taken: it belongs to the ring, and its number is new.
 abbrev pub takes : {A : Type 0} → WindowHistory A → Message A → Bool
 takes w x = same_ring x.ring w.ring && is_new w.held w.mark w.ring x.number
 
--- The window after a message is offered.
+-- The window after it was offered a message.
 abbrev pub taken : {A : Type 0} → WindowHistory A → Message A → WindowHistory A
 taken w x = if takes w x then record w { held = x ∷ w.held } else w
 
@@ -34,6 +34,6 @@ window_after_forget w upto = record w { mark = max w.mark upto }
 abbrev pub kept : {A : Type 0} → WindowHistory A → ℕ → Option (Message A)
 kept w n = if nat_lt w.mark n then found w.held w.ring n else None
 
--- The requests for missing numbers: the least of the missing numbers, at most as many as a token carries.
+-- The requests for missing numbers: the smallest 32 of them, or all if there are fewer.
 abbrev pub first_missing : {A : Type 0} → WindowHistory A → ℕ → List ℕ
 first_missing w upto = take max_requests (missing w.held w.ring w.mark upto)

@@ -1,4 +1,5 @@
 //! A bit for each of the window's 256 numbers.
+//!
 //! Rules: Token and window 14
 //! Formats: The commit entry
 
@@ -9,10 +10,13 @@ ghost use Rattle.ring_base.specs.Numbers.{window_size};
 
 use ring_base::WINDOW_SIZE;
 
-/// The number of bits: one for each number of a window.
+/// The number of bits, 256: one for each number of a window.
 const BITS: usize = WINDOW_SIZE as usize;
 
-/// 256 bits, one for each number of a window, from the lowest bit of the first word on. Bits past the last are clear.
+/// 256 bits, one for each number of a window.
+///
+/// Bit 0 is the lowest bit of the first word. Bits from 256 on read as clear.
+///
 /// Rules: Token and window 14
 #[derive(Clone, Copy)]
 pub(crate) struct HeldBits {
@@ -20,21 +24,21 @@ pub(crate) struct HeldBits {
 }
 
 impl HeldBits {
-    /// Returns 256 clear bits.
+    /// Creates 256 clear bits.
     pub(crate) fn new() -> HeldBits
         ensures { (j : ℕ) → is_set result.words j ≡ false }
     {
         HeldBits { words: [0; 4] }
     }
 
-    /// Returns whether the bit at `offset`, counted from 0, is set. Bits from 256 on are clear.
+    /// Returns whether the bit at `offset`, counted from 0, is set. Bits from 256 on read as clear.
     pub(crate) fn is_set(&self, offset: usize) -> bool
         ensures { result ≡ is_set self.now.words offset }
     {
         (self.word(offset / 64) >> (offset % 64)) & 1 == 1
     }
 
-    /// Sets the bit at `offset`, counted from 0. That `offset` is below 256 is the caller's condition.
+    /// Sets the bit at `offset`, counted from 0, which must be below 256.
     pub(crate) fn set(&mut self, offset: usize)
         requires { offset < window_size }
         ensures this { is_set self.new.words offset ≡ true }
@@ -43,8 +47,9 @@ impl HeldBits {
         self.words[offset / 64] |= 1 << (offset % 64);
     }
 
-    /// Returns the offset of the first clear bit at or after `from`, 256 if there is none below.
-    /// That `from` is at most 256 is the caller's condition.
+    /// Returns the offset of the first clear bit at or after `from`, or 256 if there is none below 256.
+    ///
+    /// `from` must be at most 256.
     pub(crate) fn first_clear(&self, from: usize) -> usize
         requires { from ≤ window_size }
         ensures { IsFirstClear self.now.words from result }
@@ -60,8 +65,9 @@ impl HeldBits {
         offset
     }
 
-    /// Returns the bits from `first` on, moved to the beginning: bit j of the result is bit `first` + j.
-    /// That `first` is at most 256 is the caller's condition.
+    /// Returns the bits shifted down by `first`: bit j of the result is bit `first` + j.
+    ///
+    /// `first` must be at most 256. The bits that are shifted in are clear.
     pub(crate) fn from_bit(&self, first: usize) -> HeldBits
         requires { first ≤ window_size }
         ensures { (j : ℕ) → is_set result.words j ≡ is_set self.now.words (first + j) }
@@ -76,8 +82,10 @@ impl HeldBits {
         }
     }
 
-    /// Returns the 256 bits from `first` on as bytes: the first bit is the lowest bit of the first byte.
-    /// That `first` is at most 256 is the caller's condition.
+    /// Returns the 256 bits from `first` on as bytes; the bit at `first` is the lowest bit of the first byte.
+    ///
+    /// `first` must be at most 256.
+    ///
     /// Formats: The commit entry
     pub(crate) fn bytes_from(&self, first: usize) -> [u8; 32]
         requires { first ≤ window_size }
@@ -91,7 +99,7 @@ impl HeldBits {
         bytes
     }
 
-    /// Returns the 8 bits from `first` on.
+    /// Returns the 8 bits from `first` on, the first as the lowest bit. `first` must be at most 512.
     fn byte_at(&self, first: usize) -> u8
         requires { first ≤ 512 }
         ensures { result ≡ word_of (is_set self.now.words) first 8 }
@@ -99,7 +107,9 @@ impl HeldBits {
         (self.word_at(first) & 255) as u8
     }
 
-    /// Returns the 64 bits from `first` on, from two words or, at the beginning of a word, one.
+    /// Returns the 64 bits from `first` on, the first as the lowest bit. `first` must be at most 512.
+    ///
+    /// They come from two words, or from one if `first` is a multiple of 64.
     fn word_at(&self, first: usize) -> u64
         requires { first ≤ 512 }
         ensures { (j : ℕ) → j < 64 → has_bit result j ≡ is_set self.now.words (first + j) }
@@ -113,7 +123,7 @@ impl HeldBits {
         low | (self.word(index + 1) << (64 - shift))
     }
 
-    /// Returns the word at `index`, counted from 0, or 0 past the last.
+    /// Returns the word at `index`, counted from 0, or 0 if there is none.
     fn word(&self, index: usize) -> u64
         ensures { result ≡ slice_index self.now.words index }
     {

@@ -1,17 +1,17 @@
-//! The messages ever held, as ghost values for contracts.
+//! The messages that a window has ever held, as ghost values for contracts.
 
 ghost use Rattle.std.specs.Prelude.{◌≡◌, [], ◌∷◌};
 
 use ring_base::{Ghost, ghost_of};
 
-/// Returns the history of a window that hasn't held any message.
+/// Returns the empty history: no message has been held yet.
 pub(crate) fn held_log_opening<M>() -> Ghost<[M; 0]>
     ensures { result.value ≡ [] }
 {
     ghost_of(&())
 }
 
-/// Returns the history with `message` added as the newest. The newest message comes first in it.
+/// Returns the history with `message` added as the newest. The history lists the newest message first.
 pub(crate) fn one_more<M>(history: &Ghost<[M; 0]>, message: &M) -> Ghost<[M; 0]>
     ensures { result.value ≡ message.now ∷ history.now.value }
 {

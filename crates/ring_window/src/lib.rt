@@ -1,4 +1,4 @@
-//! The window of a ring: the messages that a node holds of it, and their front, the greatest number up to which all are held.
+//! The receive window of a ring: the messages that a node holds, and the front up to which it holds them all.
 //!
 //! Rules: Token and window 1 to 4 and 14
 //! Formats: The commit entry

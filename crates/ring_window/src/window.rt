@@ -1,4 +1,5 @@
-//! The window of one ring, its messages in a fixed circular buffer.
+//! The window of one ring, with its messages in a fixed circular buffer.
+//!
 //! Rules: Token and window 1 to 4, 11 and 14
 
 ghost use Rattle.std.specs.Prelude.{◌≡◌, ◌≢◌, ℕ, suc, ◌+◌, ◌-◌, ◌%◌, ◌^◌, ◌<◌, ◌≤◌, true, length, IfOk, IfErr, slice_index_or, slice_set, option_copied};
@@ -16,11 +17,14 @@ use ring_wire::{MAX_REQUESTS, Message, Requests};
 use std::alloc::{AllocError, Allocator, Global};
 use std::marker::Model;
 
-/// The number of places for messages: one for each number of the window.
+/// The number of slots for messages, 256: one for each number of the window.
 const PLACES: usize = WINDOW_SIZE as usize;
 
-/// The receive window of one ring. It takes messages whose number is one of the 256 after the safe mark, and keeps each
-/// until the mark passes it. Contracts see all messages ever taken, newest first, and the mark.
+/// The receive window of one ring.
+///
+/// It takes messages whose number is one of the 256 after the safe mark, and keeps each until the mark reaches its
+/// number. Contracts see all messages ever taken, newest first, and the mark.
+///
 /// Rules: Token and window 1 to 4 and 14
 #[derive(Drop)]
 pub struct Window<A: Allocator + Copy = Global> {
@@ -45,10 +49,12 @@ impl<A: Allocator + Copy> Model for Window<A> {
 }
 
 impl<A: Allocator + Copy> Window<A> {
-    /// Returns the empty window of a ring, with safe mark 0 and nothing held.
-    /// It has all its 256 places, so no later call but `clone` takes memory.
+    /// Creates the empty window of `ring`, with safe mark 0 and nothing held.
     ///
-    /// Errors: `Memory`.
+    /// It allocates all 256 slots at once, so that no later call except `clone` allocates.
+    ///
+    /// Errors: `Memory` if an allocation fails.
+    ///
     /// Rules: Token and window 14
     pub fn new(alloc: A, ring: RingId) -> Result<Window<A>, Fault>
         ensures ok { IfOk result (λ window. window ≡ opened ring) }
@@ -66,6 +72,7 @@ impl<A: Allocator + Copy> Window<A> {
     }
 
     /// Returns the ring whose messages the window takes.
+    ///
     /// Rules: Token and window 14
     pub fn ring(&self) -> RingId
         ensures { result ≡ self.now.ring }
@@ -73,17 +80,22 @@ impl<A: Allocator + Copy> Window<A> {
         self.ring
     }
 
-    /// Returns the safe mark, 0 at first. The messages up to it have been dropped, and their numbers count as held.
-    /// Rules: Token and window 3 and 4
+    /// Returns the safe mark, 0 at first.
+    ///
+    /// The messages up to it have been dropped. Their numbers are still treated as held.
+    ///
+    /// Rules: Token and window 3, 4 and 14
     pub fn mark(&self) -> u64
         ensures { result ≡ self.now.mark }
     {
         self.mark
     }
 
-    /// Returns the front: the greatest number up to which all numbers are held, 0 if number 1 isn't.
-    /// (Totem's `my_aru`.)
-    /// Rules: Token and window 2
+    /// Returns the front: the greatest number up to which all numbers are held, 0 if number 1 isn't held.
+    ///
+    /// This is Totem's `my_aru`.
+    ///
+    /// Rules: Token and window 2 and 14
     pub fn front(&self) -> u64
         ensures { result ≡ front_of self.now.held self.now.ring }
     {
@@ -91,6 +103,7 @@ impl<A: Allocator + Copy> Window<A> {
     }
 
     /// Returns the greatest number that is held, 0 if none is. It is at least the front.
+    ///
     /// Rules: Token and window 14
     pub fn highest(&self) -> u64
         ensures { result ≡ highest_of self.now.held self.now.ring }
@@ -98,8 +111,11 @@ impl<A: Allocator + Copy> Window<A> {
         self.highest
     }
 
-    /// Returns whether the message of this number is held: the window has taken it, even if it has dropped it since.
-    /// Number 0 isn't held, since no message has it.
+    /// Returns whether message `number` is held: the window has taken it, even if it has dropped it since.
+    ///
+    /// So [`get`](Window::get) may return `None` for a number that is held. Number 0 is never held, since numbers start
+    /// at 1.
+    ///
     /// Rules: Token and window 1 and 14
     pub fn holds(&self, number: u64) -> bool
         ensures { result ≡ holds self.now.held self.now.ring number }
@@ -110,15 +126,16 @@ impl<A: Allocator + Copy> Window<A> {
         self.bits.is_set((number - self.mark - 1) as usize)
     }
 
-    /// Returns whether the number is one of the 256 after the safe mark and isn't held.
-    /// Rules: Token and window 4
+    /// Returns whether `number` is one of the 256 after the safe mark and isn't held.
+    ///
+    /// Rules: Token and window 4 and 14
     pub fn is_new(&self, number: u64) -> bool
         ensures { result ≡ is_new_number self.now.held self.now.mark self.now.ring number }
     {
         number > self.mark && number - self.mark <= WINDOW_SIZE && !self.holds(number)
     }
 
-    /// Returns whether the message is of the ring and its number is new.
+    /// Returns whether the message belongs to this ring and its number is new.
     fn takes(&self, message: &Message<A>) -> bool
         ensures { result ≡ takes self.now message.now }
     {
@@ -126,8 +143,10 @@ impl<A: Allocator + Copy> Window<A> {
     }
 
     /// Holds the message under its number, and returns true.
-    /// Returns false, and changes nothing, for a message of another ring, and for a number that is held or lies outside
-    /// the window.
+    ///
+    /// Returns false, and changes nothing, if the message belongs to another ring, or if its number is held already or
+    /// outside the window. The sender is not checked. Does not allocate.
+    ///
     /// Rules: Token and window 11 and 14
     pub fn take(&mut self, message: Message<A>) -> bool
         ensures answer { result ≡ takes self.old message }
@@ -145,7 +164,10 @@ impl<A: Allocator + Copy> Window<A> {
         true
     }
 
-    /// Returns the message of a number that is held and above the safe mark. Returns `None` for all other numbers.
+    /// Returns message `number` if it is held and its number is above the safe mark, otherwise `None`.
+    ///
+    /// The numbers up to the mark are held too, but their messages have been dropped.
+    ///
     /// Rules: Token and window 14
     pub fn get(&self, number: u64) -> Option<&Message<A>>
         ensures { option_copied result ≡ kept self.now number }
@@ -156,8 +178,11 @@ impl<A: Allocator + Copy> Window<A> {
         self.places[place_of(number)].as_ref()
     }
 
-    /// Returns the first 32 numbers of the window that are at most `upto` and aren't held, ascending, or all if there
-    /// are fewer. The ring core has them written in place: [`missing_into`](Window::missing_into).
+    /// Returns the first 32 numbers of the window, ascending, that are at most `upto` and aren't held.
+    ///
+    /// If there are fewer, returns all of them. [`missing_into`](Window::missing_into), which the ring core uses,
+    /// writes them into an existing list.
+    ///
     /// Rules: Token and window 7 and 14
     pub fn missing(&self, upto: u64) -> Requests
         ensures { result ≡ first_missing self.now upto }
@@ -167,8 +192,9 @@ impl<A: Allocator + Copy> Window<A> {
         missing
     }
 
-    /// Replaces the content of `missing` by the numbers that [`missing`](Window::missing) returns for `upto`.
-    /// Rules: Token and window 14
+    /// Replaces the content of `missing` with the numbers that [`missing`](Window::missing) returns for `upto`.
+    ///
+    /// Rules: Token and window 7 and 14
     pub fn missing_into(&self, upto: u64, missing: &mut Requests)
         ensures { missing.new ≡ first_missing self.now upto }
     {
@@ -182,8 +208,10 @@ impl<A: Allocator + Copy> Window<A> {
     }
 
     /// Raises the safe mark to `upto`, and drops the messages up to it.
-    /// Their numbers still count as held. Changes nothing if the mark is at least `upto` already. That `upto` is at
-    /// most the front is the caller's condition.
+    ///
+    /// `upto` must be at most the front. Nothing changes if the mark is at least `upto` already. The dropped numbers
+    /// are still treated as held. Does not allocate.
+    ///
     /// Rules: Token and window 14
     pub fn forget(&mut self, upto: u64)
         requires { upto ≤ front_of self.old.held self.old.ring }
@@ -197,9 +225,11 @@ impl<A: Allocator + Copy> Window<A> {
         self.mark = upto;
     }
 
-    /// Returns which of the 256 numbers after the front are held, as in a commit entry.
-    /// The number front + 1 + j, j from 0 to 255, has bit j. That is bit j mod 8, counted from the least significant,
-    /// of byte j div 8.
+    /// Returns, as in a commit entry, which of the 256 numbers after the front are held.
+    ///
+    /// Bit j, for j from 0 to 255, stands for the number front + 1 + j. It is bit j mod 8, counted from the least
+    /// significant, of byte j div 8.
+    ///
     /// Rules: Token and window 14
     /// Formats: The commit entry
     pub fn held_bits(&self) -> [u8; 32]
@@ -225,7 +255,7 @@ impl<A: Allocator + Copy> Clone for Window<A> {
     }
 }
 
-/// Returns the place of a number's message in the buffer.
+/// Returns the slot of message `number` in the buffer, 0 to 255. `number` must be at least 1.
 fn place_of(number: u64) -> usize
     requires { 1 ≤ number }
     ensures { result ≡ (number - 1) % window_size }
@@ -233,7 +263,9 @@ fn place_of(number: u64) -> usize
     ((number - 1) % WINDOW_SIZE) as usize
 }
 
-/// Returns the new front, after the bit of `number` was set in `bits`.
+/// Returns the front after the bit of `number` was set in `bits`; `front` is the front before.
+///
+/// `number` must be one of the 256 after `mark`.
 fn front_with(bits: &HeldBits, mark: u64, front: u64, number: u64) -> u64
     requires above { mark < number }
     requires inside { number ≤ mark + window_size }
@@ -247,7 +279,9 @@ fn front_with(bits: &HeldBits, mark: u64, front: u64, number: u64) -> u64
     mark + bits.first_clear((number - mark - 1) as usize) as u64
 }
 
-/// Returns empty places for a window's messages.
+/// Returns 256 empty slots for a window's messages.
+///
+/// Errors: `Memory` if an allocation fails.
 fn empty_places<A: Allocator + Copy>(alloc: A) -> Result<Vec<Option<Message<A>>, A>, Fault>
     ensures count { IfOk result (λ places. length places.items ≡ window_size) }
     ensures empty { IfOk result (λ places. (j : ℕ) → slice_index_or places.items j None ≡ None) }
@@ -260,7 +294,9 @@ fn empty_places<A: Allocator + Copy>(alloc: A) -> Result<Vec<Option<Message<A>>,
     Ok(places)
 }
 
-/// Returns a copy of the places.
+/// Returns a copy of the slots.
+///
+/// Errors: `AllocError` if an allocation fails.
 fn copied_places<A: Allocator + Copy>(
     places: &Vec<Option<Message<A>>, A>,
 ) -> Result<Vec<Option<Message<A>>, A>, AllocError>
@@ -269,7 +305,7 @@ fn copied_places<A: Allocator + Copy>(
     places.clone()
 }
 
-/// Puts a message into its place.
+/// Puts a message into its slot.
 fn put<A: Allocator + Copy>(places: &mut Vec<Option<Message<A>>, A>, message: Message<A>)
     requires count { length places.old.items ≡ window_size }
     requires number { 1 ≤ message.number }
@@ -279,7 +315,7 @@ fn put<A: Allocator + Copy>(places: &mut Vec<Option<Message<A>>, A>, message: Me
     places[place] = Some(message);
 }
 
-/// Empties the places of the numbers after `mark` up to `upto`.
+/// Empties the slots of the numbers after `mark` up to `upto`, of which there must be at most 256.
 fn clear_places<A: Allocator + Copy>(places: &mut Vec<Option<Message<A>>, A>, mark: u64, upto: u64)
     requires count { length places.old.items ≡ window_size }
     requires order { mark ≤ upto }

@@ -5,7 +5,7 @@ use Rattle.std.specs.List.{AllByRecursion}
 use Rattle.std.specs.List.Sorted.{IsStrictlyIncreasing}
 use Rattle.std.proofs.lemmas.Bool.{ltb-true, lt-ltb, leb-true, le-leb, and_parts}
 
--- whether the numbers ascend strictly, the first above `low` and none above `high`
+-- whether the numbers ascend strictly and are all above `low` and at most `high`, as a test
 abbrev pub ascends : ℕ → ℕ → List ℕ → Bool
 ascends low high [] = true
 ascends low high (x ∷ xs) = nat_lt low x && (nat_le x high && ascends x high xs)
@@ -18,7 +18,7 @@ from_lower : (a b high : ℕ) (xs : List ℕ) → a ≤ b → AllByRecursion (Be
 from_lower a b high [] le all = tt
 from_lower a b high (x ∷ xs) le all = ((omega (arith, all.0.0), all.0.1), from_lower a b high xs le all.1)
 
--- ascending numbers are all above `low` and at most `high`
+-- numbers that pass the test are all above `low` and at most `high`
 pub ascends-each : (low high : ℕ) (xs : List ℕ) → ascends low high xs ≡ true → AllByRecursion (Between low high) xs
 ascends-each low high [] h = tt
 ascends-each low high (x ∷ xs) h =
@@ -44,14 +44,14 @@ IsStrictlyIncreasing-rest x xs h k lt = rw add-one (rw add-one at (h (suc k) (om
 pub ascends-increasing : (low high : ℕ) (xs : List ℕ) → ascends low high xs ≡ true → IsStrictlyIncreasing xs
 ascends-increasing low high xs h = IsStrictlyIncreasing-rest low xs (increasing low high xs h)
 
--- numbers that ascend strictly from above `low`, none above `high`, pass the test
+-- numbers that ascend strictly, all above `low` and at most `high`, pass the test
 pub increasing-ascends : (low high : ℕ) (xs : List ℕ) → IsStrictlyIncreasing (low ∷ xs) → AllByRecursion (λ x. x ≤ high) xs → ascends low high xs ≡ true
 increasing-ascends low high [] up all = refl
 increasing-ascends low high (x ∷ xs) up all =
     let first : low < x = up zero (omega arith) in
     rw (lt-ltb low x first, le-leb x high all.0, increasing-ascends x high xs (IsStrictlyIncreasing-rest low (x ∷ xs) up) all.1) refl
 
--- strictly ascending numbers above 0 still ascend with 0 before them
+-- strictly ascending numbers above 0 still ascend strictly with 0 before them
 pub IsStrictlyIncreasing-from_zero : (high : ℕ) (xs : List ℕ) → IsStrictlyIncreasing xs → AllByRecursion (Between 0 high) xs → IsStrictlyIncreasing (0 ∷ xs)
 IsStrictlyIncreasing-from_zero high [] up all k lt = absurd (omega arith)
 IsStrictlyIncreasing-from_zero high (x ∷ xs) up all zero lt = all.0.0
@@ -59,7 +59,7 @@ IsStrictlyIncreasing-from_zero high (x ∷ xs) up all (suc k) lt =
     let below : k + 1 < length (x ∷ xs) = omega arith in
     rw add-one (rw add-one at (up k below))
 
--- all are below any limit above `high`
+-- if all are at most `high`, all are below any limit above `high`
 pub each_below : (low high limit : ℕ) (xs : List ℕ) → AllByRecursion (Between low high) xs → high < limit → AllByRecursion (λ x. x < limit) xs
 each_below low high limit [] all lt = tt
 each_below low high limit (x ∷ xs) all lt = (omega (arith, all.0.1), each_below low high limit xs all.1 lt)

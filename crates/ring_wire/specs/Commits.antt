@@ -1,4 +1,5 @@
--- How commit tokens are encoded: the ring, its members, the hop, and the entries of the members that it has visited.
+-- How commit tokens are encoded: the ring, its members, the hop, and the entries of the members that the token has
+-- visited.
 -- Rules: The commit token 1
 -- Formats: Frames; The commit entry
 use Rattle.std.proofs.Common.{◌≡◌, ◌≢◌, ℕ, ◌*◌, ◌^◌, ◌<◌, ◌≤◌, Bool, true, false, min, List, [], ◌∷◌, length, Option, refl, arith, inl, inr, eq-eqb, ap}
@@ -17,7 +18,7 @@ use Rattle.ring_wire.specs.Entries.{entry, entry_encoding, EntryFits}
 
 -- ---- the entries, for the members in ascending order
 
--- The entry is of an older ring than this one, and is the member's own where its old ring is the opening ring.
+-- the entry's old ring has a lower number than the ring and, if that number is 0, is the opening ring of the member
 pub record IsReport (r : RingId) (member : ℕ) (e : CommitEntry) : Type 0 where
   pub older : e.old.seq < r.seq
   pub self : e.old.seq ≡ 0 → e.old.rep ≡ member
@@ -68,17 +69,17 @@ true-are_reports r (m ∷ members) (e ∷ es) f = rw (true-is_report r m e f.0, 
 
 -- ---- the token
 
--- the number of entries at a hop: one more with each hop of the first round
+-- the number of entries at a hop: one more with each hop of the first round, then the number of members
 abbrev pub entries_at : ℕ → ℕ → ℕ
 entries_at hop members = min hop members
 
--- the encoding of a commit token: its ring in 9 bytes, its members in 2, the hop in one, and the entries, 57 bytes
+-- the encoding of a commit token: its ring in 9 bytes, its members in 2, the hop in one, and the entries in 57 bytes
 -- each
 abbrev pub commit_encoding : CommitToken → List ℕ
 commit_encoding t = ring_encoding t.ring ⊕ big_bytes 2 t.members ⊕ t.hop ∷ [] ⊕ flat_map entry_encoding t.entries
 
--- the limits of a commit token: its representative is its smallest member, its hops are two rounds at most, and its
--- entries are those of the members that it has visited
+-- the limits of a commit token: its smallest member is the representative, it makes at most two rounds, and its entries
+-- are those of the members that it has visited
 pub record CommitFits (t : CommitToken) : Type 0 where
   pub ring : RingFits t.ring
   pub ring_counted : 1 ≤ t.ring.seq
@@ -91,7 +92,7 @@ pub record CommitFits (t : CommitToken) : Type 0 where
   pub each : AllByRecursion EntryFits t.entries
   pub reports : AreReports t.ring (elements t.members) t.entries
 
--- whether the fields together keep their limits
+-- whether the fields are within their limits, as a test
 abbrev pub commit_test : CommitToken → Bool
 commit_test t =
     nat_le 1 t.ring.seq && ((not (t.members == nobody) && (t.ring.rep == smallest t.members))
@@ -133,7 +134,7 @@ fits p f passed =
       reports = are_reports-true p.0 (elements p.1.0) p.1.1.1 e.1;
     }
 
--- twice 16 hops fit in a byte
+-- a hop of at most twice 16 fits in a byte
 hop_fits : (hop members : ℕ) → hop ≤ 2 * members → members ≤ 16 → hop < 256
 hop_fits hop members le few = omega arith
 

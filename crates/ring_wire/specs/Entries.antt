@@ -19,32 +19,32 @@ use Rattle.ring_wire.specs.declared.entries.CommitEntry.{CommitEntry}
 abbrev pub bit_of : List ℕ → ℕ → Bool
 bit_of held j = has_bit (slice_index held (j / 8)) (j % 8)
 
--- Bit j may be set: it isn't the first, and its number is at most mark + 256.
+-- bit j may be set: it isn't the first, and its number is at most mark + 256
 pub record MayHold (front mark j : ℕ) : Type 0 where
   pub later : 1 ≤ j
   pub inside : front + 1 + j ≤ mark + window_size
 
--- whether bit j is set and must be clear
+-- whether bit j is set although it must be clear
 abbrev pub is_invalid_bit : ℕ → ℕ → List ℕ → ℕ → Bool
 is_invalid_bit front mark held j = bit_of held j && ((j == 0) || nat_lt (mark + window_size) (front + 1 + j))
 
--- whether none of the first n bits is set that must be clear
+-- whether none of the first n bits is set although it must be clear
 unfoldable pub held_test : ℕ → ℕ → List ℕ → ℕ → Bool
 held_test front mark held zero = true
 held_test front mark held (suc j) = held_test front mark held j && not (is_invalid_bit front mark held j)
 
--- the test holds for the first 0 bits
+-- the test is true of the first 0 bits
 pub held_test-zero : (front mark : ℕ) (held : List ℕ) → held_test front mark held 0 ≡ true
 unfolding held_test
 held_test-zero front mark held = refl
 
--- one valid bit more keeps the test
+-- one more bit that is valid keeps the test true
 pub held_test-more : (front mark : ℕ) (held : List ℕ) (j : ℕ) → held_test front mark held j ≡ true
     → is_invalid_bit front mark held j ≡ false → held_test front mark held (j + 1) ≡ true
 unfolding held_test
 held_test-more front mark held j h w = rw (add-one, h, w) refl
 
--- one wrong bit makes the test fail
+-- one invalid bit makes the test false
 pub held_test-wrong : (front mark : ℕ) (held : List ℕ) (j n : ℕ) → j < n → is_invalid_bit front mark held j ≡ true → held_test front mark held n ≡ false
 unfolding held_test
 held_test-wrong front mark held j zero lt w = absurd (omega arith)
@@ -54,7 +54,7 @@ held_test-wrong front mark held j (suc n) lt w =
       | inr at ↦ let e : n ≡ j = omega arith in rw (e, w) (and_right (held_test front mark held j) false refl)
     ]
 
--- a test that fails still fails with more bits
+-- a test that is false for fewer bits is false for more
 pub held_test-longer_list : (front mark : ℕ) (held : List ℕ) (m n : ℕ) → m ≤ n → held_test front mark held m ≡ false → held_test front mark held n ≡ false
 unfolding held_test
 held_test-longer_list front mark held m zero le wrong =
@@ -66,7 +66,7 @@ held_test-longer_list front mark held m (suc n) le wrong =
       | inr less ↦ rw (held_test-longer_list front mark held m n less wrong) refl
     ]
 
--- a byte 0 has no bit set
+-- a byte that is 0 has no bit set
 no_bit : (held : List ℕ) (byte bit : ℕ) → bit < 8 → slice_index held byte ≡ 0 → bit_of held (8 * byte + bit) ≡ false
 no_bit held byte bit lt none =
     let place : (8 * byte + bit) / 8 ≡ byte = omega arith in
@@ -85,7 +85,7 @@ skipped front mark held byte (suc bits) le none before =
     (no_wrong front mark held byte bits (omega arith) none) in
     subst (λ (k : ℕ). held_test front mark held k ≡ true) (let e : 8 * byte + bits + 1 ≡ 8 * byte + suc bits = omega arith in e) more
 
--- a byte 0 keeps the test
+-- a byte that is 0 keeps the test true
 pub held_test-skip : (front mark : ℕ) (held : List ℕ) (byte : ℕ) → slice_index held byte ≡ 0
     → held_test front mark held (8 * byte) ≡ true → held_test front mark held (8 * byte + 8) ≡ true
 held_test-skip front mark held byte none before = skipped front mark held byte 8 (omega arith) none before
@@ -102,7 +102,7 @@ may_hold front mark held j right set =
           ]
     ]
 
--- the test holds only if each bit that is set may be set
+-- the test is true only if each bit that is set may be set
 pub held_test-true : (front mark : ℕ) (held : List ℕ) (n : ℕ) → held_test front mark held n ≡ true → (j : ℕ) → j < n
     → bit_of held j ≡ true → MayHold front mark j
 unfolding held_test
@@ -126,7 +126,7 @@ not_wrong front mark held j may =
       | inr clear ↦ rw clear refl
     ]
 
--- the test holds if each bit that is set may be set
+-- the test is true if each bit that is set may be set
 pub true-held_test : (front mark : ℕ) (held : List ℕ) (n : ℕ) → ((j : ℕ) → j < n → bit_of held j ≡ true
     → MayHold front mark j) → held_test front mark held n ≡ true
 unfolding held_test
@@ -160,13 +160,13 @@ true-are_zero (b ∷ bytes) z = rw (eq-eqb b 0 z.0, true-are_zero bytes z.1) ref
 abbrev pub entry_encoding : CommitEntry → List ℕ
 entry_encoding e = ring_encoding e.old ⊕ big_bytes 8 e.front ⊕ big_bytes 8 e.mark ⊕ e.held
 
--- front, mark and all bits are 0, as in the report of a member that was in no ring yet
+-- front, mark and all bits are 0, as in the report of a member that has been in no ring yet
 pub record ReportsNothing (e : CommitEntry) : Type 0 where
   pub front : e.front ≡ 0
   pub mark : e.mark ≡ 0
   pub held : AreZero e.held
 
--- the limits of an entry alone; whose it is, and that its ring is older, are limits of the commit token
+-- the limits of an entry; whose it is, and that its ring is older, are limits of the commit token
 pub record EntryFits (e : CommitEntry) : Type 0 where
   pub old : RingFits e.old
   pub bits : length e.held ≡ 32
@@ -180,7 +180,7 @@ pub record EntryFits (e : CommitEntry) : Type 0 where
 abbrev pub nothing_test : CommitEntry → Bool
 nothing_test e = (e.front == 0) && ((e.mark == 0) && are_zero e.held)
 
--- whether the fields together keep their limits
+-- whether the fields are within their limits, as a test
 abbrev pub entry_test : CommitEntry → Bool
 entry_test e = nat_le e.mark e.front
     && (nat_le e.front max_number && (nat_le e.front (e.mark + window_size)

@@ -1,4 +1,4 @@
--- The byte strings that the grammar allows for a frame are just its one encoding, if it keeps the limits.
+-- The byte strings that the grammar allows for a frame are exactly its one encoding, if the frame is within its limits.
 -- Formats: Frames
 use Rattle.std.proofs.Common.{◌≡◌, ℕ, List, [], ◌∷◌, ◌++◌, length, refl, ap, ◌∙◌, inl, inr}
 use Rattle.std.specs.Prelude.{◌==◌}
@@ -31,7 +31,7 @@ use Rattle.ring_wire.specs.Messages.{message_encoding, MessageFits}
 use Rattle.ring_wire.specs.IsFrameEncoding.{IsHeadEncoding, IsContentEncoding, IsWrappedEncoding, IsPayloadEncoding, IsMessageEncoding, IsFrameEncoding}
 use Rattle.ring_wire.specs.Tokens.{token_encoding}
 
--- the same tag before equal bytes
+-- equal bytes stay equal with the same tag before them
 tagged : (tag : ℕ) (text rest other : List ℕ) → text ≡ tag ∷ rest → rest ≡ other → text ≡ tag ∷ other
 tagged tag text rest other e same = e ∙ ap (λ (r : List ℕ). tag ∷ r) same
 
@@ -69,14 +69,14 @@ message_encoding_only m text s =
 abbrev framed : ℕ → ℕ → List ℕ → List ℕ
 framed version kind body = 84 ∷ 82 ∷ version ∷ kind ∷ (big_bytes 4 (length body) ++ body)
 
--- bytes that the grammar allows for a frame are its encoding, and it keeps the limits
+-- bytes that the grammar allows for a frame are its encoding, and the frame is within its limits
 pub encoded : {A : Type 0} (f : Frame A) (text : List ℕ) → IsFrameEncoding f text → FrameFits f × (text ≡ encoding_of f)
 encoded (frames.Message m) text s = (s.2.fits, s.1 ∙ ap (framed (payload_version m.payload) message_kind) (message_encoding_only m s.0 s.2))
 encoded (frames.Token t) text s = (s.2.0, s.1 ∙ ap (framed first_version token_kind) s.2.1)
 encoded (frames.Join j) text s = (s.2.0, s.1 ∙ ap (framed first_version join_kind) s.2.1)
 encoded (frames.Commit t) text s = (s.2.0, s.1 ∙ ap (framed first_version commit_kind) s.2.1)
 
--- ---- the grammar allows the encoding of a value that keeps the limits
+-- ---- the grammar allows the encoding of a value within the limits
 
 head_encoding_is : (h : Head) → HeadFits h → IsHeadEncoding h (head_encoding h)
 head_encoding_is h f = elim (cases_Bool (h.trimmed == 0)) [
@@ -106,13 +106,13 @@ payload_encoding_is (payloads.Snap x) f = (snap_encoding x, refl, (f, refl))
 message_encoding_is : {A : Type 0} (m : Message A) → MessageFits m → IsMessageEncoding m (message_encoding m)
 message_encoding_is m f = record { fits = f; payload = payload_encoding m.payload; is_payload = payload_encoding_is m.payload f.payload; text = refl }
 
--- the grammar allows the encoding of a frame that keeps the limits
+-- the grammar allows the encoding of a frame that is within its limits
 pub frame_encoding_is : {A : Type 0} (f : Frame A) → FrameFits f → IsFrameEncoding f (encoding_of f)
 frame_encoding_is (frames.Message m) f = (message_encoding m, refl, message_encoding_is m f)
 frame_encoding_is (frames.Token t) f = (token_encoding t, refl, (f, refl))
 frame_encoding_is (frames.Join j) f = (join_encoding j, refl, (f, refl))
 frame_encoding_is (frames.Commit t) f = (commit_encoding t, refl, (f, refl))
 
--- the grammar allows bytes that equal this encoding
+-- the grammar allows bytes that equal the encoding of a frame within its limits
 pub text_is_encoding : {A : Type 0} (f : Frame A) (text : List ℕ) → FrameFits f → text ≡ encoding_of f → IsFrameEncoding f text
 text_is_encoding f text fits e = rw e (frame_encoding_is f fits)

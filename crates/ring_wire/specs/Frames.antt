@@ -129,7 +129,7 @@ kind = record { encoding = kind_encoding; Fits = FrameFits; at = kind_at; exact 
 
 -- ---- the whole frame
 
--- the version of a frame: that of its payload, and 1 if it has none
+-- the version of a frame: that of a message's payload, and 1 for every other kind
 abbrev pub version_of : {A : Type 0} → Frame A → ℕ
 version_of (frames.Message x) = payload_version x.payload
 version_of (frames.Token x) = first_version
@@ -169,7 +169,7 @@ encoding_of f = 84 ∷ 82 ∷ version_of f ∷ frame_kind f ∷ (big_bytes 4 (le
 abbrev is_start : ℕ × ℕ → Bool
 is_start p = (p.0 == 84) && (p.1 == 82)
 
--- whether the version before a frame is its own
+-- whether the version before a frame is its version
 abbrev is_of_version : {A : Type 0} → ℕ × Frame A → Bool
 is_of_version p = p.0 == version_of p.1
 
@@ -198,7 +198,7 @@ Fields A = (ℕ × ℕ) × (ℕ × Frame A)
 abbrev with_version : {A : Type 0} → ℕ → Frame A × List ℕ → Option ((ℕ × Frame A) × List ℕ)
 with_version version x = Some ((version, x.0), x.1)
 
--- the frame, if the version is its own
+-- the frame, if the version before it is its version
 abbrev if_of_version : {A : Type 0} → (ℕ × Frame A) × List ℕ → Option ((ℕ × Frame A) × List ℕ)
 if_of_version x = if is_of_version x.0 then Some x else None
 
@@ -221,7 +221,7 @@ read_behind : {A : Type 0} (start : ℕ × ℕ) (version : ℕ) (read : Option (
 read_behind start version None = refl
 read_behind start version (Some (f, rest)) = passed (version == version_of f) start ((version, f), rest)
 
--- after the two fixed bytes, a version and a kind, the frame is the body that is read there
+-- after the two fixed bytes, a version and a kind, the frame is the body read there
 pub frame_behind : {A : Type 0} (b0 b1 b2 b3 b4 : List ℕ) (first second version kind : ℕ) → first ≡ 84 → second ≡ 82
     → byte_at b0 ≡ Some (first, b1) → byte_at b1 ≡ Some (second, b2)
     → byte_at b2 ≡ Some (version, b3) → byte_at b3 ≡ Some (kind, b4) → frame_at {A = A} b0 ≡ body_at version kind b4

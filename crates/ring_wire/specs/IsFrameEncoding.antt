@@ -1,5 +1,5 @@
--- The grammar of frames: which bytes encode which frame, with a case for each kind of frame and each payload.
--- The limits of a row's values are its `Fits`.
+-- The grammar of frames: which bytes encode which frame, with a case for each kind of frame and for each payload. The
+-- limits of a value are its `Fits`.
 -- Formats: Frames; Payloads
 use Rattle.std.specs.Prelude.{◌≡◌, ℕ, ◌≤◌, ◌⊎◌, List, [], ◌∷◌, length}
 use Rattle.std.specs.List.{flat_map}
@@ -50,7 +50,7 @@ IsCallEncoding c text = CallFits c × (text ≡ big_bytes 4 c.client ⊕ big_byt
 abbrev pub IsWholeHeadEncoding : Head → List ℕ → Type 0
 IsWholeHeadEncoding h text = HeadFits h × (h.trimmed ≡ 0) × (text ≡ some_ring_encoding h.last ⊕ big_bytes 8 h.length ⊕ big_bytes 8 h.committed)
 
--- the head of a trimmed log: the same, and the trimmed length
+-- the head of a trimmed log: the same fields, then the trimmed length
 abbrev pub IsTrimmedHeadEncoding : Head → List ℕ → Type 0
 IsTrimmedHeadEncoding h text = HeadFits h × (1 ≤ h.trimmed)
     × (text ≡ some_ring_encoding h.last ⊕ big_bytes 8 h.length ⊕ big_bytes 8 h.committed ⊕ big_bytes 8 h.trimmed)
@@ -125,8 +125,8 @@ IsJoinEncoding j text = JoinFits j × (text ≡ j.sender ∷ big_bytes 8 j.numbe
 abbrev pub IsCommitEncoding : CommitToken → List ℕ → Type 0
 IsCommitEncoding t text = CommitFits t × (text ≡ ring_encoding t.ring ⊕ big_bytes 2 t.members ⊕ t.hop ∷ flat_map entry_encoding t.entries)
 
--- The bytes encode the frame. A message's version is 2 for a pack of calls, 3 for a piece of a snapshot or the head
--- of a trimmed log, else 1; all other frames have version 1.
+-- the bytes encode the frame; a message's version is 2 for a pack of calls, 3 for a piece of a snapshot or the head of
+-- a trimmed log, and otherwise 1; all other frames have version 1
 abbrev pub IsFrameEncoding : {A : Type 0} → Frame A → List ℕ → Type 0
 IsFrameEncoding (frames.Message m) text = Framed (payload_version m.payload) message_kind (IsMessageEncoding m) text
 IsFrameEncoding (frames.Token t) text = Framed first_version token_kind (IsTokenEncoding t) text

@@ -23,7 +23,7 @@ pub record JoinFits (j : Join) : Type 0 where
   pub failed_in : IsSubset j.fail_set j.proc_set
   pub sender_alive : ¬ IsMember j.fail_set j.sender
 
--- whether the fields together keep their limits
+-- whether the fields are within their limits, as a test
 abbrev pub join_test : Join → Bool
 join_test j = nat_le j.number max_number && (has j.proc_set j.sender && (within j.fail_set j.proc_set && not (has j.fail_set j.sender)))
 

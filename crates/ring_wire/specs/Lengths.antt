@@ -1,4 +1,4 @@
--- The greatest lengths of encodings. The longest message wraps 7,276 bytes of calls, a part or a pack.
+-- The maximum lengths of encodings. The longest message is a Wrapped of 7,276 bytes: a part or a pack of calls.
 -- Rules: Limits 1
 -- Formats: Frames; Payloads
 use Rattle.std.proofs.Common.{◌≡◌, ℕ, ◌≤◌, ◌++◌, length, Option, Some, None, refl, arith, inl, inr}

@@ -14,7 +14,7 @@ use Rattle.ring_wire.specs.declared.message.Message.{Message}
 
 -- ---- a Wrapped is of an older ring than its message
 
--- the old ring of a Wrapped has a lower number than the ring that it is sent on
+-- the old ring of a Wrapped has a lower number than the ring in which it is sent; true of every other payload
 abbrev pub IsOlder : {A : Type 0} → Payload A → RingId → Type 0
 IsOlder (Wrapped w) r = w.ring.seq < r.seq
 IsOlder _ r = Unit {0}
@@ -48,7 +48,7 @@ true-is_older (Snap x) r h = refl
 abbrev pub message_encoding : {A : Type 0} → Message A → List ℕ
 message_encoding m = ring_encoding m.ring ⊕ big_bytes 8 m.number ⊕ proc_encoding m.sender ⊕ payload_encoding m.payload
 
--- the limits of a message: ring and message number are at least 1, and a Wrapped is of an older ring
+-- the limits of a message: the numbers of ring and message are at least 1, and the ring of a Wrapped is older
 pub record MessageFits {A : Type 0} (m : Message A) : Type 0 where
   pub ring : RingFits m.ring
   pub ring_counted : 1 ≤ m.ring.seq
@@ -58,7 +58,7 @@ pub record MessageFits {A : Type 0} (m : Message A) : Type 0 where
   pub payload : PayloadFits m.payload
   pub older : IsOlder m.payload m.ring
 
--- whether the fields together keep their limits
+-- whether the fields are within their limits, as a test
 abbrev pub message_test : {A : Type 0} → Message A → Bool
 message_test m = nat_le 1 m.ring.seq && (nat_le 1 m.number && (nat_le m.number max_number && is_older m.payload m.ring))
 

@@ -21,7 +21,7 @@ use Rattle.ring_wire.specs.Ascending.{ascends, ascends-each, ascends-increasing,
 abbrev pub requests_encoding : List ℕ → List ℕ
 requests_encoding ns = length ns ∷ flat_map (λ n. big_bytes 8 n) ns
 
--- the limits of requests alone: at most 32; that they ascend, from 1 to `seq`, is a limit of the token
+-- the limits of requests: at most 32; that they ascend strictly, each 1 to `seq`, is a limit of the token
 pub record RequestsFit (ns : List ℕ) : Type 0 where
   pub few : length ns ≤ max_requests
   pub each : AllByRecursion (IsWord 8) ns
@@ -47,7 +47,7 @@ requests_format = fields_format requests_fields (λ p. p.1) requests_encoding Re
 abbrev pub requests : Format (List ℕ)
 requests = record { encoding = requests_encoding; Fits = RequestsFit; at = requests_at; exact = requests_format }
 
--- requests have one byte and 8 for each number
+-- requests take one byte, and 8 bytes for each number
 pub length-requests : (ns : List ℕ) → length (requests_encoding ns) ≡ 1 + 8 * length ns
 length-requests [] = refl
 length-requests (n ∷ ns) =
@@ -61,8 +61,8 @@ abbrev pub token_encoding : Token → List ℕ
 token_encoding t = ring_encoding t.ring ⊕ big_bytes 8 t.number ⊕ big_bytes 8 t.seq ⊕ big_bytes 8 t.aru ⊕
     some_proc_encoding t.aru_id ⊕ requests_encoding t.requests
 
--- the limits of a token: `aru_id` is none exactly where `aru` equals `seq`, and the requests ascend, from 1 to `seq`,
--- at most 32
+-- the limits of a token: `aru_id` is none exactly if `aru` equals `seq`, and the requests ascend strictly, each 1 to
+-- `seq`, at most 32
 pub record TokenFits (t : Token) : Type 0 where
   pub ring : RingFits t.ring
   pub ring_counted : 1 ≤ t.ring.seq
@@ -76,11 +76,11 @@ pub record TokenFits (t : Token) : Type 0 where
   pub ascending : IsStrictlyIncreasing t.requests
   pub each : AllByRecursion (λ n. (1 ≤ n) × (n ≤ t.seq)) t.requests
 
--- whether `aru_id` is given exactly where `aru` is below `seq`
+-- whether `aru_id` is none exactly if `aru` equals `seq`, as a test
 abbrev pub aru_id_test : Token → Bool
 aru_id_test t = if t.aru == t.seq then is_none t.aru_id else is_some t.aru_id
 
--- whether the fields together keep their limits
+-- whether the fields are within their limits, as a test
 abbrev pub token_test : Token → Bool
 token_test t = nat_le 1 t.ring.seq &&
     (nat_le 1 t.number && (nat_le t.number max_number
@@ -132,7 +132,7 @@ fits p f passed =
       each = ascends-each 0 p.1.1.0 p.1.1.1.1.1 g.1;
     }
 
--- the requests of a token keep the limits of requests
+-- the requests of a token are within the limits of requests
 pub token_requests : (t : Token) → TokenFits t → RequestsFit t.requests
 token_requests t f = record { few = f.few; each = each_below 0 t.seq (256 ^ 8) t.requests f.each (omega (arith, f.seq)) }
 

@@ -1,4 +1,5 @@
 //! Commit tokens.
+//!
 //! Rules: The commit token 1
 //! Formats: Frames; The commit entry
 
@@ -12,30 +13,33 @@ use bytes::BytesMut;
 use ring_payload::{Decode, Encode, Fault, Proc, ProcSet, Reader, RingId, write_many};
 use std::alloc::Allocator;
 
-/// `CommitToken`: the token that goes twice round a proposed ring to form it.
+/// `CommitToken`: the token that goes round a proposed ring twice to form it.
+///
 /// Rules: The commit token 1
 /// Formats: Frames
 #[derive(Clone, Drop)]
 pub struct CommitToken {
-    /// The proposed ring, of number at least 1.
+    /// The proposed ring, whose number is at least 1.
     pub ring: RingId,
-    /// The members of the proposed ring, at least one. The representative is the smallest.
+    /// The members of the proposed ring, at least one, of which the smallest is the representative.
     pub members: ProcSet,
-    /// The number of the token's hop, 1 to twice the number of members.
-    /// Hop h goes to the member at position h mod m, of m members.
+    /// The number of the token's hop, 1 to twice the number m of members.
+    ///
+    /// Hop h goes to the member at position h mod m.
     pub hop: u8,
-    /// The entries of the first min(`hop`, m) members in ascending order, of m members.
+    /// The entries of the first min(`hop`, m) of the m members, in ascending order of members.
     pub entries: Entries,
 }
 
-/// Returns whether the entry is of an older ring than `ring`, and is `member`'s own where it is of the opening ring.
+/// Returns whether the entry's old ring has a lower number than `ring` and, if that number is 0, is the opening ring of
+/// `member`.
 fn is_report(entry: &CommitEntry, ring: &RingId, member: Proc) -> bool
     ensures { result ≡ is_report_of ring.now member entry.now }
 {
     entry.old.seq < ring.seq && (entry.old.seq != 0 || entry.old.rep == member)
 }
 
-/// Returns whether the entries may be the entries of the first members, one for each.
+/// Returns whether the entries may be those of the first members, in ascending order, one for each.
 fn are_reports(entries: &[CommitEntry], ring: &RingId, members: ProcSet) -> bool
     ensures { result ≡ are_reports_of ring.now (elements members) entries.now }
 {
@@ -66,7 +70,7 @@ impl CommitToken {
         }
     }
 
-    /// Returns whether the fields keep the limits of their format.
+    /// Returns whether the fields are within the limits of their format.
     fn is_valid(&self) -> bool
         ensures { result ≡ commit_test self.now }
     {
@@ -106,8 +110,9 @@ impl Encode for CommitToken {
 impl CommitToken {
     ghost use Rattle.ring_wire.specs.Commits.{commit_at};
 
-    /// Returns a commit token without entries, over which [`read_into_self`](CommitToken::read_into_self) decodes one.
-    /// It doesn't keep the limits of its format.
+    /// Returns a commit token without entries, for [`read_into_self`](CommitToken::read_into_self) to overwrite.
+    ///
+    /// It isn't within the limits of its format.
     pub(crate) fn blank() -> CommitToken
         ensures { result.entries ≡ [] }
     {
@@ -122,10 +127,13 @@ impl CommitToken {
         }
     }
 
-    /// Decodes the commit token at the front of `from` over this one, and moves `from` past it.
-    /// That this one has no entries is the caller's condition.
-    /// Errors: `BadFrame`, only if no commit token is there; `Memory`. The content of this token, and how much is left
-    /// to read, are then unspecified.
+    /// Decodes the commit token at the front of `from` into this one, and moves `from` past it.
+    ///
+    /// This one must have no entries.
+    ///
+    /// Errors: `BadFrame`, only if no commit token begins `from`. `Memory` if an allocation fails. The content of this
+    /// token, and what is left to read, are then unspecified.
+    ///
     /// Formats: Frames
     #[tactic(auto, unfolding(crate::specs::Commits::commit_at))]
     pub(crate) fn read_into_self<A: Allocator + Copy>(

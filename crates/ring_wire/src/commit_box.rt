@@ -1,4 +1,5 @@
 //! Commit tokens on the heap.
+//!
 //! Rules: The commit token 1, 5 and 6
 
 ghost use Rattle.std.specs.Prelude.{◌≡◌, ℕ, ◌+◌, ◌^◌, ◌<◌, ◌≤◌, List, [], ◌∷◌, ◌++◌, length, IfOk, IfErr};
@@ -13,7 +14,10 @@ use ring_payload::{Decode, Encode, Fault, Reader};
 use std::alloc::{AllocError, Allocator, Global};
 use std::marker::Model;
 
-/// A commit token on the heap, so that frames stay short. Contracts see the token.
+/// A commit token on the heap, which keeps frames small.
+///
+/// Contracts see the token.
+///
 /// Rules: The commit token 1
 #[derive(Drop)]
 pub struct CommitBox<A: Allocator + Copy = Global> {
@@ -29,8 +33,11 @@ impl<A: Allocator + Copy> Model for CommitBox<A> {
 }
 
 impl<A: Allocator + Copy> CommitBox<A> {
-    /// Returns a box with this commit token, which is moved to the heap.
-    /// Errors: `Memory`; the token is then dropped.
+    /// Moves a commit token to the heap and returns the box that owns it.
+    ///
+    /// Errors: `Memory` if an allocation fails; the token is then dropped.
+    ///
+    /// Rules: The commit token 1
     pub fn new(alloc: A, token: CommitToken) -> Result<CommitBox<A>, Fault>
         ensures ok { IfOk result (λ boxed. boxed ≡ token) }
         ensures refused { IfErr result (λ fault. fault ≡ Memory) }
@@ -41,6 +48,7 @@ impl<A: Allocator + Copy> CommitBox<A> {
     }
 
     /// Returns the commit token in the box.
+    ///
     /// Rules: The commit token 1
     pub fn token(&self) -> &CommitToken
         ensures { result.now ≡ self.now }
@@ -48,8 +56,10 @@ impl<A: Allocator + Copy> CommitBox<A> {
         &self.token
     }
 
-    /// Raises the token's `hop` by one, as a member does that passes it on.
-    /// That `hop` is below 255 is the caller's condition.
+    /// Raises the token's `hop` by one, as a member does before it forwards the token.
+    ///
+    /// `hop` must be below 255.
+    ///
     /// Rules: The commit token 5 and 6
     pub fn advance_hop(&mut self)
         requires { self.old.hop < 255 }
@@ -58,8 +68,10 @@ impl<A: Allocator + Copy> CommitBox<A> {
         self.token.hop += 1;
     }
 
-    /// Appends the entry of one more member, the next in ascending order.
-    /// That the token has fewer than 16 entries is the caller's condition. The call takes no memory.
+    /// Appends the next member's entry, in ascending order of members.
+    ///
+    /// The token must have fewer than 16 entries. Does not allocate.
+    ///
     /// Rules: The commit token 5
     pub fn report(&mut self, entry: CommitEntry)
         requires { length self.old.entries < 16 }

@@ -1,4 +1,5 @@
 //! The entries of a commit token: each member's report of its old ring.
+//!
 //! Rules: The commit token 2
 //! Formats: The commit entry
 
@@ -17,25 +18,28 @@ use std::alloc::{AllocError, Allocator};
 use std::marker::Model;
 
 /// `CommitEntry`: a member's entry in a commit token: its report of its old ring.
-/// `mark` <= `front` <= `MAX`, and `front` <= `mark` + 256. Bit 0 is clear, and so is each bit of a number above `mark`
-/// + 256. Where the old ring has number 0, front, mark and all bits are 0.
+///
+/// `mark` <= `front` <= `MAX`, and `front` is at most 256 above `mark`. Bit 0 is clear, and so is the bit of each
+/// number that is more than 256 above `mark`. If the old ring has number 0, front, mark and all bits are 0.
+///
 /// Rules: The commit token 2
 /// Formats: The commit entry
 #[derive(Clone, Copy, Debug, PartialEq, Eq)]
 pub struct CommitEntry {
-    /// The member's last installed ring, its old ring. Its number is below the number of the proposed ring.
+    /// The member's last installed ring, its old ring, whose number is below that of the proposed ring.
     pub old: RingId,
     /// The member's front in the old ring: the greatest number up to which it holds all messages.
     pub front: u64,
-    /// The member's safe mark in the old ring: it knows that all members hold the messages up to this number.
+    /// The member's safe mark in the old ring: the number up to which it knows that all members hold the messages.
     pub mark: u64,
     /// Which of the 256 numbers after the front the member holds.
+    ///
     /// Bit j, 0 to 255, means the number `front` + 1 + j. It is bit j mod 8, counted from the least significant, of
     /// byte j div 8.
     pub held: [u8; 32],
 }
 
-/// The entry of processor 1 at its opening, as a value to begin with.
+/// The entry of processor 1 at its opening, as a value to start from.
 impl Default for CommitEntry {
     fn default() -> CommitEntry {
         CommitEntry {
@@ -53,8 +57,10 @@ impl Default for CommitEntry {
 impl CommitEntry {
     ghost use Rattle.ring_wire.specs.Entries.{bit_of, is_invalid_bit as is_wrong_bit, held_test, nothing_test, entry_test};
 
-    /// Returns whether bit j is set: whether the member holds the number `front` + 1 + j.
-    /// `j` counts from 0; that it is below 256 is the caller's condition.
+    /// Returns whether bit `j` is set: whether the member holds the number `front` + 1 + `j`.
+    ///
+    /// `j` counts from 0 and must be below 256.
+    ///
     /// Formats: The commit entry
     pub fn is_held(&self, j: usize) -> bool
         requires { j < window_size }
@@ -63,7 +69,7 @@ impl CommitEntry {
         (self.held[j / 8] >> (j % 8)) & 1 == 1
     }
 
-    /// Returns whether bit j is set and must be clear: it is the first, or its number is above `mark` + 256.
+    /// Returns whether bit `j` is set although it must be clear: it is the first, or its number is above `mark` + 256.
     fn is_invalid_bit(&self, j: usize) -> bool
         requires index { j < window_size }
         requires front { self.now.front < 2 ^ 63 }
@@ -73,7 +79,9 @@ impl CommitEntry {
         self.is_held(j) && (j == 0 || self.front + 1 + j as u64 > self.mark + WINDOW_SIZE)
     }
 
-    /// Returns whether no bit of the byte is set that must be clear. No bit of the bytes before it is.
+    /// Returns whether byte `byte` has no bit set that must be clear.
+    ///
+    /// The bytes before it must be valid in the same sense.
     fn is_byte_valid(&self, byte: usize) -> bool
         requires index { byte < 32 }
         requires front { self.now.front < 2 ^ 63 }
@@ -113,7 +121,7 @@ impl CommitEntry {
         self.front == 0 && self.mark == 0 && are_zero(&self.held)
     }
 
-    /// Returns whether the fields keep the limits of their format.
+    /// Returns whether the fields are within the limits of an entry, except for those that its commit token sets.
     fn is_valid(&self) -> bool
         ensures { result ≡ entry_test self.now }
     {
@@ -163,6 +171,7 @@ impl<A: Allocator + Copy> Decode<A> for CommitEntry {
     }
 }
 
+/// Returns whether all bytes are 0.
 fn are_zero(bytes: &[u8]) -> bool
     ensures { result ≡ list_all (λ b. b == 0) bytes.now }
 {
@@ -170,7 +179,9 @@ fn are_zero(bytes: &[u8]) -> bool
 }
 
 /// A list of at most 16 entries of a commit token, in ascending order of members, stored inline.
+///
 /// Contracts see the list.
+///
 /// Rules: The commit token 1
 #[derive(Drop)]
 pub struct Entries {
@@ -187,7 +198,9 @@ impl Model for Entries {
 }
 
 impl Entries {
-    /// Returns an empty list. It takes no memory.
+    /// Returns an empty list.
+    ///
+    /// Does not allocate.
     pub fn new() -> Entries
         ensures { result ≡ [] }
     {
@@ -196,7 +209,9 @@ impl Entries {
         }
     }
 
-    /// Returns the entries, at most 16: the smallest member's first.
+    /// Returns the entries, at most 16, the smallest member's first.
+    ///
+    /// Rules: The commit token 1
     pub fn as_slice(&self) -> &[CommitEntry]
         ensures value { result.now ≡ self.now }
         ensures few { length result.now ≤ 16 }
@@ -204,7 +219,10 @@ impl Entries {
         self.entries.as_slice()
     }
 
-    /// Appends an entry. That the list has fewer than 16 is the caller's condition. The call takes no memory.
+    /// Appends `entry`.
+    ///
+    /// The list must have fewer than 16 entries. Does not allocate.
+    ///
     /// Rules: The commit token 5
     pub fn push(&mut self, entry: CommitEntry)
         requires { length self.old < 16 }
@@ -213,7 +231,9 @@ impl Entries {
         self.entries.push(entry);
     }
 
-    /// Returns a copy of the list. It takes no memory, so it is never refused.
+    /// Returns a copy of the list.
+    ///
+    /// Unlike `clone` it can't fail. Does not allocate.
     pub fn copied(&self) -> Entries
         ensures { result ≡ self.now }
     {
@@ -239,9 +259,12 @@ impl Entries {
     ghost use Rattle.ring_wire.specs.Entries.{entry_at};
 
     /// Decodes the `count` entries at the front of `from` into this list, and moves `from` past them.
-    /// That the list is empty and `count` at most 16 is the caller's condition.
-    /// Errors: `BadFrame`, only if the encodings of `count` entries don't begin `from`. The content of the list, and
-    /// how much is left to read, are then unspecified.
+    ///
+    /// The list must be empty, and `count` at most 16.
+    ///
+    /// Errors: `BadFrame`, only if `from` doesn't begin with the encodings of `count` entries. The content of the list,
+    /// and what is left to read, are then unspecified.
+    ///
     /// Formats: The commit entry
     pub(crate) fn read_into_self<A: Allocator + Copy>(
         &mut self,

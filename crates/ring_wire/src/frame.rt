@@ -1,7 +1,8 @@
 //! Frames: two fixed bytes, the version, the kind, the body's length, and the body.
 //!
-//! A frame is decoded into a place that may hold a frame already. Each kind has a separate reading function that isn't
+//! A frame is decoded into a place that may already hold a frame. Each kind has a separate reading function that isn't
 //! inlined, so that decoding a frame sets up the stack slot of that kind only.
+//!
 //! Formats: Frames; What is no frame
 
 ghost use Rattle.std.specs.Prelude.{◌≡◌, ℕ, ◌+◌, ◌^◌, ◌<◌, ◌≤◌, List, [], ◌∷◌, ◌++◌, length, IfOk, IfErr, IfSome, Some, IsSome, OnOk, OnErr, ◌↔◌};
@@ -24,7 +25,7 @@ use ring_payload::{Decode, Encode, FIRST_VERSION, Fault, Reader, Wire, read_size
 use std::alloc::{Allocator, Global};
 use std::mem::size_of;
 
-/// The bytes that every frame begins with.
+/// The two bytes that every frame begins with.
 const START: [u8; 2] = [0x54, 0x52];
 
 /// The kinds of frames: this one and the next three.
@@ -36,7 +37,8 @@ const JOIN: u8 = 3;
 
 const COMMIT: u8 = 4;
 
-/// A frame, sent by one processor to others: a message, the token, a join or a commit token.
+/// A frame, which one processor sends to others: a message, the token, a join or a commit token.
+///
 /// Formats: Frames
 #[derive(Clone, Drop)]
 pub enum Frame<A: Allocator + Copy = Global> {
@@ -44,17 +46,17 @@ pub enum Frame<A: Allocator + Copy = Global> {
     Message(Message<A>),
     /// The token of a running ring, for the next member.
     Token(Token),
-    /// A join, for processors that may form a ring with its sender.
+    /// A join, for processors that may form a ring with the sender.
     Join(Join),
     /// A commit token, for the next member of the proposed ring.
     Commit(CommitBox<A>),
 }
 
-/// A frame has at most 320 bytes in memory, so that keeping or moving one costs little.
+/// A frame occupies at most 320 bytes in memory, so that keeping or moving one is cheap.
 const _: () = prove!(size_of::<Frame>() <= 320);
 
 impl<A: Allocator + Copy> Frame<A> {
-    /// Returns its version: that of its payload, and 1 if it has none.
+    /// Returns the frame's version: that of a message's payload, and 1 for every other kind.
     fn version(&self) -> u8
         ensures { result ≡ version_of self.now }
     {
@@ -113,8 +115,9 @@ impl<A: Allocator + Copy> Encode for Frame<A> {
 }
 
 /// Decodes a length-prefixed message into `place`.
-/// Errors: `BadFrame` if no such message is there, or `version` isn't that of its payload; `Memory`. `place` is then
-/// unchanged.
+///
+/// Errors: `BadFrame` if `from` doesn't begin with such a message, or `version` isn't that of its payload. `Memory` if
+/// an allocation fails. `place` is then unchanged.
 #[inline(never)]
 #[tactic(auto, unfolding(crate::specs::Frames::body_at))]
 fn read_message<A: Allocator + Copy>(
@@ -133,7 +136,9 @@ fn read_message<A: Allocator + Copy>(
     Ok(())
 }
 
-/// Puts a message in `place`. It overwrites a message there without a new frame.
+/// Puts `message` in `place`.
+///
+/// A message that is already there is overwritten in place.
 #[inline(always)]
 fn put_message<A: Allocator + Copy>(message: Message<A>, place: &mut Option<Frame<A>>)
     ensures { place.new ≡ Some (MessageFrame message) }
@@ -144,6 +149,7 @@ fn put_message<A: Allocator + Copy>(message: Message<A>, place: &mut Option<Fram
     }
 }
 
+/// Overwrites `place` with `value`, and drops the value that was there.
 #[inline(always)]
 fn put<T: Drop>(value: T, place: &mut T)
     ensures { place.new ≡ value }
@@ -152,7 +158,8 @@ fn put<T: Drop>(value: T, place: &mut T)
 }
 
 /// Decodes a length-prefixed token into `place`.
-/// Errors: `BadFrame` if no token is there, or `version` isn't 1. `place` is then unchanged.
+///
+/// Errors: `BadFrame` if `from` doesn't begin with such a token, or `version` isn't 1. `place` is then unchanged.
 #[inline(never)]
 #[tactic(auto, unfolding(crate::specs::Frames::body_at))]
 fn read_token<A: Allocator + Copy>(
@@ -174,7 +181,7 @@ fn read_token<A: Allocator + Copy>(
     Ok(())
 }
 
-/// Puts a token in `place`, where there is none yet.
+/// Puts `token` in `place`, which holds no token yet.
 #[inline(never)]
 fn put_token<A: Allocator + Copy>(token: &BorrowedToken<'_>, place: &mut Option<Frame<A>>)
     ensures { place.new ≡ Some (TokenFrame token.now) }
@@ -186,7 +193,8 @@ fn put_token<A: Allocator + Copy>(token: &BorrowedToken<'_>, place: &mut Option<
 }
 
 /// Decodes a length-prefixed join into `place`.
-/// Errors: `BadFrame` if no join is there, or `version` isn't 1. `place` is then unchanged.
+///
+/// Errors: `BadFrame` if `from` doesn't begin with such a join, or `version` isn't 1. `place` is then unchanged.
 #[inline(never)]
 #[tactic(auto, unfolding(crate::specs::Frames::body_at))]
 fn read_join<A: Allocator + Copy>(
@@ -209,7 +217,9 @@ fn read_join<A: Allocator + Copy>(
 }
 
 /// Decodes a length-prefixed commit token into `place`.
-/// Errors: `BadFrame` if no commit token is there, or `version` isn't 1; `Memory`. `place` is then unchanged.
+///
+/// Errors: `BadFrame` if `from` doesn't begin with such a commit token, or `version` isn't 1. `Memory` if an allocation
+/// fails. `place` is then unchanged.
 #[inline(never)]
 #[tactic(auto, unfolding(crate::specs::Frames::body_at))]
 fn read_commit<A: Allocator + Copy>(
@@ -229,8 +239,11 @@ fn read_commit<A: Allocator + Copy>(
 }
 
 /// Decodes the frame at the front of `from` into `place`.
-/// A message, token or join overwrites one of its kind, so that no frame clears or moves memory that it doesn't fill.
-/// Errors: `BadFrame` if no frame is there; `Memory`. `place` is then unchanged.
+///
+/// A message, token or join overwrites one of its kind, so that no memory is cleared or moved that the frame doesn't
+/// fill.
+///
+/// Errors: `BadFrame` if no frame begins `from`. `Memory` if an allocation fails. `place` is then unchanged.
 #[tactic(auto, unfolding(crate::specs::Frames::frame_at, crate::specs::Frames::kind_at))]
 fn read_into<A: Allocator + Copy>(
     alloc: A,
@@ -267,10 +280,13 @@ impl<A: Allocator + Copy> Decode<A> for Frame<A> {
 }
 
 impl<A: Allocator + Copy> Frame<A> {
-    /// Decodes the frame at the front of `src` into `place`, in place, and returns the length of its encoding in bytes.
-    /// The frame that was in `place` is dropped. Bytes after the frame don't matter.
-    /// Errors: `BadFrame`, only if no frame begins `src`; `Memory`, whether or not a frame begins `src`. `place` is
-    /// then unchanged.
+    /// Decodes the frame at the front of `src` into `place`, and returns the length of its encoding in bytes.
+    ///
+    /// The frame that was in `place` is dropped. More bytes may follow the frame.
+    ///
+    /// Errors: `BadFrame`, only if no frame begins `src`. `Memory` if an allocation fails, even if no frame begins
+    /// `src`. `place` is then unchanged.
+    ///
     /// Formats: Frames
     pub fn get_into(alloc: A, src: &[u8], place: &mut Option<Frame<A>>) -> Result<usize, Fault>
         ensures found { IfOk result (λ len. IfSome place.new (λ frame. IsEncodedPrefix encoding_of FrameFits src.now frame len)) }
@@ -285,8 +301,11 @@ impl<A: Allocator + Copy> Frame<A> {
     }
 }
 
-/// Decodes all bytes of `src` as one frame and returns it.
-/// Errors: `BadFrame`, only if `src` isn't exactly one frame, bytes left over included; `Memory`, in either case.
+/// Decodes the whole of `src` as one frame.
+///
+/// Errors: `BadFrame`, only if `src` isn't exactly one frame; a frame followed by more bytes isn't one. `Memory` if an
+/// allocation fails, even if `src` isn't one frame.
+///
 /// Formats: Frames; What is no frame
 pub fn decode_frame<A: Allocator + Copy>(alloc: A, src: &[u8]) -> Result<Frame<A>, Fault>
     ensures found { IfOk result (λ frame. IsFrameEncoding frame src.now) }
@@ -301,25 +320,31 @@ pub fn decode_frame<A: Allocator + Copy>(alloc: A, src: &[u8]) -> Result<Frame<A
     Ok(frame)
 }
 
-/// States that, for every frame and every byte string, the string is an encoding of the frame exactly if the frame
-/// keeps its limits and the string is `encoding_of` the frame. Which strings are encodings of a frame is defined
-/// separately, by the grammar of the formats.
+/// States that bytes are an encoding of a frame exactly if they are `encoding_of` the frame and the frame is within its
+/// limits.
+///
+/// This holds for every frame and all bytes. Which bytes are encodings of a frame is defined separately, by the grammar
+/// of the formats: `IsFrameEncoding`.
+///
 /// Formats: Frames; The commit entry; Payloads
 pub fn encoding_law<A: Allocator + Copy>()
     ensures { (frame : OneFrame A) (text : List ℕ)
         → IsFrameEncoding frame text ↔ (FrameFits frame × (text ≡ encoding_of frame)) }
 {}
 
-/// States that any two encodings of frames are equal, and encode the same frame, if both are prefixes of one byte
-/// string. So a frame has at most one encoding, two frames never share an encoding, and no encoding is a proper prefix
-/// of another.
+/// States that two encodings of frames are equal, and encode the same frame, if the same bytes begin with both.
+///
+/// So a frame has at most one encoding, two different frames never share one, and no encoding is a proper prefix of
+/// another.
+///
 /// Formats: Frames
 pub fn unique_encoding_law<A: Allocator + Copy>()
     ensures { (f g : OneFrame A) (a b x y : List ℕ)
         → IsFrameEncoding f a → IsFrameEncoding g b → a ++ x ≡ b ++ y → (f ≡ g) × (a ≡ b) }
 {}
 
-/// States that every encoding of a frame has at most 8,192 bytes, the head of 8 bytes included.
+/// States that every encoding of a frame has at most 8,192 bytes, including the head of 8 bytes.
+///
 /// Rules: Limits 1
 /// Formats: Frames
 pub fn frame_length_law<A: Allocator + Copy>()

@@ -1,4 +1,5 @@
 //! Joins.
+//!
 //! Rules: Gather 2
 //! Formats: Frames
 
@@ -9,16 +10,17 @@ use bytes::BytesMut;
 use ring_payload::{Decode, Encode, Fault, MAX, Proc, ProcSet, Reader};
 use std::alloc::Allocator;
 
-/// `Join`: a membership proposal: which processors its sender would form a ring with.
+/// `Join`: a membership proposal: the processors with which its sender would form a ring.
+///
 /// Rules: Gather 2
 /// Formats: Frames
 #[derive(Clone, Copy, Debug, PartialEq, Eq)]
 pub struct Join {
-    /// The processor that sent it: a member of `proc_set`, and not of `fail_set`.
+    /// The processor that sends the join: a member of `proc_set` and not of `fail_set`.
     pub sender: Proc,
-    /// The sender's floor: the greatest number of a ring that the sender has taken part in, at most `MAX`.
+    /// The sender's floor: the greatest number of a ring in which the sender has taken part, at most `MAX`.
     pub number: u64,
-    /// The processors that the sender considers for the ring, itself included.
+    /// The processors that the sender considers for the ring, including itself.
     pub proc_set: ProcSet,
     /// The processors of `proc_set` that the sender has given up.
     pub fail_set: ProcSet,
@@ -27,7 +29,7 @@ pub struct Join {
 impl Join {
     ghost use Rattle.ring_wire.specs.Joins.{join_test};
 
-    /// Returns whether the fields keep the limits of their format.
+    /// Returns whether the fields are within the limits of their format.
     fn is_valid(&self) -> bool
         ensures { result ≡ join_test self.now }
     {

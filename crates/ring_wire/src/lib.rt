@@ -1,4 +1,5 @@
-//! Frames, and how they are encoded: every value has exactly one encoding, and no encoding is a prefix of another.
+//! Frames, and how they are encoded: every frame has exactly one encoding, and no encoding is a prefix of another.
+//!
 //! Formats: Frames; The commit entry
 #![tactic(auto)]
 

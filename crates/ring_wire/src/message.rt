@@ -1,4 +1,5 @@
-//! Messages.
+//! Messages: numbered payloads of a ring.
+//!
 //! Formats: Frames
 
 ghost use Rattle.std.specs.Prelude.{◌≡◌, ℕ, ◌+◌, ◌^◌, ◌<◌, ◌≤◌, List, [], ◌∷◌, ◌++◌, length};
@@ -10,23 +11,30 @@ use ring_payload::{Decode, Encode, Fault, MAX, Payload, Proc, Reader, RingId};
 use std::alloc::{Allocator, Global};
 
 /// `Message`: a numbered payload of a ring.
+///
+/// Rules: Token and window 9
 /// Formats: Frames
 #[derive(Clone, Drop)]
 pub struct Message<A: Allocator + Copy = Global> {
-    /// The ring in which it was sent, of number at least 1.
+    /// The ring in which the message was sent, whose number is at least 1.
     pub ring: RingId,
     /// The message's number in the ring's order of messages, 1 to `MAX`.
     pub number: u64,
-    /// The member of the ring that sent it first. A member that sends it again doesn't change this field.
+    /// The member of the ring that sent it first.
+    ///
+    /// A member that sends it again doesn't change this field.
     pub sender: Proc,
-    /// The payload. The old ring of a Wrapped has a lower number than `ring`.
+    /// The payload.
+    ///
+    /// If it is a Wrapped, its old ring has a lower number than `ring`.
     pub payload: Payload<A>,
 }
 
 impl<A: Allocator + Copy> Message<A> {
     ghost use Rattle.ring_wire.specs.Messages.{is_older, message_test};
 
-    /// Returns whether a Wrapped in the payload is of an older ring than this message; true of any other payload.
+    /// Returns whether the old ring of a Wrapped has a lower number than the message's ring; true for any other
+    /// payload.
     fn is_older(&self) -> bool
         ensures { result ≡ is_older self.now.payload self.now.ring }
     {
@@ -36,7 +44,7 @@ impl<A: Allocator + Copy> Message<A> {
         }
     }
 
-    /// Returns whether the fields keep the limits of their format.
+    /// Returns whether the fields are within the limits of their format.
     fn is_valid(&self) -> bool
         ensures { result ≡ message_test self.now }
     {

@@ -1,4 +1,5 @@
-//! The numbers of the messages that a token asks for.
+//! The numbers of the messages that a token requests.
+//!
 //! Rules: Token and window 5
 //! Formats: Frames
 
@@ -11,11 +12,15 @@ use ring_payload::{Decode, Encode, EncodedNumbers, Fault, Reader, write_many};
 use std::alloc::{AllocError, Allocator};
 use std::marker::Model;
 
-/// The most messages that a token asks for.
+/// The maximum number of messages that a token requests.
+///
 /// Rules: Limits 1
 pub const MAX_REQUESTS: usize = 32;
 
-/// A list of at most 32 message numbers, stored inline: the messages that a token asks for. Contracts see the list.
+/// The message numbers that a token requests: a list of at most 32, stored inline.
+///
+/// Contracts see the list.
+///
 /// Rules: Token and window 5
 #[derive(Drop)]
 pub struct Requests {
@@ -29,7 +34,9 @@ impl Model for Requests {
 }
 
 impl Requests {
-    /// Returns an empty list, which asks for nothing. It takes no memory.
+    /// Returns an empty list, which requests nothing.
+    ///
+    /// Does not allocate.
     pub fn new() -> Requests
         ensures { result ≡ [] }
     {
@@ -38,7 +45,10 @@ impl Requests {
         }
     }
 
-    /// Returns the numbers, at most 32, in the order in which they were appended. In a token they ascend strictly.
+    /// Returns the numbers, at most 32, in the order in which they were appended.
+    ///
+    /// In a token they must ascend strictly.
+    ///
     /// Rules: Token and window 5
     pub fn as_slice(&self) -> &[u64]
         ensures value { result.now ≡ self.now }
@@ -47,7 +57,11 @@ impl Requests {
         self.numbers.as_slice()
     }
 
-    /// Appends a number. That the list has fewer than 32 is the caller's condition. The call takes no memory.
+    /// Appends `number`.
+    ///
+    /// The list must have fewer than 32 numbers. Does not allocate.
+    ///
+    /// Rules: Token and window 5
     pub fn push(&mut self, number: u64)
         requires { length self.old < 32 }
         ensures { self.new ≡ self.old ++ number ∷ [] }
@@ -55,14 +69,16 @@ impl Requests {
         self.numbers.push(number);
     }
 
-    /// Removes all numbers. The list is then empty.
+    /// Removes all numbers.
     pub fn clear(&mut self)
         ensures { self.new ≡ [] }
     {
         self.numbers.clear();
     }
 
-    /// Replaces the numbers of the list by `numbers`, in order. That these are at most 32 is the caller's condition.
+    /// Replaces the numbers of the list by `numbers`, in order.
+    ///
+    /// They must be at most 32. Does not allocate.
     pub(crate) fn fill(&mut self, numbers: &EncodedNumbers<'_>)
         requires { length numbers.now ≤ 32 }
         ensures { self.new ≡ numbers.now }
@@ -73,7 +89,9 @@ impl Requests {
         }
     }
 
-    /// Returns a copy of the list. It takes no memory, so it is never refused.
+    /// Returns a copy of the list.
+    ///
+    /// Unlike `clone` it can't fail. Does not allocate.
     pub fn copied(&self) -> Requests
         ensures { result ≡ self.now }
     {
@@ -123,9 +141,12 @@ impl Requests {
     ghost use Rattle.ring_wire.specs.Tokens.{requests_at};
 
     /// Takes a count of one byte and that many numbers, at most 32, from the front of `from`.
-    /// They stay borrowed from its bytes. Whether they ascend isn't checked.
-    /// Errors: `BadFrame` if the count is above 32, or `from` has fewer bytes. How much is then left to read is
+    ///
+    /// They stay borrowed from its bytes. That they ascend isn't checked.
+    ///
+    /// Errors: `BadFrame` if the count is above 32, or too few bytes are left. What is then left to read is
     /// unspecified.
+    ///
     /// Formats: Frames
     #[tactic(auto, unfolding(crate::specs::Tokens::requests_at))]
     pub(crate) fn borrow_numbers<'a, A: Allocator + Copy>(

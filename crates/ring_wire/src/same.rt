@@ -12,7 +12,10 @@ use ring_payload::{Proc, RingId};
 use std::alloc::Allocator;
 
 impl<A: Allocator + Copy> Frame<A> {
-    /// Returns whether the two frames are of one kind and equal in every field. So they have the same encoding.
+    /// Returns whether the two frames are of the same kind and equal in every field.
+    ///
+    /// Frames that are equal have the same encoding.
+    ///
     /// Formats: Frames
     pub fn is_same(&self, other: &Frame<A>) -> bool
         ensures { IsTrue result ↔ (self.now ≡ other.now) }

@@ -1,4 +1,5 @@
-//! The token.
+//! The token of a running ring.
+//!
 //! Rules: Token and window 5
 //! Formats: Frames
 
@@ -12,27 +13,32 @@ use ring_payload::{Decode, Encode, EncodedNumbers, Fault, MAX, Proc, Reader, Rin
 use std::alloc::Allocator;
 use std::marker::Model;
 
-/// `Token`: the token of a running ring. Only the member that it visits sends new messages.
+/// `Token`: the token of a running ring.
+///
+/// Only the member that it visits sends new messages.
+///
 /// Rules: Token and window 5
 /// Formats: Frames
 #[derive(Clone, Drop)]
 pub struct Token {
-    /// The running ring, of number at least 1.
+    /// The running ring, whose number is at least 1.
     pub ring: RingId,
-    /// The token's own number, 1 to `MAX`. Each visit raises it by one.
+    /// The token's own number, 1 to `MAX`, which each visit raises by one.
     pub number: u64,
-    /// The greatest message number that has been given in the ring, 0 to `MAX`.
+    /// The greatest message number given in the ring so far, 0 to `MAX`.
     pub seq: u64,
-    /// The number up to which all members hold the ring's messages, 0 to `seq`: "all received up to".
+    /// The number up to which all members hold the ring's messages ("all received up to"), 0 to `seq`.
     pub aru: u64,
-    /// The processor that holds `aru` back: `None` exactly where `aru` equals `seq`.
+    /// The processor that holds `aru` back: `None` exactly if `aru` equals `seq`.
     pub aru_id: Option<Proc>,
-    /// The numbers of the messages to be sent again, at most 32: strictly ascending, each 1 to `seq`.
+    /// The numbers of the messages to be sent again, at most 32, strictly ascending, each 1 to `seq`.
     pub requests: Requests,
 }
 
 impl Token {
-    /// Returns a token over which [`BorrowedToken::fill`] writes one. It doesn't keep the limits of its format.
+    /// Returns a blank token for [`BorrowedToken::fill`] to overwrite.
+    ///
+    /// It isn't within the limits of its format.
     pub(crate) fn blank() -> Token {
         Token {
             ring: RingId {
@@ -49,7 +55,11 @@ impl Token {
 }
 
 /// A decoded token whose requests are borrowed from the bytes, so that nothing is copied before the whole token is
-/// checked. Contracts see the token.
+/// checked.
+///
+/// Contracts see the token.
+///
+/// Formats: Frames
 #[derive(Drop)]
 pub(crate) struct BorrowedToken<'a> {
     ring: RingId,
@@ -77,7 +87,8 @@ impl<'a> BorrowedToken<'a> {
     ghost use Rattle.ring_wire.specs.Tokens.{aru_id_test, token_test, token_at};
 
     /// Decodes the token at the front of `from`.
-    /// Errors: `BadFrame` if no token is there.
+    ///
+    /// Errors: `BadFrame` if no token begins `from`. What is then left to read is unspecified.
     #[tactic(auto, unfolding(crate::specs::Tokens::token_at))]
     fn read<A: Allocator + Copy>(
         alloc: A,
@@ -97,8 +108,12 @@ impl<'a> BorrowedToken<'a> {
         token.if_valid(is_valid)
     }
 
-    /// Decodes a length of four bytes from the front of `from`, then a token that takes exactly that many bytes.
-    /// Errors: `BadFrame` if no such token is there. How much is then left to read is unspecified.
+    /// Decodes a length in bytes, a big-endian `u32`, and then a token that takes exactly that many bytes.
+    ///
+    /// Does not allocate.
+    ///
+    /// Errors: `BadFrame` if `from` doesn't begin with such a token. What is then left to read is unspecified.
+    ///
     /// Formats: Frames
     pub(crate) fn read_sized<A: Allocator + Copy>(
         alloc: A,
@@ -112,7 +127,7 @@ impl<'a> BorrowedToken<'a> {
         token.if_valid(body.len() == 0)
     }
 
-    /// Returns whether `aru_id` is given exactly where `aru` is below `seq`.
+    /// Returns whether `aru_id` is `None` exactly if `aru` equals `seq`.
     fn is_aru_id_valid(&self) -> bool
         ensures { result ≡ aru_id_test self.now }
     {
@@ -123,7 +138,7 @@ impl<'a> BorrowedToken<'a> {
         }
     }
 
-    /// Returns whether the fields keep the limits of their format.
+    /// Returns whether the fields are within the limits of their format.
     fn is_valid(&self) -> bool
         ensures { result ≡ token_test self.now }
     {
@@ -136,7 +151,9 @@ impl<'a> BorrowedToken<'a> {
             && ascends(&self.requests, self.seq)
     }
 
-    /// Returns the token if `holds`, else `BadFrame`.
+    /// Returns the token if `holds` is true.
+    ///
+    /// Errors: `BadFrame` if it is false.
     #[inline(always)]
     fn if_valid(self, holds: bool) -> Result<BorrowedToken<'a>, Fault>
         ensures { (rest : List ℕ) → IsReadResult result rest (if holds then Some (self.entry, rest) else None) }
@@ -148,7 +165,9 @@ impl<'a> BorrowedToken<'a> {
         }
     }
 
-    /// Overwrites all fields of `token` with the fields of this token. The call takes no memory.
+    /// Overwrites all fields of `token` with those of this token.
+    ///
+    /// Does not allocate.
     pub(crate) fn fill(&self, token: &mut Token)
         ensures { token.new ≡ self.now }
     {
@@ -161,7 +180,7 @@ impl<'a> BorrowedToken<'a> {
     }
 }
 
-/// Returns whether the numbers ascend strictly, from 1 to `greatest`.
+/// Returns whether the numbers ascend strictly and are all 1 to `greatest`.
 fn ascends(numbers: &EncodedNumbers<'_>, greatest: u64) -> bool
     ensures { result ≡ ascends_to 0 greatest numbers.now }
 {

@@ -1,4 +1,4 @@
--- Which node an event stopped because its step was refused memory.
+-- Which node an event stopped because an allocation failed in its step.
 -- Rules: The book and the threads 7; Refusals 6
 use Rattle.std.specs.Prelude.{◌≡◌, ℕ, ◌-◌, List, length, Option, Some, None, slice_get}
 use Rattle.ring_object.specs.Operations.{Sequential}
@@ -27,6 +27,6 @@ stopped_for_memory (Issue i c) events = None
 stopped_for_memory (Noise i bytes) events = None
 stopped_for_memory (Stop i) events = None
 
--- the event is a step of this node, and the step was refused memory
+-- the event is a step of this node, and an allocation failed in it
 abbrev pub IsStoppedAt : {O A : Type 0} → Sequential O → Event A → ℕ → WorldView A → WorldView A → Type 0
 IsStoppedAt object e node p q = (s : IsStopped object e p q) × (s.node ≡ node)

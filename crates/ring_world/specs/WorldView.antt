@@ -1,5 +1,5 @@
--- The events of a world since its opening, and how a run continues it. Each event is done, or recorded as `Stop` where its
--- step was refused memory, or left out where its submit was refused memory.
+-- The events of a world since its opening, and how a run continues it. Each event is done, or recorded as `Stop` if an
+-- allocation failed in its step, or left out if one failed in its submit.
 -- Rules: The book and the threads 1 to 8
 use Rattle.std.specs.Prelude.{◌≡◌, ℕ, Bool, true, false, not, ◌==◌, ◌&&◌, if◌then◌else◌, ◌⊎◌, List, [], ◌∷◌, ◌++◌, length, drop, filter}
 use Rattle.std.specs.Prelude.{Option, Some, None}
@@ -28,7 +28,7 @@ pub record WorldView (A : Type 0) : Type 0 where
 abbrev pub opening_world_view : {A : Type 0} → Group → WorldView A
 opening_world_view group = record { group = group; events = []; told = []; done = 0 }
 
--- the refusal of a submit that was refused memory; no event is recorded for it
+-- the refusal of a submit in which an allocation failed; no event is recorded for it
 abbrev pub is_memory_refusal : {A : Type 0} → Told A → Bool
 is_memory_refusal (Answer i c answer) = false
 is_memory_refusal (Refused i c number) = number == 11
@@ -78,7 +78,8 @@ module _ {O : Type 0} (object : Sequential O) where
     pub events : q.events ≡ p.events ++ Stop node ∷ []
     pub told : q.told ≡ p.told
 
-  -- the event was a submit that only want of memory refused: it is left out, and its refusal is reported
+  -- the event was a submit that was refused only because an allocation failed: it is left out, and its refusal is
+  -- reported
   pub record IsRefused {A : Type 0} (e : Event A) (p q : WorldView A) : Type 0 where
     pub node : ℕ
     pub call : Call A

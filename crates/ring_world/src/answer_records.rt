@@ -1,4 +1,5 @@
-//! Records the answers of a step for clients and in the history.
+//! Recording a step's answers, for clients and in the history.
+//!
 //! Rules: The book and the threads 5; Sessions 9
 
 ghost use Rattle.std.specs.Prelude.{◌≡◌, ℕ, ◌+◌, ◌≤◌, [], ◌∷◌, ◌++◌, length, vec_len, vec_capacity};
@@ -15,10 +16,11 @@ use ring_session::{Answer, TicketAnswer};
 use std::alloc::Allocator;
 use std::mem;
 
-/// Records the answers of a node's step in `told`, and the replies among them in `history`, both in order. It takes the
-/// answers out of `answers`, and the second copies of their calls out of `spares`.
-/// The caller has made room for as many reports and items as there are answers, and `spares` has a copy of each
-/// answered call. So it takes no memory. Usually there is no answer.
+/// Records the answers of a node's step in `told`, and the replies among them in `history`, both in order.
+///
+/// Takes the answers out of `answers`, and the second copies of their calls out of `spares`, which must have a copy of
+/// each answered call. `told` and `history` must have room for as many entries as there are answers. Does not allocate.
+///
 /// Rules: The book and the threads 5; Sessions 9
 pub(crate) fn record_answers<A: Allocator + Copy>(
     alloc: A,
@@ -41,7 +43,10 @@ pub(crate) fn record_answers<A: Allocator + Copy>(
     }
 }
 
-/// Records these answers. A function of its own keeps the large stack slot of an answer and its call out of the caller.
+/// Records these answers.
+///
+/// A function of its own keeps the large stack slot of an answer and its call out of the caller, which mostly has no
+/// answers.
 #[inline(never)]
 fn record_all<A: Allocator + Copy>(
     told: &mut Vec<Told<A>, A>,
@@ -86,7 +91,7 @@ fn record_answer<A: Allocator + Copy>(
     told.push_reserved(Told::Answer(node, answered.call, answered.answer));
 }
 
-/// Adds the answer's reply to the history, if it has one.
+/// Appends the answer's reply to the history, if it has one.
 fn reply<A: Allocator + Copy>(history: &mut Vec<Item<A>, A>, call: Call<A>, answer: &Answer)
     requires { vec_len history.old + 1 ≤ vec_capacity history.old }
     ensures items { history.new.items ≡ history.old.items ++ reply_items call (reply_in answer.now) }

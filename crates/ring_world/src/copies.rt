@@ -10,9 +10,12 @@ use ring_node_spec::{Event, Item, Told};
 use ring_order_proof::fit_laws::call_keeps_law;
 use std::alloc::Allocator;
 
-/// Returns a copy of the event. A call in it that is within the limits of frames is also within those of snapshots,
-/// which the laws of runs require.
-/// Errors: `Memory` where an allocation fails.
+/// Returns a copy of the event.
+///
+/// If a call in it is within the limits of frames, it can also be encoded in a snapshot, which the laws of runs
+/// require.
+///
+/// Errors: `Memory` if an allocation fails.
 pub(crate) fn copy_event<A: Allocator + Copy>(event: &Event<A>) -> Result<Event<A>, Fault>
     ensures ok { IfOk result (λ copy. copy ≡ event.now) }
     ensures keeps { IfOk result (λ _. EventFits event.now → EventKeeps event.now) }
@@ -26,7 +29,8 @@ pub(crate) fn copy_event<A: Allocator + Copy>(event: &Event<A>) -> Result<Event<
 }
 
 /// Returns a list with copies of the events, in the same order.
-/// Errors: `Memory` where an allocation fails.
+///
+/// Errors: `Memory` if an allocation fails.
 pub(crate) fn copy_events<A: Allocator + Copy>(
     events: &Vec<Event<A>, A>,
 ) -> Result<Vec<Event<A>, A>, Fault>
@@ -38,7 +42,8 @@ pub(crate) fn copy_events<A: Allocator + Copy>(
 }
 
 /// Returns a list with copies of the reports to clients, in the same order.
-/// Errors: `Memory` where an allocation fails.
+///
+/// Errors: `Memory` if an allocation fails.
 pub(crate) fn copy_told<A: Allocator + Copy>(
     told: &Vec<Told<A>, A>,
 ) -> Result<Vec<Told<A>, A>, Fault>
@@ -50,7 +55,8 @@ pub(crate) fn copy_told<A: Allocator + Copy>(
 }
 
 /// Returns a copy of the history: the same items in the same order.
-/// Errors: `Memory` where an allocation fails.
+///
+/// Errors: `Memory` if an allocation fails.
 pub(crate) fn copy_history<A: Allocator + Copy>(
     history: &Vec<Item<A>, A>,
 ) -> Result<Vec<Item<A>, A>, Fault>
@@ -61,7 +67,7 @@ pub(crate) fn copy_history<A: Allocator + Copy>(
     Ok(copies)
 }
 
-/// Law: a call within the limits of frames is within those of snapshots.
+/// States that a call that is within the limits of frames can be encoded in a snapshot.
 fn event_keeps_law<A: Allocator + Copy>(event: &Event<A>)
     ensures { EventFits event.now → EventKeeps event.now }
 {

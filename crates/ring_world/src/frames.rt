@@ -1,4 +1,5 @@
 //! All frames ever sent, stored as bytes.
+//!
 //! Rules: The book and the threads 3 and 4
 //! Formats: Frames
 
@@ -17,10 +18,14 @@ use ring_wire::{Frame, encoding_law, frame_length_law, unique_encoding_law};
 use std::alloc::{AllocError, Allocator, Global};
 use std::marker::{Model, PhantomData};
 
-/// The most frames that one step sends.
+/// The maximum number of frames that one step sends.
+///
+/// Rules: Limits 1
 const FRAMES: usize = 64;
 
-/// All frames ever sent, as contracts see them. No value of this type is made: it exists in ghost values alone.
+/// All frames ever sent, as contracts see them.
+///
+/// No value of this type exists at run time.
 pub(crate) struct SentFrames<A: Allocator + Copy = Global> {
     allocator: PhantomData<A>,
 }
@@ -34,12 +39,12 @@ impl<A: Allocator + Copy> Model for SentFrames<A> {
     ghost view = { λ _. [] };
 }
 
-/// The position of a frame's bytes in the buffer of all frames, with its sender and its receivers.
+/// The position of a frame's bytes in the buffer of all frames, with the frame's sender and receivers.
 #[derive(Clone, Copy)]
 pub(crate) struct FramePosition {
     /// The index of the frame's first byte, counted from 0.
     pub(crate) start: usize,
-    /// The index behind the frame's last byte.
+    /// The index after the frame's last byte.
     pub(crate) end: usize,
     /// The processor that sent the frame.
     pub(crate) from: Proc,
@@ -48,7 +53,9 @@ pub(crate) struct FramePosition {
 }
 
 /// All frames ever sent, numbered from 1: their encodings one after another, and the position of each.
+///
 /// Contracts see the frames with their senders and receivers, and the room that is left.
+///
 /// Rules: The book and the threads 3
 /// Formats: Frames
 #[derive(Drop)]
@@ -70,7 +77,9 @@ impl<A: Allocator + Copy> Model for Frames<A> {
 }
 
 impl<A: Allocator + Copy> Frames<A> {
-    /// Returns a store without frames. It takes no memory.
+    /// Returns a store without frames.
+    ///
+    /// Does not allocate.
     pub(crate) fn new(alloc: A) -> Frames<A>
         ensures { result.frames ≡ [] }
     {
@@ -90,8 +99,10 @@ impl<A: Allocator + Copy> Frames<A> {
     }
 
     /// Makes room for the frames of one step: 64, each of at most 8,192 bytes.
-    /// New room is cleared, so no more than this is requested; the byte buffer itself grows to twice its length.
-    /// Errors: `Memory`; the frames are unchanged.
+    ///
+    /// New capacity is cleared, so no more than this is requested. The byte buffer doubles by itself.
+    ///
+    /// Errors: `Memory` if an allocation fails; the frames are unchanged.
     pub(crate) fn make_room(&mut self) -> Result<(), Fault>
         ensures frames { self.new.frames ≡ self.old.frames }
         ensures room { OnOk result (HasRoom 64 self.new) }
@@ -105,8 +116,10 @@ impl<A: Allocator + Copy> Frames<A> {
         Ok(())
     }
 
-    /// Adds a frame at the end, under the next number, with its sender and its receivers.
-    /// The frame is within the limits of frames, and the caller has made room for it. So it takes no memory.
+    /// Appends a frame, under the next number, with its sender and its receivers.
+    ///
+    /// The frame must be within the limits of its format, and there must be room for it. Does not allocate.
+    ///
     /// Rules: The book and the threads 3
     pub(crate) fn keep(&mut self, from: Proc, to: ProcSet, frame: &Frame<A>)
         requires fits { FrameFits frame.now }
@@ -129,9 +142,13 @@ impl<A: Allocator + Copy> Frames<A> {
         });
     }
 
-    /// Decodes the frame of this number into `place`, over what is there, if it was sent to this processor. Returns
-    /// whether it was. Numbers count from 1; one that no frame has gives false.
-    /// Errors: `Memory`, and no other; the content of `place` is then unspecified.
+    /// Decodes frame `number` into `place` if it was sent to `node`, and returns whether it was.
+    ///
+    /// Frames are numbered from 1. Returns false for a number that no frame has. The frame that was in `place` is
+    /// overwritten.
+    ///
+    /// Errors: only `Memory`, if an allocation fails; the contents of `place` are then unspecified.
+    ///
     /// Rules: The book and the threads 3 and 4
     pub(crate) fn read_to(
         &self,
@@ -156,6 +173,7 @@ impl<A: Allocator + Copy> Frames<A> {
     }
 
     /// Returns the encodings of all frames, one after another, in the order sent.
+    ///
     /// Formats: Frames
     pub(crate) fn text(&self) -> &[u8]
         ensures { result.now ≡ text_of self.now.frames }
@@ -163,7 +181,10 @@ impl<A: Allocator + Copy> Frames<A> {
         self.bytes.as_slice()
     }
 
-    /// Returns the sender and the receivers of the frame of this number, counted from 1, or `None` if no frame has it.
+    /// Returns the sender and the receivers of frame `number`, or `None` if no frame has this number.
+    ///
+    /// Frames are numbered from 1.
+    ///
     /// Rules: The book and the threads 3 and 8
     pub(crate) fn ends(&self, number: u64) -> Option<(Proc, ProcSet)>
         ensures { result ≡ option_map (λ (f : Transmission A). (f.from, f.to)) (frame_at self.now.frames number) }
@@ -188,7 +209,7 @@ impl<A: Allocator + Copy> Clone for Frames<A> {
     }
 }
 
-/// Returns the position of the frame of this number, counted from 1.
+/// Returns the position of frame `number`, counted from 1, or `None` if no frame has this number.
 fn position_at(positions: &[FramePosition], number: u64) -> Option<FramePosition>
     ensures { result ≡ position_at positions.now number }
 {
@@ -198,7 +219,7 @@ fn position_at(positions: &[FramePosition], number: u64) -> Option<FramePosition
     positions.get((number - 1) as usize).copied()
 }
 
-/// Returns the position if its frame was sent to this processor.
+/// Returns the position if its frame was sent to `node`.
 fn position_for(mark: Option<FramePosition>, node: Proc) -> Option<FramePosition>
     ensures { result ≡ position_for node mark }
 {
@@ -214,7 +235,9 @@ fn position_for(mark: Option<FramePosition>, node: Proc) -> Option<FramePosition
     }
 }
 
-/// Decodes the frame at this position into `place`. If the bytes there encode a frame, `Memory` is the only refusal.
+/// Decodes the frame at this position into `place`.
+///
+/// Errors: only `Memory`, if the bytes there encode a frame.
 fn decode<A: Allocator + Copy>(
     alloc: A,
     bytes: &[u8],

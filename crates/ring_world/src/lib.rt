@@ -1,5 +1,6 @@
-//! A world: all nodes of a group, every frame that they sent and the history, in one value that one thread runs event by
-//! event.
+//! A world: all nodes of a group, every frame that they sent and the history, in one value that one thread runs.
+//!
+//! Rules: The book and the threads 1 to 8
 #![tactic(auto)]
 
 mod answer_records;

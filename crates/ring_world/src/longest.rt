@@ -1,4 +1,7 @@
-//! The longest committed log of all nodes, from its beginning. Nodes drop places, and the world keeps them.
+//! The longest committed log of all nodes, from its beginning.
+//!
+//! Nodes drop places, but the world keeps them.
+//!
 //! Rules: The book and the threads 8; Sessions 10
 
 ghost use Rattle.std.specs.Prelude.{◌≡◌, ℕ, ◌-◌, ◌<◌, true, [], ◌++◌, List, length, take, OnOk, IfOk, IfErr};
@@ -14,8 +17,9 @@ use std::alloc::{AllocError, Allocator, Global};
 use std::marker::Model;
 use std::mem;
 
-/// The calls that a step newly committed, and the index of the first that no node had committed before. Contracts see
-/// those from this index on.
+/// The calls that a step newly committed, and the index of the first one that no node had committed before.
+///
+/// Contracts see the calls from that index on.
 #[derive(Drop)]
 struct CommittedCalls<A: Allocator + Copy = Global> {
     calls: Vec<Call<A>, A>,
@@ -53,8 +57,10 @@ impl<A: Allocator + Copy> Clone for CommittedCalls<A> {
     }
 }
 
-/// The longest committed log of all nodes, in segments as steps committed them. Contracts see the calls, and the number
-/// of segments that there is still room for.
+/// The longest committed log of all nodes, in segments as steps committed them.
+///
+/// Contracts see the calls, and how many more segments there is room for.
+///
 /// Rules: The book and the threads 8; Sessions 10
 #[derive(Drop)]
 pub(crate) struct LongestCommitted<A: Allocator + Copy = Global> {
@@ -75,7 +81,9 @@ impl<A: Allocator + Copy> Model for LongestCommitted<A> {
 }
 
 impl<A: Allocator + Copy> LongestCommitted<A> {
-    /// Returns the log of a world in which nothing is committed. It takes no memory.
+    /// Returns the log of a world in which nothing has been committed.
+    ///
+    /// Does not allocate.
     pub(crate) fn new(alloc: A) -> LongestCommitted<A>
         ensures { result.calls ≡ [] }
     {
@@ -85,15 +93,16 @@ impl<A: Allocator + Copy> LongestCommitted<A> {
         }
     }
 
-    /// Returns whether there is room for the commits of one more step: for one more segment.
+    /// Returns whether there is room for one more segment, which is what one step commits at most.
     pub(crate) fn has_room(&self) -> bool
         ensures { result ≡ true → 0 < self.now.places }
     {
         self.segments.len() < self.segments.capacity()
     }
 
-    /// Makes room for the commits of one more step: for one more segment.
-    /// Errors: `Memory` where an allocation fails; the calls are unchanged.
+    /// Makes room for one more segment, which is what one step commits at most.
+    ///
+    /// Errors: `Memory` if an allocation fails; the calls are unchanged.
     pub(crate) fn make_room(&mut self) -> Result<(), Fault>
         ensures calls { self.new.calls ≡ self.old.calls }
         ensures room { OnOk result (0 < self.new.places) }
@@ -103,10 +112,13 @@ impl<A: Allocator + Copy> LongestCommitted<A> {
         Ok(())
     }
 
-    /// Adds the calls that a step newly committed, and takes them out of `calls`. Calls whose places are in the log
-    /// already are left out.
-    /// `committed` is the committed length of the step's node after the step, dropped places included. The caller has
-    /// made room, so it takes no memory. Usually nothing is committed.
+    /// Appends the calls that a step newly committed, except those whose places are in the log already.
+    ///
+    /// Empties `calls`.
+    ///
+    /// `committed` is the committed length of the step's node after the step, including dropped places. There must be
+    /// room for a segment. Does not allocate.
+    ///
     /// Rules: The replicated log 12
     pub(crate) fn add(&mut self, alloc: A, committed: u64, calls: &mut Vec<Call<A>, A>)
         requires { 0 < self.old.places }
@@ -118,7 +130,9 @@ impl<A: Allocator + Copy> LongestCommitted<A> {
         }
     }
 
-    /// Adds these calls. A function of its own keeps the large stack slot of a segment out of the caller.
+    /// Appends these calls, of which there is at least one.
+    ///
+    /// A function of its own keeps the large stack slot of a segment out of the caller, which mostly has no calls.
     #[inline(never)]
     fn add_all(&mut self, committed: u64, calls: Vec<Call<A>, A>)
         requires { 0 < self.old.places }
@@ -135,8 +149,10 @@ impl<A: Allocator + Copy> LongestCommitted<A> {
         }
     }
 
-    /// Returns copies of the log's first `many` calls, or of all if there are fewer, repeats included.
-    /// Errors: `Memory` where an allocation fails.
+    /// Returns copies of the first `many` calls of the log, including repeats, or of all if there are fewer.
+    ///
+    /// Errors: `Memory` if an allocation fails.
+    ///
     /// Rules: The book and the threads 8
     pub(crate) fn first(&self, alloc: A, many: u64) -> Result<Vec<Call<A>, A>, Fault>
         ensures ok { IfOk result (λ copies. copies.items ≡ take many self.now.calls) }
@@ -146,8 +162,10 @@ impl<A: Allocator + Copy> LongestCommitted<A> {
         copy_first(alloc, &self.segments, many as usize, room)
     }
 
-    /// Returns copies of the calls that take effect, in order, repeats removed.
-    /// Errors: `Memory` where an allocation fails.
+    /// Returns copies of the calls that take effect, in order, with repeats removed.
+    ///
+    /// Errors: `Memory` if an allocation fails.
+    ///
     /// Rules: Sessions 6 and 10
     pub(crate) fn order(&self, alloc: A) -> Result<Vec<Call<A>, A>, Fault>
         ensures ok { IfOk result (λ order. order.items ≡ deduplicated self.now.calls) }
@@ -170,7 +188,8 @@ impl<A: Allocator + Copy> Clone for LongestCommitted<A> {
 }
 
 /// Returns a copy of the first `many` calls of the segments, in a list with capacity `room`.
-/// Errors: `Memory`.
+///
+/// Errors: `Memory` if an allocation fails.
 fn copy_first<A: Allocator + Copy>(
     alloc: A,
     segments: &[CommittedCalls<A>],
@@ -188,7 +207,8 @@ fn copy_first<A: Allocator + Copy>(
 }
 
 /// Returns the calls of the segments that take effect, in order.
-/// Errors: `Memory`.
+///
+/// Errors: `Memory` if an allocation fails.
 fn order_of<A: Allocator + Copy + Drop>(
     alloc: A,
     segments: &[CommittedCalls<A>],
@@ -203,8 +223,9 @@ fn order_of<A: Allocator + Copy + Drop>(
     Ok(effects.into_calls())
 }
 
-/// Appends copies of the calls until the list has `many`.
-/// Errors: `Memory`.
+/// Appends copies of the calls, in order, until the list has `many` calls.
+///
+/// Errors: `Memory` if an allocation fails.
 fn copy_upto<A: Allocator + Copy>(
     copies: &mut Vec<Call<A>, A>,
     calls: &[Call<A>],

@@ -1,4 +1,5 @@
 //! The copies that frames open: one for each receiver, ordered by the frame's number, then by receiver.
+//!
 //! Formats: Pump
 
 ghost use Rattle.std.specs.Prelude.{◌≡◌, ◌+◌, true, false, IsTrue, slice_get};
@@ -10,25 +11,29 @@ use ring_base::{Proc, ProcSet};
 use ring_object::Object;
 
 /// A copy of a frame on its way from its sender to one of its receivers, which may be the sender itself.
+///
 /// Formats: Pump
 #[derive(Clone, Copy)]
 pub struct OpenCopy {
-    /// The frame's number, counted from 1 in the order sent.
+    /// The frame's number, counted from 1 in the order of sending.
     pub frame: u64,
     /// The processor that sent the frame.
     pub sender: Proc,
-    /// The processor to which this copy goes, one of the frame's receivers.
+    /// The processor to which this copy goes.
     pub receiver: Proc,
 }
 
-/// The set of open copies: some copies of one frame, and all copies of every later frame. It takes no memory.
+/// The set of open copies: some copies of one frame, and all copies of every later frame.
+///
+/// It needs no allocation.
+///
 /// Formats: Pump
 #[derive(Clone, Copy)]
 pub(crate) struct OpenCopies {
-    /// The number of the frame that has some copies open; 0 before the first.
+    /// The number of the frame that the set has reached, of which some copies are open, or 0 before the first frame.
     frame: u64,
     sender: Proc,
-    /// The receivers whose copies of it are open.
+    /// The receivers whose copies of that frame are open.
     left: ProcSet,
 }
 
@@ -44,8 +49,12 @@ impl OpenCopies {
         }
     }
 
-    /// Returns the first open copy of the world's frames, or `None` if none is open. The set is unchanged.
-    /// The world has sent the frame that the set has reached.
+    /// Returns the first open copy of the world's frames, or `None` if none is open.
+    ///
+    /// The set is unchanged.
+    ///
+    /// The world must have sent the frame that the set has reached.
+    ///
     /// Formats: Pump
     pub(crate) fn first<O: Object>(&self, world: &World<O>) -> Option<OpenCopy>
         requires { IsReached self.now (frames_of O.sequential world.now) }
@@ -56,7 +65,9 @@ impl OpenCopies {
     }
 
     /// Closes the first open copy of the world's frames and returns it, or returns `None` if none is open.
-    /// The world has sent the frame that the set has reached. Frames without receivers are passed over.
+    ///
+    /// The world must have sent the frame that the set has reached. Frames without receivers are skipped.
+    ///
     /// Formats: Pump
     pub(crate) fn close_first_copy<O: Object>(&mut self, world: &World<O>) -> Option<OpenCopy>
         requires { IsReached self.old (frames_of O.sequential world.now) }
@@ -77,7 +88,9 @@ impl OpenCopies {
         })
     }
 
-    /// Advances to the next frame; no copy of the present one is open. Returns whether there is a next frame.
+    /// Advances to the next frame.
+    ///
+    /// Returns false if there is none. No copy of the present frame may be open.
     fn advance<O: Object>(&mut self, world: &World<O>) -> bool
         requires none { self.old.left ≡ nobody }
         requires reached { IsReached self.old (frames_of O.sequential world.now) }

@@ -1,4 +1,5 @@
-//! A world together with the copies of its frames that are not yet delivered or lost.
+//! A world with the copies of its frames that are neither delivered nor lost.
+//!
 //! Formats: Pump
 
 ghost use Rattle.std.specs.Prelude.{◌≡◌, OnOk, OnErr, IfOk, IfErr, slice_get};
@@ -15,10 +16,12 @@ use ring_object::Object;
 use std::alloc::Allocator;
 use std::marker::Model;
 
-/// A world, and the open copies of its frames: those that are neither delivered nor lost yet.
+/// A world, and the open copies of its frames, which are those that are neither delivered nor lost yet.
+///
 /// A frame that is sent opens one copy for each of its receivers, and each copy is closed once. Copies close in the
-/// order of their frames, and of one frame in the order of their receivers. The caller decides whether a closed copy is
-/// delivered or lost. Contracts see a `PumpView`.
+/// order of their frames, and within a frame in the order of their receivers. The caller decides whether a closed copy
+/// is delivered or lost. Contracts see a `PumpView`.
+///
 /// Formats: Pump
 #[derive(Drop)]
 pub struct Pump<O: Object> {
@@ -39,7 +42,10 @@ impl<O: Object> Model for Pump<O> {
 
 impl<O: Object> Pump<O> {
     /// Returns a pump of the world in which all copies of all frames sent so far are open, one for each receiver of a
-    /// frame. A copy is also open where an event of the world has delivered its frame already.
+    /// frame.
+    ///
+    /// A copy is open even if an event of the world has already delivered its frame to this receiver.
+    ///
     /// Formats: Pump
     pub fn new(world: World<O>) -> Pump<O>
         ensures { result ≡ record { world_view = world; open_copies = all_copies (frames_of O.sequential world) } }
@@ -48,8 +54,9 @@ impl<O: Object> Pump<O> {
         Pump { world, open_copies }
     }
 
-    /// Returns a second pump with an equal world and the same open copies. The two then run independently.
-    /// Errors: `Memory` where an allocation fails; this pump is unchanged.
+    /// Returns a copy of the pump, with an equal world and the same open copies, that runs independently of this one.
+    ///
+    /// Errors: `Memory` if an allocation fails; this pump is unchanged.
     pub fn copy(&self) -> Result<Pump<O>, Fault>
         ensures ok { IfOk result (λ copy. copy ≡ self.now) }
         ensures refused { IfErr result (λ fault. fault ≡ Memory) }
@@ -61,7 +68,8 @@ impl<O: Object> Pump<O> {
         })
     }
 
-    /// Returns the world, as it is after the events that were run so far.
+    /// Returns the world, after the events that have been run so far.
+    ///
     /// Rules: The book and the threads 1 and 8
     pub fn world(&self) -> &World<O>
         ensures { result.now ≡ self.now.world_view }
@@ -69,11 +77,14 @@ impl<O: Object> Pump<O> {
         &self.world
     }
 
-    /// Runs one event in the world, and opens a copy for each receiver of each frame that the event's step sends. No
-    /// copy is closed, also where the event delivers its frame.
-    /// A call in the event is within the limits of frames, as every call made by `Call::new` is. A step that was
-    /// refused memory isn't an error: its node has stopped, and the world has the event as `Stop`.
-    /// Errors: `Memory` where the world itself was refused memory for its records; then nothing has changed.
+    /// Runs one event in the world, and opens a copy for each receiver of each frame that the event's step sends.
+    ///
+    /// No copy is closed, even if the event delivers its frame. A call in the event must be within the limits of a
+    /// call, as every one from `Call::new` is. If an allocation fails in the step itself, that isn't an error: the node
+    /// has stopped, and the world records the event as `Stop`.
+    ///
+    /// Errors: `Memory` if an allocation for the world's records fails; nothing has then changed.
+    ///
     /// Rules: The book and the threads 2, 4 and 7
     pub fn run_event(&mut self, event: Event<O::Alloc>) -> Result<(), Fault>
         requires { EventFits event }
@@ -84,8 +95,12 @@ impl<O: Object> Pump<O> {
         self.world.run_one(&event)
     }
 
-    /// Returns the first open copy, or `None` if none is open: of the frame that was sent first, the copy to the
-    /// smallest receiver. The copy stays open.
+    /// Returns the first open copy, or `None` if none is open.
+    ///
+    /// The copy stays open.
+    ///
+    /// Of the frame that was sent first, it is the copy to the smallest receiver.
+    ///
     /// Formats: Pump
     pub fn first_open_copy(&self) -> Option<OpenCopy>
         ensures { result ≡ slice_get self.now.open_copies 0 }
@@ -93,8 +108,10 @@ impl<O: Object> Pump<O> {
         self.open_copies.first(&self.world)
     }
 
-    /// Closes the first open copy and returns it, or returns `None` if none is open. The world is unchanged: the caller
-    /// delivers the copy by a `Deliver` event, or lets it be lost.
+    /// Closes the first open copy and returns it, or returns `None` if none is open.
+    ///
+    /// The world is unchanged: the caller delivers the copy by a `Deliver` event, or lets it be lost.
+    ///
     /// Formats: Pump
     pub fn close_first_copy(&mut self) -> Option<OpenCopy>
         ensures takes { IsFirstCopyTaken self.old.open_copies result self.new.open_copies }

@@ -1,4 +1,5 @@
-//! Finds the node that an event stopped because its step was refused memory.
+//! Which node an event stopped because an allocation failed in its step.
+//!
 //! Rules: The book and the threads 7; Refusals 6
 
 ghost use Rattle.std.specs.Prelude.{◌≡◌, ◌↔◌, ℕ, Some, [], ◌∷◌};
@@ -13,11 +14,12 @@ use ring_object::Object;
 use std::alloc::Allocator;
 
 impl<O: Object> World<O> {
-    /// Returns the node that the event stopped because its step was refused memory, or `None` if it stopped none that
-    /// way.
-    /// `event` is the one that `run_one`, or `run` of this event alone, has just run with Ok. Only a delivery and a
-    /// timeout can give a node: a `Stop` event stops its node on request. `stopped_for_memory_law` states that the
-    /// result is exact.
+    /// Returns the node that the event stopped because an allocation failed in its step, or `None` if there is none.
+    ///
+    /// `event` must be the one that `run_one`, or `run` of only this event, has just run with Ok. Only a delivery and a
+    /// timeout can stop a node in this way: a `Stop` event stops its node on request. `stopped_for_memory_law` states
+    /// that the result is exact.
+    ///
     /// Rules: The book and the threads 7; Refusals 6
     pub fn stopped_for_memory(&self, event: &Event<O::Alloc>) -> Option<Proc>
         ensures { result ≡ stopped_for_memory event.now self.now.events }
@@ -39,9 +41,12 @@ fn last_stop<A: Allocator + Copy>(events: &[Event<A>]) -> Option<Proc>
     }
 }
 
-/// States, for every object, every event, every node and every two worlds, when `World::stopped_for_memory` returns the
-/// node. The second world is the one after a run of this event alone from the first. The call returns the node exactly
-/// where the step that the event asks of it was refused memory.
+/// States when `World::stopped_for_memory` returns a node: exactly if an allocation failed in the step that the event
+/// requires.
+///
+/// This holds for every object, every event, every node and every two worlds, the second of which is the first after a
+/// run of only this event.
+///
 /// Rules: The book and the threads 7; Refusals 6
 pub fn stopped_for_memory_law<O: Object>()
     ensures { (e : OneEvent O.Alloc) (p q : WorldView O.Alloc) (node : ℕ) → IsRunOfEvents O.sequential (e ∷ []) p q

@@ -1,4 +1,5 @@
 //! The record of a run: its events and everything that they produced.
+//!
 //! Rules: The book and the threads 1, 3, 5 and 7
 
 ghost use Rattle.std.specs.Prelude.{◌≡◌, ◌+◌, ◌<◌, ◌≤◌, [], vec_len, vec_capacity, IfOk, IfErr, OnOk};
@@ -15,10 +16,13 @@ use std::alloc::Allocator;
 
 /// The record of a run: its events, the reports to clients, the history, the frames sent, and the longest committed
 /// log.
+///
 /// Rules: The book and the threads 1, 3, 5 and 7
 #[derive(Drop)]
 pub(crate) struct RunRecord<A: Allocator + Copy> {
-    /// All events since the opening, in order. A step that was refused memory is there as `Stop`.
+    /// All events since the opening, in order.
+    ///
+    /// A step in which an allocation failed is recorded as `Stop`.
     pub events: Vec<Event<A>, A>,
     /// The answers and the refused submits, in the order of events.
     pub told: Vec<Told<A>, A>,
@@ -31,7 +35,9 @@ pub(crate) struct RunRecord<A: Allocator + Copy> {
 }
 
 impl<A: Allocator + Copy> RunRecord<A> {
-    /// Returns the record of a world at its opening: all of it is empty. It takes no memory.
+    /// Returns the empty record of a world at its opening.
+    ///
+    /// Does not allocate.
     pub fn new(alloc: A) -> RunRecord<A>
         ensures events { result.events.items ≡ [] }
         ensures told { result.told.items ≡ [] }
@@ -48,8 +54,9 @@ impl<A: Allocator + Copy> RunRecord<A> {
         }
     }
 
-    /// Returns a copy of the record. The two then change independently.
-    /// Errors: `Memory` where an allocation fails; this record is unchanged.
+    /// Returns a copy of the record, which changes independently of this one.
+    ///
+    /// Errors: `Memory` if an allocation fails; this record is unchanged.
     pub fn copy(&self) -> Result<RunRecord<A>, Fault>
         ensures events { IfOk result (λ copy. copy.events.items ≡ self.now.events.items) }
         ensures told { IfOk result (λ copy. copy.told.items ≡ self.now.told.items) }
@@ -67,9 +74,13 @@ impl<A: Allocator + Copy> RunRecord<A> {
         })
     }
 
-    /// Makes room for all that one event adds: one event, 64 reports, 64 items of the history, 64 frames and one
-    /// segment of the longest log. Usually there is room already.
-    /// Errors: `Memory` where an allocation fails; the contents are unchanged.
+    /// Makes room for all that one event adds: an event, 64 reports, 64 items of the history, 64 frames and one segment
+    /// of the log.
+    ///
+    /// Mostly there is room already.
+    ///
+    /// Errors: `Memory` if an allocation fails; the contents are unchanged.
+    ///
     /// Rules: The book and the threads 7
     pub fn make_room(&mut self) -> Result<(), Fault>
         ensures events { self.new.events.items ≡ self.old.events.items }

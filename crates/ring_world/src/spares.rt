@@ -1,4 +1,4 @@
-//! Second copies of the calls whose tickets wait for an answer, so that recording an answer takes no memory.
+//! Second copies of the calls whose tickets wait for an answer, so that recording an answer doesn't allocate.
 
 ghost use Rattle.std.specs.Prelude.{◌≡◌, ℕ, ◌+◌, ◌<◌, [], ◌∷◌, ◌++◌, Some, OnOk, IfErr};
 ghost use Rattle.ring_base.specs.declared.fault.Fault.TheVariants.{Memory};
@@ -11,8 +11,10 @@ use ring_session::Ticket;
 use std::alloc::{AllocError, Allocator, Global};
 use std::marker::Model;
 
-/// The second copies of the calls that were submitted at one node, by ticket, counted from 0. The copy of a ticket is
-/// taken out when the ticket is answered.
+/// The second copies of the calls that were submitted at one node, by ticket, counted from 0.
+///
+/// A ticket's copy is taken out when the ticket is answered.
+///
 /// Rules: The replicated log 13 and 14
 #[derive(Drop)]
 pub(crate) struct SpareCalls<A: Allocator + Copy = Global> {
@@ -29,7 +31,9 @@ impl<A: Allocator + Copy> Model for SpareCalls<A> {
 }
 
 impl<A: Allocator + Copy> SpareCalls<A> {
-    /// Returns the list of a node that has given no ticket yet. It takes no memory.
+    /// Returns the list of a node that has given no ticket yet.
+    ///
+    /// Does not allocate.
     pub(crate) fn new(alloc: A) -> SpareCalls<A>
         ensures { result.calls ≡ [] }
     {
@@ -39,7 +43,8 @@ impl<A: Allocator + Copy> SpareCalls<A> {
     }
 
     /// Makes room for the copy of one more ticket's call.
-    /// Errors: `Memory` where an allocation fails; the copies are unchanged.
+    ///
+    /// Errors: `Memory` if an allocation fails; the copies are unchanged.
     pub(crate) fn make_room(&mut self) -> Result<(), Fault>
         ensures calls { self.new.calls ≡ self.old.calls }
         ensures room { OnOk result (0 < self.new.places) }
@@ -49,7 +54,9 @@ impl<A: Allocator + Copy> SpareCalls<A> {
         Ok(())
     }
 
-    /// Adds a copy of the call of the next ticket, at the end. The caller has made room for it, so it takes no memory.
+    /// Appends a copy of the next ticket's call.
+    ///
+    /// There must be room for it. Does not allocate.
     pub(crate) fn add(&mut self, call: Call<A>)
         requires { 0 < self.old.places }
         ensures { self.new.calls ≡ self.old.calls ++ Some call ∷ [] }
@@ -57,8 +64,10 @@ impl<A: Allocator + Copy> SpareCalls<A> {
         self.calls.push_reserved(Some(call));
     }
 
-    /// Takes out and returns the copy of this ticket's call. The ticket still has a copy, and `call` equals it: only
-    /// the contract uses `call`. The other tickets keep their copies.
+    /// Takes out and returns the copy of this ticket's call.
+    ///
+    /// The ticket must still have a copy, equal to `call`, which only the contract uses. The other tickets keep their
+    /// copies.
     pub(crate) fn take(&mut self, ticket: Ticket, call: &Call<A>) -> Call<A>
         requires { HasCopy self.old.calls ticket call.now }
         ensures call { result ≡ call.now }

@@ -1,4 +1,5 @@
 //! The world: all nodes, the events that they handled, and the reports to clients.
+//!
 //! Rules: The book and the threads 1 to 8 and 36; Sessions 9 to 11; Outputs 11
 
 ghost use Rattle.std.specs.Prelude.{◌≡◌, ℕ, true, [], ◌∷◌, ◌++◌, ◌+◌, ◌<◌, ◌≤◌, ◌^◌, List, length, map, take, vec_len};
@@ -50,13 +51,17 @@ use ring_wire::Frame;
 use std::alloc::Allocator;
 use std::marker::Model;
 
-/// A world: all nodes of a group, each at its opening at first, all frames sent, the history, and the list of events.
+/// A world: all nodes of a group, from their opening on, all frames sent, the history, and the list of events.
+///
 /// Contracts see its group, its events since the opening and the reports to clients.
+///
 /// Rules: The book and the threads 1
 #[derive(Drop)]
 pub struct World<O: Object> {
     alloc: O::Alloc,
     fixed: Fixed,
+    /// The nodes.
+    ///
     /// Processor i is at index i - 1.
     nodes: Vec<Node<O>, O::Alloc>,
     /// For each node, the second copies of the calls whose tickets wait for an answer.
@@ -66,10 +71,12 @@ pub struct World<O: Object> {
     buffers: StepBuffers<O::Alloc>,
 }
 
-/// Buffers that are used again from step to step.
+/// Buffers that are reused from step to step.
 #[derive(Drop)]
 struct StepBuffers<A: Allocator + Copy> {
-    /// The frame that was read last; the next one is read over it.
+    /// The frame that was decoded last.
+    ///
+    /// The next one overwrites it.
     place: Option<Frame<A>>,
     /// The lists that a node fills with the outputs of a step.
     outs: Outs<A>,
@@ -88,8 +95,10 @@ impl<O: Object> Model for World<O> {
 }
 
 impl<O: Object> World<O> {
-    /// Returns the world of this group at its opening: each node is at its opening, and no event has happened.
-    /// Errors: `Memory` where an allocation fails.
+    /// Returns the world of a group at its opening: each node is at its opening, and no event has happened.
+    ///
+    /// Errors: `Memory` if an allocation fails.
+    ///
     /// Rules: The book and the threads 1; Rings and states 5
     pub fn new(alloc: O::Alloc, fixed: Fixed) -> Result<World<O>, Fault>
         ensures ok { IfOk result (λ world. world ≡ opening_world_view fixed) }
@@ -109,9 +118,13 @@ impl<O: Object> World<O> {
         })
     }
 
-    /// Returns a second world with the same events, history and nodes. The two then run independently, so a caller can
-    /// try events on the copy.
-    /// Errors: `Memory` where an allocation fails; this world is unchanged.
+    /// Returns a copy with the same events, history and nodes, which runs independently of this world.
+    ///
+    /// So a caller can try events on the copy.
+    ///
+    /// Errors: `Memory` if an allocation fails; this world is unchanged.
+    ///
+    /// Rules: Objects 3; Sessions 12
     pub fn copy(&self) -> Result<World<O>, Fault>
         ensures ok { IfOk result (λ copy. copy ≡ self.now) }
         ensures refused { IfErr result (λ fault. fault ≡ Memory) }
@@ -131,13 +144,17 @@ impl<O: Object> World<O> {
     }
 
     /// Runs the events in order, after those that were run before.
-    /// The calls in them are within the limits of frames, as every call made by `Call::new` is. The room for an event
-    /// is made before its step, so an event is done whole or not at all.
-    /// Ok doesn't mean that no node was refused memory. A node whose step was refused memory has stopped for good, and
-    /// the event is in `events` as `Stop`; `stopped_for_memory` finds it after a run of one event. A submit that was
-    /// refused memory is not in `events`, and `told` has its refusal with number 11.
-    /// Errors: `Memory` where the world itself was refused memory; then `done` returns the number of these events that
-    /// were done, and the world is the one after them.
+    ///
+    /// The calls in them must be within the limits of a call, as every one from `Call::new` is. An event is done whole
+    /// or not at all, since room for it is made before its step.
+    ///
+    /// Ok doesn't mean that no allocation failed in a step. If one did, the node has stopped for good, and `events` has
+    /// the event as `Stop`; `stopped_for_memory` finds it after a run of one event. If one failed in a submit, the
+    /// submit isn't in `events`, and `told` has its refusal with number 11.
+    ///
+    /// Errors: `Memory` if an allocation for the world's records fails. The events before that are done: `done` returns
+    /// their number.
+    ///
     /// Rules: The book and the threads 2 to 4, 6 to 8; Sessions 10 and 11; Outputs 11; Refusals 6
     pub fn run(&mut self, events: &[Event<O::Alloc>]) -> Result<(), Fault>
         requires fit { AllByRecursion EventFits events.now }
@@ -166,9 +183,12 @@ impl<O: Object> World<O> {
         ran
     }
 
-    /// Runs one event, as `run` of this event alone does, except that `done` keeps its value.
-    /// The room for the event is made before its step, so it is done whole or not at all.
-    /// Errors: `Memory` where the world itself was refused memory; then nothing has changed.
+    /// Runs one event, as `run` does, except that `done` keeps its value.
+    ///
+    /// The event is done whole or not at all, since room for it is made before its step.
+    ///
+    /// Errors: `Memory` if an allocation for the world's records fails; nothing has then changed.
+    ///
     /// Rules: The book and the threads 2 to 4, 6 to 8; Sessions 10 and 11; Outputs 11
     pub fn run_one(&mut self, event: &Event<O::Alloc>) -> Result<(), Fault>
         requires fits { EventFits event.now }
@@ -186,9 +206,12 @@ impl<O: Object> World<O> {
         ran
     }
 
-    /// States of this world that its group has at most 16 processors, and that each issued call keeps the limits of
-    /// snapshots. Laws of runs such as `linear_law` require this.
-    /// Rules: Processors and sets 1; Limits 1
+    /// States that this world's group has at most 16 processors, and that each call issued in it is within the limits
+    /// of a call.
+    ///
+    /// So a snapshot can encode the call. Laws of runs, such as `linear_law`, require both.
+    ///
+    /// Rules: Processors and sets 1; Sessions 1 and 12
     pub fn run_law(&self)
         ensures few { self.now.group.count ≤ 16 }
         ensures keep { AllByRecursion EventKeeps self.now.events }
@@ -197,7 +220,9 @@ impl<O: Object> World<O> {
         let _ = &self.alloc;
     }
 
-    /// Runs the events; none of them is done before.
+    /// Runs the events.
+    ///
+    /// `done` must be 0.
     fn run_all(&mut self, events: &[Event<O::Alloc>]) -> Result<(), Fault>
         requires fit { AllByRecursion EventFits events.now }
         requires none { self.old.done ≡ 0 }
@@ -213,7 +238,7 @@ impl<O: Object> World<O> {
         Ok(())
     }
 
-    /// Counts one more done event, of `many`.
+    /// Adds 1 to the number of done events, which must be below `many`.
     fn count(&mut self, many: usize)
         requires { self.old.done < many }
         ensures { self.new ≡ record self.old { done = self.old.done + 1 } }
@@ -221,7 +246,10 @@ impl<O: Object> World<O> {
         self.done += 1;
     }
 
-    /// Returns the number of events that the last `run` did, 0 before any `run`. `run_one` doesn't change it.
+    /// Returns the number of events that the last `run` did, or 0 before the first `run`.
+    ///
+    /// `run_one` doesn't change it.
+    ///
     /// Rules: The book and the threads 8
     pub fn done(&self) -> u64
         ensures { result ≡ self.now.done }
@@ -229,8 +257,10 @@ impl<O: Object> World<O> {
         self.done
     }
 
-    /// Returns all events since the opening. A step that was refused memory is there as `Stop`; a submit that was refused
-    /// memory is left out.
+    /// Returns all events since the opening, in order.
+    ///
+    /// A step in which an allocation failed is there as `Stop`. A submit in which one failed is left out.
+    ///
     /// Rules: The book and the threads 7 and 8
     pub fn events(&self) -> &[Event<O::Alloc>]
         ensures { result.now ≡ self.now.events }
@@ -238,8 +268,10 @@ impl<O: Object> World<O> {
         &self.run_record.events
     }
 
-    /// Returns the reports to clients, in the order of events: the answers and the refused submits.
-    /// Apart from submits that were refused memory, these are the reports of the run of `events`.
+    /// Returns the reports to clients, which are the answers and the refused submits, in the order of events.
+    ///
+    /// Apart from submits in which an allocation failed, these are the reports of the run of `events`.
+    ///
     /// Rules: The book and the threads 5 and 7
     pub fn told(&self) -> &[Told<O::Alloc>]
         ensures told { result.now ≡ self.now.told }
@@ -248,8 +280,10 @@ impl<O: Object> World<O> {
         &self.run_record.told
     }
 
-    /// Returns the history of the run: the issued calls and the replies, in the order of events. A refused submit and
-    /// an answer without a reply are not in it.
+    /// Returns the history of the run: the issued calls and the replies, in the order of events.
+    ///
+    /// A refused submit and an answer without a reply aren't in it.
+    ///
     /// Rules: Sessions 9
     pub fn history(&self) -> &[Item<O::Alloc>]
         ensures { result.now ≡ (world_of O.sequential self.now).history }
@@ -257,20 +291,28 @@ impl<O: Object> World<O> {
         &self.run_record.history
     }
 
-    /// Returns the order: copies of the calls that take effect in the longest committed log of all nodes, stopped ones
-    /// included.
-    /// Errors: `Memory` where an allocation fails.
-    /// Rules: Sessions 10
+    /// Returns the order: copies of the calls that take effect in the longest committed log of all nodes, with repeats
+    /// removed.
+    ///
+    /// Nodes that have stopped are included.
+    ///
+    /// Errors: `Memory` if an allocation fails.
+    ///
+    /// Rules: Sessions 6 and 10
     pub fn order(&self) -> Result<Vec<Call<O::Alloc>, O::Alloc>, Fault>
         ensures ok { IfOk result (λ calls. calls.items ≡ order (world_of O.sequential self.now)) }
         ensures refused { IfErr result (λ fault. fault ≡ Memory) }
     {
-        // A law: no effect at run time. The proof takes from it that the effective calls of the longest log are the order.
+        // A law: no effect at run time. The proof takes from it that the effective calls of the longest log are the
+        // order.
         longest_law::<O>();
         self.run_record.longest.order(self.alloc)
     }
 
-    /// Returns the number of calls in `order`. It takes no memory.
+    /// Returns the number of calls in `order`.
+    ///
+    /// Does not allocate.
+    ///
     /// Rules: Sessions 10
     pub fn order_len(&self) -> u64
         ensures { result ≡ length (order (world_of O.sequential self.now)) }
@@ -281,25 +323,31 @@ impl<O: Object> World<O> {
         max_effects(&self.nodes)
     }
 
-    /// Returns copies of the calls at the committed places of a node of the group, from the log's beginning, repeats
-    /// included.
-    /// Places that the node has dropped are included, and so are those that a restored snapshot replaces.
-    /// Errors: `Memory` where an allocation fails.
+    /// Returns copies of the calls at the committed places of `node`, from the log's beginning, including repeats.
+    ///
+    /// Included are places that the node has dropped, and those that a restored snapshot replaces. `node` must be a
+    /// processor of the group, 1 to N.
+    ///
+    /// Errors: `Memory` if an allocation fails.
+    ///
     /// Rules: The book and the threads 8; The replicated log 16
     pub fn committed(&self, node: Proc) -> Result<Vec<Call<O::Alloc>, O::Alloc>, Fault>
         requires { node ≤ self.now.group.count }
         ensures ok { IfOk result (λ calls. calls.items ≡ committed_of self.now.group (whole_epochs_in (world_of O.sequential self.now) node)) }
         ensures refused { IfErr result (λ fault. fault ≡ Memory) }
     {
-        // A law: no effect at run time. The proof takes from it that a node's committed places are a prefix of the longest
-        // log.
+        // A law: no effect at run time. The proof takes from it that a node's committed places are a prefix of the
+        // longest log.
         longest_law::<O>();
         let place = usize::from(node.number()) - 1;
         let many = self.nodes[place].committed_len();
         self.run_record.longest.first(self.alloc, many)
     }
 
-    /// Returns the node of a processor of the group, 1 to N, as it is after the events that were run so far.
+    /// Returns the node of a processor, after the events that have been run so far.
+    ///
+    /// The processor must be one of the group, 1 to N.
+    ///
     /// Rules: The book and the threads 8
     pub fn node(&self, node: Proc) -> &Node<O>
         requires { node ≤ self.now.group.count }
@@ -308,8 +356,10 @@ impl<O: Object> World<O> {
         &self.nodes[usize::from(node.number()) - 1]
     }
 
-    /// Returns the sender and the receivers of a frame, or `None` if no frame of this number was sent. Frames are
-    /// numbered from 1 in the order sent.
+    /// Returns the sender and the receivers of frame `number`, or `None` if no frame with this number was sent.
+    ///
+    /// Frames are numbered from 1 in the order of sending.
+    ///
     /// Rules: The book and the threads 3 and 8
     pub fn frame(&self, number: u64) -> Option<(Proc, ProcSet)>
         ensures { result ≡ option_map (λ (f : Transmission O.Alloc). (f.from, f.to)) (frame_at (world_of O.sequential self.now).frames number) }
@@ -317,7 +367,8 @@ impl<O: Object> World<O> {
         self.run_record.frames.ends(number)
     }
 
-    /// Returns the encodings of all frames ever sent, one after another in the order sent.
+    /// Returns the encodings of all frames ever sent, one after another in the order of sending.
+    ///
     /// Rules: The book and the threads 3
     /// Formats: Frames
     pub fn sent_text(&self) -> &[u8]
@@ -326,7 +377,8 @@ impl<O: Object> World<O> {
         self.run_record.frames.text()
     }
 
-    /// Returns the group of the world: the number of processors, and their votes.
+    /// Returns the world's group: the number of processors, and their votes.
+    ///
     /// Rules: Processors and sets 1
     pub fn fixed(&self) -> Fixed
         ensures { result ≡ self.now.group }
@@ -353,7 +405,8 @@ impl<O: Object> World<O> {
         }
     }
 
-    /// Adds an event that changes nothing but the list of events.
+    /// Records an event that changes nothing but the list of events.
+    ///
     /// Rules: The book and the threads 4
     fn idle(&mut self, event: &Event<O::Alloc>) -> Result<(), Fault>
         requires fits { EventFits event.now }
@@ -369,9 +422,10 @@ impl<O: Object> World<O> {
         Ok(())
     }
 
-    /// Steps a node on a frame or a timeout.
-    /// Where there is no such node, or the frame was not sent to it, only the list of events changes. A step that was
-    /// refused memory stops the node, and `Stop` is recorded in place of the event.
+    /// Runs a node's step on a frame or a timeout.
+    ///
+    /// If there is no such node, or the frame wasn't sent to it, only the list of events changes. If an allocation
+    /// fails in the step, the node has stopped, and `Stop` is recorded instead of the event.
     fn step(&mut self, node: Proc, event: &Event<O::Alloc>) -> Result<(), Fault>
         requires { stepping_node event.now ≡ Some node }
         ensures ok { OnOk result (IsEventOutcome O.sequential event.now self.old self.new) }
@@ -425,7 +479,9 @@ impl<O: Object> World<O> {
         Ok(())
     }
 
-    /// Stops a node. A node that is not in the group changes nothing.
+    /// Stops a node.
+    ///
+    /// If it isn't in the group, only the list of events changes.
     fn stop(&mut self, node: Proc, event: &Event<O::Alloc>) -> Result<(), Fault>
         requires { event.now ≡ Stop node }
         ensures ok { OnOk result (IsEventOutcome O.sequential event.now self.old self.new) }
@@ -443,7 +499,9 @@ impl<O: Object> World<O> {
         Ok(())
     }
 
-    /// Submits a call at a node. A node that is not in the group changes nothing.
+    /// Submits a call at a node.
+    ///
+    /// If the node isn't in the group, only the list of events changes.
     fn issue(
         &mut self,
         node: Proc,
@@ -493,7 +551,9 @@ struct IssueCopies<A: Allocator + Copy> {
     spare: Call<A>,
 }
 
-/// Returns empty buffers. It takes no memory.
+/// Returns empty buffers.
+///
+/// Does not allocate.
 fn new_buffers<A: Allocator + Copy>(alloc: A) -> StepBuffers<A> {
     StepBuffers {
         place: None,
@@ -502,7 +562,8 @@ fn new_buffers<A: Allocator + Copy>(alloc: A) -> StepBuffers<A> {
 }
 
 /// Returns the nodes at their opening.
-/// Errors: `Memory`.
+///
+/// Errors: `Memory` if an allocation fails.
 fn new_nodes<O: Object>(
     alloc: O::Alloc,
     fixed: Fixed,
@@ -523,7 +584,8 @@ fn new_nodes<O: Object>(
 }
 
 /// Returns copies of the nodes.
-/// Errors: `Memory`.
+///
+/// Errors: `Memory` if an allocation fails.
 fn copy_nodes<O: Object>(
     alloc: O::Alloc,
     nodes: &[Node<O>],
@@ -540,7 +602,8 @@ fn copy_nodes<O: Object>(
 }
 
 /// Returns an empty list of second copies for each of `count` nodes.
-/// Errors: `Memory`.
+///
+/// Errors: `Memory` if an allocation fails.
 fn new_spares<A: Allocator + Copy>(alloc: A, count: u8) -> Result<Vec<SpareCalls<A>, A>, Fault>
     ensures many { IfOk result (λ spares. length spares.items ≡ count) }
     ensures none { IfOk result (λ spares. AllByRecursion (λ (s : ToldSpares A). s.calls ≡ []) spares.items) }
@@ -553,9 +616,11 @@ fn new_spares<A: Allocator + Copy>(alloc: A, count: u8) -> Result<Vec<SpareCalls
     Ok(spares)
 }
 
-/// Reads the frame that the event delivers into `place`.
-/// Returns whether the event is a step of its node: it is for a timeout, and for a frame that was sent to that node.
-/// Errors: `Memory`, and no other.
+/// Decodes the frame that the event delivers into `place`, and returns whether the event is a step of its node.
+///
+/// It is for a timeout, and for a frame that was sent to that node.
+///
+/// Errors: only `Memory`, if an allocation fails.
 fn read_delivered<A: Allocator + Copy>(
     frames: &Frames<A>,
     alloc: A,
@@ -573,7 +638,7 @@ fn read_delivered<A: Allocator + Copy>(
     }
 }
 
-/// Steps the node by the event, with the frame in `place` if the event delivers one.
+/// Runs the node's step on the event, with the frame in `place` if the event delivers one.
 fn step_node<O: Object>(
     node: &mut Node<O>,
     event: &Event<O::Alloc>,
@@ -594,7 +659,9 @@ fn step_node<O: Object>(
     }
 }
 
-/// Steps the node on a timeout. A function of its own keeps the large stack slot of an input out of the caller.
+/// Runs the node's step on a timeout.
+///
+/// A function of its own keeps the large stack slot of an input out of the caller.
 #[inline(never)]
 fn time_out<O: Object>(
     node: &mut Node<O>,
@@ -607,7 +674,8 @@ fn time_out<O: Object>(
 }
 
 /// Returns the copies of an event that issues this call.
-/// Errors: `Memory`.
+///
+/// Errors: `Memory` if an allocation fails.
 fn issue_copies<A: Allocator + Copy>(
     event: &Event<A>,
     call: &Call<A>,
@@ -624,7 +692,9 @@ fn issue_copies<A: Allocator + Copy>(
     Ok(IssueCopies { event, call, spare })
 }
 
-/// Records a submit that the node took. The caller has made room.
+/// Records a submit that the node took.
+///
+/// There must be room.
 fn keep_issue<A: Allocator + Copy>(
     events: &mut Vec<Event<A>, A>,
     history: &mut Vec<Item<A>, A>,
@@ -643,7 +713,9 @@ fn keep_issue<A: Allocator + Copy>(
     spares.add(copies.spare);
 }
 
-/// Stops a node. It takes no memory and has no outputs; a stopped node stays as it is.
+/// Stops a node, without outputs.
+///
+/// A stopped node is unchanged. Does not allocate.
 #[inline(never)]
 fn stop_node<O: Object>(node: &mut Node<O>, outs: &mut Outs<O::Alloc>)
     ensures { node.new ≡ node_stopped node.old }
@@ -651,7 +723,9 @@ fn stop_node<O: Object>(node: &mut Node<O>, outs: &mut Outs<O::Alloc>)
     let _ = node.step_into(&Input::Stop, outs);
 }
 
-/// Records a refused submit, and its event unless the refusal is `Memory`. The caller has made room.
+/// Records a refused submit, and its event unless the refusal is `Memory`.
+///
+/// There must be room.
 fn refuse<A: Allocator + Copy>(
     events: &mut Vec<Event<A>, A>,
     told: &mut Vec<Told<A>, A>,
@@ -675,8 +749,8 @@ fn refuse<A: Allocator + Copy>(
 /// Drops the event.
 fn drop_event<A: Allocator + Copy>(_event: Event<A>) {}
 
-/// Returns the event to record for a refused step: the event itself if the node had already stopped, and `Stop` if memory
-/// was refused.
+/// Returns the event to record for a refused step: itself if the node had already stopped, and `Stop` if an allocation
+/// failed.
 fn event_or_stop<A: Allocator + Copy>(fault: Fault, event: Event<A>, node: Proc) -> Event<A>
     ensures stopped { fault ≡ StoppedFault → result ≡ event }
     ensures memory { ¬ (fault ≡ StoppedFault) → result ≡ Stop node }
@@ -690,9 +764,10 @@ fn event_or_stop<A: Allocator + Copy>(fault: Fault, event: Event<A>, node: Proc)
     }
 }
 
-/// Records the outputs of a node's step: its frames, its answers, and the calls newly committed in any log.
-/// `committed` is the node's committed length after the step. The frames are within their limits, and the caller has made
-/// room.
+/// Records the outputs of a node's step: its frames, its answers, and the newly committed calls.
+///
+/// `committed` is the node's committed length after the step. The frames must be within the limits of their format, and
+/// there must be room.
 fn keep_step<A: Allocator + Copy>(
     alloc: A,
     node: Proc,
@@ -729,7 +804,9 @@ fn keep_step<A: Allocator + Copy>(
         .add(alloc, committed, &mut outs.committed);
 }
 
-/// Records the frames that a node sent. They are within their limits, and the caller has made room.
+/// Records the frames that a node sent.
+///
+/// They must be within the limits of their format, and there must be room.
 fn keep_all<A: Allocator + Copy>(frames: &mut Frames<A>, from: Proc, sends: &[OutgoingFrame<A>])
     requires fit { AllByRecursion (λ (s : OneSent A). FrameFits s.frame) sends.now }
     requires room { HasRoom (length sends.now) frames.old }

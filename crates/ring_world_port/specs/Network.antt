@@ -41,7 +41,7 @@ pub record IsNetworkUnchanged {A : Type 0} (n m : NetworkView A) : Type 0 where
 
 -- ---- the effect of a turn
 
--- a copy is delivered where its sender and its receiver are in the group
+-- a copy is delivered if its sender and its receiver are in the group
 abbrev pub hears : ℕ → ℕ → ℕ → Bool
 hears group sender receiver = has group sender && has group receiver
 
@@ -50,7 +50,8 @@ abbrev pub delivery_event : {A : Type 0} → Bool → OpenCopy → Option (Event
 delivery_event false pair = None
 delivery_event true pair = Some (Deliver pair.receiver pair.frame)
 
--- the kind of timeout for a node in this state: in Gather Join in even rounds and Consensus in odd rounds, else Loss
+-- the kind of timeout for a node in this state: in Gather Join in even rounds and Consensus in odd rounds, otherwise
+-- Loss
 abbrev pub timeout_kind : State → ℕ → Kind
 timeout_kind Gather round = if round % 2 == 0 then Join else Consensus
 timeout_kind Commit round = Loss
@@ -62,7 +63,7 @@ timeout_kind Stopped round = Loss
 abbrev pub timeout_at : {A : Type 0} → World A → ℕ → ℕ → Event A
 timeout_at w i round = Timeout i (timeout_kind (w.nodes i).core.state round)
 
--- the timeout of the group's member whose turn it is, round by round; none where the group has no member
+-- the timeout of the group's member whose turn it is, round by round; none if the group has no member
 abbrev pub timeout_in : {A : Type 0} → World A → ℕ → ℕ → Option (Event A)
 timeout_in w group timeouts = if size group == 0 then None else Some (timeout_at w (at group (timeouts % size group)) (timeouts / size group))
 
@@ -136,7 +137,7 @@ module _ {O : Type 0} (object : Sequential O) where
   abbrev pub IsNotAsked : {A : Type 0} → ℕ → Call A → Fault → Type 0
   IsNotAsked {A} i c fault = (fault ≡ NoAnswer) ⊎ ((n : NetworkView A) × (m : NetworkView A) × IsNotIssued i c n m fault)
 
--- a turn was refused memory: a copy that was closed is lost; where none was open, nothing has changed
+-- an allocation failed in a turn: a copy that was closed is lost; if none was open, nothing has changed
 pub record HasLostTurn {A : Type 0} (n m : NetworkView A) : Type 0 where
   pub rests : IsUnchanged (record (n.pump) { open_copies = drop 1 n.pump.open_copies }) m.pump
   pub group : m.group ≡ n.group

@@ -1,4 +1,5 @@
-//! Finds the answer to a submitted call among the world's reports.
+//! The answer to a submitted call among a world's reports.
+//!
 //! Rules: Clients 8
 
 ghost use Rattle.std.specs.Prelude.{◌≡◌, IfSome};
@@ -12,7 +13,8 @@ use ring_payload::Call;
 use ring_session::Answer;
 use std::alloc::Allocator;
 
-/// A call and the node at which it was submitted, to compare with the world's reports.
+/// A submitted call with the node at which it was submitted, to compare with the world's reports.
+///
 /// Rules: Clients 8
 #[derive(Clone, Copy)]
 pub struct SubmittedCall {
@@ -20,14 +22,14 @@ pub struct SubmittedCall {
     pub node: Proc,
     /// The number of the call's client.
     pub client: u32,
-    /// The number of the call, from 1.
+    /// The call's number, at least 1.
     pub number: u64,
     /// The operation of the call, 0 to 1,024 bytes.
     pub op: Op,
 }
 
 impl SubmittedCall {
-    /// Returns whether this call of this node is the submitted one.
+    /// Returns whether `call` at `node` is the submitted one.
     fn is<A: Allocator + Copy>(&self, node: Proc, call: &Call<A>) -> bool
         ensures { result ≡ is_submitted_call self.now node call.now }
     {
@@ -37,7 +39,7 @@ impl SubmittedCall {
             && call.op.as_slice() == self.op.as_slice()
     }
 
-    /// Returns the answer, if this is an answer to the call.
+    /// Returns the answer if the report is an answer to the call, otherwise `None`.
     fn answer_of<A: Allocator + Copy>(&self, told: &Told<A>) -> Option<Answer>
         ensures value { result ≡ answer_of self.now told.now }
         ensures told { IfSome result IsClientVisible }
@@ -54,8 +56,10 @@ impl SubmittedCall {
         }
     }
 
-    /// Returns the first answer to the call in the list of reports, or `None` if there is none. The report of an answer
-    /// belongs to the call if node, client, number and operation are the same. Refused submits are passed over.
+    /// Returns the first answer to the call in a list of reports, or `None` if there is none.
+    ///
+    /// A report belongs to the call if node, client, number and operation are the same. Refused submits are skipped.
+    ///
     /// Rules: Clients 8
     pub fn answer_in<A: Allocator + Copy>(&self, told: &[Told<A>]) -> Option<Answer>
         ensures value { result ≡ answer_in self.now told.now }

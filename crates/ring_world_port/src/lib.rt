@@ -1,8 +1,10 @@
-//! Ports to the nodes of one world, which several clients share: a client submits its calls there, and its polls let the
-//! world run.
+//! Ports to the nodes of one world, which several clients share.
 //!
-//! A [`Network`] is a world, with the open copies of its frames and the group of nodes that hear each other. A
-//! [`WorldPort`] is a client's way to one of its nodes. The ports share the network.
+//! A client submits its calls at ports, and its polls let the world run. A [`Network`] is a world, with the open copies
+//! of its frames and the group of nodes that hear each other. A [`WorldPort`] is a client's way to one of its nodes.
+//! The ports share the network.
+//!
+//! Rules: Clients 8
 #![tactic(auto)]
 
 mod answers;

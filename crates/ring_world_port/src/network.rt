@@ -1,4 +1,5 @@
 //! A network over a world, which its ports share.
+//!
 //! Rules: Clients 8
 //! Formats: Pump
 
@@ -27,18 +28,24 @@ use std::alloc::Allocator;
 use std::cell::Cell;
 use std::marker::Model;
 
-/// A world, the open copies of its frames, and the group of nodes that hear each other. Contracts see a `NetworkView`.
+/// A world, the open copies of its frames, and the group of nodes that hear each other.
 ///
-/// A frame that is sent opens a copy for each of its receivers. A turn closes the first open copy: of the frame sent
-/// first, the one of the smallest receiver. It is delivered if sender and receiver are in the group; otherwise it is lost.
-/// Where no copy is open, a turn is a timeout of the next member of the group. In Gather its kind is Join in one round and
-/// Consensus in the next; in any other state it is Loss.
+/// A frame that is sent opens a copy for each of its receivers. A turn closes the first open copy, which is that of the
+/// frame sent first to the smallest receiver. The copy is delivered if sender and receiver are in the group, and is
+/// otherwise lost. If no copy is open, a turn is a timeout of the next member of the group. In Gather its kind is Join
+/// in one round and Consensus in the next; in any other state it is Loss.
+///
+/// Contracts see a `NetworkView`.
+///
 /// Rules: Clients 8
+/// Formats: Pump
 #[derive(Drop)]
 pub struct Network<O: Object> {
     pump: Pump<O>,
     group: ProcSet,
-    /// The number of timeouts so far; it stays at 2^64 - 1.
+    /// The number of timeouts so far.
+    ///
+    /// It saturates at `u64::MAX`.
     timeouts: u64,
 }
 
@@ -54,8 +61,10 @@ impl<O: Object> Model for Network<O> {
     ghost invariant = { λ n. within n.group (everybody n.pump.world_view.group.count) ≡ true };
 }
 
-/// The handle that is polled for the answer to a call submitted at a node. Contracts see the call with its node, and
-/// the number of answers and refusals that the world had reported at the submit.
+/// The handle to poll for the answer to a call submitted at a node.
+///
+/// Contracts see the call with its node, and how many answers and refusals the world had reported at the submit.
+///
 /// Rules: Clients 2 and 8
 #[derive(Drop)]
 pub struct WorldTicket {
@@ -75,8 +84,10 @@ impl Model for WorldTicket {
 }
 
 impl<O: Object> Network<O> {
-    /// Returns the network that joins the nodes of a world. All nodes hear each other, and no timeout is counted yet.
-    /// Of each frame sent so far the copies to all receivers are open: turns deliver or lose them.
+    /// Creates the network of a world, in which all nodes hear each other and no timeout has been counted.
+    ///
+    /// Of each frame sent so far the copies to all receivers are open; turns deliver or lose them.
+    ///
     /// Rules: Clients 8
     /// Formats: Pump
     pub fn new(world: World<O>) -> Network<O>
@@ -92,9 +103,13 @@ impl<O: Object> Network<O> {
         }
     }
 
-    /// Sets the group of processors that hear each other; processors outside the world are left out. With all
-    /// processors the cut has healed.
-    /// A copy that is open now is also lost if its sender or receiver is outside the group when it is closed.
+    /// Sets the group of processors that hear each other.
+    ///
+    /// Processors outside the world are left out.
+    ///
+    /// If `group` has all processors, the cut has healed. A copy is lost if its sender or receiver is outside the group
+    /// when it is closed, even if it was open before the cut.
+    ///
     /// Rules: Clients 8
     pub fn cut(&mut self, group: ProcSet)
         ensures { self.new ≡ record (self.old) { group = intersection group (everybody self.old.pump.world_view.group.count) } }
@@ -102,7 +117,8 @@ impl<O: Object> Network<O> {
         self.group = group.intersection(self.world().fixed().everybody());
     }
 
-    /// Returns the world, as it is after the submits and turns so far.
+    /// Returns the world, after the submits and turns so far.
+    ///
     /// Rules: The book and the threads 8
     pub fn world(&self) -> &World<O>
         ensures { result.now ≡ self.now.pump.world_view }
@@ -110,10 +126,18 @@ impl<O: Object> Network<O> {
         self.pump.world()
     }
 
-    /// Submits a call at a node. After Ok the node has taken it, and the world has the event.
-    /// Errors, in this order: `NotMember` where the world has no such node, `OpTooLong` for an operation over 1,024
-    /// bytes, `NumberGap` for number 0, and `Memory` for the call's copy or the event; nothing has changed. Then the
-    /// node's own refusals, which the world reports: `Stopped`, `PendingFull`, `Memory`; the node is unchanged.
+    /// Submits a copy of a call at a node.
+    ///
+    /// After Ok the node has taken it, and the world has the event.
+    ///
+    /// Errors with nothing changed, in this order: `NotMember` if the world has no such node. `OpTooLong` if the
+    /// operation has more than 1,024 bytes. `NumberGap` if the call's number is 0. `Memory` if an allocation for the
+    /// call's copy or the event fails.
+    ///
+    /// Errors of the node, which is then unchanged, and which the world reports: `Stopped` if it has stopped.
+    /// `PendingFull` if 64 of its tickets are unanswered or 2^62 have been given. `Memory` if an allocation of the node
+    /// fails.
+    ///
     /// Rules: Clients 8; The replicated log 13
     pub fn submit(&mut self, node: Proc, call: &Call<O::Alloc>) -> Result<(), Fault>
         ensures fits { OnOk result (IsIssuable node call.now self.old) }
@@ -135,10 +159,14 @@ impl<O: Object> Network<O> {
         Ok(())
     }
 
-    /// Takes the turn that is due. It closes the first open copy and delivers or loses it. Where no copy is open, the
-    /// next timeout of a member of the group comes and is counted; without members it is only counted.
-    /// Errors: `Memory` where the world itself was refused memory; then a closed copy is lost, and nothing else has
-    /// changed.
+    /// Performs the turn that is due.
+    ///
+    /// It closes the first open copy, and delivers or loses it. If no copy is open, the next timeout of a member of the
+    /// group runs and is counted; without members it is only counted.
+    ///
+    /// Errors: `Memory` if an allocation for the world's records fails. A closed copy is then lost, and nothing else
+    /// has changed.
+    ///
     /// Rules: Clients 8
     /// Formats: Pump
     pub fn turn(&mut self) -> Result<(), Fault>
@@ -152,9 +180,14 @@ impl<O: Object> Network<O> {
         }
     }
 
-    /// Runs an event that no turn brings, such as a stop. The copies of the frames that it sends are then open.
-    /// A call in the event is within the limits of frames, as every call made by `Call::new` is.
-    /// Errors: `Memory` where the world itself was refused memory; then nothing has changed.
+    /// Runs an event that no turn produces, such as a stop.
+    ///
+    /// The copies of the frames that it sends are then open.
+    ///
+    /// A call in the event must be within the limits of a call, as every one from `Call::new` is.
+    ///
+    /// Errors: `Memory` if an allocation for the world's records fails; nothing has then changed.
+    ///
     /// Rules: The book and the threads 2 and 7
     pub fn run_event(&mut self, event: Event<O::Alloc>) -> Result<(), Fault>
         requires { EventFits event }
@@ -168,7 +201,9 @@ impl<O: Object> Network<O> {
     }
 
     /// Submits a call at a node as `submit` does, and returns the handle to poll for its answer.
-    /// Errors: as `submit`, with the same state left.
+    ///
+    /// Errors: those of `submit`, with the same state left.
+    ///
     /// Rules: Clients 2 and 8
     pub(crate) fn submit_for_ticket(
         &mut self,
@@ -196,9 +231,11 @@ impl<O: Object> Network<O> {
         })
     }
 
-    /// Returns the answer to the ticket's call, if the world has reported it since the submit. Reports that an earlier
-    /// poll of the ticket has searched are not searched again.
-    /// Where there is none, it returns `None` and takes a turn. A turn that was refused memory is ignored.
+    /// Returns the answer to the ticket's call if the world has reported it since the submit.
+    ///
+    /// Otherwise returns `None` and performs a turn; if an allocation fails in the turn, that is ignored. Reports that
+    /// an earlier poll of the ticket has searched aren't searched again.
+    ///
     /// Rules: Clients 8
     pub(crate) fn answer_to(&mut self, ticket: &WorldTicket) -> Option<Answer>
         ensures told { IfSome result IsClientVisible }
@@ -216,8 +253,9 @@ impl<O: Object> Network<O> {
         answer
     }
 
-    /// Returns the first answer to the call in `told` from index `scanned` on. Where there is none, takes a turn. A turn
-    /// that was refused memory is ignored.
+    /// Returns the first answer to the call in `told` from index `scanned` on.
+    ///
+    /// If there is none, performs a turn; if an allocation fails in the turn, that is ignored.
     fn poll(&mut self, call: &SubmittedCall, scanned: usize) -> Option<Answer>
         ensures answer { result ≡ answer_in call.now (drop scanned self.old.pump.world_view.told) }
         ensures told { IfSome result IsClientVisible }
@@ -234,7 +272,8 @@ impl<O: Object> Network<O> {
 
 impl<O: Object> Network<O> {
     /// Delivers the copy to its receiver, or loses it.
-    /// Errors: as `run_event`.
+    ///
+    /// Errors: those of `run_event`.
     fn deliver(&mut self, pair: OpenCopy) -> Result<(), Fault>
         ensures ok { OnOk result (HappensIf O.sequential (delivery_event (hears self.old.group pair.sender pair.receiver) pair) self.old.pump self.new.pump) }
         ensures err { OnErr result (IsUnchanged self.old.pump self.new.pump) }
@@ -248,7 +287,7 @@ impl<O: Object> Network<O> {
         self.run_event(Event::Deliver(pair.receiver, pair.frame))
     }
 
-    /// Returns whether frames of the sender arrive at the receiver.
+    /// Returns whether the receiver hears the sender: both are in the group.
     fn hears(&self, sender: Proc, receiver: Proc) -> bool
         ensures { result ≡ hears self.now.group sender receiver }
     {
@@ -256,7 +295,8 @@ impl<O: Object> Network<O> {
     }
 
     /// Runs the next timeout and counts it.
-    /// Errors: as `run_event`.
+    ///
+    /// Errors: those of `run_event`.
     fn time_out(&mut self) -> Result<(), Fault>
         ensures ok { OnOk result (HappensIf O.sequential (timeout_in (world_of O.sequential self.old.pump.world_view) self.old.group self.old.timeouts)
             self.old.pump self.new.pump) }
@@ -271,7 +311,8 @@ impl<O: Object> Network<O> {
     }
 
     /// Runs the timeout of the group's member whose turn it is, if the group has a member.
-    /// Errors: as `run_event`.
+    ///
+    /// Errors: those of `run_event`.
     fn time_out_member(&mut self) -> Result<(), Fault>
         ensures ok { OnOk result (HappensIf O.sequential (timeout_in (world_of O.sequential self.old.pump.world_view) self.old.group self.old.timeouts)
             self.old.pump self.new.pump) }
@@ -291,7 +332,7 @@ impl<O: Object> Network<O> {
     }
 }
 
-/// Returns the kind of timeout for a node in this state where no copy is open, in this round of timeouts.
+/// Returns the kind of timeout for a node in this state, in this round of timeouts, when no copy is open.
 fn timeout_kind(state: State, round: u64) -> Kind
     ensures { result ≡ timeout_kind state round }
 {
@@ -307,7 +348,7 @@ fn timeout_kind(state: State, round: u64) -> Kind
     }
 }
 
-/// Returns the refusal of this number, among those that a node has for a submit.
+/// Returns the fault with this number, among those with which a node refuses a submit.
 fn refusal_of(number: u8) -> Fault
     ensures { result ≡ fault_of number }
 {
@@ -318,7 +359,7 @@ fn refusal_of(number: u8) -> Fault
     }
 }
 
-/// Returns the refusal at this index of the list, if there is one, as an error.
+/// Returns the refusal at index `place` of the list as an error, if there is one.
 fn refusal_at<A: Allocator + Copy>(told: &[Told<A>], place: usize) -> Result<(), Fault>
     ensures ok { OnOk result (refusal_in (slice_get told.now place) ≡ None) }
     ensures refused { IfErr result (λ fault. refusal_in (slice_get told.now place) ≡ Some fault) }
@@ -329,7 +370,7 @@ fn refusal_at<A: Allocator + Copy>(told: &[Told<A>], place: usize) -> Result<(),
     }
 }
 
-/// Returns the list from index `many` on.
+/// Returns the list without its first `many` reports.
 fn told_after<A: Allocator + Copy>(told: &[Told<A>], many: usize) -> &[Told<A>]
     ensures { result.now ≡ drop many told.now }
 {

@@ -1,4 +1,5 @@
 //! Ports to the nodes of a world.
+//!
 //! Rules: Clients 2 and 8
 
 ghost use Rattle.std.specs.Prelude.{◌≡◌, IfOk, IfErr, IfSome, OnOk};
@@ -15,14 +16,20 @@ use ring_session::Answer;
 use std::cell::RefCell;
 use std::rc::Rc;
 
-/// A network as the ports to the nodes of its world share it. One holder at a time may borrow it.
+/// A network as the ports to the nodes of its world share it.
+///
+/// One holder at a time may borrow it.
+///
 /// Rules: Clients 8
 pub type Shared<O: Object> = Rc<RefCell<Network<O>>, O::Alloc>;
 
-/// A port to a node of a world; the ports to its nodes share one network. Each poll that finds no answer makes the network
-/// take a turn.
-/// While another holder has the network borrowed, a submit is refused with `NoAnswer`, and a poll finds no answer and
-/// takes no turn. Otherwise a submit is refused as [`Network::submit`] is.
+/// A port to a node of a world.
+///
+/// The ports to its nodes share one network.
+///
+/// Each poll that finds no answer makes the network perform a turn. While another holder has the network borrowed, a
+/// submit is refused with `NoAnswer`, and a poll finds no answer and performs no turn.
+///
 /// Rules: Clients 2 and 8
 #[derive(Drop)]
 pub struct WorldPort<O: Object> {
@@ -32,8 +39,11 @@ pub struct WorldPort<O: Object> {
 }
 
 impl<O: Object> WorldPort<O> {
-    /// Returns the port to this node, before any submit. If the world has no such node, each submit is refused with
-    /// `NotMember`, or with `NoAnswer` while another holder has the network borrowed.
+    /// Creates the port to `node`, before any submit.
+    ///
+    /// If the world has no such node, each submit is refused with `NotMember`, or with `NoAnswer` while another holder
+    /// has the network borrowed.
+    ///
     /// Rules: Clients 2 and 8
     pub fn new(network: Shared<O>, node: Proc) -> WorldPort<O>
         ensures node { result.node ≡ node }
@@ -47,7 +57,8 @@ impl<O: Object> WorldPort<O> {
     }
 
     /// Submits the call at the port's node in the network.
-    /// Errors: `NoAnswer` while another holder has the network borrowed, else as [`Network::submit`].
+    ///
+    /// Errors: `NoAnswer` while another holder has the network borrowed. Otherwise those of [`Network::submit`].
     fn try_submit(&mut self, call: &Call<O::Alloc>) -> Result<WorldTicket, Fault>
         ensures same { self.new ≡ self.old }
         ensures ticket { IfOk result (λ ticket. ticket.call ≡ submitted_call_of self.old.node (asked_after_submit call.now)) }
@@ -60,8 +71,9 @@ impl<O: Object> WorldPort<O> {
         network.submit_for_ticket(self.node, call)
     }
 
-    /// Returns the answer to the ticket's call, if the world has reported it. Where it has not, the network takes a turn. A
-    /// turn that was refused memory is ignored.
+    /// Returns the answer to the ticket's call if the world has reported it.
+    ///
+    /// Otherwise the network performs a turn; if an allocation fails in the turn, that is ignored.
     fn try_poll(&mut self, ticket: &WorldTicket) -> Option<Answer>
         ensures same { self.new ≡ self.old }
         ensures told { IfSome result IsClientVisible }
@@ -81,10 +93,12 @@ impl<O: Object> Port for WorldPort<O> {
 
     ghost asked_of = { λ port. port.asked };
 
-    /// Submits a copy of the call at the port's node, and records it in `asked`. The ticket polls for the answer of
-    /// that node.
-    /// Errors: `NoAnswer` while another holder has the network borrowed, else as [`Network::submit`]; `asked` has the
-    /// refusal.
+    /// Submits a copy of the call at the port's node, records it in `asked`, and returns the ticket to poll for the
+    /// answer.
+    ///
+    /// Errors: `NoAnswer` while another holder has the network borrowed. Otherwise those of [`Network::submit`].
+    /// `asked` has the refusal.
+    ///
     /// Rules: Clients 2 and 8
     fn submit(&mut self, call: &Call<O::Alloc>) -> Result<WorldTicket, Fault>
         ensures ok { OnOk result (self.new.asked ≡ asked_after_submit call.now) }
@@ -103,7 +117,10 @@ impl<O: Object> Port for WorldPort<O> {
     }
 
     /// Returns the answer that the port's node gave to the ticket's call in the world's run, or `None` if there is none
-    /// yet. Then the network has taken a turn, unless another holder has it borrowed.
+    /// yet.
+    ///
+    /// In the second case the network has performed a turn, unless another holder has it borrowed.
+    ///
     /// Rules: Clients 2 and 8
     fn poll(&mut self, ticket: &WorldTicket) -> Option<Answer>
         ensures asked { self.new.asked ≡ asked_after_poll result self.old.asked }
@@ -117,6 +134,7 @@ impl<O: Object> Port for WorldPort<O> {
     }
 
     /// Returns the record of the last submit at the port, with the polls since.
+    ///
     /// Rules: Clients 2
     fn asked(&self) -> &Asked {
         &self.asked

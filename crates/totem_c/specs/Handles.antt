@@ -12,7 +12,8 @@ use Rattle.totem_c.specs.contracts.contents.HandleContents as contents
 abbrev pub is_boxed_at : Ptr → HandleContents → Global → Fml
 is_boxed_at p x heap = box_owns (ghosts.dealloc_token heap) contents.the_row p x
 
--- The ownership of a handle with this mark, address and contents: a marked one owns its boxed node, an empty one owns nothing.
+-- The ownership of a handle with this mark, address and contents: a marked one owns its boxed node, an empty one owns
+-- nothing.
 abbrev pub handle_owns : Bool → Ptr → Option HandleContents → Fml
 handle_owns true p (Some x) = fex Global (is_boxed_at p x)
 handle_owns true p None = ffalse

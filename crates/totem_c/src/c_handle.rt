@@ -1,4 +1,4 @@
-//! A boxed node as C holds it: an untyped pointer, and a mark whether a node is there.
+//! A boxed node as C holds it: an untyped pointer, and a flag that says whether there is a node.
 //!
 //! Formats: A library for C
 
@@ -13,8 +13,10 @@ use std::alloc::Global;
 use std::marker::Model;
 use std::ptr;
 
-/// A handle of a C program: empty, or a node on the heap. No reference, `Box` or `Option` of a node may be in a type that C
-/// passes, so the address is one of bytes. The address of an empty handle means nothing: C makes an empty handle of zeros.
+/// A handle of a C program: empty, or a node on the heap.
+///
+/// A type that C passes can't contain a reference, `Box` or `Option` of a node, so the address is one of bytes. The
+/// address of an empty handle has no meaning: C makes an empty handle of zeros.
 ///
 /// Formats: A library for C
 #[repr(C)]
@@ -30,7 +32,9 @@ impl Model for Handle {
 }
 
 impl Handle {
-    /// Makes an empty handle. Its address is null.
+    /// Makes an empty handle.
+    ///
+    /// Its address is null.
     pub(crate) fn none() -> Handle
         ensures { result.value ≡ None }
     {
@@ -40,7 +44,7 @@ impl Handle {
         }
     }
 
-    /// Makes the handle of this node, which the handle then owns.
+    /// Makes the handle of a node, which the handle then owns.
     pub(crate) fn of(contents: RawBox<HandleContents, Global>) -> Handle
         ensures { result.value ≡ Some contents.value }
     {
@@ -51,7 +55,9 @@ impl Handle {
         }
     }
 
-    /// Takes the node out of the handle, or returns `None` for an empty handle. `alloc` is the allocator that made the node.
+    /// Takes the node out of the handle, or returns `None` for an empty handle.
+    ///
+    /// `alloc` must be the allocator that made the node.
     pub(crate) fn into_raw_box(self, alloc: Global) -> Option<RawBox<HandleContents, Global>>
         ensures { MatchOption result (self.value ≡ None) (λ raw_box. self.value ≡ Some raw_box.value) }
     {

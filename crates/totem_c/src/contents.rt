@@ -11,8 +11,9 @@ use ring_record_node::{BufferedNode, Periods};
 use ring_things::StandardObjects;
 use std::alloc::Global;
 
-/// The node behind a handle, with the program's objects. It is a type without parameters, since the handle's specification names
-/// it.
+/// The node of a handle, with the standard object.
+///
+/// The type has no parameters, since the handle's specification names it.
 ///
 /// Formats: A library for C
 #[derive(Drop)]
@@ -22,10 +23,10 @@ pub struct HandleContents {
 }
 
 impl HandleContents {
-    /// Makes processor `me` of a group with these votes, at its opening, with these periods and nothing to read.
+    /// Creates processor `me` of a group with these votes, at its opening, with these periods and no output yet.
     ///
-    /// Errors, in this order: `NotMember` unless these are the votes of 1 to 16 processors, each at least one, and `me` is one of
-    /// them, counted from 1; `Memory`.
+    /// Errors, in this order: `NotMember` unless there are 1 to 16 votes, each at least 1, and `me` is 1 to their
+    /// number; `Memory` if an allocation fails.
     ///
     /// Rules: Nodes that records drive 1 and 7; Processors and sets 1
     pub(crate) fn new(

@@ -1,5 +1,6 @@
-//! One node of the program's objects as a static library for C. `include/totem.h` declares these functions and says what a C
-//! program must keep to.
+//! One node with the standard object, as a static library for C.
+//!
+//! `include/totem.h` declares these functions and states the rules that a C program must follow.
 //!
 //! Rules: Nodes that records drive 1 to 4, 6 and 7
 //! Formats: A library for C
@@ -24,11 +25,12 @@ use ring_things::StandardObjects;
 use status::Status;
 use std::alloc::Global;
 
-/// Opens processor `me`, counted from 1, of a group with these votes, 1 to 255 each, behind an empty handle. Returns a status: 0
-/// if the node was opened.
+/// Opens processor `me`, counted from 1, of a group with these votes, 1 to 255 each, and puts it into an empty handle.
 ///
-/// Errors, as numbers: 255 where the handle isn't empty; 1 unless there are 1 to 16 votes of 1 to 255 and `me` is 1 to their
-/// number; 11 for want of memory. The handle is then as before.
+/// Returns a status: 0 if the node was opened.
+///
+/// Errors, as numbers: 255 if the handle isn't empty; 1 unless there are 1 to 16 votes of 1 to 255 and `me` is 1 to
+/// their number; 11 if an allocation fails. The handle is then unchanged.
 ///
 /// Rules: Nodes that records drive 1
 /// Formats: A library for C
@@ -39,9 +41,10 @@ pub extern "C" fn totem_c_open(alloc: Global, handle: &mut Handle, me: u32, vote
     work::open(alloc, handle, me, votes, Periods::default()).number()
 }
 
-/// Opens processor `me` of a group with these votes, as `totem_c_open` does, with these periods of its timeouts, in milliseconds.
+/// Opens processor `me` of a group with these votes, as `totem_c_open` does, with these periods of its timeouts, in
+/// milliseconds.
 ///
-/// Errors, as numbers: 255 where a period is 0, and nothing is done; otherwise as `totem_c_open`.
+/// Errors, as numbers: 255 if a period is 0, and nothing is done; otherwise as for `totem_c_open`.
 ///
 /// Rules: Nodes that records drive 1 and 7; A node with a clock 3
 /// Formats: A library for C
@@ -65,11 +68,14 @@ pub extern "C" fn totem_c_open_timed(
     }
 }
 
-/// Carries out the request of the record of this kind and these bytes at the handle's node. The records that the node puts out
-/// wait to be read. Returns a status: 0 if that is done.
+/// Carries out a record's request at the handle's node.
 ///
-/// Errors, as numbers, in this order: 255 for an empty handle; 8 where the node is gone; 12 where the record asks for nothing; 11
-/// for want of memory. After 11 the node is gone, with everything unread; close the handle. After the others nothing was done.
+/// The record has the kind `kind` and the bytes `bytes`. The records that the node produces can then be read with
+/// `totem_c_read`. Returns a status: 0 if the request was carried out.
+///
+/// Errors, as numbers, in this order: 255 if the handle is empty; 8 if the node is gone; 12 if the record is not a
+/// valid request; 11 if an allocation fails. After 11 the node is gone, with everything unread: close the handle. After
+/// the others nothing was done.
 ///
 /// Rules: Nodes that records drive 1 to 4
 /// Formats: A library for C; Records
@@ -81,8 +87,10 @@ pub extern "C" fn totem_c_take(alloc: Global, handle: &mut Handle, kind: u8, byt
     work::take(alloc, handle, kind, bytes).number()
 }
 
-/// Moves the first unread bytes of the handle's node to the front of `into` and returns their number. Returns 0 only where no
-/// byte is unread, `into` is empty or the handle is empty. Bytes may be left where the result is less than the room in `into`.
+/// Moves the first unread bytes of the handle's node to the front of `into`, and returns their number.
+///
+/// Returns 0 only if no byte is unread, `into` is empty or the handle is empty. Unread bytes may be left even if the
+/// result is less than the length of `into`.
 ///
 /// Formats: A library for C
 #[unsafe(no_mangle)]
@@ -92,7 +100,9 @@ pub extern "C" fn totem_c_read(alloc: Global, handle: &mut Handle, into: &mut [u
     work::read(alloc, handle, into)
 }
 
-/// Frees the handle's node, with its unread bytes, and leaves the handle empty. An empty handle stays empty.
+/// Frees the handle's node, with its unread bytes, and leaves the handle empty.
+///
+/// An empty handle stays empty.
 ///
 /// Formats: A library for C
 #[unsafe(no_mangle)]

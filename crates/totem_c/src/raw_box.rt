@@ -6,7 +6,7 @@ ghost use Rattle.std.specs.Box.Ownership.{box_owns};
 use std::alloc::Allocator;
 use std::marker::Model;
 
-/// A box, as the address of its block and its allocator.
+/// A box that was taken apart: the address of its block, and its allocator.
 pub(crate) struct RawBox<T, A: Allocator> {
     /// The address of the block with the value.
     pub(crate) at: *mut T,
@@ -20,7 +20,9 @@ impl<T, A: Allocator> Model for RawBox<T, A> {
 }
 
 impl<T: Drop, A: Allocator> RawBox<T, A> {
-    /// Takes a box apart into address and allocator. The value stays where it is and isn't dropped.
+    /// Takes a box apart into address and allocator.
+    ///
+    /// The value stays where it is and isn't dropped.
     pub(crate) fn of(value: Box<T, A>) -> RawBox<T, A>
         ensures { result.value ≡ value.value }
     {
@@ -28,12 +30,13 @@ impl<T: Drop, A: Allocator> RawBox<T, A> {
         RawBox { at, alloc }
     }
 
-    /// Puts the box together again, of the same value.
+    /// Puts the box together again, with the same value.
     pub(crate) fn into_box(self) -> Box<T, A>
         ensures { result.value ≡ self.value }
     {
         let RawBox { at, alloc } = self;
-        // Sound: a `RawBox` owns what the box owned that was taken apart. It is consumed here, so the block has one owner again.
+        // Sound: a `RawBox` owns what the box that was taken apart owned. It is consumed here, so the block has one
+        // owner again.
         unsafe { Box::from_raw(alloc, at) }
     }
 }

@@ -12,16 +12,20 @@ use ring_base::Fault;
 /// Formats: A library for C
 #[derive(Clone, Copy, Debug, PartialEq, Eq)]
 pub enum Status {
-    /// The call was done. A refusal by the node itself is in the node's output.
+    /// The call was done.
+    ///
+    /// A refusal by the node itself is in the node's output.
     Done,
-    /// The call was refused with this fault.
+    /// The call failed with this fault.
     Refused(Fault),
-    /// The handle has a node where none may be, or none where there must be one. Nothing was done.
+    /// The handle has a node although it must be empty, or is empty although it must have a node.
+    ///
+    /// Nothing was done.
     Misused,
 }
 
 impl Status {
-    /// Returns the number for C: 0 for `Done`, the number of a refusal, 1 to 15, or 255 for `Misused`.
+    /// Returns the status as C sees it: 0 for `Done`, the fault's number, 1 to 15, or 255 for `Misused`.
     ///
     /// Rules: Refusals 1
     /// Formats: A library for C

@@ -1,4 +1,4 @@
-//! The work of each C function on the node behind a handle.
+//! The work of each C function on the node of a handle.
 //!
 //! Formats: A library for C
 
@@ -17,7 +17,9 @@ use ring_things::StandardObjects;
 use std::alloc::Global;
 use std::mem::replace;
 
-/// Makes the node and puts it on the heap. Refuses as [`HandleContents::new`] does, then with `Memory`.
+/// Makes the node and puts it on the heap.
+///
+/// Errors: those of [`HandleContents::new`]; then `Memory` if an allocation fails.
 fn new_box(
     alloc: Global,
     me: u32,
@@ -31,8 +33,10 @@ fn new_box(
     Ok(Box::new(alloc, contents)?)
 }
 
-/// Opens a node behind an empty handle, as `totem_c_open` does. Returns `Misused` where the handle isn't empty, else `Refused` as
-/// [`HandleContents::new`] refuses, or with `Memory`. The handle is then as before.
+/// Creates a node in an empty handle, as `totem_c_open` does.
+///
+/// Returns `Misused` if the handle isn't empty, otherwise `Refused` with a fault of [`HandleContents::new`], or with
+/// `Memory` if an allocation fails. The handle is then unchanged.
 ///
 /// Formats: A library for C
 pub(crate) fn open(
@@ -59,8 +63,10 @@ pub(crate) fn open(
     }
 }
 
-/// Takes the record at the handle's node, as `totem_c_take` does. Returns `Misused` for an empty handle, else `Refused` with
-/// `Stopped`, `BadFrame` or `Memory`, in this order.
+/// Takes the record at the handle's node, as `totem_c_take` does.
+///
+/// Returns `Misused` if the handle is empty. Otherwise returns `Refused`, in this order, with `Stopped` if the node is
+/// gone, `BadFrame` if the record is not a valid request, or `Memory` if an allocation fails.
 ///
 /// Rules: Nodes that records drive 1 to 4
 /// Formats: A library for C; Records
@@ -81,7 +87,8 @@ pub(crate) fn take(alloc: Global, handle: &mut Handle, kind: u8, bytes: &[u8]) -
     }
 }
 
-/// Moves the first unread bytes of the handle's node to the front of `into`, and returns their number; 0 for an empty handle.
+/// Moves the first unread bytes of the handle's node to the front of `into`, and returns their number; 0 for an empty
+/// handle.
 ///
 /// Formats: A library for C
 pub(crate) fn read(alloc: Global, handle: &mut Handle, into: &mut [u8]) -> usize
@@ -98,7 +105,9 @@ pub(crate) fn read(alloc: Global, handle: &mut Handle, into: &mut [u8]) -> usize
     }
 }
 
-/// Frees the handle's node, if there is one, with its unread bytes. The handle is then empty.
+/// Frees the handle's node, if there is one, with its unread bytes.
+///
+/// The handle is then empty.
 ///
 /// Formats: A library for C
 pub(crate) fn close(alloc: Global, handle: &mut Handle)

@@ -1,4 +1,4 @@
-//! Parses the command line.
+//! The parsing of the command line.
 //!
 //! Formats: The command line
 
@@ -14,34 +14,36 @@ use ring_record_node::Periods;
 use std::alloc::{AllocError, Global};
 use std::io;
 
-/// The work that a parsed command line asks for.
+/// The task that a parsed command line requests.
+///
 /// Formats: The command line
 #[derive(Drop)]
 pub(crate) enum CommandTask<'a> {
-    /// List the frames of a file, and explain a bad one if asked.
+    /// List the frames of a file, and explain where no frame begins if asked.
     Frames {
         file: &'a str,
         is_explained: bool,
     },
     /// Run the script in a file, once or in a sweep.
     Script(ScriptArguments<'a>),
-    /// Run nodes, 1 to 16, and as many clients on threads, with `calls` calls, 1 to 100, of each client.
+    /// Run 1 to 16 nodes and as many clients on threads, each client with `calls` calls, 1 to 100.
     Live {
         nodes: u8,
         calls: u8,
     },
     /// Run the script in a file and print the effects of its events.
     Trace(TraceArguments<'a>),
-    /// Make the script of a seed and print it, for nodes with these votes, with `events` lines, 1 to 10,000.
+    /// Generate the script of a seed and print it, for nodes with these votes, with `events` lines, 1 to 10,000.
     Generate {
         votes: VoteList,
         seed: u64,
         events: u32,
     },
-    /// Make, run and check the scripts of many seeds.
+    /// Generate, run and check the scripts of many seeds.
     Explore(ExploreArguments),
-    /// Run node `me`, 1 to 16, of a group with these votes, driven by records. The group may have no such node. The periods are
-    /// those of its timeouts.
+    /// Run node `me`, 1 to 16, of a group with these votes, driven by records.
+    ///
+    /// The group may have no node `me`; that isn't checked here. The periods are those of the node's timeouts.
     Node {
         me: u8,
         votes: VoteList,
@@ -50,6 +52,7 @@ pub(crate) enum CommandTask<'a> {
 }
 
 /// The arguments of `script` and of `sweep`.
+///
 /// Formats: The command line
 #[derive(Clone, Copy)]
 pub(crate) struct ScriptArguments<'a> {
@@ -57,11 +60,12 @@ pub(crate) struct ScriptArguments<'a> {
     pub(crate) file: &'a str,
     /// The mode in which the script is run.
     pub(crate) mode: RunMode,
-    /// Whether a fault in the script is explained, in a line below the fault's.
+    /// Whether a fault in the script is explained, in a line below that of the fault.
     pub(crate) is_explained: bool,
 }
 
 /// The mode in which a script is run.
+///
 /// Formats: The command line
 #[derive(Clone, Copy, Debug, PartialEq, Eq)]
 pub(crate) enum RunMode {
@@ -69,14 +73,18 @@ pub(crate) enum RunMode {
     Plain,
     /// The script is run once, and whether the run is legal is printed.
     Checked,
-    /// The script is run with a stop and a cut of each node before each event. The number is that of the threads, 1 to 256,
-    /// where it is given.
+    /// The script is run with a stop and a cut of each node before each event.
+    ///
+    /// The number is that of the threads, 1 to 256, if it is given.
     Sweep(Option<u16>),
-    /// The script isn't run. The script of the sweep's variant with this number, counted from 1, is printed.
+    /// The script isn't run.
+    ///
+    /// The script of the sweep's variant with this number, counted from 1, is printed.
     Variant(u64),
 }
 
 /// The arguments of `explore`.
+///
 /// Formats: The command line
 #[derive(Drop)]
 pub(crate) struct ExploreArguments {
@@ -84,11 +92,13 @@ pub(crate) struct ExploreArguments {
     pub votes: VoteList,
     /// The first seed.
     pub first: u64,
-    /// The last seed, which is included and isn't below the first.
+    /// The last seed, which is included.
+    ///
+    /// It isn't below the first.
     pub last: u64,
     /// The number of lines of each script, 1 to 10,000.
     pub events: u32,
-    /// The number of threads, 1 to 256, where one is given.
+    /// The number of threads, 1 to 256, if it is given.
     pub threads: Option<u16>,
 }
 
@@ -107,8 +117,10 @@ const BAD_PERIODS: &str =
 const BAD_SEEDS: &str = "--seeds takes A..B, two numbers of which A is not the greater";
 
 /// Parses the words of a command line, the first of which is the program's own name.
-/// Errors: the parser's message, also where the words couldn't be read, and where they ask for help or for the version. It
-/// has the kind `OutOfMemory` where memory is refused.
+///
+/// Errors: the parser's message if the words couldn't be read, are at fault, or request help or the version. It has the
+/// kind `OutOfMemory` if an allocation fails.
+///
 /// Formats: The command line
 pub(crate) fn task_of<'a>(
     alloc: Global,
@@ -120,7 +132,7 @@ pub(crate) fn task_of<'a>(
     }
 }
 
-/// Parses the words with this command's parser.
+/// Parses the words with the parser `command`.
 fn task_for<'a>(
     alloc: Global,
     command: &mut Command<'a>,
@@ -156,7 +168,7 @@ fn unreadable(command: &mut Command<'_>, error: &io::Error) -> Error {
     parser_error(command, "an argument is not UTF-8")
 }
 
-/// Returns the parser's message for words with this fault.
+/// Returns the parser's message for words with the fault `wrong`.
 fn parser_error(command: &mut Command<'_>, wrong: &str) -> Error {
     match command.error(ErrorKind::InvalidValue, wrong) {
         Ok(error) => error,
@@ -172,7 +184,7 @@ fn task_of_matches<'a>(matches: &ArgMatches<'a>) -> Result<CommandTask<'a>, &'st
     }
 }
 
-/// Returns the task of this command's words, or the message for what is wrong with them.
+/// Returns the task of the command `name` with these words, or the message for what is wrong with them.
 fn task_in<'a>(name: &str, of: &ArgMatches<'a>) -> Result<CommandTask<'a>, &'static str> {
     match name {
         "gen" => generate_in(of),
@@ -265,7 +277,7 @@ fn node_in<'a>(of: &ArgMatches<'a>) -> Result<CommandTask<'a>, &'static str> {
     Ok(CommandTask::Node { me, votes, periods })
 }
 
-/// Returns the votes of the nodes whose number the word `count` gives, or the message for what is wrong with them.
+/// Returns the votes of as many nodes as the word `count` says, or the message for what is wrong with them.
 fn votes_in<'a>(of: &ArgMatches<'a>, count: &str) -> Result<VoteList, &'static str> {
     match of.get_one::<u8>(count) {
         Some(nodes) => votes_of(nodes, of.get_str("votes")).ok_or(BAD_VOTES),

@@ -1,5 +1,5 @@
-//! Runs each command by the crate that does the work: `ring_sweep`, `ring_trace`, `ring_live`, `ring_script_generator`,
-//! `ring_explore` or `ring_record_node`.
+//! The commands, each of which calls the crate that does the work: `ring_sweep`, `ring_trace`, `ring_live`,
+//! `ring_script_generator`, `ring_explore` or `ring_record_node`.
 //!
 //! Formats: The command line
 
@@ -26,12 +26,15 @@ use std::thread::{self, Threads};
 use std::time::{Clock, Instant};
 use std::{env, io};
 
-/// The file name that stands for the input.
+/// The file name `-`, which stands for standard input.
+///
 /// Formats: The command line
 pub(crate) const INPUT: &str = "-";
 
 /// Returns the command-line arguments of this process, in order, the program's own name first.
-/// Errors: that of reading an argument which isn't UTF-8; of kind `OutOfMemory` if an allocation fails.
+///
+/// Errors: of kind `OutOfMemory` if an allocation fails; otherwise that of reading an argument that isn't UTF-8.
+///
 /// Formats: The command line
 pub fn words_of<R: env::Env + Alloc>(rt: &R) -> io::Result<Vec<String<R::A>, R::A>> {
     let mut words = Vec::new(rt.alloc());
@@ -41,14 +44,17 @@ pub fn words_of<R: env::Env + Alloc>(rt: &R) -> io::Result<Vec<String<R::A>, R::
     Ok(words)
 }
 
-/// Runs the command of these words over the program's object. The first word is the program's own name. Returns the exit
-/// status: 0 where all was done, 1 with a fault or a run that isn't legal, 2 for a bad command line.
+/// Runs a command line for the standard object.
 ///
-/// The command `node` takes its records from `input`; other commands read it where the file is `-`. `out` and `err` get
-/// what the program writes on standard output and standard error. `progress`, where there is one, gets the progress of long
-/// work and, where the work is done, its time.
+/// The first of `words` must be the program's own name. Returns the exit status: 0 if all was done, 1 after a fault or
+/// a run that isn't legal, 2 for a bad command line.
 ///
-/// Errors: all are reported on `err`, and by the status. A failed `out` is reported by the status alone.
+/// The command `node` takes its records from `input`; other commands read it if the file is `-`. `out` and `err` get
+/// what the program writes on standard output and standard error. `progress`, if there is one, gets the progress of
+/// long work, and the time that the work took once it is done.
+///
+/// Errors: each is reported on `err` and by the status, but a failure of `out` only by the status.
+///
 /// Formats: The command line
 pub fn run<
     R: Files + AllocGlobal + Threads + Wait + Clock + Sync,
@@ -70,8 +76,12 @@ pub fn run<
 }
 
 /// Runs the command of these words as [`run`] does, over a user-defined object with the words of its operations and
-/// replies. But `live` calls the program's own counters. Returns the exit status, 0 to 2.
+/// replies.
+///
+/// Only `live` still calls the counters of the standard object. Returns the exit status, 0 to 2.
+///
 /// Errors: as for [`run`].
+///
 /// Formats: The command line
 pub fn run_of<
     T: Object<Alloc = Global> + Send,
@@ -126,8 +136,9 @@ pub fn run_of<
     }
 }
 
-/// Makes, runs and checks the scripts of all the seeds. Where there is a `progress`, it gets a last line that says how long that
-/// took.
+/// Generates, runs and checks the scripts of all the seeds.
+///
+/// If there is a `progress`, it gets a last line that says how long that took.
 fn explore_seeds<
     T: Object<Alloc = Global> + Send,
     V: Vocabulary + Send,
@@ -147,7 +158,8 @@ fn explore_seeds<
     }
 }
 
-/// Makes, runs and checks the scripts of all the seeds, with one thread for each processor where no number of threads is given.
+/// Generates, runs and checks the scripts of all the seeds, with one thread per processor of the machine if no number
+/// of threads is given.
 fn explore_with<
     T: Object<Alloc = Global> + Send,
     V: Vocabulary + Send,
@@ -166,7 +178,9 @@ fn explore_with<
     explore_of::<T, V, R, O, E, P>(rt, rt.alloc(), plan, threads, out, err, progress)
 }
 
-/// Returns the number of the machine's processors, at most 65,535. Where that isn't known it is 1.
+/// Returns the number of the machine's processors.
+///
+/// It is 1 if that isn't known, and saturates at 65,535.
 pub(crate) fn processors<R: Threads>(rt: &R) -> u16 {
     match thread::available_parallelism(rt) {
         Ok(many) => u16::try_from(many.get()).unwrap_or(u16::MAX),
@@ -174,7 +188,9 @@ pub(crate) fn processors<R: Threads>(rt: &R) -> u16 {
     }
 }
 
-/// Prints the parser's message: its version on `out`, any other on `err`. Returns the exit status.
+/// Prints the parser's message: the version on `out`, any other, help included, on `err`.
+///
+/// Returns the exit status.
 fn print_parser_message<O: Write, E: Write>(error: &Error, out: &mut O, err: &mut E) -> u8 {
     match error.kind() {
         ErrorKind::OutOfMemory => report(err, Failure::Refused(Fault::Memory)),

@@ -146,7 +146,11 @@ Exit status:
 Example:
   totem explore --nodes 5 --seeds 1..1000 --events 200";
 
-/// The end of `totem node --help`. It states the duties of the program that drives the node: Nodes that records drive 6.
+/// The end of `totem node --help`.
+///
+/// It states the duties of the program that drives the node.
+///
+/// Rules: Nodes that records drive 6
 const NODE_HELP: &str = "\
 Records come on standard input, and what the node tells of each goes out in records on standard
 output before the next is read: docs/FORMATS.md, Records, has them. The program that drives it owns
@@ -166,16 +170,16 @@ Example:
 /// The names of the formats in which a trace is printed.
 const FORMATS: &[&str] = &["text", "json", "svg", "html"];
 
-/// The most threads that are started.
+/// The maximum number of threads that are started.
 const MAX_THREADS: u64 = 256;
 
-/// The most nodes of a group.
+/// The maximum number of nodes of a group.
 const MAX_NODES: u64 = MAX_PROCESSORS as u64;
 
-/// The most calls of each client of `live`.
+/// The maximum number of calls of each client of `live`.
 const MAX_LIVE_CALLS: u64 = 100;
 
-/// The word that asks whether a run is legal.
+/// The word that requests a check whether a run is legal.
 const CHECK: CommandWord = CommandWord {
     name: "check",
     help: "Tells behind all else whether the run is legal",
@@ -183,7 +187,7 @@ const CHECK: CommandWord = CommandWord {
     takes: ValueKind::Nothing,
 };
 
-/// The word that asks why a script is at fault.
+/// The word that requests an explanation of a script's fault.
 const EXPLAIN: CommandWord = CommandWord {
     name: "explain",
     help: "Tells below a fault what stands there, and what was expected",
@@ -191,7 +195,7 @@ const EXPLAIN: CommandWord = CommandWord {
     takes: ValueKind::Nothing,
 };
 
-/// The word that asks why no frame begins where a listing ends.
+/// The word that requests an explanation of why no frame begins at the end of a listing.
 const EXPLAIN_FRAME: CommandWord = CommandWord {
     name: "explain",
     help: "Tells below a fault what stands there, and what was expected; reads the whole file first",
@@ -404,7 +408,9 @@ const FORMS: &[CommandForm] = &[
 ];
 
 /// Returns the parser of the program's command line, with all commands as its subcommands.
-/// Errors: only that memory is refused.
+///
+/// Errors: `AllocError` if an allocation fails.
+///
 /// Formats: The command line
 pub(crate) fn command_of<'a>(alloc: Global) -> Result<Command<'a>, AllocError> {
     let commands = commands_of(alloc)?;
@@ -417,9 +423,12 @@ pub(crate) fn command_of<'a>(alloc: Global) -> Result<Command<'a>, AllocError> {
         .bin_name("totem")
 }
 
-/// Returns the parser of the command of this name alone, which shows its usage as `totem NAME`. Returns `None` where there is no
-/// such command.
-/// Errors: only that memory is refused.
+/// Returns the parser of only the command `name`, which shows its usage as `totem NAME`.
+///
+/// Returns `None` if there is no such command.
+///
+/// Errors: `AllocError` if an allocation fails.
+///
 /// Formats: The command line
 pub(crate) fn named_command<'a>(
     alloc: Global,
@@ -433,7 +442,7 @@ pub(crate) fn named_command<'a>(
     Ok(Some(command.bin_name(shown.as_str())?))
 }
 
-/// Returns the form of the command of this name.
+/// Returns the form of the command `name`, or `None` if there is no such command.
 fn form_named(name: &str) -> Option<&'static CommandForm> {
     FORMS.iter().find(|form| form.name == name)
 }
@@ -499,12 +508,12 @@ fn arg_of<'a>(alloc: Global, word: &CommandWord) -> Arg<'a> {
     }
 }
 
-/// Returns the word as an option with a value, which help and usage show by its own name.
+/// Makes the word an option with a value, which help and usage show under the value's own name.
 fn with_value<'a>(arg: Arg<'a>, name: &'static str) -> Arg<'a> {
     arg.long(name).value_name(value_name(name))
 }
 
-/// Returns whether a word is set by its value or by being there.
+/// Returns the parser's action for a word: to take a value, or to note that the word is present.
 fn action_of(takes: ValueKind) -> ArgAction {
     match takes {
         ValueKind::Nothing => ArgAction::SetTrue,

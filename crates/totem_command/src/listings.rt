@@ -15,10 +15,14 @@ use std::{fs, io};
 /// The bytes of memory for what a listing writes on standard error: one line.
 const MAX_FAULT_LINE: usize = 128;
 
-/// Lists the frames of a file or of the input. If `is_explained`, the whole file is read first, and a bad frame is explained in
-/// a line below the fault's. Returns the exit status: 0 or 1.
+/// Lists the frames of a file or of the input.
+///
+/// If `is_explained`, the whole file is read first, and a bad frame is explained in a line below the fault's. Returns
+/// the exit status: 0 or 1.
+///
 /// Errors: those of `frames` are reported on `err`. A file that can't be read is reported as a bad frame at byte 0. If
-/// `is_explained`, `Memory` where it is refused to the reading.
+/// `is_explained`, also `Memory` if an allocation for reading the file fails.
+///
 /// Formats: The command line; Listing frames
 pub(crate) fn list_file<R: Files + AllocGlobal, I: Read, O: Write, E: Write>(
     rt: &R,
@@ -66,8 +70,9 @@ fn list_explained<R: Files + AllocGlobal, I: Read, O: Write, E: Write>(
     }
 }
 
-/// Reads the file of this name to its end, or the input where the name is `-`.
-/// Errors: those of opening or reading; of kind `OutOfMemory` where memory is refused.
+/// Reads the file `file` to its end, or the input if the name is `-`.
+///
+/// Errors: those of opening or reading; of kind `OutOfMemory` if an allocation fails.
 fn read_all<R: Files + AllocGlobal, I: Read>(
     rt: &R,
     file: &str,
@@ -83,8 +88,9 @@ fn read_all<R: Files + AllocGlobal, I: Read>(
     Ok(bytes)
 }
 
-/// Reports on `err` that a file of frames couldn't be read, and the reason in a line below. Returns the exit status, always
-/// 1.
+/// Reports on `err` that a file of frames couldn't be read, and the reason in a line below.
+///
+/// Returns the exit status, always 1.
 fn report_unread<E: Write>(error: &Error, err: &mut E) -> u8 {
     if error.kind() == ErrorKind::OutOfMemory {
         return report(err, Failure::Refused(Fault::Memory));
@@ -94,7 +100,9 @@ fn report_unread<E: Write>(error: &Error, err: &mut E) -> u8 {
     status
 }
 
-/// Lists the frames of these bytes, and explains below a fault that is reported on `err` why no frame begins there.
+/// Lists the frames of these bytes.
+///
+/// If a fault is reported on `err`, a line below explains why no frame begins there.
 fn list_bytes<O: Write, E: Write>(alloc: Global, bytes: &[u8], out: &mut O, err: &mut E) -> u8 {
     let Ok(mut fault) = Vec::with_capacity(alloc, MAX_FAULT_LINE) else {
         return report(err, Failure::Refused(Fault::Memory));

@@ -11,10 +11,13 @@ use ring_sweep::{Failure, report};
 use std::alloc::Global;
 use std::io::{BufReader, Read, Write};
 
-/// Runs processor `me` of a group with these votes and these periods from its opening, on the records of the input. Returns the
-/// exit status: 0 at the end of the input, else 1.
-/// Errors, each reported on `err`: `NotMember` unless there are 1 to 16 votes, each at least 1; `Memory`; otherwise those
-/// of `serve`.
+/// Runs processor `me` of a group with these votes and these periods from its opening, on the records of the input.
+///
+/// Returns the exit status: 0 at the end of the input, otherwise 1.
+///
+/// Errors: each is reported on `err`. `NotMember` unless there are 1 to 16 votes, each at least 1; `Memory` if an
+/// allocation fails; otherwise those of `serve`.
+///
 /// Rules: Nodes that records drive 5 and 7
 /// Formats: Records; The command line
 pub(crate) fn node<T: Object<Alloc = Global>, I: Read, O: Write, E: Write>(

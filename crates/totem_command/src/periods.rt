@@ -1,12 +1,16 @@
-//! Parses the periods of timeouts on a command line.
+//! The parsing of the periods of timeouts on a command line.
 //!
 //! Formats: The command line
 
 use arrayvec::ArrayVec;
 use ring_record_node::Periods;
 
-/// Returns the periods in a word, four numbers from 1 to 4,294,967,295 separated by commas: join, retransmit, consensus, loss. Without
-/// a word they are the default ones. Returns `None` for any other word.
+/// Parses periods: four numbers of milliseconds, 1 to 4,294,967,295, separated by commas.
+///
+/// They are those of join, retransmit, consensus and loss.
+///
+/// Without a word the result is the default periods. Returns `None` for any other word.
+///
 /// Formats: The command line
 pub(crate) fn periods_of(word: Option<&str>) -> Option<Periods> {
     let Some(word) = word else {

@@ -18,12 +18,16 @@ use std::thread::Threads;
 use std::time::{Clock, Instant};
 use std::{fs, io};
 
-/// The most bytes read of a script: one more than it may have, so that a longer one is recognized.
+/// The maximum number of bytes read of a script: one more than a script may have, so that a longer one is recognized.
 const MAX_READ: u64 = MAX_SCRIPT_BYTES + 1;
 
-/// Reads the script in a file or in the input, and runs it in the mode of the arguments. Returns the exit status, 0 to 2.
-/// Errors: those of the mode are reported on `err`. A file that can't be read is reported as a bad script at line 0, or as
-/// `Memory`. A bad script is explained below that where the arguments ask for it.
+/// Reads the script in a file or in the input, and runs it in the mode of the arguments.
+///
+/// Returns the exit status, 0 to 2.
+///
+/// Errors: those of the mode are reported on `err`. A file that can't be read is reported as a bad script at line 0, or
+/// as `Memory`. An explanation of a bad script follows in a line below if the arguments request it.
+///
 /// Formats: The command line
 pub(crate) fn run_script<
     T: Object<Alloc = Global> + Send,
@@ -52,9 +56,11 @@ pub(crate) fn run_script<
     status
 }
 
-/// Reads the file of this name, or the input where the name is `-`. Reads no more than 1,048,577 bytes, one more than a
-/// script may have.
-/// Errors: those of opening or reading; of kind `OutOfMemory` where memory is refused.
+/// Reads the file `file`, or the input if the name is `-`.
+///
+/// At most 1,048,577 bytes are read, one more than a script may have.
+///
+/// Errors: those of opening or reading; of kind `OutOfMemory` if an allocation fails.
 pub(crate) fn read_text<R: Files + AllocGlobal, I: Read>(
     rt: &R,
     file: &str,
@@ -96,8 +102,9 @@ fn run_text<
     }
 }
 
-/// Sweeps a script with this number of threads, or one for each processor. Where there is a `progress`, it gets a last line
-/// that says how long that took.
+/// Sweeps a script with this number of threads, or one per processor of the machine if none is given.
+///
+/// If there is a `progress`, it gets a last line that says how long that took.
 fn sweep_text<
     T: Object<Alloc = Global> + Send,
     V: Vocabulary,
@@ -132,7 +139,7 @@ fn sweep_text<
     }
 }
 
-/// Sweeps a script with this number of threads.
+/// Sweeps a script on `threads` threads.
 fn sweep_with<
     T: Object<Alloc = Global> + Send,
     V: Vocabulary,
@@ -153,7 +160,10 @@ fn sweep_with<
     )
 }
 
-/// Prints the reason below the fault where a text isn't a script.
+/// Prints an explanation on `err` if the text isn't a script.
+///
+/// It comes in a line below that of the fault. If an allocation fails, nothing is printed.
+///
 /// Formats: The command line
 pub(crate) fn explain<V: Vocabulary, E: Write>(alloc: Global, text: &[u8], err: &mut E) {
     if let Ok(Some(reason)) = reason_by::<V>(alloc, text) {
@@ -161,8 +171,11 @@ pub(crate) fn explain<V: Vocabulary, E: Write>(alloc: Global, text: &[u8], err: 
     }
 }
 
-/// Reports on `err` that a file couldn't be read: as `Memory` where memory was refused, else as a bad script at line 0. If
-/// `is_explained`, the reason follows the bad script in a line below. Returns the exit status, always 1.
+/// Reports on `err` that a file couldn't be read: as `Memory` if an allocation failed, otherwise as a bad script at
+/// line 0.
+///
+/// If `is_explained`, the reason follows the bad script in a line below. Returns the exit status, always 1.
+///
 /// Formats: The command line
 pub(crate) fn report_unreadable<E: Write>(error: &Error, is_explained: bool, err: &mut E) -> u8 {
     if error.kind() == ErrorKind::OutOfMemory {
@@ -176,6 +189,7 @@ pub(crate) fn report_unreadable<E: Write>(error: &Error, is_explained: bool, err
 }
 
 /// Returns the reason why a file couldn't be read.
+///
 /// Formats: The command line
 pub(crate) fn unreadable_reason(error: &Error) -> &'static str {
     match error.kind() {

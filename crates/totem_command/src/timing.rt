@@ -5,12 +5,14 @@
 use std::io::Write;
 use std::time::{Clock, Instant};
 
-/// After a failure nothing is said about work that took less than this, in milliseconds.
+/// After a failure no time is printed for work that took less than this, in milliseconds.
 const SHORT: u128 = 1_000;
 
-/// Writes how long work took that began at this instant and ended now with this exit status: `took 12.3 s`. After a failure
-/// it is written only from the first second on. Where the clock can't be read, nothing is written. Errors of `out` are
-/// ignored.
+/// Writes how long work took that began at `started` and has just ended with this exit status, as `took 12.3 s`.
+///
+/// After a failure it is written only if it is at least a second. If the clock can't be read, nothing is written.
+/// Errors of `out` are ignored.
+///
 /// Formats: The command line
 pub(crate) fn print_time<C: Clock, W: Write>(
     clock: &C,

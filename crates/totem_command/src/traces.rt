@@ -14,8 +14,12 @@ use std::io::{Read, Write};
 use std::rt::Files;
 use std::{fs, io};
 
-/// The arguments of `trace`: the script's file, whether a fault in it is explained, the file for the frames, if one is named,
-/// the format, and the selected events. These are of one node or of all, from one event number to another, both included.
+/// The arguments of `trace`.
+///
+/// They are the script's file, whether a fault in it is explained, the file for the frames, if one is named, the
+/// format, and the selection. The selection has the events of one node or of all, from one event number to another,
+/// both included.
+///
 /// Formats: The command line
 #[derive(Clone, Copy)]
 pub(crate) struct TraceArguments<'a> {
@@ -28,8 +32,9 @@ pub(crate) struct TraceArguments<'a> {
     to: u64,
 }
 
-/// Returns the arguments of `trace` in the parsed words, with this file as the script's. Without their words, the format is
-/// text, all nodes are selected, and all events.
+/// Returns the arguments of `trace` in the parsed words, with `file` as the script's file.
+///
+/// By default the format is text, and all events of all nodes are selected.
 pub(crate) fn trace_arguments_in<'a>(file: &'a str, of: &ArgMatches<'a>) -> TraceArguments<'a> {
     TraceArguments {
         file,
@@ -42,7 +47,7 @@ pub(crate) fn trace_arguments_in<'a>(file: &'a str, of: &ArgMatches<'a>) -> Trac
     }
 }
 
-/// Returns the format in the parsed words; text where none is named.
+/// Returns the format in the parsed words, or text if none is named.
 fn format_in(of: &ArgMatches<'_>) -> Format {
     match of.get_str("format") {
         Some("json") => Format::Json,
@@ -52,7 +57,9 @@ fn format_in(of: &ArgMatches<'_>) -> Format {
     }
 }
 
-/// Returns the options without the files. A function of its own, since no function may take a `Proc` beside borrowed words.
+/// Returns the options without the files.
+///
+/// A function of its own, since no function may take both a `Proc` and borrowed words.
 fn asked_of(traced: &TraceArguments<'_>) -> TraceOptions {
     TraceOptions {
         format: traced.format,
@@ -64,7 +71,7 @@ fn asked_of(traced: &TraceArguments<'_>) -> TraceOptions {
     }
 }
 
-/// Returns the processor of this number, if there is one.
+/// Returns processor `number`, or `None` if there is none.
 fn proc_of(number: Option<u8>) -> Option<Proc> {
     match number {
         Some(number) if 1 <= number && number <= MAX_PROCESSORS => Some(Proc::new(number)),
@@ -72,9 +79,13 @@ fn proc_of(number: Option<u8>) -> Option<Proc> {
     }
 }
 
-/// Runs the script in a file or in the input, and prints the effects of its events. Returns the exit status: 0 or 1.
-/// Errors: those of `trace`, and of a file that can't be read, are reported on `err`. A bad script is explained below that
-/// where the arguments ask for it.
+/// Runs the script in a file or in the input, and prints the effects of its events.
+///
+/// Returns the exit status: 0 or 1.
+///
+/// Errors: those of `trace`, and of a file that can't be read, are reported on `err`. An explanation of a bad script
+/// follows in a line below if the arguments request it.
+///
 /// Formats: The command line
 pub(crate) fn trace_file<
     T: Object<Alloc = Global>,
@@ -95,8 +106,9 @@ pub(crate) fn trace_file<
     status
 }
 
-/// Runs a script and prints the effects of its events. Then writes the frames that were sent to the file for them, if one is
-/// named.
+/// Runs a script and prints the effects of its events.
+///
+/// Then writes the frames that were sent to the file for them, if one is named.
 fn trace_text<
     T: Object<Alloc = Global>,
     V: Vocabulary + ReplyVocabulary,
@@ -118,12 +130,16 @@ fn trace_text<
     }
 }
 
-/// Writes these frames to the file of this path, given the exit status of the trace that sent them. Returns the exit status.
+/// Writes the frames of a trace to the file at `path`, given the trace's exit status `status`.
 ///
-/// The file is opened after the trace is printed: where standard output is closed, the file gets its number, and would get
-/// the trace. Where the trace failed and there are no frames, the file isn't touched.
+/// Returns the exit status.
 ///
-/// Errors: after a trace that is printed, a file that can't be opened is reported on `err`. A failed writing is not reported.
+/// The file is opened after the trace is printed. If standard output is closed, the file would get its descriptor, and
+/// with it the trace. If the trace failed and there are no frames, the file isn't touched.
+///
+/// Errors: after a trace that is printed, a file that can't be opened is reported on `err`. A failed write is reported
+/// only by the status.
+///
 /// Formats: The command line
 fn write_sent<R: Files, E: Write>(rt: &R, path: &str, sent: &[u8], status: u8, err: &mut E) -> u8 {
     if status == FAILED && sent.is_empty() {
@@ -141,8 +157,9 @@ fn write_sent<R: Files, E: Write>(rt: &R, path: &str, sent: &[u8], status: u8, e
     }
 }
 
-/// Reports that the file for frames can't be opened, after a trace with this exit status. Where that failed too, the status
-/// alone says so.
+/// Reports that the file for frames can't be opened, after a trace with this exit status.
+///
+/// If the trace failed too, only the status reports this.
 fn report_unopened<E: Write>(path: &str, status: u8, err: &mut E) {
     if status == 0 {
         let path = QuotedWord(path);

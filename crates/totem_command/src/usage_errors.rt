@@ -13,8 +13,10 @@ const BEGINNING: &str = "error: ";
 /// The end of each of the parser's messages that shows no usage.
 const END: &str = "\n\nFor more information, try '--help'.\n";
 
-/// Returns the parser's message for these words, with the usage of their command where the value of an option is bad. The
-/// parser itself shows none there.
+/// Returns the parser's message for these words, with the usage of their command if the value of an option is bad.
+///
+/// The parser itself shows no usage for a bad value.
+///
 /// Formats: The command line
 pub(crate) fn with_usage(alloc: Global, words: &[String], error: Error) -> Error {
     match error.kind() {
@@ -37,8 +39,10 @@ fn message_in(text: &str) -> &str {
     text.strip_suffix(END).unwrap_or(text)
 }
 
-/// Returns the parser's message for words with this fault, with the usage of their command. It has the kind `OutOfMemory`
-/// where memory is refused.
+/// Returns the parser's message for words with the fault `wrong`, with the usage of their command.
+///
+/// It has the kind `OutOfMemory` if an allocation fails.
+///
 /// Formats: The command line
 pub(crate) fn usage_error(alloc: Global, words: &[String], wrong: &str) -> Error {
     match command_among(alloc, words) {
@@ -47,7 +51,7 @@ pub(crate) fn usage_error(alloc: Global, words: &[String], wrong: &str) -> Error
     }
 }
 
-/// Returns the parser's message for a command line with this fault, with the usage of the command.
+/// Returns the parser's message for a command line with the fault `wrong`, with the usage of the command.
 fn error_of(command: &mut Command<'_>, wrong: &str) -> Error {
     match command.error(ErrorKind::ValueValidation, wrong) {
         Ok(error) => error,
@@ -55,7 +59,7 @@ fn error_of(command: &mut Command<'_>, wrong: &str) -> Error {
     }
 }
 
-/// Returns the command that the words name, or the whole program where they name none.
+/// Returns the parser of the command that the words name, or that of the whole program if they name none.
 fn command_among<'a>(alloc: Global, words: &[String]) -> Result<Command<'a>, AllocError> {
     let named = match words.get(1) {
         Some(name) => named_command(alloc, name.as_str())?,

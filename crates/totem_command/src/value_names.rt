@@ -2,8 +2,10 @@
 //!
 //! Formats: The command line
 
-/// Returns the name of the value of the option with this name, as in `--nodes <N>`. An option that isn't listed here has
-/// `VALUE`.
+/// Returns the name of the value of the option `option`, such as N in `--nodes <N>`.
+///
+/// For an option that isn't listed here it is `VALUE`.
+///
 /// Formats: The command line
 pub(crate) fn value_name(option: &str) -> &'static str {
     match option {

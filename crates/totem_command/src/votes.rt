@@ -1,15 +1,19 @@
-//! Parses the votes on a command line.
+//! The parsing of the votes on a command line.
 //!
 //! Formats: The command line
 
 use arrayvec::ArrayVec;
 use ring_base::PROCESSORS;
 
-/// The votes of all nodes, one number for each node, in the order of the nodes. It takes no heap memory.
+/// The votes of all nodes, one number for each node, in the order of the nodes.
+///
+/// Does not allocate.
 pub(crate) type VoteList = ArrayVec<u8, PROCESSORS>;
 
-/// Returns the votes of the nodes: those in a word, separated by commas, or without a word one vote for each node. Returns
-/// `None` unless there is a number from 1 to 255 for each node.
+/// Returns the votes of the nodes: those in `word`, separated by commas, or one vote for each node if there is no word.
+///
+/// Returns `None` unless the word has exactly one number from 1 to 255 for each node.
+///
 /// Formats: The command line
 pub(crate) fn votes_of(nodes: u8, word: Option<&str>) -> Option<VoteList> {
     let votes = match word {

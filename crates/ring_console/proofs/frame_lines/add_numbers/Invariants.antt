@@ -6,7 +6,7 @@ use Rattle.std.specs.List.{join_by}
 use Rattle.ring_console.proofs.ListedLemmas.{is_none}
 use Rattle.ring_console.proofs.frame_lines.add_numbers.Given as goal
 
--- the numbers so far are added, separated by commas, and there is room for the remaining ones
+-- The numbers so far are added, separated by commas, and there is room for the remaining ones.
 abbrev pub invariant-loop-number : goal.invariant-loop-number
 invariant-loop-number g l = record {
   fresh : l.is_empty ≡ is_none l.yielded;

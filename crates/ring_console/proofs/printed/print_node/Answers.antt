@@ -8,7 +8,7 @@ use Rattle.ring_failure.specs.Texts.{state_name_text}
 use Rattle.ring_console.specs.OutputLines.{node_text, trimmed_text}
 use Rattle.ring_console.proofs.printed.print_node.Goals as goal
 
--- eleven pieces and the end of a line, as `writeln!` joins them
+-- Eleven pieces and the end of a line, as `writeln!` joins them.
 joined : (a b c d e f g h i j k : List ℕ)
     → a ++ (b ++ (c ++ (d ++ (e ++ (f ++ (g ++ (h ++ (i ++ (j ++ (k ++ 10 ∷ [])))))))))) ≡ line_of (a ++ b ++ c ++ d ++ e ++ f ++ g ++ h ++ i ++ j ++ k)
 joined a b c d e f g h i j k =

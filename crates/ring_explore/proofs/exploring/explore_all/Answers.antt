@@ -1,4 +1,4 @@
--- Where a seed was tried, the votes are those of a group.
+-- If a seed was tried, the votes are those of a group.
 use Rattle.ring_explore.proofs.TriedScripts.{tried_votes}
 use Rattle.ring_explore.proofs.exploring.explore_all.Goals as goal
 

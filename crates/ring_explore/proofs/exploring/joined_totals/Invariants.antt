@@ -4,7 +4,7 @@ use Rattle.ring_failure.specs.Shares.{share_begin}
 use Rattle.ring_explore.specs.Tried.{IsTriedIn}
 use Rattle.ring_explore.proofs.exploring.joined_totals.Given as goal
 
--- the shares so far were tried
+-- The shares so far were tried.
 abbrev pub invariant-loop-part : goal.invariant-loop-part
 invariant-loop-part g l =
     AreTried (IsTriedIn g.O.Object.sequential g.V.Vocabulary.forms l.fn.plan) l.fn.plan.first

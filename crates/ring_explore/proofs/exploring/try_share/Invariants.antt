@@ -4,7 +4,7 @@ use Rattle.ring_failure.specs.Shares.{share_begin}
 use Rattle.ring_explore.specs.Tried.{IsTriedIn}
 use Rattle.ring_explore.proofs.exploring.try_share.Given as goal
 
--- the seeds so far were tried
+-- The seeds so far were tried.
 abbrev pub invariant-loop-place : goal.invariant-loop-place
 invariant-loop-place g l =
     AreTried (IsTriedIn g.O.Object.sequential g.V.Vocabulary.forms l.plan)

@@ -3,6 +3,6 @@ use Rattle.std.specs.Prelude.{count_by}
 use Rattle.ring_explore.specs.Explored.{is_answer}
 use Rattle.ring_explore.proofs.one.answers.Given as goal
 
--- the answers among the reports so far
+-- The answers among the reports so far.
 abbrev pub invariant-loop-told : goal.invariant-loop-told
 invariant-loop-told g l = l.many ≡ count_by is_answer (take l.told-index l.told-items)

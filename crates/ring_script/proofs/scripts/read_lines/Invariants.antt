@@ -5,8 +5,8 @@ use Rattle.ring_script.specs.Words.{are_ascii}
 use Rattle.ring_script.proofs.Readings.{behind}
 use Rattle.ring_script.proofs.scripts.read_lines.Given as goal
 
--- the requests parsed so far, and then those of the remaining lines, are those of all lines; `is_plain` holds of the remaining
--- lines
+-- The requests parsed so far, and then those of the remaining lines, are those of all lines; `is_plain` holds of the
+-- remaining lines.
 abbrev pub invariant-loop-number : goal.invariant-loop-number
 invariant-loop-number g l = record {
   read :

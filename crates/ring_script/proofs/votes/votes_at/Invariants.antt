@@ -3,7 +3,7 @@ use Rattle.ring_script.specs.Votes.{votes_at}
 use Rattle.ring_script.proofs.Voting.{with_front}
 use Rattle.ring_script.proofs.votes.votes_at.Given as goal
 
--- the votes so far, and then those of the remaining words, are those of all words
+-- The votes so far, and then those of the remaining words, are those of all words.
 abbrev pub invariant-loop-i : goal.invariant-loop-i
 invariant-loop-i l = record {
   read : with_front (take l.i l.votes) (votes_at (l.count - l.i) l.words) ≡ votes_at l.count l.initial.words;

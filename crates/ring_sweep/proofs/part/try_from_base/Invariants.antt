@@ -4,7 +4,7 @@ use Rattle.ring_sweep.specs.ScriptPositions.{HasReachedEvent}
 use Rattle.ring_sweep.specs.Variants.{AreTriedIn}
 use Rattle.ring_sweep.proofs.part.try_from_base.Given as goal
 
--- the variants so far were run, and the base run is not past the event of the next
+-- The variants so far were run, and the base run is not past the event of the next.
 abbrev pub invariant-loop-place : goal.invariant-loop-place
 invariant-loop-place g l = record {
   tried : AreTriedIn g.O.Object.sequential l.script.nodes l.script.lines.items (l.part.from + share_begin (l.part.upto - l.part.from) l.shares l.share)

@@ -3,7 +3,7 @@ use Rattle.ring_failure.specs.Shares.{share_begin}
 use Rattle.ring_sweep.specs.Variants.{AreTriedIn}
 use Rattle.ring_sweep.proofs.rounds.first_in.Given as goal
 
--- the shares so far were run
+-- The shares so far were run.
 abbrev pub invariant-loop-one : goal.invariant-loop-one
 invariant-loop-one g l =
     AreTriedIn g.O.Object.sequential l.fn.script.nodes l.fn.script.lines.items l.fn.part.from

@@ -4,7 +4,7 @@ use Rattle.std.specs.declared.alloc.Global.{Global}
 use Rattle.ring_console.specs.Running.{RunView, AreLinesDone}
 use Rattle.ring_trace.proofs.tracing.trace_script.Goals as goal
 
--- a fact that two facts at `Ok` imply
+-- A fact that two facts at `Ok` imply.
 both_ok : {X E : Type 0} (r : Result X E) (P Q R : Type 0) → (P → Q → R) → OnOk r P → OnOk r Q → OnOk r R
 both_ok (Ok x) P Q R f p q = f p q
 both_ok (Err e) P Q R f p q = p

@@ -3,7 +3,7 @@ use Rattle.std.specs.Io.KnownBytes.{Keeps}
 use Rattle.ring_console.specs.Listings.{left_of, IsEndRight}
 use Rattle.ring_console.proofs.frame_reader.FrameReader.read_ahead.Given as goal
 
--- the rest of the input stays the same, however much of it is read ahead
+-- The rest of the input stays the same, however much of it is read ahead.
 abbrev pub invariant-loop : goal.invariant-loop
 invariant-loop g l = record {
   kept : Keeps (left_of l.fn.self (g.R.Read.remaining l.fn.input)) (left_of l.self (g.R.Read.remaining l.input));

@@ -11,7 +11,7 @@ use Rattle.ring_console.specs.OutputLines.{node_text}
 use Rattle.ring_console.specs.Running.{node_line_text, nodes_text}
 use Rattle.ring_console.proofs.run.ScriptRun.show.Goals as goal
 
--- a node's line, by the values of its parts
+-- A node's line, by the values of its parts.
 shown : {A : Type 0} (node m : Node A) (number i : ℕ) (state : State) (ring : RingId) (committed log trimmed : ℕ)
     → number ≡ suc i → node ≡ m → state ≡ node.core.state → ring ≡ node.core.installed.ring
     → committed ≡ (node_known_log node).committed → log ≡ node_length node → trimmed ≡ node_trimmed node

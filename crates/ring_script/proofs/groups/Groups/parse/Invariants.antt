@@ -3,7 +3,7 @@ use Rattle.ring_script.specs.Cuts.{cut_at}
 use Rattle.ring_script.proofs.Cutting.{cut_after}
 use Rattle.ring_script.proofs.groups.Groups.parse.Given as goal
 
--- the remaining words complete the groups so far to the cut that all words denote
+-- The remaining words complete the groups so far to the cut that all words denote.
 abbrev pub invariant-loop-word : goal.invariant-loop-word
 invariant-loop-word l = cut_after l.nodes l.count l.placed l.groups l.words ≡ cut_at l.nodes l.initial.words
 

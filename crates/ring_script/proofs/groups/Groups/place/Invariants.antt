@@ -2,7 +2,7 @@ use Rattle.std.proofs.Common.{◌≡◌, ◌+◌, ◌++◌, length, take, drop}
 use Rattle.ring_script.specs.Cuts.{placed_from}
 use Rattle.ring_script.proofs.groups.Groups.place.Given as goal
 
--- the places done so far, and then those still to do, give the final table
+-- The places done so far, and then those still to do, give the final table.
 abbrev pub invariant-loop-i : goal.invariant-loop-i
 invariant-loop-i l = record {
   long : length l.kept-items ≡ 16;

@@ -4,7 +4,7 @@ use Rattle.std.specs.List.{list_all}
 use Rattle.std.specs.Str.Parse.{digits_value}
 use Rattle.ring_script.proofs.words.Digits.beyond.Given as goal
 
--- the bytes so far are digits, and denote a number that is too great
+-- The bytes so far are digits, and denote a number that is too great.
 abbrev pub invariant-loop-count : goal.invariant-loop-count
 invariant-loop-count l = record {
   within : l.count ≤ length l.text;

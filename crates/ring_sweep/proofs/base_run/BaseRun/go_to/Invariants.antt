@@ -2,7 +2,7 @@ use Rattle.std.proofs.Common.{◌≡◌, ◌≤◌}
 use Rattle.ring_sweep.specs.ScriptPositions.{HasReachedEvent}
 use Rattle.ring_sweep.proofs.base_run.BaseRun.go_to.Given as goal
 
--- the lines so far are carried out, and the event is not among them
+-- The lines so far are carried out, and the event is not among them.
 abbrev pub invariant-loop-index : goal.invariant-loop-index
 invariant-loop-index g l =
     (l.self.lines ≡ l.index)

@@ -2,6 +2,6 @@ use Rattle.std.specs.Prelude.{replicate}
 use Rattle.ring_sweep.specs.Variants.{turn, AreStepsDone}
 use Rattle.ring_sweep.proofs.counted_run.CountedRun.take_turns.Given as goal
 
--- this number of turns is taken
+-- This number of turns is taken.
 abbrev pub invariant-loop : goal.invariant-loop
 invariant-loop g l = AreStepsDone g.O.Object.sequential (replicate l.counter turn) l.initial.self.done l.self.done l.initial.self.run l.self.run

@@ -6,12 +6,12 @@ use Rattle.ring_trace_words.specs.declared.change.Change.TheVariants as change
 use Rattle.ring_trace.specs.NodeViews.{is_new_ring, is_new_state, ring_change, restored_change, change_if}
 use Rattle.ring_trace.proofs.node_view.NodeView.add_changes.Goals as goal
 
--- a prefix of the changes is added
+-- A prefix of the changes is added.
 in_part : {X : Type 0} (old done rest all new : List X) → done ++ rest ≡ all → new ≡ old ++ done → IsListPrefix old new × IsListPrefix new (old ++ all)
 in_part old done rest all new whole is =
     ((done, sym is), (rest, ap (λ xs. xs ++ rest) is ∙ append_assoc old done rest ∙ ap (λ xs. old ++ xs) whole))
 
--- a fact that a fact at `Err` implies
+-- A fact that a fact at `Err` implies.
 from_err : {X E : Type 0} (r : Result X E) (P Q : Type 0) → (P → Q) → OnErr r P → OnErr r Q
 from_err (Ok x) P Q f h = h
 from_err (Err e) P Q f h = f h

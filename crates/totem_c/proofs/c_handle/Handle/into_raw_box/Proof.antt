@@ -59,7 +59,7 @@ into_raw_box_spec 𝓤 𝓛 𝓜 𝓡 wired =
     let good = (subst (Typed F.mir) es (((held_laws.the_row_laws).lawful 𝓛).typed d z.0.4.0 are.0)).0 in
     suffices ! (Run (w ∷ h.0 ∷ [])) (subst (λ (us : List Val). ent 𝓤 (Run (w ∷ h.0 ∷ [])) (Run us)) (sym (λ i. es i ++ (h.1 i ++ [])))
     (id⊢ 𝓤 (Run (w ∷ h.0 ∷ [])))) $
-    -- [the handle's ownership; the heap's handle]
+    -- [the handle's ownership; the heap's handle].
     keep ! (0 ∷ 1 ∷ []) $ enter ! 𝓣.C 𝓣.Λ fn (w ∷ h.0 ∷ []) Post $ alloc_all ! (λ l. pass_all ! refl (good, (h.2, tt)) $ let Ev = env fn.locals l in
     sets ! (of_opd ! (get_in ! (fld ! refl (stop !)) (sub ! 0 refl (whole !)))) refl ((rawptr_Lawful 𝓛).typed d.at _ refl).0 $
     sets ! (of_opd ! (get_in ! (fld ! refl (stop !)) (sub ! 1 refl (whole !)))) refl (tt, tt) $

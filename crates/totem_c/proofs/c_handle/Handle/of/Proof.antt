@@ -46,7 +46,7 @@ of_spec 𝓤 𝓛 𝓜 𝓡 wired =
     let v : Val = both (vptr b o) (vbool true) in
     fpack ! Global (is_boxed_at (block_ptr b o) l.value) l.alloc $ handle_in ! d $
     suffices ! (Run (w ∷ [])) (subst (λ (us : List Val). ent 𝓤 (Run (w ∷ [])) (Run us)) (sym (λ i. ws i ++ [])) (id⊢ 𝓤 (Run (w ∷ [])))) $
-    -- [the handle; the heap's handle; nothing; the tokens; nothing]
+    -- [the handle; the heap's handle; nothing; the tokens; nothing].
     keep ! (0 ∷ []) $ enter ! 𝓣.C 𝓣.Λ fn (w ∷ []) Post $ alloc_all ! (λ at. pass_all ! refl (loose_good R Z LZ ghosts b o h fits, tt) $
     sets ! (of_opd ! (get_in ! (fld ! refl (stop !)) (sub ! 0 refl (whole !)))) refl (tt, tt) $
     sets ! (agg ! (and_then ! (get ! refl) (and_then ! (true_lit !) (no_more !)))) refl (tt, (tt, (tt, tt))) $
