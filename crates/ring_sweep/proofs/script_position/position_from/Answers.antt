@@ -16,4 +16,5 @@ returns-clause-ok g c =
     subst (λ (n : ℕ). IsScriptPosition g.O.Object.sequential c.args.script.now.nodes c.args.script.now.lines.items c.args.before
     (record { lines = ahead.lines; turns = ahead.turns; events = n })) (sym c.done.ensures)
     (is_gap g.O.Object.sequential c.args.script.now.nodes c.args.script.now.lines.items c.args.before
-    (record { lines = ahead.lines; turns = ahead.turns; events = ahead.counted_run.done }) ahead.counted_run.run c.in_ok-go_to.ensures.come c.in_ok-go_to.ensures.due)
+    (record { lines = ahead.lines; turns = ahead.turns; events = ahead.counted_run.done }) ahead.counted_run.run c.in_ok-go_to.ensures.come c.in_ok-go_to.ensures.due
+    c.in_ok-go_to.ensures.step)
