@@ -328,7 +328,7 @@ fn number_of(kind: Kind) -> u8 {
     }
 }
 
-/// The kinds of frames, each with what stands before it in a list.
+/// The kinds of frames, each with what comes before it in a list.
 const KINDS: [&str; 4] = ["messages", ", tokens", ", joins", ", commit tokens"];
 
 /// Prints the numbers of frames of each kind.

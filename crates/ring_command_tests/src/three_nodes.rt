@@ -91,7 +91,7 @@ fn seen<O: Object>(
     ))
 }
 
-/// Returns the lines of nodes that the trace of a script ends with.
+/// Returns the lines of the nodes with which the trace of a script ends.
 fn traced_counts<O: Object<Alloc = Global>>(alloc: Global, text: &str) -> Result<String, Fault> {
     let (mut out, mut frames, mut err) = (Vec::new(alloc), Vec::new(alloc), Vec::new(alloc));
     let asked = TraceOptions {
@@ -116,8 +116,9 @@ fn traced_counts<O: Object<Alloc = Global>>(alloc: Global, text: &str) -> Result
     Ok(counts)
 }
 
-/// Drives nodes through the events of a script. Returns whether the counts that they tell then are those of its trace, and the
-/// number of lines of these.
+/// Drives nodes through the events of a script, and compares their counts with those of its trace.
+///
+/// Returns whether the counts are the same, and the number of lines of those of the trace.
 fn counts_seen<O: Object<Alloc = Global>>(
     alloc: Global,
     text: &str,

@@ -12,50 +12,50 @@ use Rattle.ring_counts.specs.declared.counted.CountedFrame.TheVariants as counte
 use Rattle.ring_counts.specs.declared.counted.CountedInput.{CountedInput}
 use Rattle.ring_counts.specs.declared.counted.CountedInput.TheVariants as comes
 
--- what counts of a frame: its kind, the number of a message, and the `seq` of a token
+-- A frame, as far as counts depend on it: its kind, the number of a message, and the `seq` of a token.
 abbrev pub counted_frame : {A : Type 0} → Frame A → CountedFrame
 counted_frame (frame.Message x) = counted.Message x.number
 counted_frame (frame.Token t) = counted.Token t.seq
 counted_frame (frame.Join j) = counted.Join
 counted_frame (frame.Commit k) = counted.Commit
 
--- what counts of an input
+-- An input, as far as counts depend on it.
 abbrev pub counted_input : {A : Type 0} → Input A → CountedInput
 counted_input (input.Frame f) = comes.Frame (counted_frame f)
 counted_input input.Noise = comes.Noise
 counted_input (input.Timeout kind) = comes.Timeout kind
 counted_input input.Stop = comes.Stop
 
--- whether a message of this number is one that a token with this `seq` asked for; no other frame is
+-- Whether the frame is a message that a token with this `seq` asked for. No other frame is.
 abbrev pub is_asked_for : ℕ → CountedFrame → Bool
 is_asked_for seq (counted.Message number) = nat_le number seq
 is_asked_for seq (counted.Token other) = false
 is_asked_for seq counted.Join = false
 is_asked_for seq counted.Commit = false
 
--- whether the frame is a token or a commit token
+-- Whether the frame is a token or a commit token.
 abbrev pub is_some_token : CountedFrame → Bool
 is_some_token (counted.Message number) = false
 is_some_token (counted.Token seq) = true
 is_some_token counted.Join = false
 is_some_token counted.Commit = true
 
--- whether a step on this frame sends the other one again
+-- Whether a step on this frame sends the other one again.
 abbrev pub is_again_at_frame : CountedFrame → CountedFrame → Bool
 is_again_at_frame (counted.Message number) sent = false
 is_again_at_frame (counted.Token seq) sent = is_asked_for seq sent
 is_again_at_frame counted.Join sent = false
 is_again_at_frame counted.Commit sent = false
 
--- whether a step on this timeout sends the frame again
+-- Whether a step on this timeout sends the frame again.
 abbrev pub is_again_at_timeout : Kind → CountedFrame → Bool
 is_again_at_timeout Retransmit sent = is_some_token sent
 is_again_at_timeout Join sent = false
 is_again_at_timeout Consensus sent = false
 is_again_at_timeout Loss sent = false
 
--- whether a step on this input sends this frame again: a message at a token whose `seq` is not below its number, or a token or
--- commit token at a retransmit timeout
+-- Whether a step on this input sends this frame again: a message at a token whose `seq` is not below its number, or a
+-- token or commit token at a retransmit timeout.
 abbrev pub is_again : CountedInput → CountedFrame → Bool
 is_again (comes.Frame f) sent = is_again_at_frame f sent
 is_again comes.Noise sent = false

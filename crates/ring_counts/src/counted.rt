@@ -1,4 +1,5 @@
 //! Frames and inputs, as far as counts depend on them.
+//!
 //! Formats: Records
 
 ghost use Rattle.std.specs.Prelude.{◌≡◌};
@@ -10,6 +11,7 @@ use ring_wire::Frame;
 use std::alloc::Allocator;
 
 /// A frame, as far as counts depend on it.
+///
 /// Formats: Records
 #[derive(Clone, Copy, Debug, PartialEq, Eq)]
 pub enum CountedFrame {
@@ -24,21 +26,23 @@ pub enum CountedFrame {
 }
 
 /// An input of a node, as far as counts depend on it.
+///
 /// Formats: Records
 #[derive(Clone, Copy, Debug, PartialEq, Eq)]
 pub enum CountedInput {
-    /// A frame came.
+    /// A frame was received.
     Frame(CountedFrame),
-    /// Bytes came that aren't a frame.
+    /// Bytes were received that aren't a frame.
     Noise,
-    /// A timeout of this kind came.
+    /// A timeout of this kind is due.
     Timeout(Kind),
-    /// The node was stopped.
+    /// The node stops for good.
     Stop,
 }
 
 impl CountedFrame {
-    /// Returns what counts of a frame.
+    /// Returns a frame, as far as counts depend on it.
+    ///
     /// Formats: Records
     pub fn of<A: Allocator + Copy>(frame: &Frame<A>) -> CountedFrame
         ensures { result ≡ counted_frame frame.now }
@@ -53,7 +57,8 @@ impl CountedFrame {
 }
 
 impl CountedInput {
-    /// Returns what counts of an input.
+    /// Returns an input, as far as counts depend on it.
+    ///
     /// Formats: Records
     pub fn of<A: Allocator + Copy>(input: &Input<A>) -> CountedInput
         ensures { result ≡ counted_input input.now }
@@ -66,8 +71,11 @@ impl CountedInput {
         }
     }
 
-    /// Returns whether a step on this input sends this frame again: a message that a token asked for, or the token or commit
-    /// token that was sent last, at a retransmit timeout.
+    /// Returns whether a step on this input sends this frame again.
+    ///
+    /// It does if the frame is a message that a token asked for, or the token or commit token that was sent last, at a
+    /// retransmit timeout.
+    ///
     /// Formats: Records
     pub(crate) fn is_again(self, sent: CountedFrame) -> bool
         ensures { result ≡ is_again self sent }
@@ -81,7 +89,9 @@ impl CountedInput {
 }
 
 impl CountedFrame {
-    /// Returns whether a frame that came asks for this one: it is a token whose `seq` is not below the number of a message.
+    /// Returns whether a received frame asks for `sent`.
+    ///
+    /// It does if it is a token and `sent` is a message whose number is at most the token's `seq`.
     fn asks_for(self, sent: CountedFrame) -> bool
         ensures { result ≡ is_again_at_frame self sent }
     {

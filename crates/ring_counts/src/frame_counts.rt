@@ -1,4 +1,5 @@
 //! Counts of frames by kind.
+//!
 //! Formats: Records
 
 ghost use Rattle.std.specs.Prelude.{◌≡◌};
@@ -6,22 +7,25 @@ ghost use Rattle.ring_counts.specs.Counts.{no_frames, with_frame};
 
 use crate::counted::CountedFrame;
 
-/// The number of frames of each kind. Each number stays at 2^64 - 1 once it is there.
+/// The number of frames of each kind.
+///
+/// A number that has reached 2^64 - 1 stays there.
+///
 /// Formats: Records
 #[derive(Clone, Copy, Debug, PartialEq, Eq)]
 pub struct FrameCounts {
-    /// Messages.
+    /// The number of messages.
     pub messages: u64,
-    /// Tokens.
+    /// The number of tokens.
     pub tokens: u64,
-    /// Joins.
+    /// The number of joins.
     pub joins: u64,
-    /// Commit tokens.
+    /// The number of commit tokens.
     pub commits: u64,
 }
 
 impl FrameCounts {
-    /// Returns the counts of no frame.
+    /// Returns the counts before any frame: all are 0.
     pub fn new() -> FrameCounts
         ensures { result ≡ no_frames }
     {

@@ -1,6 +1,8 @@
-//! What is counted of a node's steps, for a person who watches it: frames by kind, tokens, what was sent again, rings and calls.
+//! What is counted of a node's steps, for a person who watches it: frames by kind, tokens, what was sent again, rings
+//! and calls.
 //!
-//! Nothing here waits, takes memory or refuses.
+//! Nothing here waits, allocates or refuses.
+//!
 //! Formats: Records
 #![tactic(auto)]
 

@@ -1,4 +1,5 @@
 //! What is counted of a node's steps.
+//!
 //! Formats: Records
 
 ghost use Rattle.std.specs.Prelude.{◌≡◌, fold};
@@ -12,15 +13,20 @@ use ring_clock::has_sent;
 use ring_core_spec::OutgoingFrame;
 use std::alloc::Allocator;
 
-/// The counts of a node's steps since its opening. Each count stays at 2^64 - 1 once it is there.
+/// The counts of a node's steps since its opening.
+///
+/// A count that has reached 2^64 - 1 stays there.
+///
 /// Formats: Records
 #[derive(Clone, Copy, Debug, PartialEq, Eq)]
 pub struct NodeCounts {
-    /// The frames that the node was given.
+    /// The frames that the node received.
     pub received: FrameCounts,
-    /// The inputs that were no frame.
+    /// The received inputs that aren't a frame.
     pub noise: u64,
-    /// The frames that the node sent. A frame to several receivers counts once.
+    /// The frames that the node sent.
+    ///
+    /// A frame to several receivers counts once.
     pub sent: FrameCounts,
     /// The tokens and commit tokens that the node took: it sent something for them.
     pub tokens_taken: u64,
@@ -32,7 +38,9 @@ pub struct NodeCounts {
     pub tokens_again: u64,
     /// The rings that the node installed.
     pub rings: u64,
-    /// The inputs and calls that the node refused. They count in nothing else.
+    /// The inputs and calls that the node refused.
+    ///
+    /// They are counted nowhere else.
     pub refusals: u64,
     /// The calls that got a ticket.
     pub submitted: u64,
@@ -40,7 +48,10 @@ pub struct NodeCounts {
     pub answered: u64,
 }
 
-/// What a person reads of a node beside its counts. It can fall.
+/// What a person reads of a node beside its counts.
+///
+/// These numbers can also fall.
+///
 /// Formats: Records
 #[derive(Clone, Copy, Debug, PartialEq, Eq)]
 pub struct NodeGauges {
@@ -73,6 +84,7 @@ impl NodeCounts {
     }
 
     /// Counts a step: its input, the frames that it sent, the number of its answers, and whether it installed a ring.
+    ///
     /// Formats: Records
     pub fn note_step<A: Allocator + Copy>(
         &mut self,
@@ -133,8 +145,8 @@ impl NodeCounts {
         }
     }
 
-    /// Counts what a step on this input came to: whether it sent anything, the number of its answers, and whether it installed a
-    /// ring.
+    /// Counts the outcome of a step on this input: whether it sent anything, the number of its answers, and whether it
+    /// installed a ring.
     pub fn note_outcome(
         &mut self,
         input: CountedInput,
@@ -197,6 +209,7 @@ impl NodeCounts {
     }
 
     /// Returns all numbers in the order of the record of counts, those of `gauges` last.
+    ///
     /// Formats: Records
     pub fn numbers(&self, gauges: NodeGauges) -> [u64; 20]
         ensures { result ≡ count_numbers self.now gauges }

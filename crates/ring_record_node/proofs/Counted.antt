@@ -11,7 +11,7 @@ use Rattle.ring_counts.specs.declared.counted.CountedInput.{CountedInput}
 use Rattle.ring_counts.specs.declared.node_counts.NodeCounts.{NodeCounts}
 use Rattle.ring_record_node.specs.NodeOutputs.{RecordNodeView}
 
--- the counted step is that on this input, with these frames, answers and rings
+-- The counted step is that on this input, with these frames, answers and rings.
 pub counted : {A : Type 0} (i : Input A) (slice sends : List (OutgoingFrame A)) (answers answers' : ℕ) (installed installed' : Bool) (input : CountedInput)
     (old new : NodeCounts)
     → input ≡ counted_input i → slice ≡ sends → answers ≡ answers' → installed ≡ installed' → new ≡ counts_after_step input slice answers installed old
@@ -22,11 +22,11 @@ counted {A} i slice sends answers answers' installed installed' input old new in
     ∙ ap (λ (n : ℕ). counts_after_step (counted_input i) sends n installed old) answers_are
     ∙ ap (λ (b : Bool). counts_after_step (counted_input i) sends answers' b old) installed_is
 
--- the node with these notes of its clock and its counts
+-- The node with these notes of its clock and its counts.
 abbrev pub with_notes : {A : Type 0} → Group → Node A → ClockView → NodeCounts → RecordNodeView A
 with_notes group node clock counts = record { group = group; node = node; clock = clock; counts = counts }
 
--- both are those after the step
+-- Both are those after the step.
 pub both : {A : Type 0} (group : Group) (node : Node A) (clock clock' : ClockView) (counts counts' : NodeCounts) → clock ≡ clock' → counts ≡ counts'
     → with_notes group node clock counts ≡ with_notes group node clock' counts'
 both group node clock clock' counts counts' clock_is counts_are =

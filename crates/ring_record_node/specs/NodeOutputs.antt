@@ -27,14 +27,15 @@ use Rattle.ring_records.specs.declared.timed_end.TimedEnd.{TimedEnd}
 use Rattle.ring_records.specs.declared.token_outcome.TokenOutcome.{TokenOutcome}
 use Rattle.ring_records.specs.declared.token_outcome.TokenOutcome.TheVariants.{NoToken, Taken, Ignored}
 
--- a node that takes records: its group, the node, its clock, and the counts of its steps
+-- A node that takes records: its group, the node, its clock, and the counts of its steps.
 pub record RecordNodeView (A : Type 0) : Type 0 where
   pub group : Group
   pub node : Node A
   pub clock : ClockView
   pub counts : NodeCounts
 
--- processor `me` of the group at its opening, with a clock of these periods to which no time was brought, and nothing counted
+-- Processor `me` of the group at its opening, with a clock of these periods to which no time was brought, and nothing
+-- counted.
 abbrev pub record_node_opening : {A : Type 0} → Group → ℕ → Periods → RecordNodeView A
 record_node_opening group me periods = record { group = group; node = node_opening group me; clock = clock_opening periods; counts = no_counts }
 
@@ -94,11 +95,11 @@ abbrev pub status_text : {A : Type 0} → RecordNodeView A → List ℕ
 status_text r =
     status_record r.node.core.state r.node.core.installed.ring (node_known_log r.node).committed (node_length r.node) (node_trimmed r.node) (told_membership r)
 
--- what is read of a node beside its counts: the calls that wait, the committed places and the dropped ones
+-- What is read of a node beside its counts: the calls that wait, the committed places and the dropped ones.
 abbrev pub gauges_of : {A : Type 0} → Node A → NodeGauges
 gauges_of n =
     record { waiting = length (pending_from n.done 0 n.tickets); committed = (node_known_log n).committed; dropped = node_trimmed n }
 
--- the counts of a node
+-- The counts of a node.
 abbrev pub counts_text : {A : Type 0} → RecordNodeView A → List ℕ
 counts_text r = counts_record (count_numbers r.counts (gauges_of r.node))

@@ -34,7 +34,7 @@ IsDecodedInput {A} bytes input.Noise = (frame : Frame A) → ¬ IsFrameEncoding 
 IsDecodedInput bytes (input.Timeout kind) = ⊥
 IsDecodedInput bytes input.Stop = ⊥
 
--- the counts after a call was submitted that got a ticket or was refused
+-- The counts after a call was submitted that got a ticket or was refused.
 abbrev pub counts_after_submission : Result ℕ Fault → NodeCounts → NodeCounts
 counts_after_submission (Ok ticket) counts = counts_after_submit counts
 counts_after_submission (Err fault) counts = counts_after_refusal counts
@@ -48,13 +48,13 @@ module _ {O A : Type 0} (object : Sequential O) where
       (is_stopped old.core.state ≡ false) × ((new ≡ node_stopped old) ⊎ (new ≡ node_stopped (node_step object old i).node))
   IsStepOrRefusal old i (Some _) new = ⊥
 
-  -- the counts after a step of the node between these two states
+  -- The counts after a step of the node between these two states.
   abbrev pub counts_after : NodeCounts → Node A → Input A → Node A → NodeCounts
   counts_after counts old i new =
       let s = node_step object old i in
       counts_after_step (counted_input i) s.sends (length s.answers) (installs old.core new.core) counts
 
-  -- a node with its clock made a step, which the clock and the counts note, or was refused it, which the counts note
+  -- A node with its clock made a step, which the clock and the counts note, or was refused it, which the counts note.
   abbrev pub IsStepNoted : RecordNodeView A → Input A → Option Fault → RecordNodeView A → Type 0
   IsStepNoted old i None new =
       IsStepOrRefusal old.node i None new.node

@@ -1,5 +1,8 @@
-//! A node that another program drives with records. Each input record is a frame, a timeout, a call, a stop, a query or a time; its
-//! outputs are written as records, in order, before the next input record is taken.
+//! A node that another program drives with records.
+//!
+//! Each input record is a frame, a timeout, a call, a stop, a query or a time; its outputs are written as records, in
+//! order, before the next input record is taken.
+//!
 //! Rules: Nodes that records drive 1 to 5, 7 and 8
 //! Formats: Records
 #![tactic(auto)]

@@ -1,4 +1,5 @@
 //! A node that takes records.
+//!
 //! Rules: Nodes that records drive 1 to 4, 7 and 8; Refusals 4 and 6
 
 ghost use Rattle.std.specs.Prelude.{◌≡◌, ◌≤◌, false, None, Some, ℕ, List, length, drop, ◌++◌, IsTrue, IsOk, OnOk, OnErr, IfOk, IfErr};
@@ -34,8 +35,10 @@ use ring_session::Ticket;
 use std::io::{self, Write};
 use std::marker::Model;
 
-/// A node that takes records, and writes the output records of each at once. It keeps a clock from the first record of time on, and
-/// counts its steps.
+/// A node that takes records, and writes the output records of each at once.
+///
+/// It keeps a clock from the first record of time on, and counts its steps.
+///
 /// Rules: Nodes that records drive 1, 7 and 8
 #[derive(Drop)]
 pub struct RecordNode<O: Object> {
@@ -87,11 +90,15 @@ impl<O: Object> RecordNode<O> {
         })
     }
 
-    /// Takes the record of this kind and these bytes: carries out its request, and writes the node's output to `out`. What
-    /// the node itself refuses, `Memory` included, is written there and isn't an error.
-    /// Returns whether the record is a request. Where it isn't, nothing is done and nothing is written.
-    /// Errors: `Output` where `out` fails. The request is carried out all the same, and a part of the output may be
+    /// Takes the record of this kind and these bytes: carries out its request, and writes the node's output to `out`.
+    ///
+    /// What the node itself refuses, `Memory` included, is written there and isn't an error.
+    ///
+    /// Returns whether the record is a request. If it isn't, nothing is done and nothing is written.
+    ///
+    /// Errors: `Output` if `out` fails. The request is carried out all the same, and a part of the output may be
     /// missing.
+    ///
     /// Rules: Nodes that records drive 1 to 4, 7 and 8
     pub fn take<W: Write>(&mut self, kind: u8, bytes: &[u8], out: &mut W) -> Result<bool, Failure>
         ensures taken { IfOk result (λ is_taken. IsTrue is_taken
@@ -161,8 +168,12 @@ impl<O: Object> RecordNode<O> {
         }
     }
 
-    /// Makes a step of the node, encodes its frames, and notes it at the clock and in the counts. `Stopped` in a stopped node, else
-    /// `Memory`: then the node has stopped, and the step's outputs are lost. The counts note a refusal too.
+    /// Makes a step of the node, encodes its frames, and notes it at the clock and in the counts.
+    ///
+    /// The counts note a refusal, too.
+    ///
+    /// Errors: `Stopped` if the node has stopped; `Memory` if an allocation fails. The node has then stopped, and the
+    /// step's outputs are lost.
     fn step(&mut self, input: Input<O::Alloc>) -> Result<EncodedStep<O::Alloc>, Fault>
         requires { InputFits input }
         ensures acts { OnOk result (IsStepNoted O.sequential self.old input None self.new) }

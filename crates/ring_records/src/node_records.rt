@@ -175,7 +175,8 @@ fn bytes_of_status(state: State, ring: RingId, committed: u64, log: u64, trimmed
 
 /// Writes a record `I` with the counts of a node, each in 8 bytes, in this order.
 ///
-/// Errors: the writer's; its content is then unspecified.
+/// Errors: any error of `out`. How much has been written is then unspecified.
+///
 /// Rules: Nodes that records drive 8
 /// Formats: Records
 pub fn write_counts<W: Write>(numbers: &[u64; 20], out: &mut W) -> io::Result<()>

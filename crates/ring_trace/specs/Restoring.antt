@@ -9,7 +9,8 @@ use Rattle.ring_node_spec.specs.Stepping.{node_step}
 use Rattle.ring_node_spec.specs.declared.input.Input.TheVariants as input
 use Rattle.ring_node.specs.Restores.{node_restored}
 
--- the bytes are a frame, and the number is that of the places that the node's step on it restores, unless the node has stopped
+-- The bytes are a frame, and the number is that of the places that the node's step on it restores, unless the node has
+-- stopped.
 pub record IsRestoredBy {O A : Type 0} (object : Sequential O) (node : Node A) (bytes : List ℕ) (restored : Option ℕ) : Type 0 where
   pub frame : Frame A
   pub encodes : IsFrameEncoding frame bytes

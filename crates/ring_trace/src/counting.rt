@@ -1,4 +1,5 @@
 //! Counting the events of a run at their nodes.
+//!
 //! Formats: The command line; Records
 
 use crate::sent_frames::SentFrame;
@@ -6,20 +7,21 @@ use ring_counts::{CountedInput, NodeCounts};
 use ring_trace_formats::Told;
 use std::alloc::Allocator;
 
-/// What came to a node in an event, as far as its counts depend on it.
+/// What a node received in an event, as far as its counts depend on it.
 #[derive(Clone, Copy)]
 pub(crate) enum CountedEvent {
-    /// A call was submitted.
+    /// A client submitted a call.
     Call,
-    /// An input came to a node that ran.
+    /// A node that hadn't stopped received an input.
     Input(CountedInput),
-    /// An input came to a node that had stopped.
+    /// A stopped node received an input.
     Refused,
-    /// Nothing came: a line gave a frame that was not sent, or not to the node.
+    /// Nothing was received: a line gave a frame that wasn't sent, or not to the node.
     Nothing,
 }
 
-/// Counts an event of a node: what came, the frames that it sent, its reports, and whether it installed a ring.
+/// Counts an event of a node: what it received, the frames that it sent, its reports, and whether it installed a ring.
+///
 /// Formats: Records
 pub(crate) fn count_event<A: Allocator + Copy>(
     counts: &mut NodeCounts,

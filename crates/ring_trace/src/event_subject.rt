@@ -17,7 +17,7 @@ pub(crate) struct EventSubject {
     pub node: Proc,
     /// The number of the frame that a turn or a line delivers to the node, if a u64 holds it.
     pub frame: Option<u64>,
-    /// What counts of the input, where it is neither a frame nor a call.
+    /// The input, as far as counts depend on it, if it is neither a frame nor a call.
     pub counted: Option<CountedInput>,
     /// The delivered copy, if the event is a turn of a pump.
     pub pair: Option<OpenCopy>,

@@ -1,4 +1,5 @@
 //! What a node's step restores, which a world doesn't keep.
+//!
 //! Formats: The command line
 
 ghost use Rattle.std.specs.Prelude.{◌≡◌, IfOk, IfErr};
@@ -12,9 +13,13 @@ use ring_object::Object;
 use ring_wire::{Frame, decode_frame};
 use std::alloc::Allocator;
 
-/// Returns the number of places of the snapshot that the node's step on the frame of these bytes restores, or `None` if it restores
-/// none. A copy of the node makes the step; the node itself stays as it is. A stopped node restores nothing.
-/// Errors: only `Memory`, also where the bytes are no frame.
+/// Returns the number of places that the snapshot replaces that a node's step on a frame restores.
+///
+/// Returns `None` if the step restores none; a stopped node restores none. `bytes` encode the frame. A copy of the node
+/// makes the step; the node itself is unchanged.
+///
+/// Errors: `Memory` if an allocation fails, and also if the bytes don't encode a frame.
+///
 /// Formats: The command line
 pub(crate) fn restored_by<O: Object>(
     alloc: O::Alloc,
@@ -31,7 +36,9 @@ pub(crate) fn restored_by<O: Object>(
     restored
 }
 
-/// Makes the copy's step on the frame of these bytes, and returns what it restores. `Memory` also where the bytes are no frame.
+/// Makes the copy's step on the frame that these bytes encode, and returns what it restores.
+///
+/// Errors: `Memory` if an allocation fails, and also if the bytes don't encode a frame.
 fn step_copy<O: Object>(
     alloc: O::Alloc,
     copy: &mut Node<O>,
@@ -48,7 +55,9 @@ fn step_copy<O: Object>(
     }
 }
 
-/// Decodes the frame of these bytes. `Memory` also where they are no frame.
+/// Decodes the frame that these bytes encode.
+///
+/// Errors: `Memory` if an allocation fails, and also if the bytes don't encode a frame.
 fn frame_of<A: Allocator + Copy>(alloc: A, bytes: &[u8]) -> Result<Frame<A>, Fault>
     ensures found { IfOk result (λ frame. IsFrameEncoding frame bytes.now) }
     ensures refused { IfErr result (λ fault. fault ≡ Memory) }

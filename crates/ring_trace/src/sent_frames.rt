@@ -31,7 +31,7 @@ pub(crate) struct SentFrame {
     pub end: usize,
     /// The message that it has, if it has one.
     message: Option<MessageName>,
-    /// What is counted of it, if it is counted.
+    /// The frame, as far as counts depend on it.
     pub counted: Option<CountedFrame>,
     /// The number of places that the snapshot replaces of which its message carries a piece, if it carries one.
     pub snapshot: Option<u64>,
@@ -198,13 +198,13 @@ fn message_in<A: Allocator + Copy>(frame: &Option<Frame<A>>) -> Option<MessageNa
     }
 }
 
-/// Returns what counts of a frame.
+/// Returns a frame, as far as counts depend on it.
 fn counted_in<A: Allocator + Copy>(frame: &Option<Frame<A>>) -> Option<CountedFrame> {
     let frame = frame.as_ref()?;
     Some(CountedFrame::of(frame))
 }
 
-/// Returns the number of places of the snapshot of which a frame carries a piece, if it carries one.
+/// Returns the number of places that the snapshot replaces of which a frame carries a piece, if it carries one.
 fn snapshot_in<A: Allocator + Copy>(frame: &Option<Frame<A>>) -> Option<u64> {
     match frame {
         Some(Frame::Message(message)) => snapshot_of(message),

@@ -48,7 +48,7 @@ pub(crate) struct Tracer<O: Object> {
     node_views: Vec<NodeView, O::Alloc>,
     /// The counts of each node's steps.
     counts: Vec<NodeCounts, O::Alloc>,
-    /// The number of places that the current event's step restores, if it restores a snapshot.
+    /// The number of places that the snapshot replaces that the current event's step restores, if it restores one.
     restored: Option<u64>,
     sent: SentFrames<O::Alloc>,
     queue: WaitingCalls<O::Alloc>,
@@ -465,7 +465,9 @@ impl<O: Object> Tracer<O> {
         }
     }
 
-    /// Returns what came to the event's node, before the view of the node is renewed.
+    /// Returns what the event's node received.
+    ///
+    /// It is to be called before the view of the node is renewed.
     fn counted_event(&self, event_subject: &EventSubject) -> CountedEvent {
         if event_subject.call.is_some() {
             return CountedEvent::Call;
@@ -480,7 +482,7 @@ impl<O: Object> Tracer<O> {
         }
     }
 
-    /// Returns the input of the event's node, or `None` where a line gives a frame that was not sent, or not to the node.
+    /// Returns the input of the event's node, or `None` if a line gives a frame that wasn't sent, or not to the node.
     fn counted_input(&self, event_subject: &EventSubject) -> Option<CountedInput> {
         if event_subject.counted.is_some() {
             return event_subject.counted;
@@ -701,7 +703,8 @@ impl<O: Object> Tracer<O> {
         self.form.print_page_tail(out)
     }
 
-    /// Prints the lines of the whole run: the counts, those of each node, the waiting calls, and for programs the committed places.
+    /// Prints the lines of the whole run: the counts, those of each node, the waiting calls, and for programs the
+    /// committed places.
     fn print_last_lines<W: Write>(&self, out: &mut W) -> Result<(), Failure> {
         if self.form.format == Format::Svg {
             return Ok(());

@@ -200,7 +200,9 @@ impl TracePrinter {
     }
 
     /// Prints the line of a node's counts over the whole run.
+    ///
     /// Errors: as for [`print_event`](TracePrinter::print_event).
+    ///
     /// Formats: The command line
     pub fn print_totals<W: Write>(self, out: &mut W, totals: &NodeTotals) -> Result<(), Failure>
         ensures picture { self.format ≡ Format.Svg → out.new ≡ out.old }

@@ -94,7 +94,9 @@ pub(crate) fn print_counts<W: Write>(out: &mut W, counts: Counts) -> Result<(), 
 }
 
 /// Prints the line of a node's counts over the whole run.
-/// Errors: `Output` where the writer fails. A part of the line may be written.
+///
+/// Errors: `Output` if `out` fails. How much has been written is then unspecified.
+///
 /// Formats: The command line
 pub(crate) fn print_totals<W: Write>(out: &mut W, totals: &NodeTotals) -> Result<(), Failure>
     ensures { IfErr result (λ failure. failure ≡ Output) }

@@ -172,7 +172,9 @@ impl JsonPrinter {
     }
 
     /// Prints the object with a node's counts over the whole run.
+    ///
     /// Errors: as for [`print_event`](JsonPrinter::print_event).
+    ///
     /// Formats: The command line
     pub fn print_totals<W: Write>(self, out: &mut W, totals: &NodeTotals) -> Result<(), Failure>
         ensures { IfErr result IsOutputOrMemory }

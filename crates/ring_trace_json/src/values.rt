@@ -40,7 +40,8 @@ pub(crate) struct RingValue {
     is_primary: bool,
 }
 
-/// Frames by kind.
+/// The number of frames of each kind.
+///
 /// Formats: The command line
 #[derive(Drop, Serialize)]
 pub(crate) struct FrameCountsValue {
@@ -51,6 +52,7 @@ pub(crate) struct FrameCountsValue {
 }
 
 /// Converts the counts of frames to a value.
+///
 /// Formats: The command line
 pub(crate) fn frame_counts_value(counts: FrameCounts) -> FrameCountsValue {
     FrameCountsValue {

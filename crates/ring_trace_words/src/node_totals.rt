@@ -1,4 +1,5 @@
-//! What the last lines of a trace say of each node.
+//! What the last lines of a trace say about each node.
+//!
 //! Formats: The command line
 
 use ring_base::Proc;
@@ -6,6 +7,7 @@ use ring_counts::{FrameCounts, NodeCounts, NodeGauges};
 use std::fmt;
 
 /// The counts of a node over the whole run, displayed as its line in a trace, without the line feed.
+///
 /// Formats: The command line
 #[derive(Clone, Copy)]
 pub struct NodeTotals {
@@ -13,7 +15,7 @@ pub struct NodeTotals {
     pub node: Proc,
     /// The counts of its steps.
     pub counts: NodeCounts,
-    /// What it has at the end.
+    /// What else is read of it at the end.
     pub gauges: NodeGauges,
 }
 
@@ -36,7 +38,7 @@ impl fmt::Display for NodeTotals {
     }
 }
 
-/// Frames by kind, displayed as words and numbers.
+/// The number of frames of each kind, displayed as words and numbers.
 #[derive(Clone, Copy)]
 struct FrameWords(FrameCounts);
 

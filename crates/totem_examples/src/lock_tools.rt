@@ -36,8 +36,8 @@ pub fn run<R: Files + AllocGlobal + Threads + Wait + Clock + Sync>(
     )
 }
 
-/// Prints five outputs of the program: of the script; of a sweep of it, with a stop or a cut of each node before any event; of
-/// made scripts; the replies in a trace; and those in its page.
+/// Prints five outputs of the program: of the script; of a sweep of it, with a stop or a cut of each node before any
+/// event; of made scripts; the replies in a trace; and those in its page.
 pub fn print_results<R: Files + AllocGlobal + Print + Threads + Wait + Clock + Sync>(
     rt: &R,
 ) -> io::Result<()> {
