@@ -274,6 +274,7 @@ def take_shot(test, path, folder, shot, event):
     browser.size(1200, 1000)
     test.open(path, f"#event={event}")
     time.sleep(1)
+    folder.mkdir(parents=True, exist_ok=True)
     browser.picture(folder / shot)
     browser.dark(False)
     browser.size(1400, 1500)
