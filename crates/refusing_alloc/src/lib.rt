@@ -66,7 +66,7 @@ unsafe impl<B: Allocator> Allocator for RefusingHeap<B> {
     ghost dealloc_token = { λ heap ty ptr. B.dealloc_token heap.inner ty ptr };
 
     fn allocate(&self, size: usize, align: usize) -> Result<*mut u8, AllocError> {
-        if self.requests.refuses_next() {
+        if self.requests.count_and_is_refused() {
             return Err(AllocError);
         }
         self.inner.allocate(size, align)

@@ -28,7 +28,7 @@ impl Requests {
     /// Counts a request, and returns whether it is the one to refuse.
     ///
     /// Exactly one call returns true, whichever thread makes it.
-    pub fn refuses_next(&self) -> bool {
+    pub fn count_and_is_refused(&self) -> bool {
         let number = self.made.fetch_add(1, Ordering::SeqCst);
         is_refused(number, self.refused)
     }

@@ -7,7 +7,7 @@ use Rattle.std.proofs.lemmas.Bool.Decides.{nat_tests}
 use Rattle.rtrb.specs.Ring.{sent, received, known_items, known_free, IsPair, producer_capacity, SameProducer, SameConsumer}
 use mathlib.Core.List.{IsPrefix}
 use Rattle.ring_session.specs.declared.answer.Answer.{Answer}
-use Rattle.ring_book_lines.specs.Answers.{answer_in, answer_of_ticket, answers_after_step, answers_after_steps, answers_of_node}
+use Rattle.ring_book_lines.specs.Answers.{first_answer_in, answer_of_ticket, answers_after_step, answers_after_steps, answers_of_node}
 use Rattle.ring_book.specs.Books.{max_places, IsBook, IsReadingEnd, HasNodeAnswers, ReadingEnd}
 use Rattle.ring_book.specs.AnswerIndex.{AnswerIndexView, IsRoomier, AreRoomier}
 use Rattle.ring_book.specs.Cells.{IsCell, AllOf}
@@ -381,13 +381,13 @@ none_past n node (l ∷ ls) past h =
 
 -- the stored answer of a node's ticket
 pub told_answers : {A : Type 0} (lines : List (LineView A)) (reserved i node ticket : ℕ) (t : AnswerIndexView) → HasNodeAnswers lines reserved i t → i ≡ node - 1 → 1 ≤ node
-    → answer_of_ticket t.answers ticket ≡ answer_in lines node ticket
+    → answer_of_ticket t.answers ticket ≡ first_answer_in lines node ticket
 told_answers lines reserved i node ticket t is at low =
     let same : suc i ≡ node = omega (arith, at, low) in
     ap (λ (answers : List (Option Answer)). answer_of_ticket answers ticket) is.told_is ∙ ap (λ (n : ℕ). answer_of_ticket (answers_of_node n lines) ticket) same
 
 -- a node outside the group has no answer
-pub none_answers : {A : Type 0} (n node ticket : ℕ) (ls : List (LineView A)) → n < node → Each (IsInside n) ls → None ≡ answer_in ls node ticket
+pub none_answers : {A : Type 0} (n node ticket : ℕ) (ls : List (LineView A)) → n < node → Each (IsInside n) ls → None ≡ first_answer_in ls node ticket
 none_answers {A} n node ticket ls past h = sym (ap (λ (ss : List (StepView A)). answer_of_ticket (answers_after_steps [] ss) ticket) (none_past n node ls past h))
 
 -- the stored answers of a node, and those of a node outside the group

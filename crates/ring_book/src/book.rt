@@ -17,9 +17,9 @@ use crate::cell::Cell;
 use crate::name::BookName;
 use bytes::BytesMut;
 use ring_base::{Fault, Proc};
-use ring_book_lines::laws::lines_law;
+use ring_book_lines::laws::book_run_law;
 use ring_book_lines::{
-    FrameRef, Line, LogSegment, Step, extend_log, has_bytes_at, history, is_deliverable,
+    FrameRef, Line, LogSegment, Step, extend_longest_log, has_bytes_at, history, is_deliverable,
     linear_law, order,
 };
 use ring_node_spec::Item;
@@ -80,7 +80,7 @@ impl<O: Object, K: BookName<O::Alloc>> Book<O, K> {
     ghost use mathlib.Core.Option.{none};
     ghost use denote.Follow.{follows_so};
     ghost use Rattle.ring_book.specs.contracts.book.Book.{the_row};
-    ghost use Rattle.ring_book_lines.specs.Answers.{answer_in, answers_of_node};
+    ghost use Rattle.ring_book_lines.specs.Answers.{first_answer_in, answers_of_node};
     ghost use Rattle.ring_book.specs.Books.{max_places, HasEntered, IsStrange, IsBook};
     ghost use Rattle.ring_book.specs.Entered.{IsEnterResult};
     ghost use Rattle.ring_book_lines.specs.Events.{IsRun, events_of, history_of};
@@ -137,7 +137,7 @@ impl<O: Object, K: BookName<O::Alloc>> Book<O, K> {
         ensures few { K.name.group.count ≤ 16 }
     {
         // A law: no effect at run time. The proof takes from it that such lines are a run of the group.
-        lines_law::<O>();
+        book_run_law::<O>();
         // No effect at run time. The proof sees the invariant of `Book` only where the body reads a field.
         let _lines = &self.lines;
     }
@@ -150,7 +150,7 @@ impl<O: Object, K: BookName<O::Alloc>> Book<O, K> {
     /// the book's order, and the committed calls that it keeps, with repeats removed, come next in that order.
     ///
     /// Rules: Sessions 11; The book and the threads 18
-    pub fn node_law(&self, cell: &Cell<O, K>)
+    pub fn cell_follows_book_law(&self, cell: &Cell<O, K>)
         ensures member { (1 ≤ cell.now.me) × (cell.now.me ≤ K.name.group.count) }
         ensures node { cell.now.journal ≡ steps_of cell.now.me self.now.lines →
             cell.now.node ≡ (run O.sequential (world_opening K.name.group) (events_of self.now.lines)).nodes cell.now.me }
@@ -163,7 +163,7 @@ impl<O: Object, K: BookName<O::Alloc>> Book<O, K> {
     {
         // Laws: no effect at run time. The proof takes from them that such lines are a run of the group, and how a
         // node's committed log and its snapshot relate to the run's order.
-        lines_law::<O>();
+        book_run_law::<O>();
         linear_law::<O>();
         // No effect at run time. The proof sees the invariants of the book and of the cell only where the body reads
         // fields.
@@ -247,7 +247,7 @@ impl<O: Object, K: BookName<O::Alloc>> Book<O, K> {
     ///
     /// Rules: The book and the threads 15
     pub fn answer(&self, node: Proc, ticket: Ticket) -> Option<Answer>
-        ensures { result ≡ answer_in self.now.lines node ticket }
+        ensures { result ≡ first_answer_in self.now.lines node ticket }
     {
         match answer_index_of(self.answer_indexes.as_slice(), node) {
             Some(answer_indexes) => answer_indexes.answer(ticket),
@@ -294,7 +294,7 @@ impl<O: Object, K: BookName<O::Alloc>> Book<O, K> {
         ensures refused { IfErr result (λ fault. fault ≡ Memory) }
     {
         // A law: no effect at run time. The proof takes from it that such lines are a run of the group.
-        lines_law::<O>();
+        book_run_law::<O>();
         order(
             *self.lines.allocator(),
             self.lines.as_slice(),
@@ -328,7 +328,7 @@ impl<O: Object, K: BookName<O::Alloc>> Book<O, K> {
     }
 
     /// Enters the cell's step, as `enter` does.
-    fn enter_step(&mut self, cell: &mut Cell<O, K>) -> Result<(), Fault>
+    fn append_step_of_cell(&mut self, cell: &mut Cell<O, K>) -> Result<(), Fault>
         ensures { MatchResult result
             (λ _. HasEntered self.old self.new cell.old cell.new)
             (λ e. (e ≡ Stranger) × (self.new ≡ self.old) × (cell.new ≡ cell.old) × IsStrange self.old cell.old) }
@@ -348,7 +348,7 @@ impl<O: Object, K: BookName<O::Alloc>> Book<O, K> {
         cell.journal.slots_beside(end);
         self.answer_indexes[at].add_answers(&step);
         let number = self.lines.len() as u32;
-        extend_log(&mut self.total, &mut self.segments, number, &step);
+        extend_longest_log(&mut self.total, &mut self.segments, number, &step);
         self.lines.push_reserved(Line::new(number, step));
         self.reserved -= 1;
         cell.ahead = false;
@@ -379,7 +379,7 @@ impl<O: Object, K: BookName<O::Alloc>> Book<O, K> {
             (the_row O.row K.row O.Alloc.row O.Object O.Alloc.Allocator K.BookName) self.entry.ghost_name none
             (λ _ _. ⊤) (λ n. IsEnterResult self.old n cell.old cell.new result)) }
     {
-        self.enter_step(cell)?;
+        self.append_step_of_cell(cell)?;
         Ok(self.last())
     }
 }

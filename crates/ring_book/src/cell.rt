@@ -17,7 +17,7 @@ use crate::name::BookName;
 use bytes::BytesMut;
 use ring_base::{Fault, Proc};
 use ring_book_lines::{
-    FrameRef, Frames, LineInput, ReceivedFrame, Step, StepInput, call_keeps_law, node_fits_law,
+    FrameRef, Frames, LineInput, ReceivedFrame, Step, StepInput, call_fits_snapshot_law, node_fits_law,
 };
 use ring_node::{Node, Outs};
 use ring_node_spec::Input;
@@ -118,7 +118,7 @@ impl<O: Object, K: BookName<O::Alloc>> Cell<O, K> {
         match self.node.step_into(&input, &mut outs) {
             Ok(()) => {
                 let places = self.node.committed_len() as usize;
-                self.journal.push_reserved(step_of(
+                self.journal.push_reserved(step_with_outputs(
                     self.alloc,
                     self.me,
                     StepInput::Full(LineInput::Received(input, at)),
@@ -178,7 +178,7 @@ impl<O: Object, K: BookName<O::Alloc>> Cell<O, K> {
             Ok(()) => {
                 let places = self.node.committed_len() as usize;
                 let received_frame = ReceivedFrame::new(frame, bytes);
-                self.journal.push_reserved(step_of(
+                self.journal.push_reserved(step_with_outputs(
                     self.alloc,
                     self.me,
                     StepInput::FrameBytes(received_frame, at),
@@ -225,8 +225,8 @@ impl<O: Object, K: BookName<O::Alloc>> Cell<O, K> {
         // Laws: no effect at run time. The proof takes from them that the node is within the limits, and the call
         // within those of snapshots.
         node_fits_law::<O>();
-        call_keeps_law(&call);
-        let ticket = self.node.submit_on(&call)?;
+        call_fits_snapshot_law(&call);
+        let ticket = self.node.submit_borrowed(&call)?;
         let places = self.node.committed_len() as usize;
         self.journal
             .push_reserved(Step::called(self.alloc, self.me, call, places));
@@ -238,7 +238,7 @@ impl<O: Object, K: BookName<O::Alloc>> Cell<O, K> {
 /// Returns the step of a node on this input, with these outputs and this committed length.
 ///
 /// `text` is a scratch buffer that must have a capacity of at least 8,192 bytes.
-fn step_of<A: Allocator + Copy + Drop>(
+fn step_with_outputs<A: Allocator + Copy + Drop>(
     alloc: A,
     me: Proc,
     input: StepInput<A>,

@@ -39,7 +39,7 @@ use Rattle.ring_book_lines.specs.Orders.{call_in, calls_of}
 use Rattle.ring_book_lines.specs.Runs.{LineFits, Makes, IsStep, Leads, AreDeliverable, IsInside, IsBookRun}
 use Rattle.ring_book_lines.specs.Steps.{StepView, LineView}
 use Rattle.ring_book_lines.proofs.Given.{HasOwn, step-adds, answers_of-stepped, answers_of-submitted, own-stepped, own-submitted}
-use Rattle.ring_order_proof.proofs.LongestCommitted.{epochs_opening-known, within-longest, taken-longest, order-longest}
+use Rattle.ring_order_proof.proofs.LongestCommitted.{history_opening_of-known, within-longest, taken-longest, order-longest}
 use Rattle.ring_order_proof.proofs.ConsistentRuns.{run-more}
 use Rattle.ring_book_lines.proofs.Leading.{leads_one, steps_of-own, steps_of-other, steps_of-first, steps_of-skip}
 use Rattle.ring_book_lines.proofs.Logging.{IsLogged, logged-next}
@@ -434,7 +434,7 @@ module _ {O A : Type 0} (object : Sequential O) (group : Group) (few : group.cou
     calls = λ i. refl;
     answers = λ i. refl;
     own = λ i. tt;
-    committed = λ i. epochs_opening-known A group i;
+    committed = λ i. history_opening_of-known A group i;
     logged = record { below = tt; total = refl; calls_are = refl };
   }
 

@@ -60,7 +60,7 @@ fn copied<A: Allocator + Copy + Drop>(alloc: A, text: &[u8]) -> Result<Vec<u8, A
 /// allocate.
 ///
 /// Formats: Frames
-pub(crate) fn write_in<A: Allocator + Copy + Drop>(frame: &Frame<A>, text: &mut BytesMut<A>)
+pub(crate) fn encode_into<A: Allocator + Copy + Drop>(frame: &Frame<A>, text: &mut BytesMut<A>)
     requires fits { FrameFits frame.now }
     requires room { max_frame_bytes ≤ length text.old.items + text.old.spare }
     ensures text { text.new.items ≡ encoding_of frame.now }
@@ -71,7 +71,7 @@ pub(crate) fn write_in<A: Allocator + Copy + Drop>(frame: &Frame<A>, text: &mut 
 }
 
 /// Returns whether the two are equal, byte by byte.
-pub(crate) fn is_same_text(text: &[u8], bytes: &[u8]) -> bool
+pub(crate) fn are_equal_bytes(text: &[u8], bytes: &[u8]) -> bool
     ensures { IsTrue result ↔ (text.now ≡ bytes.now) }
 {
     text == bytes
@@ -99,7 +99,7 @@ impl<A: Allocator + Copy + Drop> EncodedFrame<A> {
         ensures room { max_frame_bytes ≤ length text.new.items + text.new.spare }
         ensures refused { IfErr result (λ fault. fault ≡ Memory) }
     {
-        write_in(frame, text);
+        encode_into(frame, text);
         Ok(EncodedFrame {
             receivers,
             bytes: copied(alloc, text.as_slice())?,
@@ -142,7 +142,7 @@ impl<A: Allocator + Copy + Drop> EncodedFrame<A> {
     pub fn has_bytes(&self, bytes: &[u8]) -> bool
         ensures { IsTrue result ↔ (encoding_of self.now.frame ≡ bytes.now) }
     {
-        is_same_text(self.bytes.as_slice(), bytes)
+        are_equal_bytes(self.bytes.as_slice(), bytes)
     }
 
     /// Returns whether the stored frame equals `frame`.
@@ -159,8 +159,8 @@ impl<A: Allocator + Copy + Drop> EncodedFrame<A> {
         ensures same { IsTrue result ↔ (self.now.frame ≡ frame.now) }
         ensures room { max_frame_bytes ≤ length text.new.items + text.new.spare }
     {
-        write_in(frame, text);
-        is_same_text(self.bytes.as_slice(), text.as_slice())
+        encode_into(frame, text);
+        are_equal_bytes(self.bytes.as_slice(), text.as_slice())
     }
 
     /// Returns whether the stored frame equals `frame` and was sent to `node`.

@@ -14,7 +14,7 @@ ghost use Rattle.ring_order_proof.specs.Limits.{SentFits};
 ghost use Rattle.ring_book_lines.specs.Puts.{IsPut};
 ghost use Rattle.ring_base.specs.Numbers.{max_frame_bytes};
 
-use crate::encoded::{EncodedFrame, is_same_text, write_in};
+use crate::encoded::{EncodedFrame, are_equal_bytes, encode_into};
 use crate::received_frame::ReceivedFrame;
 use bytes::BytesMut;
 use ring_base::{Fault, Proc, ProcSet};
@@ -109,8 +109,8 @@ fn sent_has_bytes<A: Allocator + Copy + Drop>(
     if !sent.to.contains(node) {
         return false;
     }
-    write_in(&sent.frame, text);
-    is_same_text(text.as_slice(), bytes)
+    encode_into(&sent.frame, text);
+    are_equal_bytes(text.as_slice(), bytes)
 }
 
 /// Returns the item at index `place`, counted from 0, if there is one.
@@ -296,7 +296,7 @@ impl<A: Allocator + Copy + Drop> Frames<A> {
     /// buffer that must have a capacity of at least 8,192 bytes; its contents are unspecified afterwards.
     ///
     /// Rules: The book and the threads 11
-    pub fn has_frame(
+    pub fn has_frame_for(
         &self,
         place: u16,
         node: Proc,

@@ -22,7 +22,7 @@ use ring_object::Object;
 /// node's state after its steps is the node's state in that run.
 ///
 /// Rules: The book and the threads 11 and 18
-pub fn lines_law<O: Object>()
+pub fn book_run_law<O: Object>()
     ensures runs { (group : Group) (lines : List (LineView O.Alloc)) → group.count ≤ 16 →
         IsBookRun (node_machine O.sequential group) group.count lines → IsRun O.sequential group lines }
     ensures nodes { (group : Group) (lines : List (LineView O.Alloc)) (i : ℕ) (t : Node O.Alloc) → group.count ≤ 16 → 1 ≤ i → i ≤ group.count →

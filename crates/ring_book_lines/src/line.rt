@@ -274,7 +274,7 @@ fn has_frame_at<A: Allocator + Copy + Drop>(
     ensures room { max_frame_bytes ≤ length text.new.items + text.new.spare }
 {
     match lines.get(at.line as usize) {
-        Some(line) => line.frames().has_frame(at.place, node, frame, text),
+        Some(line) => line.frames().has_frame_for(at.place, node, frame, text),
         None => false,
     }
 }

@@ -26,7 +26,7 @@ pub struct LogSegment {
 /// length. Otherwise nothing changes. There must be room for one more segment. Does not allocate.
 ///
 /// Rules: Sessions 10
-pub fn extend_log<A: Allocator + Copy + Drop>(
+pub fn extend_longest_log<A: Allocator + Copy + Drop>(
     total: &mut usize,
     segments: &mut Vec<LogSegment, A>,
     number: u32,

@@ -13,7 +13,7 @@ use crate::frames::Frames;
 use crate::input::{LineInput, StepInput};
 use ring_base::Proc;
 use ring_node_spec::Input;
-use ring_order_proof::fit_laws::call_keeps_law;
+use ring_order_proof::fit_laws::call_fits_snapshot_law;
 use ring_payload::Call;
 use ring_session::TicketAnswer;
 use std::alloc::{Allocator, Global};
@@ -114,7 +114,7 @@ impl<A: Allocator + Copy + Drop> Step<A> {
     {
         // A law: no effect at run time. The proof takes from it that a call within the limits of frames is within those
         // of snapshots.
-        call_keeps_law(&call);
+        call_fits_snapshot_law(&call);
         Step::new(
             node,
             StepInput::Full(LineInput::Submitted(call)),

@@ -10,7 +10,7 @@ use ring_base::{Fault, Fixed, Kind, Proc, ProcSet};
 use ring_book::{Book, BookName, Opening};
 use ring_object::Object;
 use ring_session::{Answer, Ticket};
-use ring_things::{Counters, Outcome, reply_with};
+use ring_things::{Counters, Outcome, outcome_reply_with};
 use std::alloc::Allocator;
 use std::marker::Brand;
 
@@ -62,7 +62,7 @@ fn shown<O: Object, K: BookName<O::Alloc>>(
 
 /// Returns the answer to an add that raises the counter to this value.
 fn done(count: u64) -> Option<Answer> {
-    Some(Answer::Done(reply_with(Outcome::Done, count)))
+    Some(Answer::Done(outcome_reply_with(Outcome::Done, count)))
 }
 
 /// Submits `many` calls of client 7, from number `first` on, at a processor, and then delivers at most `turns` frames.

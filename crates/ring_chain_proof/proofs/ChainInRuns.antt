@@ -18,7 +18,7 @@ use Rattle.ring_core_spec.specs.Visiting.{room_at, new_payloads, repeated, queue
 use Rattle.ring_core_spec.specs.Deciding.{Visit}
 use Rattle.ring_core_proof.specs.FactWords.{IsIn}
 use Rattle.ring_core_proof.specs.declared.event.RingEvent.{RingEvent}
-use Rattle.ring_core_proof.specs.Worlds.{World, run, unformed, ring_formed, acts_on_formed, run_formed}
+use Rattle.ring_core_proof.specs.Worlds.{World, run, unformed, ring_formed, has_effect_on_formed, run_formed}
 use Rattle.ring_core_proof.specs.Texts.{held_by, text_of, HasOneText}
 use Rattle.ring_core_proof.specs.Moves.{MayVisit, IsReceivedFrame}
 use Rattle.ring_core_proof.proofs.InLists.{in-each, in-parts, in-filtered, contains-in}
@@ -59,7 +59,7 @@ start_holds {A} n some =
     holding.moves (formed {A = A} n) [] 1 (move_of (formed n 1) (Visit t)) (omega arith) (may_start {A = A} n some t refl) (formed_holds n)
 
 pub formed_runs : {A : Type 0} → (n : ℕ) → 1 ≤ n → (events : List (RingEvent A)) → Holds (run_formed n events).cores (run_formed n events).frames
-formed_runs n some events = kept_run Holds holding (ring_formed n) (filter acts_on_formed events) (start_holds n some)
+formed_runs n some events = kept_run Holds holding (ring_formed n) (filter has_effect_on_formed events) (start_holds n some)
 
 -- Text
 

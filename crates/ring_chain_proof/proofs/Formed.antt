@@ -47,7 +47,7 @@ use Rattle.ring_core_proof.specs.declared.event.RingEvent.{RingEvent}
 use Rattle.ring_core_proof.specs.declared.event.RingEvent.TheVariants.{Send, Deliver, Timeout, Stop}
 use Rattle.ring_core_proof.specs.Worlds.{Transmission, World, put, transmission_by, transmissions_from, after_step, is_node, stepped_if}
 use Rattle.ring_core_proof.specs.Worlds.{stopped_if, handed_if, handed, is_repeat, happens, run, ring_formed}
-use Rattle.ring_core_proof.specs.Worlds.{acts_on_formed, run_formed}
+use Rattle.ring_core_proof.specs.Worlds.{has_effect_on_formed, run_formed}
 use Rattle.ring_core_proof.specs.Moves.{AllAreUsers}
 use Rattle.ring_core_proof.proofs.Guards.{guarded}
 use Rattle.ring_core_proof.proofs.Causes.{caused}
@@ -376,21 +376,21 @@ module _ {A : Type 0} (n : ℕ) (w : World A) (f : IsFormedWorld n w) where
   handed_formed i zero (Some g) e = absurd (let x : ⊥ = cc in x)
   handed_formed i (suc m) (Some g) e = frame_formed (has g.to i) i g.frame (quiet_at w.frames m g f.frames e)
 
-  pub event_formed : (e : RingEvent A) → acts_on_formed e ≡ true → IsFormedWorld n (happens w e)
+  pub event_formed : (e : RingEvent A) → has_effect_on_formed e ≡ true → IsFormedWorld n (happens w e)
   event_formed (Send i payload) h = stepped_formed (is_node w i) i (SendInput payload) tt
   event_formed (Deliver i m) h = handed_formed i m (frame_at w.frames m) refl
   event_formed (Timeout i kind) h = stepped_formed (is_node w i) i (TimeInput kind) h
   event_formed (Stop i) h = stopped_formed (is_node w i) i
 
-run_formed_holds : {A : Type 0} → (n : ℕ) (w : World A) (events : List (RingEvent A)) → Each (λ (e : RingEvent A). acts_on_formed e ≡ true) events →
+run_formed_holds : {A : Type 0} → (n : ℕ) (w : World A) (events : List (RingEvent A)) → Each (λ (e : RingEvent A). has_effect_on_formed e ≡ true) events →
     IsFormedWorld n w → IsFormedWorld n (run w events)
 run_formed_holds n w [] h f = f
 run_formed_holds n w (e ∷ events) h f = run_formed_holds n (happens w e) events h.1 (event_formed n w f e h.0)
 
-pub all_act : {A : Type 0} → (events : List (RingEvent A)) → Each (λ (e : RingEvent A). acts_on_formed e ≡ true) (filter acts_on_formed events)
+pub all_act : {A : Type 0} → (events : List (RingEvent A)) → Each (λ (e : RingEvent A). has_effect_on_formed e ≡ true) (filter has_effect_on_formed events)
 all_act [] = tt
-all_act {A} (e ∷ events) = cond_both (acts_on_formed e) (e ∷ filter acts_on_formed events)
-    (filter acts_on_formed events) (Each (λ (e : RingEvent A). acts_on_formed e ≡ true)) (λ t. (t, all_act events))
+all_act {A} (e ∷ events) = cond_both (has_effect_on_formed e) (e ∷ filter has_effect_on_formed events)
+    (filter has_effect_on_formed events) (Each (λ (e : RingEvent A). has_effect_on_formed e ≡ true)) (λ t. (t, all_act events))
     (λ t. all_act events)
 
 -- Openings
@@ -425,7 +425,7 @@ start_formed {A} n =
     }
 
 pub formed_worlds : {A : Type 0} → (n : ℕ) (events : List (RingEvent A)) → IsFormedWorld n (run_formed n events)
-formed_worlds n events = run_formed_holds n (ring_formed n) (filter acts_on_formed events) (all_act events) (start_formed n)
+formed_worlds n events = run_formed_holds n (ring_formed n) (filter has_effect_on_formed events) (all_act events) (start_formed n)
 
 pub agreed_ascend : {A : Type 0} → (n i : ℕ) (events : List (RingEvent A)) →
     agreed_numbers (run_formed n events) i ≡ numbers_from 1 (front ((run_formed n events).cores i) (all_of n).ring)

@@ -7,7 +7,7 @@ use Rattle.ring_core_spec.specs.Tokens.{first_token}
 use Rattle.ring_core_spec.specs.State.{Core, all_of, formed}
 use Rattle.ring_core_spec.specs.Deciding.{Visit}
 use Rattle.ring_core_proof.specs.declared.event.RingEvent.{RingEvent}
-use Rattle.ring_core_proof.specs.Worlds.{ring_formed, acts_on_formed, run_formed}
+use Rattle.ring_core_proof.specs.Worlds.{ring_formed, has_effect_on_formed, run_formed}
 use Rattle.ring_core_proof.specs.Moves.{Move, Idles, Enters, Learns, Visits, Takes, Installs, moved, IsReceivedFrame}
 use Rattle.ring_core_proof.proofs.KeptByMoves.{IsKeptByMoves, Everywhere, everywhere}
 use Rattle.ring_core_proof.proofs.StepsAreMoves.{move_of}
@@ -79,5 +79,5 @@ formed_facts {A} n i events low high =
     let some : 1 ≤ n = omega arith in
     let me : ((run_formed n events).cores i).me ≡ i = (formed_runs n some events).rings.me i in
     let all : Everywhere (HoldsWithin n) (run_formed n events) =
-    everywhere (HoldsWithin n) (within n) (ring_formed n) (filter acts_on_formed events) (holds_started n some) in
+    everywhere (HoldsWithin n) (within n) (ring_formed n) (filter has_effect_on_formed events) (holds_started n some) in
     local_of ((run_formed n events).cores i) (all i (omega (arith, me)))

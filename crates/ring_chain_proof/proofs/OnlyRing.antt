@@ -24,7 +24,7 @@ use Rattle.ring_core_spec.specs.Joining.{proposes}
 use Rattle.ring_core_spec.specs.Stepping.{ring_step}
 use Rattle.ring_core_proof.specs.FactWords.{IsIn}
 use Rattle.ring_core_proof.specs.declared.event.RingEvent.{RingEvent}
-use Rattle.ring_core_proof.specs.Worlds.{World, happens, run, ring_formed, acts_on_formed, run_formed}
+use Rattle.ring_core_proof.specs.Worlds.{World, happens, run, ring_formed, has_effect_on_formed, run_formed}
 use Rattle.ring_core_proof.proofs.InLists.{each-in}
 use Rattle.ring_chain_proof.specs.ChainWords.{IsSafe}
 use Rattle.ring_chain_proof.specs.ChainFacts.{IsSafeOutput, AllHold, AllHoldMarks, IsOfFormed, AllIsOfFormed}
@@ -139,7 +139,7 @@ named_event {A} n w e f g h =
           subst (Each Named) (sym s.outs) (each-append Named w.outs (map (λ o. (s.i, o)) step.outs) h (each-map Named (λ o. (s.i, o)) step.outs new)))
     ]
 
-named_run : {A : Type 0} → (n : ℕ) (w : World A) (events : List (RingEvent A)) → Each (λ (e : RingEvent A). acts_on_formed e ≡ true) events →
+named_run : {A : Type 0} → (n : ℕ) (w : World A) (events : List (RingEvent A)) → Each (λ (e : RingEvent A). has_effect_on_formed e ≡ true) events →
     IsFormedWorld n w →
     AllNamed n w → AllNamed n (run w events)
 named_run n w [] h f p = p
@@ -163,5 +163,5 @@ all_of_formed n cores rings (o ∷ outs) named safe = (of_formed n cores rings o
 pub formed_of_formed : {A : Type 0} → (n : ℕ) (events : List (RingEvent A)) → 1 ≤ n → AllIsOfFormed n (run_formed n events)
 formed_of_formed n events some =
     let w = run_formed n events in
-    let named = named_run n (ring_formed n) (filter acts_on_formed events) (all_act events) (start_formed n) tt in
+    let named = named_run n (ring_formed n) (filter has_effect_on_formed events) (all_act events) (start_formed n) tt in
     all_of_formed n w.cores (λ q. formed_rings n q events) w.outs named (formed_told n events some)

@@ -22,7 +22,7 @@ use Rattle.ring_core_spec.specs.Stepping.{ring_step}
 use Rattle.ring_core_proof.specs.declared.event.RingEvent.{RingEvent}
 use Rattle.ring_core_proof.specs.declared.event.RingEvent.TheVariants.{Send, Deliver, Timeout, Stop}
 use Rattle.ring_core_proof.specs.Worlds.{Transmission, World, is_node, stepped_if, stopped_if, handed_if, handed}
-use Rattle.ring_core_proof.specs.Worlds.{happens, run, unformed, ring_formed, acts_on_formed, run_formed}
+use Rattle.ring_core_proof.specs.Worlds.{happens, run, unformed, ring_formed, has_effect_on_formed, run_formed}
 use Rattle.ring_core_proof.proofs.InLists.{each-in}
 use Rattle.ring_core_proof.proofs.Lifting.{put-here}
 use Rattle.ring_chain_proof.specs.ChainWords.{IsSafe}
@@ -164,4 +164,4 @@ pub unformed_told : {A : Type 0} → (n : ℕ) (events : List (RingEvent A)) →
 unformed_told n events = told_run (unformed n) events (opening_holds n) tt
 
 pub formed_told : {A : Type 0} → (n : ℕ) (events : List (RingEvent A)) → 1 ≤ n → SafeOutputsAreSafe (run_formed n events)
-formed_told n events some = told_run (ring_formed n) (filter acts_on_formed events) (start_holds n some) tt
+formed_told n events some = told_run (ring_formed n) (filter has_effect_on_formed events) (start_holds n some) tt

@@ -190,11 +190,11 @@ module _ {A : Type 0} (visits : Chains A) (cores : ℕ → Core A) (frames : Lis
         let g = put_grows cores i (moved (cores i) m) (moved_grows (cores i) m) in
         let test : OutgoingFrame A → Bool = λ s. not (s.to == nobody) in
         let sends = sends_of (cores i) m in
-        let are_right : Transmission A → Type 0 = λ f. IsRight vs (after m) f.from f.to f.frame in
+        let are_replies_right : Transmission A → Type 0 = λ f. IsRight vs (after m) f.from f.to f.frame in
         record {
-          right = each-append are_right frames (transmissions_from i sends)
+          right = each-append are_replies_right frames (transmissions_from i sends)
               (all_right_grow visits vs cores (after m) (visits_grow visits i (cores i) m) g frames sent.right)
-              (each-map are_right (λ (s : OutgoingFrame A). record { from = i; to = s.to; frame = s.frame })
+              (each-map are_replies_right (λ (s : OutgoingFrame A). record { from = i; to = s.to; frame = s.frame })
               (filter test sends) (each-filter (SendsRight m) test sends (sends_right m h)));
           last_sent = put-each (λ q (x : Core A). ShowsRight vs (after m) q x.last_sent) cores i (moved (cores i) m) (λ q n. last_sent_repeated m q) (shown_right m h);
         }

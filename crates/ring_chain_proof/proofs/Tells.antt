@@ -23,7 +23,7 @@ use Rattle.ring_core_spec.specs.Transitions.{done}
 use Rattle.ring_core_spec.specs.Stepping.{ring_step}
 use Rattle.ring_core_proof.specs.FactWords.{IsIn}
 use Rattle.ring_core_proof.specs.declared.event.RingEvent.{RingEvent}
-use Rattle.ring_core_proof.specs.Worlds.{World, happens, run, unformed, ring_formed, acts_on_formed, run_formed}
+use Rattle.ring_core_proof.specs.Worlds.{World, happens, run, unformed, ring_formed, has_effect_on_formed, run_formed}
 use Rattle.ring_core_proof.specs.Moves.{moved}
 use Rattle.ring_core_proof.proofs.InLists.{in-each, each-in, find-in, find-some}
 use Rattle.ring_core_proof.proofs.Lifting.{kept_run}
@@ -202,4 +202,4 @@ pub unformed_held : {A : Type 0} → (n : ℕ) (events : List (RingEvent A)) →
 unformed_held n events = told_is_held (run (unformed n) events) (unformed_holds n events) (told_run (unformed n) events tt)
 
 pub formed_held : {A : Type 0} → (n : ℕ) (events : List (RingEvent A)) → 1 ≤ n → OutputsAreHeld (run_formed n events)
-formed_held n events some = told_is_held (run_formed n events) (formed_runs n some events) (told_run (ring_formed n) (filter acts_on_formed events) tt)
+formed_held n events some = told_is_held (run_formed n events) (formed_runs n some events) (told_run (ring_formed n) (filter has_effect_on_formed events) tt)

@@ -97,8 +97,8 @@ position-new p xs y none passes =
 -- ---- the places, after one more item
 
 -- a place, from its fields
-abbrev pub place_by : Option ℕ → List ℕ → OrderPlace
-place_by issued reply = record { issued = issued; reply = reply }
+abbrev pub place_near_or_indexed : Option ℕ → List ℕ → OrderPlace
+place_near_or_indexed issued reply = record { issued = issued; reply = reply }
 
 module _ {O A : Type 0} (object : Sequential O) where
   -- an item that issues no call of the order changes nothing
@@ -108,7 +108,7 @@ module _ {O A : Type 0} (object : Sequential O) where
   other_item order past places item other are = record {
     many = are.many;
     each = λ q c within at. are.each q c within at
-        ∙ ap (λ first. Some (place_by first (call_reply object order q))) (sym (position-fails (is_issue_of c) past item (other q c at)));
+        ∙ ap (λ first. Some (place_near_or_indexed first (call_reply object order q))) (sym (position-fails (is_issue_of c) past item (other q c at)));
   }
 
   pub reply_item : (order : List (Call A)) (past : List (Item A)) (places : List OrderPlace) (item : Item A) (c : Call A) (r : List ℕ) → item ≡ Reply c r
@@ -168,7 +168,7 @@ module _ {O A : Type 0} (object : Sequential O) where
           | inr apart ↦ position-fails (is_issue_of c) past (Issue d) (not_same order index c d at q is_index is apart there)
         ] in
         are.each q c within there
-        ∙ ap (λ o. Some (place_by o (call_reply object order q))) (sym first);
+        ∙ ap (λ o. Some (place_near_or_indexed o (call_reply object order q))) (sym first);
   }
 
   -- otherwise it is its first issue
@@ -192,11 +192,11 @@ module _ {O A : Type 0} (object : Sequential O) where
               let first : first_issue (past ++ Issue d ∷ []) c ≡ Some (length past) = position-new (is_issue_of c) past (Issue d) none passes in
               let reply : place.reply ≡ call_reply object order q = ap (λ (w : OrderPlace). w.reply) was ∙ ap (call_reply object order) (sym same) in
               ap (slice_get (slice_set places at marked)) same ∙ get-set places at marked (slice_get_within places at place here)
-              ∙ ap (λ w. Some (place_by (Some (length past)) w)) reply
-              ∙ ap (λ o. Some (place_by o (call_reply object order q))) (sym first)
+              ∙ ap (λ w. Some (place_near_or_indexed (Some (length past)) w)) reply
+              ∙ ap (λ o. Some (place_near_or_indexed o (call_reply object order q))) (sym first)
           | inr apart ↦
               let first = position-fails (is_issue_of c) past (Issue d) (not_same order index c d at q is_index is apart there) in
               get-set_other places at q marked apart ∙ are.each q c within there
-              ∙ ap (λ o. Some (place_by o (call_reply object order q))) (sym first)
+              ∙ ap (λ o. Some (place_near_or_indexed o (call_reply object order q))) (sym first)
         ];
   }

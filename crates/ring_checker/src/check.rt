@@ -11,7 +11,7 @@ ghost use Rattle.ring_checker.specs.Checks.{IsIndexOf, ArePlaces, IsIssuedBefore
 ghost use Rattle.ring_checker.specs.Checks.{IsRightAt, IsRightReply, IsRightItem, AreRight};
 ghost use Rattle.ring_node_spec.specs.Histories.{IsLinearization};
 
-use crate::index::{Index, index_of, place_near};
+use crate::index::{Index, index_of, place_in_order_near};
 use ring_base::Fault;
 use ring_node_spec::Item;
 use ring_object::{Object, Reply};
@@ -71,13 +71,13 @@ fn explains<O: Object>(
     ensures refused { IfErr result (λ fault. fault ≡ Memory) }
 {
     match unissued_places::<O>(alloc, order) {
-        Ok(mut places) => Ok(explains_at::<O>(order, index, history, places.as_mut_slice())),
+        Ok(mut places) => Ok(is_linearization_by_places::<O>(order, index, history, places.as_mut_slice())),
         Err(fault) => Err(fault),
     }
 }
 
 /// Returns whether the order is a linearization of the history, given its places, in which no call is issued yet.
-fn explains_at<O: Object>(
+fn is_linearization_by_places<O: Object>(
     order: &[Call<O::Alloc>],
     index: &Index<O::Alloc>,
     history: &[Item<O::Alloc>],
@@ -92,7 +92,7 @@ fn explains_at<O: Object>(
     if !are_issued_before(places, history.len()) {
         return false;
     }
-    are_right(order, index, places, history)
+    are_replies_right(order, index, places, history)
 }
 
 // ---- places
@@ -208,7 +208,7 @@ fn note_call<O: Object>(
         → ArePlaces O.sequential order.now past (length order.now) places.old
         → ArePlaces O.sequential order.now (past ++ Issue call.now ∷ []) (length order.now) places.new }
 {
-    let Some(at) = place_near(order, index, next, call) else {
+    let Some(at) = place_in_order_near(order, index, next, call) else {
         return;
     };
     let OrderPlace { issued, reply } = places[at];
@@ -224,7 +224,7 @@ fn note_call<O: Object>(
 // ---- replies
 
 /// Returns whether each reply of the history is right.
-fn are_right<A: Allocator + Copy>(
+fn are_replies_right<A: Allocator + Copy>(
     order: &[Call<A>],
     index: &Index<A>,
     places: &[OrderPlace],
@@ -288,14 +288,14 @@ fn is_right_reply<A: Allocator + Copy>(
     requires { IsIndexOf order.now (length order.now) index.now }
     ensures { IsTrue result ↔ IsRightReply order.now issued.now call.now reply.now }
 {
-    match place_near(order, index, next, call) {
-        Some(at) => is_right_at(issued, at, reply),
+    match place_in_order_near(order, index, next, call) {
+        Some(at) => is_reply_at_place(issued, at, reply),
         None => false,
     }
 }
 
 /// Returns whether place `at` is one of `issued`, and `reply` is the object's reply there.
-fn is_right_at(issued: &[OrderPlace], at: usize, reply: &Reply) -> bool
+fn is_reply_at_place(issued: &[OrderPlace], at: usize, reply: &Reply) -> bool
     ensures { IsTrue result ↔ IsRightAt issued.now at reply.now }
 {
     match issued.get(at) {

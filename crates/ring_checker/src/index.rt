@@ -147,7 +147,7 @@ fn is_next(last: u64, number: u64) -> bool
 /// index, since calls mostly come in the order's own sequence. `index` must be the index of `order`.
 ///
 /// Rules: Sessions 10
-pub fn place_near<A: Allocator + Copy>(
+pub fn place_in_order_near<A: Allocator + Copy>(
     order: &[Call<A>],
     index: &Index<A>,
     next: &mut usize,
@@ -156,7 +156,7 @@ pub fn place_near<A: Allocator + Copy>(
     requires { IsIndexOf order.now (length order.now) index.now }
     ensures { result ≡ place_in order.now call.now }
 {
-    let place = place_by(order, index, *next, call)?;
+    let place = place_near_or_indexed(order, index, *next, call)?;
     *next = place.saturating_add(1);
     Some(place)
 }
@@ -164,7 +164,7 @@ pub fn place_near<A: Allocator + Copy>(
 /// Returns the first place of the call in the order, if there is one.
 ///
 /// The place `next` is tried before the index.
-fn place_by<A: Allocator + Copy>(
+fn place_near_or_indexed<A: Allocator + Copy>(
     order: &[Call<A>],
     index: &Index<A>,
     next: usize,

@@ -14,4 +14,4 @@ mod submission;
 
 pub use asked::{Asked, Op};
 pub use client::Client;
-pub use port::{Port, client_visible};
+pub use port::{Port, if_client_visible};

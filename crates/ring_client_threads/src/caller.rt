@@ -49,7 +49,7 @@ pub trait Caller {
 /// Errors: `Memory` if an allocation for the ports fails; no call has then been made.
 ///
 /// Rules: The book and the threads 28
-pub(crate) fn call_from<O: Object, K: BookName<O::Alloc>, C: Caller, W: Wait>(
+pub(crate) fn make_calls_of_client<O: Object, K: BookName<O::Alloc>, C: Caller, W: Wait>(
     rt: &W,
     alloc: O::Alloc,
     host: &Host<O, K>,

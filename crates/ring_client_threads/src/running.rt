@@ -8,7 +8,7 @@ ghost use Rattle.ring_client_threads.specs.Arguments.{IsNode, AreOfGroup, MayRun
 ghost use Rattle.ring_client_threads.specs.Callers.{AreOfRun};
 ghost use Rattle.ring_host_port.specs.Clients.{AreSeats, AreForAll};
 
-use crate::caller::{Caller, call_from};
+use crate::caller::{Caller, make_calls_of_client};
 use crate::checking::check_arguments;
 use crate::running_clients::RunningClients;
 use ring_base::{Fault, Fixed, Proc};
@@ -81,7 +81,7 @@ where
 {
     let ports = callers.len() * usize::from(nodes);
     let (host, seats) = Host::<O, K>::new(alloc, opening, ports as u16)?;
-    stop_all(rt, &host, stopped)?;
+    stop_named_nodes(rt, &host, stopped)?;
     let gate = host.paced_gate(rt)?;
     run_all(rt, alloc, &host, &gate, seats, nodes, callers)?;
     calls_of(rt, &host)
@@ -90,7 +90,7 @@ where
 /// Stops the nodes with these numbers, of a new host.
 ///
 /// None of them has stopped, and no place of the book is used. So a stop can be refused only with `Memory`.
-fn stop_all<O: Object, K: BookName<O::Alloc>, W: Wait>(
+fn stop_named_nodes<O: Object, K: BookName<O::Alloc>, W: Wait>(
     rt: &W,
     host: &Host<O, K>,
     stopped: &[u8],
@@ -179,7 +179,7 @@ fn call<O: Object, K: BookName<O::Alloc>, C: Caller, W: Wait>(
     requires { IfOk own (λ seats. AreForAll host.now seats.items) }
 {
     let called = match own {
-        Ok(seats) => call_from(rt, alloc, host, seats, number, caller),
+        Ok(seats) => make_calls_of_client(rt, alloc, host, seats, number, caller),
         Err(fault) => Err(fault),
     };
     if called.is_err() {

@@ -29,9 +29,9 @@ is_token (Timeout kind) = false
 is_token Stop = false
 
 -- whether anything was sent: something is at a token that is taken
-abbrev pub has_sent : {A : Type 0} → List (OutgoingFrame A) → Bool
-has_sent [] = false
-has_sent (s ∷ sends) = true
+abbrev pub has_sent_frame : {A : Type 0} → List (OutgoingFrame A) → Bool
+has_sent_frame [] = false
+has_sent_frame (s ∷ sends) = true
 
 -- whether the frame is a join
 abbrev pub is_join_frame : {A : Type 0} → OneFrame A → Bool
@@ -46,7 +46,7 @@ is_join s = is_join_frame s.frame
 
 -- the outcome, from the timeout that the input was, whether it was a token, and the frames sent
 abbrev pub outcome_from : {A : Type 0} → Option Kind → Bool → List (OutgoingFrame A) → StepOutcome
-outcome_from timeout token sends = record { timeout = timeout; took_token = token && has_sent sends; sent_join = list_any is_join sends }
+outcome_from timeout token sends = record { timeout = timeout; took_token = token && has_sent_frame sends; sent_join = list_any is_join sends }
 
 -- the outcome of a step on this input that sent these frames
 abbrev pub outcome_of : {A : Type 0} → Input A → List (OutgoingFrame A) → StepOutcome

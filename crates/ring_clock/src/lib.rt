@@ -11,4 +11,4 @@ mod step_outcomes;
 
 pub use node_clock::NodeClock;
 pub use ring_timers::{Periods, StepOutcome, Timers};
-pub use step_outcomes::{has_sent, is_token, step_outcome, timeout_in};
+pub use step_outcomes::{has_sent_frame, is_token, step_outcome, timeout_in};

@@ -4,7 +4,7 @@
 
 ghost use Rattle.std.specs.Prelude.{◌≡◌};
 ghost use Rattle.std.specs.List.{list_any};
-ghost use Rattle.ring_clock.specs.StepOutcomes.{is_token, has_sent, is_join, timeout_in, outcome_from};
+ghost use Rattle.ring_clock.specs.StepOutcomes.{is_token, has_sent_frame, is_join, timeout_in, outcome_from};
 
 use ring_base::Kind;
 use ring_core_spec::OutgoingFrame;
@@ -42,8 +42,8 @@ pub fn is_token<A: Allocator + Copy>(input: &Input<A>) -> bool
 /// For a step on a token or a commit token, this is whether the node took it.
 ///
 /// Rules: Nodes that records drive 3
-pub fn has_sent<A: Allocator + Copy>(sends: &[OutgoingFrame<A>]) -> bool
-    ensures { result ≡ has_sent sends.now }
+pub fn has_sent_frame<A: Allocator + Copy>(sends: &[OutgoingFrame<A>]) -> bool
+    ensures { result ≡ has_sent_frame sends.now }
 {
     !sends.is_empty()
 }
@@ -62,7 +62,7 @@ pub fn step_outcome<A: Allocator + Copy>(
 {
     StepOutcome {
         timeout,
-        took_token: is_token && has_sent(sends),
+        took_token: is_token && has_sent_frame(sends),
         sent_join: has_sent_join(sends),
     }
 }

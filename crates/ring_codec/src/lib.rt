@@ -19,9 +19,9 @@ mod wire;
 mod words;
 
 pub use codec::{Decode, Encode};
-pub use many::{read_in_place, read_many, size_many, write_many};
+pub use many::{decode_list_into, decode_list, list_encoded_len, encode_list};
 pub use reader::Reader;
 pub use ring_base::{Fault, Ghost, MAX, PROCESSORS, Proc, ProcSet, RingId, WINDOW_SIZE, ghost_of};
-pub use sized::{read_sized, write_sized};
+pub use sized::{read_sized, encode_length_prefixed};
 pub use wire::Wire;
 pub use words::EncodedNumbers;

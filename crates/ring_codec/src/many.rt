@@ -18,7 +18,7 @@ use std::alloc::Allocator;
 /// appends nothing. Does not allocate.
 ///
 /// Formats: Numbers and parts
-pub fn write_many<T: Encode, B: Allocator + Copy>(items: &[T], out: &mut BytesMut<B>)
+pub fn encode_list<T: Encode, B: Allocator + Copy>(items: &[T], out: &mut BytesMut<B>)
     requires fits { All T.fits items.now }
     requires room { length (flat_map T.encoding items.now) ≤ out.old.spare }
     ensures { Appends out.old out.new (flat_map T.encoding items.now) }
@@ -33,7 +33,7 @@ pub fn write_many<T: Encode, B: Allocator + Copy>(items: &[T], out: &mut BytesMu
 /// The values must be within the limits of their format, and the total must be at most 8,192.
 ///
 /// Formats: Numbers and parts
-pub fn size_many<T: Encode>(items: &[T]) -> usize
+pub fn list_encoded_len<T: Encode>(items: &[T]) -> usize
     requires fits { All T.fits items.now }
     requires small { length (flat_map T.encoding items.now) ≤ max_frame_bytes }
     ensures { result ≡ length (flat_map T.encoding items.now) }
@@ -51,7 +51,7 @@ pub fn size_many<T: Encode>(items: &[T]) -> usize
 /// fails. What is then left to read is unspecified.
 ///
 /// Formats: Numbers and parts
-pub fn read_many<A: Allocator + Copy, T: Decode<A> + Drop>(
+pub fn decode_list<A: Allocator + Copy, T: Decode<A> + Drop>(
     alloc: A,
     count: usize,
     from: &mut Reader<'_>,
@@ -74,7 +74,7 @@ pub fn read_many<A: Allocator + Copy, T: Decode<A> + Drop>(
 /// fails. The content of `place`, and what is left to read, are then unspecified.
 ///
 /// Formats: Numbers and parts
-pub fn read_in_place<A: Allocator + Copy, T: Decode<A> + Drop, const N: usize>(
+pub fn decode_list_into<A: Allocator + Copy, T: Decode<A> + Drop, const N: usize>(
     alloc: A,
     count: usize,
     from: &mut Reader<'_>,

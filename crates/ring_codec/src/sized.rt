@@ -41,7 +41,7 @@ pub fn read_sized<A: Allocator + Copy, T: Decode<A> + Drop>(
 /// must have room for the length and the encoding. Does not allocate.
 ///
 /// Formats: Numbers and parts; Frames
-pub fn write_sized<T: Encode, B: Allocator + Copy>(value: &T, out: &mut BytesMut<B>)
+pub fn encode_length_prefixed<T: Encode, B: Allocator + Copy>(value: &T, out: &mut BytesMut<B>)
     requires fits { T.fits value.now }
     requires short { T.most < 2 ^ 32 }
     requires room { 4 + length (T.encoding value.now) ≤ out.old.spare }

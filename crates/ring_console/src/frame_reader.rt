@@ -110,7 +110,7 @@ impl<A: Allocator + Copy> FrameReader<A> {
             *next = None;
             return Ok(());
         }
-        match Frame::get_into(alloc, rest, next) {
+        match Frame::decode_first_frame_into(alloc, rest, next) {
             Ok(length) => {
                 self.taken += length;
                 self.position = self.position.saturating_add(length as u64);

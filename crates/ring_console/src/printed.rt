@@ -37,7 +37,7 @@ pub(crate) fn print_told<A: Allocator + Copy + Drop, W: Write>(
     ensures failed { IfErr result (λ failure. failure ≡ Output) }
 {
     for one in told {
-        print_one(out, one)?;
+        print_report(out, one)?;
     }
     Ok(())
 }
@@ -45,7 +45,7 @@ pub(crate) fn print_told<A: Allocator + Copy + Drop, W: Write>(
 /// Prints one report of a node.
 ///
 /// Errors: `Output` if writing fails.
-fn print_one<A: Allocator + Copy + Drop, W: Write>(
+fn print_report<A: Allocator + Copy + Drop, W: Write>(
     out: &mut W,
     told: &Told<A>,
 ) -> Result<(), Failure>

@@ -25,7 +25,7 @@ use Rattle.ring_core_spec.specs.Joining.{gather_entered, join_effect_at, is_gath
 use Rattle.ring_core_spec.specs.Handing.{takes_first_round, takes_second_round, takes_start}
 use Rattle.ring_core_spec.specs.Deciding.{Ignore, Enqueue, Take, Visit, Fill, Learn, is_taken, decide_message, decide_token}
 use Rattle.ring_core_spec.specs.Deciding.{transition_in_gather, transition_into_gather, decide_join_elsewhere, decide_join, decide_round}
-use Rattle.ring_core_spec.specs.Deciding.{decide_commit, decide_frame, decide_if_named, decide_time, decide_user}
+use Rattle.ring_core_spec.specs.Deciding.{decide_commit, decide_frame, decide_if_named, decide_time, decide_in_operational}
 use Rattle.ring_core_spec.specs.Deciding.{decide_payload, decide}
 use Rattle.ring_core_proof.specs.LawWords.{IsAway, HasPassed, TakesCommit}
 
@@ -100,7 +100,7 @@ in_time c Recovery Loss h = λ e. (let q : Recovery ≡ Stopped = cc in cc)
 in_time c Recovery JoinTime h = tt
 in_time c Recovery Consensus h = tt
 
-in_user : {A : Type 0} → (c : Core A) (payload : Payload A) → c.state ≡ Operational → HasPassed c (decide_user payload)
+in_user : {A : Type 0} → (c : Core A) (payload : Payload A) → c.state ≡ Operational → HasPassed c (decide_in_operational payload)
 in_user c payload h = cond_both (is_queued payload) (Enqueue payload) Ignore (HasPassed c) (λ e. (h, e)) (λ e. tt)
 
 in_payload : {A : Type 0} → (c : Core A) (s : State) (payload : Payload A) → c.state ≡ s → HasPassed c (decide_payload s payload)

@@ -25,7 +25,7 @@ use Rattle.ring_core_proof.specs.declared.event.RingEvent.{RingEvent}
 use Rattle.ring_core_proof.specs.declared.event.RingEvent.TheVariants.{Send, Deliver, Timeout, Stop}
 use Rattle.ring_core_proof.specs.Moves.{MayMove}
 use Rattle.ring_core_proof.specs.Worlds.{Transmission, World, put, transmission_by, is_node, stepped_if, stopped_if, handed_if, handed}
-use Rattle.ring_core_proof.specs.Worlds.{happens, run, unformed, ring_formed, acts_on_formed, run_formed}
+use Rattle.ring_core_proof.specs.Worlds.{happens, run, unformed, ring_formed, has_effect_on_formed, run_formed}
 use Rattle.ring_core_proof.proofs.Ended.{installed_below}
 use Rattle.ring_core_proof.proofs.StepsAreMoves.{move_of, fresh_short, fresh_users, all_repeats, queue_kept}
 use Rattle.ring_core_proof.specs.Limits.{InputFits, EventFits, OutFits, RingFitsIn, CoreFits, WorldFits, SentFits}
@@ -193,4 +193,4 @@ start_fits {A} n low most =
 
 pub formed_run_fits : {A : Type 0} → (n : ℕ) (events : List (RingEvent A)) → 1 ≤ n → n ≤ 16 → Each EventFits events → WorldFits (run_formed n events)
 formed_run_fits n events low most h =
-    run_fits (ring_formed n) (filter acts_on_formed events) (each-filter EventFits acts_on_formed events h) (start_fits n low most)
+    run_fits (ring_formed n) (filter has_effect_on_formed events) (each-filter EventFits has_effect_on_formed events h) (start_fits n low most)

@@ -37,7 +37,7 @@ use Rattle.ring_core_spec.specs.Joining.{gather_entered, with_gathering, join_an
 use Rattle.ring_core_spec.specs.Giving.{ready_then_complete, installs_in, may_install, delivered}
 use Rattle.ring_core_spec.specs.Deciding.{Transition, Ignore, Enqueue, Repeat, Announce, Invite, GiveUp, EnterGather, Agree, MergeJoin}
 use Rattle.ring_core_spec.specs.Deciding.{EnterGatherAndAgree, EnterGatherAndMergeJoin, Take, Visit, Fill, Learn, takes_of, members_of}
-use Rattle.ring_core_spec.specs.Deciding.{decide_user, decide_payload, decide}
+use Rattle.ring_core_spec.specs.Deciding.{decide_in_operational, decide_payload, decide}
 use Rattle.ring_core_spec.specs.Transitions.{last_sent_repeated, apply_transition, may_propose_after, with_proposal_if, done}
 use Rattle.ring_core_spec.specs.Stepping.{ring_step}
 use Rattle.ring_core_spec.proofs.States.{installs_recovering, proposes_gathering, offers_few}
@@ -102,7 +102,7 @@ abbrev pub IsAsked : {A : Type 0} → Transition A → Type 0
 IsAsked (Enqueue p) = is_user p ≡ true
 IsAsked _ = Unit {0}
 
-asked_user : {A : Type 0} → (q : Payload A) → IsAsked (decide_user q)
+asked_user : {A : Type 0} → (q : Payload A) → IsAsked (decide_in_operational q)
 asked_user q = cond_both (is_queued q) (Enqueue q) Ignore (λ a. IsAsked a) (λ e. user-queued q e) (λ e. tt)
 
 asked_payload : {A : Type 0} → (s : State) (q : Payload A) → IsAsked (decide_payload s q)

@@ -15,7 +15,7 @@ use Rattle.ring_wire.specs.declared.token.Token.{Token}
 use Rattle.ring_wire.specs.Tokens.{TokenFits}
 use Rattle.ring_wire.specs.Ascending.{ascends, ascends-each, ascends-increasing, Between}
 use Rattle.ring_core_spec.specs.Windows.{holds, missing}
-use Rattle.ring_core_spec.specs.Tokens.{first_token, is_left, requests_left, is_mine, may_set, requests_after, token_after}
+use Rattle.ring_core_spec.specs.Tokens.{first_token, is_left, requests_left, is_mine, may_set_aru, requests_after, token_after}
 
 -- Requests
 
@@ -131,7 +131,7 @@ own_fits me front seq true e p l = record { within = l; proc = tt; none = λ n. 
 own_fits me front seq false e p l =
     record { within = l; proc = p; none = λ n. absurd (let x : ⊥ = cc in x); held_back = λ s. absurd (eqb-false front seq e s) }
 
-arus_fit : (me front seq : ℕ) (t : Token) (b : Bool) → may_set me front t ≡ b → IsProc me → front ≤ seq → t.seq ≤ seq → MayGo t →
+arus_fit : (me front seq : ℕ) (t : Token) (b : Bool) → may_set_aru me front t ≡ b → IsProc me → front ≤ seq → t.seq ≤ seq → MayGo t →
     ArusFit (cond b front t.aru) seq (cond b (cond (front == seq) None (Some me)) t.aru_id)
 arus_fit me front seq t true e p l s g = own_fits me front seq (front == seq) refl p l
 arus_fit me front seq t false e p l s g =
@@ -149,7 +149,7 @@ arus_fit me front seq t false e p l s g =
 pub token_fits : (me front sent : ℕ) (requests : List ℕ) (t : Token) → IsProc me → MayGo t → front ≤ t.seq + sent → t.seq + sent ≤ max_number →
     length requests ≤ 32 → Climbs 0 (t.seq + sent) requests → TokenFits (token_after me front sent requests t)
 token_fits me front sent requests t p g l m few climbs =
-    let a = arus_fit me front (t.seq + sent) t (may_set me front t) refl p l (omega arith) g in
+    let a = arus_fit me front (t.seq + sent) t (may_set_aru me front t) refl p l (omega arith) g in
     let up = climbs-ascends 0 (t.seq + sent) requests climbs in
     let below : t.number < max_number = g.number in
     record {

@@ -18,7 +18,7 @@ use Rattle.ring_wire.specs.declared.token.Token.{Token}
 use Rattle.ring_core_spec.specs.Windows.{is_numbered, holds, front_of, in_window, is_new}
 use Rattle.ring_core_spec.proofs.Windows.{front_grows, holds-more}
 use Rattle.ring_base.proofs.SameRing.{ring_same}
-use Rattle.ring_core_spec.specs.Tokens.{TokenVisit, Raise, safe_mark, numbered, may_set, is_mine, aru_after}
+use Rattle.ring_core_spec.specs.Tokens.{TokenVisit, Raise, safe_mark, numbered, may_set_aru, is_mine, aru_after}
 use Rattle.ring_core_spec.proofs.Tokens.{safe_mark-below, safe_mark-turn, safe_mark-raise}
 use Rattle.ring_core_spec.specs.Commits.{reports_of, safe_of, is_sound, position_of_hop, is_own}
 use Rattle.ring_core_spec.specs.Recoveries.{inner_if_new, inner_messages, inner_message}
@@ -127,7 +127,7 @@ numbered_below turns raises r me seq [] h = tt
 numbered_below turns raises r me seq (p ∷ ps) h = (omega arith, numbered_below turns raises r me (suc seq) ps (omega arith))
 
 aru_below : (me f : ℕ) (t : Token) → aru_after me f t ≤ f
-aru_below me f t = cond_both (may_set me f t) f t.aru (λ a. a ≤ f) (λ e. omega arith)
+aru_below me f t = cond_both (may_set_aru me f t) f t.aru (λ a. a ≤ f) (λ e. omega arith)
     (λ e. ltb-false f t.aru (or_parts (ltb f t.aru) (is_mine me t.aru_id) e).0)
 
 visited_fits : {A : Type 0} → (c : Core A) (t : Token) (fresh : List (Payload A)) (requests : List ℕ)

@@ -44,10 +44,10 @@ report_for ring [] = None
 report_for ring (r ∷ rs) = if same_ring r.ring ring then Some r.entry else report_for ring rs
 
 -- The entries are those that these processors, in order, reported when they took part in the ring.
-abbrev pub are_reports : {A : Type 0} → (ℕ → Core A) → RingId → List ℕ → List CommitEntry → Bool
-are_reports cores ring is [] = true
-are_reports cores ring [] (e ∷ es) = false
-are_reports cores ring (i ∷ is) (e ∷ es) = is_own e (report_for ring (cores i).reports) && are_reports cores ring is es
+abbrev pub are_reports_of_members : {A : Type 0} → (ℕ → Core A) → RingId → List ℕ → List CommitEntry → Bool
+are_reports_of_members cores ring is [] = true
+are_reports_of_members cores ring [] (e ∷ es) = false
+are_reports_of_members cores ring (i ∷ is) (e ∷ es) = is_own e (report_for ring (cores i).reports) && are_reports_of_members cores ring is es
 
 -- The commit token was sent by the member before it, only to the member at its position.
 abbrev pub is_handed_on : {A : Type 0} → Transmission A → CommitToken → Bool
@@ -57,7 +57,7 @@ is_handed_on f k = (f.from == at k.members ((k.hop - 1) % size k.members)) && (f
 abbrev pub is_hop : {A : Type 0} → (ℕ → Core A) → CommitToken → Bool
 is_hop cores k =
     nat_le 1 k.hop && nat_le k.hop (2 * size k.members) && (length k.entries == min k.hop (size k.members))
-    && are_reports cores k.ring (elements k.members) k.entries
+    && are_reports_of_members cores k.ring (elements k.members) k.entries
 
 -- A frame is no commit token, or a hop that the member before it sent, with the reports of its first members.
 abbrev pub is_hop_if_commit : {A : Type 0} → (ℕ → Core A) → Transmission A → Frame A → Bool

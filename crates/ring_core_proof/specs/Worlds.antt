@@ -119,12 +119,12 @@ is_repeat Consensus = false
 is_repeat Loss = false
 
 -- The events that have an effect in a formed ring: all except the other three timeouts.
-abbrev pub acts_on_formed : {A : Type 0} → RingEvent A → Bool
-acts_on_formed (Timeout i kind) = is_repeat kind
-acts_on_formed (Send i payload) = true
-acts_on_formed (Deliver i k) = true
-acts_on_formed (Stop i) = true
+abbrev pub has_effect_on_formed : {A : Type 0} → RingEvent A → Bool
+has_effect_on_formed (Timeout i kind) = is_repeat kind
+has_effect_on_formed (Send i payload) = true
+has_effect_on_formed (Deliver i k) = true
+has_effect_on_formed (Stop i) = true
 
 -- The world after these events from the formed ring of n; those that have no effect there are left out.
 abbrev pub run_formed : {A : Type 0} → ℕ → List (RingEvent A) → World A
-run_formed n events = run (ring_formed n) (filter acts_on_formed events)
+run_formed n events = run (ring_formed n) (filter has_effect_on_formed events)

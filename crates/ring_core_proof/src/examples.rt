@@ -231,7 +231,7 @@ pub fn packed_calls()
 /// - A stopped node has no outputs.
 ///
 /// Rules: Rings and states 8 and 12; Gather 1, 5, 10, 12 and 13; Timeouts 3 and 4; Token and window 11
-pub fn corners()
+pub fn rare_cases()
     ensures left_ring { decide (gathering_from 1) (FrameInput (MessageFrame (call_at 2 1))) ≡ Take (call_at 2 1) }
     ensures newer_floor { decide (gathering_from 2) (FrameInput (MessageFrame (call_at 2 1))) ≡ Ignore }
     ensures queue { (ring_step (sending 3) (Timeout Loss)).core.queue ≡ [] }
@@ -325,7 +325,7 @@ pub fn messages()
 /// States examples of commit tokens, round by round: which hop is taken where, and which tests reject it.
 ///
 /// Rules: The commit token 1 and 5 to 8
-pub fn commit_tokens()
+pub fn commit_token_examples()
     ensures first { decide (opening 3 2) (FrameInput (hop_at_three 1 (empty_report 1 ∷ []))) ≡ Fill (commit_of first_ring 7 1 (empty_report 1 ∷ [])) }
     ensures elsewhere { decide (opening 3 3) (FrameInput (hop_at_three 1 (empty_report 1 ∷ []))) ≡ Ignore }
     ensures other_members { decide (opening 3 2) (FrameInput (commit_frame first_ring 3 1 (empty_report 1 ∷ []))) ≡ Ignore }

@@ -27,7 +27,7 @@ ghost use Rattle.ring_core_proof.specs.CommitRounds.{has_rising_rings, is_taken,
 ghost use Rattle.ring_core_proof.specs.Moves.{IsMoved};
 ghost use Rattle.ring_core_proof.specs.LawWords.{IsInputOf, HasPassed, IsFalling, TakesCommit, AreTurnsOf, AreFreshOf, HasEnded};
 
-use ring_core_spec::{bits_law, finish_law, front_law, safe_law};
+use ring_core_spec::{held_bits_law, finish_law, unique_front_law, two_visits_safe_law};
 use std::alloc::{Allocator, Global};
 
 /// States that the transition chosen for an input has passed the tests that the rules name for it.
@@ -44,7 +44,7 @@ pub fn decision_law<A: Allocator + Copy>()
 /// The law holds for every core and every input.
 ///
 /// Rules: Rings and states 8
-pub fn cause_law<A: Allocator + Copy>()
+pub fn transition_carries_input_law<A: Allocator + Copy>()
     ensures { (c : Core A) (input : Input A) → IsInputOf c input (decide c input) }
 {}
 
@@ -53,7 +53,7 @@ pub fn cause_law<A: Allocator + Copy>()
 /// The law holds for every core and every commit token, forged ones included.
 ///
 /// Rules: The commit token 1
-pub fn hop_law<A: Allocator + Copy>()
+pub fn hop_taken_by_receiver_law<A: Allocator + Copy>()
     ensures { (c : Core A) (k : CommitToken) → TakesCommit c k → receiver k ≡ c.me }
 {}
 
@@ -70,14 +70,14 @@ pub fn moves_law<A: Allocator + Copy>()
 /// States that the numbers of the rings that a core takes part in strictly rise, after any inputs from the opening.
 ///
 /// Rules: Rings and states 7; The commit token 10
-pub fn rings_law<A: Allocator + Copy>()
+pub fn ring_numbers_rise_law<A: Allocator + Copy>()
     ensures { (n me : ℕ) (inputs : List (Input A)) → IsFalling (after_inputs (opening n me) inputs).rings }
 {}
 
 /// States that a core's safe mark in any ring is at most its front there, after any inputs from the opening.
 ///
 /// Rules: Token and window 3
-pub fn mark_law<A: Allocator + Copy>()
+pub fn mark_within_front_law<A: Allocator + Copy>()
     ensures { (n me : ℕ) (inputs : List (Input A)) (ring : RingId) → mark (after_inputs (opening n me) inputs)
         ring ≤ front (after_inputs (opening n me) inputs) ring }
 {}
@@ -87,7 +87,7 @@ pub fn mark_law<A: Allocator + Copy>()
 /// The law holds after any inputs from the opening.
 ///
 /// Rules: Token and window 4
-pub fn window_law<A: Allocator + Copy>()
+pub fn held_within_window_law<A: Allocator + Copy>()
     ensures { (n me : ℕ) (inputs : List (Input A)) (ring : RingId) (k : ℕ)
         → holds (after_inputs (opening n me) inputs).held ring k ≡ true
         → k ≤ mark (after_inputs (opening n me) inputs) ring + window_size }
@@ -124,7 +124,7 @@ pub fn visit_law<A: Allocator + Copy>()
 /// enough that the core holds an End of its own, since a forged frame may have brought it.
 ///
 /// Rules: Recovery 4
-pub fn ended_law<A: Allocator + Copy>()
+pub fn end_follows_wraps_law<A: Allocator + Copy>()
     ensures { (n me : ℕ) (inputs : List (Input A)) → HasEnded (after_inputs (opening n me) inputs) }
 {}
 
@@ -150,7 +150,7 @@ pub fn packing_law<A: Allocator + Copy>()
 /// exactly the core's sets. After an End nothing is left to wrap.
 ///
 /// Rules: Gather 3; Token and window 3, 4 and 7 to 9; Recovery 4
-pub fn world_law<A: Allocator + Copy>()
+pub fn core_laws_of_worlds<A: Allocator + Copy>()
     ensures marks { (n i : ℕ) (events : List (RingEvent A)) (ring : RingId) → mark ((run (unformed n) events).cores i)
         ring ≤ front ((run (unformed n) events).cores i) ring }
     ensures window { (n i : ℕ) (events : List (RingEvent A)) (ring : RingId) (k : ℕ)
@@ -171,12 +171,12 @@ pub fn world_law<A: Allocator + Copy>()
 /// `ring_chain_proof` states all five facts.
 ///
 /// Rules: The commit token 10
-pub fn rounds_law<A: Allocator + Copy>()
+pub fn second_round_law<A: Allocator + Copy>()
     ensures rings { (n : ℕ) (events : List (RingEvent A)) → list_all (λ i. has_rising_rings ((run (unformed n) events).cores i)) (numbers_from 1 n) ≡ true }
     ensures taken { (w : World A) (events : List (RingEvent A)) → list_all is_taken (takings w events) ≡ true }
 {}
 
-/// States [`mark_law`] for the allocator that programs use. Nothing calls this function.
+/// States [`mark_within_front_law`] for the allocator that programs use. Nothing calls this function.
 ///
 /// A law is proved for all allocators that meet its bounds; this function shows that `Global` does.
 ///
@@ -185,21 +185,21 @@ pub fn laws_at_global()
     ensures { (n me : ℕ) (inputs : List (Input Heap)) (ring : RingId) → mark (after_inputs (opening n me) inputs)
         ring ≤ front (after_inputs (opening n me) inputs) ring }
 {
-    front_law::<Global>();
-    bits_law::<Global>();
-    safe_law::<Global>();
+    unique_front_law::<Global>();
+    held_bits_law::<Global>();
+    two_visits_safe_law::<Global>();
     finish_law::<Global>();
     decision_law::<Global>();
-    cause_law::<Global>();
-    hop_law::<Global>();
+    transition_carries_input_law::<Global>();
+    hop_taken_by_receiver_law::<Global>();
     moves_law::<Global>();
-    rings_law::<Global>();
-    window_law::<Global>();
+    ring_numbers_rise_law::<Global>();
+    held_within_window_law::<Global>();
     agreement_law::<Global>();
     visit_law::<Global>();
-    ended_law::<Global>();
+    end_follows_wraps_law::<Global>();
     packing_law::<Global>();
-    world_law::<Global>();
-    rounds_law::<Global>();
-    mark_law::<Global>();
+    core_laws_of_worlds::<Global>();
+    second_round_law::<Global>();
+    mark_within_front_law::<Global>();
 }

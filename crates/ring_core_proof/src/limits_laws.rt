@@ -21,7 +21,7 @@ use std::alloc::{Allocator, Global};
 ///
 /// Rules: Limits 1
 /// Formats: Frames
-pub fn fits_law<A: Allocator + Copy>()
+pub fn core_within_limits_law<A: Allocator + Copy>()
     ensures opens { (n me : ℕ) → 1 ≤ me → me ≤ n → n ≤ 16 → CoreFits (opening {A = A} n me) }
     ensures formed { (n me : ℕ) → 1 ≤ me → me ≤ n → n ≤ 16 → CoreFits (formed {A = A} n me) }
     ensures steps { (c : Core A) (input : Input A) → CoreFits c → InputFits input → CoreFits (ring_step c input).core }
@@ -49,6 +49,6 @@ pub fn frames_law<A: Allocator + Copy>()
 pub fn laws_at_global()
     ensures { (n : ℕ) (events : List (RingEvent Heap)) → n ≤ 16 → AllByRecursion EventFits events → WorldFits (run (unformed n) events) }
 {
-    fits_law::<Global>();
+    core_within_limits_law::<Global>();
     frames_law::<Global>();
 }

@@ -170,12 +170,12 @@ decide_time Stopped kind = Ignore
 -- Payloads: queued in Operational. End and Wrapped belong to recovery, and a visit makes the Packs
 
 -- The transition for a payload in Operational.
-abbrev pub decide_user : {A : Type 0} → Payload A → Transition A
-decide_user payload = if is_queued payload then Enqueue payload else Ignore
+abbrev pub decide_in_operational : {A : Type 0} → Payload A → Transition A
+decide_in_operational payload = if is_queued payload then Enqueue payload else Ignore
 
 -- The transition for a payload, by state.
 abbrev pub decide_payload : {A : Type 0} → State → Payload A → Transition A
-decide_payload Operational payload = decide_user payload
+decide_payload Operational payload = decide_in_operational payload
 decide_payload Gather payload = Ignore
 decide_payload Commit payload = Ignore
 decide_payload Recovery payload = Ignore

@@ -13,6 +13,6 @@ mod sent;
 pub use input::Input;
 pub use naming::is_named;
 pub use out::Out;
-pub use ring_recover::{Configuration, bits_law, finish_law, front_law};
-pub use ring_token::{Call, Frame, safe_law};
+pub use ring_recover::{Configuration, held_bits_law, finish_law, unique_front_law};
+pub use ring_token::{Call, Frame, two_visits_safe_law};
 pub use sent::OutgoingFrame;

@@ -24,61 +24,61 @@ pub fn is_named<A: Allocator + Copy>(fixed: Fixed, frame: &Frame<A>) -> bool
     let all = fixed.everybody();
     match frame {
         Frame::Message(message) => {
-            is_ring_named(fixed, &message.ring)
-                && is_proc_named(fixed, message.sender)
-                && is_payload_named(fixed, &message.payload)
+            is_representative_in_group(fixed, &message.ring)
+                && is_proc_in_group(fixed, message.sender)
+                && is_payload_in_group(fixed, &message.payload)
         }
         Frame::Token(token) => {
-            is_ring_named(fixed, &token.ring) && is_holder_named(fixed, token.aru_id)
+            is_representative_in_group(fixed, &token.ring) && is_aru_holder_in_group(fixed, token.aru_id)
         }
         Frame::Join(join) => {
-            is_proc_named(fixed, join.sender)
+            is_proc_in_group(fixed, join.sender)
                 && join.proc_set.is_subset(all)
                 && join.fail_set.is_subset(all)
         }
         Frame::Commit(boxed) => {
             let token = boxed.token();
-            is_ring_named(fixed, &token.ring)
+            is_representative_in_group(fixed, &token.ring)
                 && token.members.is_subset(all)
-                && are_entries_named(fixed, token.entries.as_slice())
+                && are_entries_in_group(fixed, token.entries.as_slice())
         }
     }
 }
 
-fn is_proc_named(fixed: Fixed, proc: Proc) -> bool
+fn is_proc_in_group(fixed: Fixed, proc: Proc) -> bool
     ensures { result ≡ nat_le proc fixed.count }
 {
     proc.number() <= fixed.count()
 }
 
-fn is_ring_named(fixed: Fixed, ring: &RingId) -> bool
+fn is_representative_in_group(fixed: Fixed, ring: &RingId) -> bool
     ensures { result ≡ nat_le ring.now.rep fixed.count }
 {
-    is_proc_named(fixed, ring.rep)
+    is_proc_in_group(fixed, ring.rep)
 }
 
 /// Returns whether the representative of the last primary, if there is one, is a processor of the group.
-fn is_last_named(fixed: Fixed, last: Option<RingId>) -> bool
+fn is_last_primary_in_group(fixed: Fixed, last: Option<RingId>) -> bool
     ensures { result ≡ last_named fixed.count last }
 {
     match last {
         None => true,
-        Some(ring) => is_ring_named(fixed, &ring),
+        Some(ring) => is_representative_in_group(fixed, &ring),
     }
 }
 
 /// Returns whether the processor that holds `aru` back, if there is one, is a processor of the group.
-fn is_holder_named(fixed: Fixed, holder: Option<Proc>) -> bool
+fn is_aru_holder_in_group(fixed: Fixed, holder: Option<Proc>) -> bool
     ensures { result ≡ holder_named fixed.count holder }
 {
     match holder {
         None => true,
-        Some(proc) => is_proc_named(fixed, proc),
+        Some(proc) => is_proc_in_group(fixed, proc),
     }
 }
 
 /// Returns whether the representative of each entry's old ring is a processor of the group.
-fn are_entries_named(fixed: Fixed, entries: &[CommitEntry]) -> bool
+fn are_entries_in_group(fixed: Fixed, entries: &[CommitEntry]) -> bool
     ensures { result ≡ list_all (λ (e : OneEntry). nat_le e.old.rep fixed.count) entries.now }
 {
     entries
@@ -86,25 +86,25 @@ fn are_entries_named(fixed: Fixed, entries: &[CommitEntry]) -> bool
         .all(|entry| entry.old.rep.number() <= fixed.count())
 }
 
-fn is_content_named<A: Allocator + Copy>(fixed: Fixed, content: &Content<A>) -> bool
+fn is_content_in_group<A: Allocator + Copy>(fixed: Fixed, content: &Content<A>) -> bool
     ensures { result ≡ content_named fixed.count content.now }
 {
     match content {
-        Content::Head(head) => is_last_named(fixed, head.last),
+        Content::Head(head) => is_last_primary_in_group(fixed, head.last),
         Content::Call(_) | Content::Part(_) | Content::Pack(_) | Content::Snap(_) => true,
     }
 }
 
-fn is_payload_named<A: Allocator + Copy>(fixed: Fixed, payload: &Payload<A>) -> bool
+fn is_payload_in_group<A: Allocator + Copy>(fixed: Fixed, payload: &Payload<A>) -> bool
     ensures { result ≡ payload_named fixed.count payload.now }
 {
     match payload {
         Payload::Wrapped(wrapped) => {
-            is_ring_named(fixed, &wrapped.ring)
-                && is_proc_named(fixed, wrapped.sender)
-                && is_content_named(fixed, &wrapped.payload)
+            is_representative_in_group(fixed, &wrapped.ring)
+                && is_proc_in_group(fixed, wrapped.sender)
+                && is_content_in_group(fixed, &wrapped.payload)
         }
-        Payload::Head(head) => is_last_named(fixed, head.last),
+        Payload::Head(head) => is_last_primary_in_group(fixed, head.last),
         Payload::Call(_) | Payload::End | Payload::Part(_) | Payload::Pack(_) | Payload::Snap(_) =>
             true,
     }

@@ -12,7 +12,7 @@ ghost use Rattle.ring_core_proof.specs.Worlds.{transmission_by, stepped, happens
 ghost use Rattle.ring_core_world.specs.Running.{places_from, places_of, step_outputs, world_of, more, empty_run, empty_formed_run, opening_frames};
 
 use crate::history::{WorldHistory, more, ring_formed, unformed};
-use crate::sent::{copied, copied_payload, later_frame, numbered_frame};
+use crate::sent::{copied, copied_payload, formed_ring_frame, numbered_frame};
 use ring_base::{Fault, Fixed, Ghost, Proc};
 use ring_core_proof::RingEvent;
 use ring_core_spec::{Input, Out, OutgoingFrame};
@@ -144,7 +144,7 @@ impl<A: Allocator + Copy> Cores<A> {
         let places = self.places.as_slice();
         let outs = self.outs.as_slice();
         match &self.first {
-            Some(first) => later_frame(first, places, outs, node, number),
+            Some(first) => formed_ring_frame(first, places, outs, node, number),
             None => numbered_frame(places, outs, node, number),
         }
     }
@@ -324,13 +324,13 @@ fn record_output<A: Allocator + Copy>(
     ensures places { OnOk result (places.new.items ≡ places_from 0 outs.new.items) }
     ensures refused { IfErr result (λ fault. fault ≡ Memory) }
 {
-    let noted = record_place(places, outs.len(), &out);
+    let noted = record_send_index(places, outs.len(), &out);
     outs.push((node, out))?;
     noted
 }
 
 /// Records the index of an output, if it is a send.
-fn record_place<A: Allocator + Copy>(
+fn record_send_index<A: Allocator + Copy>(
     places: &mut Vec<usize, A>,
     at: usize,
     out: &Out<A>,

@@ -15,7 +15,7 @@ ghost use Rattle.ring_core_proof.specs.Texts.{HasOneText};
 ghost use Rattle.ring_core_proof.specs.Worlds.{run_formed};
 
 use crate::cores::Cores;
-use crate::running::run_acting;
+use crate::running::run_events;
 use ring_base::{Fault, Fixed, Proc};
 use ring_core_proof::RingEvent;
 use ring_core_spec::Out;
@@ -92,7 +92,7 @@ impl<A: Allocator + Copy> FixedRing<A> {
         // No effect at run time. The proof uses it: the group has a processor, as the laws of a formed ring require.
         prove!(self.fixed.count() >= 1);
         let cores = self.cores.take().ok_or(Fault::Memory)?;
-        run_acting(cores, true, events, &mut self.done)
+        run_events(cores, true, events, &mut self.done)
     }
 
     /// Returns the number of events done in the run.

@@ -12,7 +12,7 @@ ghost use Rattle.ring_core_proof.specs.CommitRounds.{CommitRounds};
 ghost use Rattle.ring_synchrony_proof.specs.Synchrony.{IsVirtuallySynchronous};
 
 use crate::cores::Cores;
-use crate::running::run_acting;
+use crate::running::run_events;
 use ring_base::{Fault, Fixed, Proc};
 use ring_core_proof::RingEvent;
 use ring_core_spec::Out;
@@ -83,7 +83,7 @@ impl<A: Allocator + Copy> Rings<A> {
         ensures refused { IfErr result (λ fault. fault ≡ Memory) }
     {
         let cores = self.cores.take().ok_or(Fault::Memory)?;
-        run_acting(cores, false, events, &mut self.done)
+        run_events(cores, false, events, &mut self.done)
     }
 
     /// Returns the number of events done in the run.

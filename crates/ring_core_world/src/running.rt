@@ -6,7 +6,7 @@ ghost use Rattle.std.specs.Prelude.{◌≡◌, ◌<◌, [], ◌∷◌, length, f
 ghost use Rattle.std.specs.List.{AllByRecursion};
 ghost use Rattle.ring_base.specs.declared.fault.Fault.TheVariants.{Memory};
 ghost use Rattle.ring_core_proof.specs.Limits.{EventFits};
-ghost use Rattle.ring_core_proof.specs.Worlds.{acts_on_formed};
+ghost use Rattle.ring_core_proof.specs.Worlds.{has_effect_on_formed};
 ghost use Rattle.ring_core_world.specs.Running.{world_of, run_extended, acts};
 
 use crate::cores::Cores;
@@ -23,7 +23,7 @@ use std::alloc::Allocator;
 /// Errors: `Memory` if an allocation fails; `done` is then below the number of events.
 ///
 /// Rules: Rings and states 14 and 15
-pub(crate) fn run_acting<A: Allocator + Copy>(
+pub(crate) fn run_events<A: Allocator + Copy>(
     cores: Cores<A>,
     formed: bool,
     events: &[RingEvent<A>],
@@ -38,14 +38,14 @@ pub(crate) fn run_acting<A: Allocator + Copy>(
     let mut world = cores;
     *done = 0;
     for event in events {
-        world = step_if_acting(world, formed, event)?;
+        world = apply_if_effective(world, formed, event)?;
         *done += 1;
     }
     Ok(world.into_outs())
 }
 
 /// Applies an event, unless it has no effect from this opening.
-fn step_if_acting<A: Allocator + Copy>(
+fn apply_if_effective<A: Allocator + Copy>(
     world: Cores<A>,
     formed: bool,
     event: &RingEvent<A>,
@@ -65,12 +65,12 @@ fn step_if_acting<A: Allocator + Copy>(
 fn acts<A: Allocator + Copy>(formed: bool, event: &RingEvent<A>) -> bool
     ensures { result ≡ acts formed event.now }
 {
-    !formed || acts_on_formed(event)
+    !formed || has_effect_on_formed(event)
 }
 
 /// Returns whether an event has an effect from a formed ring: of the timeouts only retransmit does.
-fn acts_on_formed<A: Allocator + Copy>(event: &RingEvent<A>) -> bool
-    ensures { result ≡ acts_on_formed event.now }
+fn has_effect_on_formed<A: Allocator + Copy>(event: &RingEvent<A>) -> bool
+    ensures { result ≡ has_effect_on_formed event.now }
 {
     match event {
         RingEvent::Timeout(_, kind) => matches!(kind, Kind::Retransmit),

@@ -86,7 +86,7 @@ pub(crate) fn numbered_frame<'a, A: Allocator + Copy>(
 /// Frame 1 is `first`; the frames in `outs` are numbered from 2 in their order.
 ///
 /// Rules: Rings and states 14
-pub(crate) fn later_frame<'a, A: Allocator + Copy>(
+pub(crate) fn formed_ring_frame<'a, A: Allocator + Copy>(
     first: &'a OutgoingFrame<A>,
     places: &[usize],
     outs: &'a [(Proc, Out<A>)],

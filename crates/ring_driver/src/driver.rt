@@ -260,7 +260,7 @@ impl<O: Object> Driver<O> {
         let outs = self.node.step(input)?;
         self.clock
             .note_step(step_outcome(timeout, is_token, outs.sends.as_slice()));
-        let has_installed = is_other_ring(ring_before, self.node.ring());
+        let has_installed = are_different_rings(ring_before, self.node.ring());
         self.has_installed = has_installed;
         self.sends = VecDeque::from_vec(outs.sends);
         self.committed = VecDeque::from_vec(outs.committed);
@@ -359,7 +359,7 @@ impl<O: Object> Driver<O> {
 }
 
 /// Returns whether the two rings differ.
-fn is_other_ring(before: RingId, after: RingId) -> bool
+fn are_different_rings(before: RingId, after: RingId) -> bool
     ensures { result ≡ not (same_ring before after) }
 {
     before != after

@@ -3,7 +3,7 @@
 //! Formats: The command line
 #![tactic(auto)]
 
-mod explore_totals;
+mod seed_totals;
 mod exploring;
 mod one;
 mod plan;

@@ -11,7 +11,7 @@ ghost use Rattle.ring_console.specs.Running.{run_opening, is_connected, IsCopyHa
 ghost use Rattle.ring_explore.specs.Explored.{AreTried, illegal_of, is_answer};
 ghost use Rattle.ring_explore.specs.Tried.{IsTried};
 
-use crate::explore_totals::ExploreTotals;
+use crate::seed_totals::ExploreTotals;
 use ring_base::{Fault, Fixed, PROCESSORS, Proc, RingId};
 use ring_console::{
     Event, OpenCopy, Script, ScriptFault, ScriptLine, ScriptRun, Told, Vocabulary, World, is_legal,
@@ -35,7 +35,7 @@ pub(crate) fn try_seed<O: Object<Alloc = Global>, V: Vocabulary>(
     seed: u64,
     lines: u32,
 ) -> Result<ExploreTotals, Fault>
-    ensures ok { IfOk result (λ explore_totals. AreTried (IsTried O.sequential V.forms votes.now lines) seed (seed + 1) explore_totals.illegal) }
+    ensures ok { IfOk result (λ seed_totals. AreTried (IsTried O.sequential V.forms votes.now lines) seed (seed + 1) seed_totals.illegal) }
     ensures refused { IfErr result (IsNotGenerated votes.now) }
 {
     let text = generate_script_by::<V, Global>(alloc, votes, seed, lines)?;
@@ -55,21 +55,21 @@ fn try_script<O: Object<Alloc = Global>, V: Vocabulary>(
     seed: u64,
 ) -> Result<ExploreTotals, Fault>
     requires { AreFit script.lines.items }
-    ensures ok { IfOk result (λ explore_totals. (made votes : List ℕ) (lines : ℕ) → script_by V.forms made ≡ Ok (schedule_by script)
-        → IsGeneratedBy V.forms votes lines made → AreTried (IsTried O.sequential V.forms votes lines) seed (seed + 1) explore_totals.illegal) }
+    ensures ok { IfOk result (λ seed_totals. (made votes : List ℕ) (lines : ℕ) → script_by V.forms made ≡ Ok (schedule_by script)
+        → IsGeneratedBy V.forms votes lines made → AreTried (IsTried O.sequential V.forms votes lines) seed (seed + 1) seed_totals.illegal) }
     ensures refused { IfErr result (λ fault. fault ≡ Memory) }
 {
     let mut seed_run = SeedRun::<O>::new(alloc, script.nodes)?;
-    let explore_totals = totals_by::<O, V>(alloc, &mut seed_run, script, seed);
+    let seed_totals = run_and_check_script::<O, V>(alloc, &mut seed_run, script, seed);
     // Dropped explicitly, so it is dropped in a function generic over its type, and doesn't live until the exits.
     drop(seed_run);
-    explore_totals
+    seed_totals
 }
 
 /// Carries out a script in a run at its opening, and checks the run.
 ///
 /// Errors: `Memory` if an allocation fails.
-fn totals_by<O: Object<Alloc = Global>, V: Vocabulary>(
+fn run_and_check_script<O: Object<Alloc = Global>, V: Vocabulary>(
     alloc: Global,
     seed_run: &mut SeedRun<O>,
     script: Script,
@@ -77,12 +77,12 @@ fn totals_by<O: Object<Alloc = Global>, V: Vocabulary>(
 ) -> Result<ExploreTotals, Fault>
     requires fit { AreFit script.lines.items }
     requires opening { seed_run.old.run ≡ run_opening script.nodes }
-    ensures ok { IfOk result (λ explore_totals. (made votes : List ℕ) (lines : ℕ) → script_by V.forms made ≡ Ok (schedule_by script)
-        → IsGeneratedBy V.forms votes lines made → AreTried (IsTried O.sequential V.forms votes lines) seed (seed + 1) explore_totals.illegal) }
+    ensures ok { IfOk result (λ seed_totals. (made votes : List ℕ) (lines : ℕ) → script_by V.forms made ≡ Ok (schedule_by script)
+        → IsGeneratedBy V.forms votes lines made → AreTried (IsTried O.sequential V.forms votes lines) seed (seed + 1) seed_totals.illegal) }
     ensures refused { IfErr result (λ fault. fault ≡ Memory) }
 {
     seed_run.take(script)?;
-    seed_run.explore_totals(alloc, seed)
+    seed_run.seed_totals(alloc, seed)
 }
 
 /// The run of a seed's script, and the counts taken during it.
@@ -214,12 +214,12 @@ impl<O: Object> SeedRun<O> {
     /// Returns the totals over this seed, which name it exactly if its run isn't legal.
     ///
     /// Errors: `Memory` if an allocation fails.
-    fn explore_totals(&self, alloc: O::Alloc, seed: u64) -> Result<ExploreTotals, Fault>
-        ensures legal { IfOk result (λ explore_totals. (is_legal : Bool) × (IsTrue is_legal ↔ IsLegal O.sequential self.now.run.world_view)
-            × (explore_totals.illegal ≡ illegal_of is_legal seed)) }
-        ensures events { IfOk result (λ explore_totals. explore_totals.events ≡ length self.now.run.world_view.events) }
-        ensures calls { IfOk result (λ explore_totals. explore_totals.calls ≡ self.now.calls) }
-        ensures answered { IfOk result (λ explore_totals. explore_totals.answered ≡ count_by is_answer self.now.run.world_view.told) }
+    fn seed_totals(&self, alloc: O::Alloc, seed: u64) -> Result<ExploreTotals, Fault>
+        ensures legal { IfOk result (λ seed_totals. (is_legal : Bool) × (IsTrue is_legal ↔ IsLegal O.sequential self.now.run.world_view)
+            × (seed_totals.illegal ≡ illegal_of is_legal seed)) }
+        ensures events { IfOk result (λ seed_totals. seed_totals.events ≡ length self.now.run.world_view.events) }
+        ensures calls { IfOk result (λ seed_totals. seed_totals.calls ≡ self.now.calls) }
+        ensures answered { IfOk result (λ seed_totals. seed_totals.answered ≡ count_by is_answer self.now.run.world_view.told) }
         ensures refused { IfErr result (λ fault. fault ≡ Memory) }
     {
         let is_legal = is_legal(alloc, &self.run)?;

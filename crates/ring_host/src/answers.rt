@@ -4,7 +4,7 @@
 
 ghost use Rattle.std.specs.Prelude.{◌≡◌, ℕ, ◌+◌, [], Some, slice_get, IfSome};
 ghost use Rattle.ring_session.specs.declared.answer.Answer.{Answer as OneAnswer};
-ghost use Rattle.ring_book.specs.Lines.{answer_in, answer_of_ticket};
+ghost use Rattle.ring_book.specs.Lines.{first_answer_in, answer_of_ticket};
 ghost use Rattle.ring_host.specs.Answering.{IsAnswered};
 ghost use Rattle.ring_host.specs.Looking.{cached_answer};
 
@@ -106,7 +106,7 @@ impl<O: Object, K: BookName<O::Alloc>> AnswerCache<O, K> {
         ensures node { self.new.node ≡ ticket.now.node }
         ensures first { self.new.first ≡ ticket.now.ticket }
         ensures found { (i : ℕ) (answer : OneAnswer) → slice_get self.new.found i ≡ Some answer
-            → answer_in book.now.lines ticket.now.node (ticket.now.ticket + i) ≡ Some answer }
+            → first_answer_in book.now.lines ticket.now.node (ticket.now.ticket + i) ≡ Some answer }
     {
         // A law: no effect at run time. It tells the proof that the book's lines are a run of the group.
         book.run_law();

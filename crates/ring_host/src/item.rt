@@ -104,7 +104,7 @@ fn read_frame<A: Allocator + Copy>(
     ensures bad { IfErr result (λ fault. fault ≡ BadFrame → (frame : OneFrame A) → ¬ IsFrameEncoding frame bytes.now) }
     ensures refused { IfErr result IsReadFault }
 {
-    let len = Frame::<A>::get_into(alloc, bytes, place)?;
+    let len = Frame::<A>::decode_first_frame_into(alloc, bytes, place)?;
     if len != bytes.len() {
         return Err(Fault::BadFrame);
     }

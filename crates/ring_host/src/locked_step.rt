@@ -155,8 +155,8 @@ pub(crate) fn finish_step<O: Object, K: BookName<O::Alloc>>(
     ensures refused { IfErr result IsTurnFault }
 {
     match stepped {
-        Ok(()) => enter_in(book, place, cell, outbox),
-        Err(Fault::Memory) => match enter_in(book, place, cell, outbox) {
+        Ok(()) => enter_line_or_release(book, place, cell, outbox),
+        Err(Fault::Memory) => match enter_line_or_release(book, place, cell, outbox) {
             Ok(_) => Err(Fault::Memory),
             Err(fault) => Err(fault),
         },
@@ -172,7 +172,7 @@ pub(crate) fn finish_step<O: Object, K: BookName<O::Alloc>>(
 /// Returns the number of frames that the line sent.
 ///
 /// Errors: `Stranger` if no line can be entered; the place is then released.
-fn enter_in<O: Object, K: BookName<O::Alloc>>(
+fn enter_line_or_release<O: Object, K: BookName<O::Alloc>>(
     book: &mut Book<O, K>,
     place: Place,
     cell: &mut Cell<O, K>,
@@ -193,7 +193,7 @@ fn enter_in<O: Object, K: BookName<O::Alloc>>(
             // Laws: no effect at run time. They tell the proof that the lines are a run of the group, and that the
             // node's state is the one after that run.
             book.run_law();
-            book.node_law(cell);
+            book.cell_follows_book_law(cell);
             Ok(sent)
         }
         Err(fault) => {

@@ -129,7 +129,7 @@ pub(crate) fn turn_of(done: Option<StepReport>) -> Turn
 
 impl<C, B, A: Allocator + Copy + Drop> HostOf<C, B, A> {
     /// Ends a turn of the node that finds nothing: the thread waits, unless the gate has waits of its own.
-    fn find_nothing<W: Wait, G: Gate>(&self, rt: &W, node: Proc, gate: &G) {
+    fn wait_after_empty_turn<W: Wait, G: Gate>(&self, rt: &W, node: Proc, gate: &G) {
         if let Some(inbox) = self.inboxes.get(node.number() as usize - 1)
             && !gate.has_own_waits()
         {
@@ -260,7 +260,7 @@ impl<O: Object, K: BookName<O::Alloc>> HostOf<Cell<O, K>, Book<O, K>, O::Alloc> 
                 Ok(Some(done))
             }
             None => {
-                self.find_nothing(rt, node, gate);
+                self.wait_after_empty_turn(rt, node, gate);
                 Ok(None)
             }
         }

@@ -48,14 +48,14 @@ pub fn calls_of<O: Object, K: BookName<O::Alloc>, W: Wait>(
         |book| -> Result<ClientCalls<O::Alloc>, Fault>
             ensures calls { IfOk result (AreOfRun O.sequential K.name.group) }
             ensures refused { IfErr result (λ fault. fault ≡ Memory) }
-        { calls_in_book(book) },
+        { client_calls_in_book(book) },
     )
 }
 
 /// Returns the order and the history of a book.
 ///
 /// Errors: `Memory` if an allocation fails.
-fn calls_in_book<O: Object, K: BookName<O::Alloc>>(
+fn client_calls_in_book<O: Object, K: BookName<O::Alloc>>(
     book: &Book<O, K>,
 ) -> Result<ClientCalls<O::Alloc>, Fault>
     ensures calls { IfOk result (AreOfRun O.sequential K.name.group) }

@@ -7,11 +7,11 @@ ghost use Rattle.ring_base.specs.declared.fault.Fault.TheVariants.{NotMember};
 ghost use Rattle.ring_client.specs.Asking.{new_asked, asked_after_submit, asked_after_refusal, asked_after_poll, IsClientVisible, IsSubmittable};
 ghost use Rattle.ring_seat.specs.Seats.{IsAt};
 ghost use Rattle.ring_host.specs.Answering.{IsAnswered};
-ghost use Rattle.ring_host_port.specs.VisibleAnswer.{visible_answer};
+ghost use Rattle.ring_host_port.specs.VisibleAnswer.{if_visible_to_client};
 ghost use Rattle.ring_host_port.specs.Submitting.{IsNotSubmitted};
 
 use ring_base::{Fault, Proc};
-use ring_client::{Asked, Port, client_visible};
+use ring_client::{Asked, Port, if_client_visible};
 use ring_host::{AnswerCache, BookName, Host, HostTicket, Seat};
 use ring_object::Object;
 use ring_payload::{Call, MAX_OPERATION};
@@ -193,12 +193,12 @@ impl<'a, O: Object, K: BookName<O::Alloc>, W: Wait> HostPort<'a, O, K, W> {
 
     /// Records a poll for which the host returned `found`, and returns that answer if a client may see it.
     fn note(&mut self, found: Option<Answer>) -> Option<Answer>
-        ensures answer { result ≡ visible_answer found }
+        ensures answer { result ≡ if_visible_to_client found }
         ensures told { IfSome result IsClientVisible }
         ensures node { self.new.node ≡ self.old.node }
         ensures asked { self.new.asked ≡ asked_after_poll result self.old.asked }
     {
-        let answer = visible_answer(found);
+        let answer = if_visible_to_client(found);
         self.asked.note_poll(answer);
         self.asked.answer
     }
@@ -209,7 +209,7 @@ impl<'a, O: Object, K: BookName<O::Alloc>, W: Wait> Port for HostPort<'a, O, K, 
 
     type Ticket = HostTicket;
 
-    ghost asked_of = { λ port. port.asked };
+    ghost trace_options_of = { λ port. port.asked };
 
     /// Submits a copy of the call at the port's node and records it in `asked`.
     ///
@@ -263,12 +263,12 @@ impl<'a, O: Object, K: BookName<O::Alloc>, W: Wait> Port for HostPort<'a, O, K, 
 }
 
 /// Returns the answer that was found, if there is one and a client may see it.
-fn visible_answer(found: Option<Answer>) -> Option<Answer>
-    ensures value { result ≡ visible_answer found }
+fn if_visible_to_client(found: Option<Answer>) -> Option<Answer>
+    ensures value { result ≡ if_visible_to_client found }
     ensures told { IfSome result IsClientVisible }
 {
     match found {
-        Some(answer) => client_visible(answer),
+        Some(answer) => if_client_visible(answer),
         None => None,
     }
 }

@@ -29,7 +29,7 @@ pub fn frames_reason(alloc: Global, bytes: &[u8]) -> Result<Option<String>, Allo
         if rest.is_empty() {
             return Ok(None);
         }
-        match Frame::get_into(alloc, rest, &mut frame) {
+        match Frame::decode_first_frame_into(alloc, rest, &mut frame) {
             Ok(length) => rest = rest.get(length..).unwrap_or(&[]),
             Err(Fault::Memory) => return Err(AllocError),
             Err(_) => return Ok(Some(start_reason(alloc, rest)?)),

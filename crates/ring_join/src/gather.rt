@@ -73,7 +73,7 @@ impl Gather {
         if join.sender == self.me || self.fail_set.contains(join.sender) {
             return JoinEffect::Ignored;
         }
-        if self.has_sets_of(join) {
+        if self.has_same_sets_as(join) {
             return JoinEffect::Agrees;
         }
         if join.proc_set.is_subset(self.proc_set) && join.fail_set.is_subset(self.fail_set) {
@@ -107,7 +107,7 @@ impl Gather {
         ensures { self.new ≡ record self.old { gathering = join_merged self.old.me self.old.gathering join.now } }
     {
         self.merge_sets(join);
-        if self.has_sets_of(join) {
+        if self.has_same_sets_as(join) {
             self.agree(join);
         }
     }
@@ -220,7 +220,7 @@ impl Clone for Gather {
 
 impl Gather {
     /// Returns whether the join has exactly the node's own sets.
-    fn has_sets_of(&self, join: &Join) -> bool
+    fn has_same_sets_as(&self, join: &Join) -> bool
         ensures { result ≡ has_same_sets self.now.gathering join.now }
     {
         join.proc_set == self.proc_set && join.fail_set == self.fail_set

@@ -11,6 +11,6 @@ ghost use Rattle.ring_join.specs.Gathering.{Gathering, has_consensus, HasConsens
 /// counted joins have exactly its sets.
 ///
 /// Rules: Gather 9
-pub fn consensus_law()
+pub fn consensus_test_law()
     ensures { (me : ℕ) (g : Gathering) → 1 ≤ me → AllAreProcs g → AllSaySame g → (has_consensus me g ≡ true) ↔ HasConsensus me g }
 {}

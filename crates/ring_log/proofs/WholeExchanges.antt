@@ -14,7 +14,7 @@ use Rattle.ring_wire.specs.PayloadVariants.{Call, Wrapped, End, Head, Part, Pack
 use Rattle.ring_wire.specs.declared.message.Message.{Message}
 use Rattle.ring_log.specs.declared.base.Base.{Base}
 use Rattle.ring_log.specs.declared.wanted.Wanted.{Wanted}
-use Rattle.ring_log.specs.Exchanges.{Exchange, exchange_opening, wanted_by, wanted, hear_head, has_wanted_snapshot, is_piece_of, is_next_piece, hear_snap, is_next}
+use Rattle.ring_log.specs.Exchanges.{Exchange, exchange_opening, wanted_from_heads, wanted, hear_head, has_wanted_snapshot, is_piece_of, is_next_piece, hear_snap, is_next}
 use Rattle.ring_log.specs.Exchanges.{is_wanted, hear_part, heard, has_all_wanted, is_exchange_complete, snapshot_by, base_from, handed_out, base_at, exchange_drained}
 use Rattle.ring_log.specs.EpochHistories.{CompleteExchange, exchange_after_message, complete_exchange_from, after_all, drained_exchange_after, complete_exchange, base_ending, places_below, base_on, own_base}
 use Rattle.ring_log.proofs.Calls.{never}
@@ -27,11 +27,11 @@ received_head-by false o received_bytes total places whole = absurd (cc whole)
 
 -- every member's Head was received
 pub received_head : {A : Type 0} (e : Exchange A) → is_exchange_complete e ≡ true → e.missing_heads ≡ nobody
-received_head e whole = eqb-true e.missing_heads nobody (received_head-by (e.missing_heads == nobody) (wanted_by e.heads) e.received_bytes e.total e.places whole)
+received_head e whole = eqb-true e.missing_heads nobody (received_head-by (e.missing_heads == nobody) (wanted_from_heads e.heads) e.received_bytes e.total e.places whole)
 
 -- while a member's Head is missing nothing is wanted
 pub wants_nothing : {A : Type 0} (e : Exchange A) (p : ℕ) → IsMember e.missing_heads p → wanted e ≡ None
-wants_nothing e p m = cond_both (e.missing_heads == nobody) (wanted_by e.heads) None (λ (o : Option Wanted). o ≡ None)
+wants_nothing e p m = cond_both (e.missing_heads == nobody) (wanted_from_heads e.heads) None (λ (o : Option Wanted). o ≡ None)
     (λ t. absurd (nobody_member p (subst (λ u. IsMember u p) (eqb-true e.missing_heads nobody t) m)))
     (λ f. refl)
 

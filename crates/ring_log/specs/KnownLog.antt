@@ -1,6 +1,6 @@
 -- A node's knowledge of its log, from its own epochs only. It knows the places after the snapshot that it restored
 -- last, if any, and how many places are committed and dropped. EpochHistories defines the same log from the epochs of
--- all nodes; `kept_law` of ring_log_proof shows that the two agree.
+-- all nodes; `known_log_law` of ring_log_proof shows that the two agree.
 -- Rules: The replicated log 6, 8, 9, 11, 12 and 20
 use Rattle.std.specs.Prelude.{ℕ, ◌+◌, ◌-◌, ◌≤◌, max, Bool, true, ◌&&◌, ◌||◌, nat_le, nat_lt, is_some, if◌then◌else◌, List, [], ◌∷◌, ◌++◌, length, take, drop}
 use Rattle.std.specs.Prelude.{Option, Some, None}

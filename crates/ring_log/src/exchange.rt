@@ -8,7 +8,7 @@ ghost use Rattle.ring_log.specs.Exchanges.{exchange_opening, wanted, heard, hear
 ghost use Rattle.ring_log.specs.Exchanges.{is_wanted, is_exchange_complete, base_at, handed_out, exchange_drained};
 
 use crate::base::Base;
-use crate::heads::wanted_by;
+use crate::heads::wanted_from_heads;
 use crate::received_head::ReceivedHead;
 use crate::snapshot::Snapshot;
 use crate::wanted::Wanted;
@@ -97,7 +97,7 @@ impl<A: Allocator + Copy> Exchange<A> {
         ensures { result ≡ wanted self.now }
     {
         if self.missing_heads.bits() == 0 {
-            wanted_by(self.heads.as_slice())
+            wanted_from_heads(self.heads.as_slice())
         } else {
             None
         }
@@ -276,11 +276,11 @@ fn is_next<A: Allocator + Copy>(wanted: &Wanted, places: u64, sender: Proc, part
         return false;
     }
     let count = part.calls.as_slice().len() as u64;
-    begins_at(wanted, places, part.first) && ends_within(wanted, part.first, count)
+    is_first_missing(wanted, places, part.first) && ends_within(wanted, part.first, count)
 }
 
 /// Returns whether `first` is the place after the first `places` wanted ones.
-fn begins_at(wanted: &Wanted, places: u64, first: u64) -> bool
+fn is_first_missing(wanted: &Wanted, places: u64, first: u64) -> bool
     ensures { result ≡ (first == wanted.now.from + places) }
 {
     wanted.from <= first && first - wanted.from == places

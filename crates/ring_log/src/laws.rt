@@ -41,7 +41,7 @@ pub fn committed_law<A: Allocator + Copy>()
 /// pieces of a wanted snapshot, in their order, give its bytes.
 ///
 /// Rules: The replicated log 3, 4, 6 and 16
-pub fn exchange_law<A: Allocator + Copy>()
+pub fn exchange_base_law<A: Allocator + Copy>()
     ensures handed { (group : Group) (members : ℕ) (text : List (Message A)) (x : Message A) → is_primary group members ≡ true →
         base_at (drained_exchange_after (exchange_opening members) text) x.sender x.payload
         ≡ base_ending (complete_exchange group members text) (complete_exchange group members (text ++ x ∷ [])) }

@@ -88,7 +88,7 @@ impl<A: Allocator + Copy> Log<A> {
         ensures err { OnErr result (self.new ≡ self.old) }
         ensures refused { IfErr result (λ fault. fault ≡ Memory) }
     {
-        if !is_length(self.length(), 1) {
+        if !is_within_limit(self.length(), 1) {
             return Ok(false);
         }
         self.calls.push(call)?;
@@ -109,7 +109,7 @@ impl<A: Allocator + Copy> Log<A> {
         ensures err { OnErr result (self.new ≡ self.old) }
         ensures refused { IfErr result (λ fault. fault ≡ Memory) }
     {
-        if !is_length(self.length(), calls.len() as u64) {
+        if !is_within_limit(self.length(), calls.len() as u64) {
             return Ok(false);
         }
         self.calls.extend_from_slice(calls)?;
@@ -195,7 +195,7 @@ impl<A: Allocator + Copy> Log<A> {
         ensures { result ≡ is_adoptable self.now base.now }
     {
         (self.restores(base) || self.continues_committed(base))
-            && is_length(base.from, base.calls.as_slice().len() as u64)
+            && is_within_limit(base.from, base.calls.as_slice().len() as u64)
     }
 
     /// Returns whether a base has a snapshot of more places than are committed.
@@ -422,7 +422,7 @@ fn split_off_calls<A: Allocator + Copy>(
 }
 
 /// Returns whether `places` + `more` is at most `MAX`, the maximum length of a log.
-fn is_length(places: u64, more: u64) -> bool
+fn is_within_limit(places: u64, more: u64) -> bool
     ensures { result ≡ is_log_length (places + more) }
 {
     places <= MAX && more <= MAX - places

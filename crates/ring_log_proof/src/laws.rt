@@ -38,7 +38,7 @@ use std::alloc::{Allocator, Global};
 /// places. Epochs are consistent if they have the facts of the ring core and the nodes have kept their rules.
 ///
 /// Rules: The replicated log 2
-pub fn head_law<A: Allocator + Copy>()
+pub fn truthful_heads_law<A: Allocator + Copy>()
     ensures heads { (group : Group) (m : ConsistentEpochs A group) (r : RingId) (k : ℕ) (x : Message A) (head : Head) →
         slice_get (m.text r) k ≡ Some x → x.payload ≡ HeadPayload head →
         (at : EpochIn (m.node_epochs x.sender) r) × (head ≡ head_of_epochs group at.older) }
@@ -126,7 +126,7 @@ pub fn adoption_law<A: Allocator + Copy>()
 /// places.
 ///
 /// Rules: The replicated log 1, 8 and 20
-pub fn kept_law<A: Allocator + Copy>()
+pub fn known_log_law<A: Allocator + Copy>()
     ensures rests { (group : Group) (epochs : List (Epoch A)) → is_sound group epochs ≡ true → DropsOnlyCommitted group epochs → IsView group epochs }
     ensures head { (group : Group) (epochs : List (Epoch A)) → is_sound group epochs ≡ true → DropsOnlyCommitted group epochs →
         known_log_head (known_log_of group epochs) ≡ head_of_epochs group epochs }
@@ -148,7 +148,7 @@ pub fn kept_law<A: Allocator + Copy>()
 /// are. The places of a snapshot are fixed once its ring's exchange is complete.
 ///
 /// Rules: The replicated log 4, 6 and 16
-pub fn fronts_law<A: Allocator + Copy>()
+pub fn snapshot_places_law<A: Allocator + Copy>()
     ensures stand { (group : Group) (node_epochs : ℕ → List (Epoch A)) → ((p : ℕ) → Rises (node_epochs p)) → (bounds : ℕ → ℕ) → AreAbove node_epochs bounds →
         HasOwnerSnapshots group (λ p. whole_epochs group node_epochs (bounds p) p) }
     ensures facts { (group : Group) (node_epochs : ℕ → List (Epoch A)) (members : RingId → ℕ) (text : RingId → List (Message A)) → RingFacts node_epochs members text →
@@ -167,7 +167,7 @@ pub fn fronts_law<A: Allocator + Copy>()
 /// committed places are in it. The law holds for all consistent epochs.
 ///
 /// Rules: The replicated log 10 and 11; Sessions 10
-pub fn issued_law<A: Allocator + Copy>()
+pub fn only_issued_calls_law<A: Allocator + Copy>()
     ensures logs { (group : Group) (m : ConsistentEpochs A group) (issued : List (Call A)) (p : ℕ) →
         SendsOnlyKnown (Contains issued) m.node_epochs → Each (Contains issued) (log_of group (m.node_epochs p)) }
     ensures committed { (group : Group) (m : ConsistentEpochs A group) (issued : List (Call A)) (p : ℕ) →
@@ -182,7 +182,7 @@ pub fn issued_law<A: Allocator + Copy>()
 /// then only issued calls were ever handed over. All places that were ever dropped are committed.
 ///
 /// Rules: The replicated log 2, 10 and 20
-pub fn epochs_law<A: Allocator + Copy>()
+pub fn events_extend_epochs_law<A: Allocator + Copy>()
     ensures goes_on { (group : Group) (epochs : List (Epoch A)) (events : List (EpochEvent A)) →
         AllMayHappen group epochs events → IsEpochsExtended epochs (epochs_after_events epochs events) }
     ensures discipline { (group : Group) (node_epochs after : ℕ → List (Epoch A)) (events : ℕ → List (EpochEvent A)) →
@@ -218,13 +218,13 @@ pub fn run_law<A: Allocator + Copy>()
 pub fn laws_at_global()
     ensures { (group : Group) (m : ConsistentEpochs Heap group) (p : ℕ) → IsListPrefix (committed_of group (m.node_epochs p)) (log_of group (m.node_epochs p)) }
 {
-    head_law::<Global>();
+    truthful_heads_law::<Global>();
     safe_log_persists_law::<Global>();
     settled_law::<Global>();
     adoption_law::<Global>();
-    kept_law::<Global>();
-    issued_law::<Global>();
-    epochs_law::<Global>();
+    known_log_law::<Global>();
+    only_issued_calls_law::<Global>();
+    events_extend_epochs_law::<Global>();
     run_law::<Global>();
     committed_law::<Global>();
 }

@@ -1,6 +1,6 @@
 //! One step of a ring core together with its replica.
 //!
-//! `follow_step` is a function of its own to keep its large stack slot out of its caller.
+//! `apply_core_outputs` is a function of its own to keep its large stack slot out of its caller.
 //!
 //! Rules: Rings and states 13; The replicated log 1, 2, 8 and 10
 
@@ -137,12 +137,12 @@ fn follow<O: Object>(
     if told.is_empty() && replica.is_step_idle() {
         return Ok(());
     }
-    follow_step(core, replica, told.as_slice(), outs)
+    apply_core_outputs(core, replica, told.as_slice(), outs)
 }
 
 /// Does the same as `follow`, without skipping the replica's step.
 #[inline(never)]
-fn follow_step<O: Object>(
+fn apply_core_outputs<O: Object>(
     core: &mut Srp<O::Alloc>,
     replica: &mut Replica<O>,
     told: &[Out<O::Alloc>],

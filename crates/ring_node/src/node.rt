@@ -123,7 +123,7 @@ impl<O: Object> Node<O> {
         ensures err { OnErr result (self.new ≡ self.old) }
         ensures refused { IfErr result (λ fault. MatchOption (submit_fault self.old) (fault ≡ Memory) (λ first. fault ≡ first)) }
     {
-        self.submit_on(&call)
+        self.submit_borrowed(&call)
     }
 
     /// Submits a copy of a borrowed call and returns its ticket.
@@ -133,7 +133,7 @@ impl<O: Object> Node<O> {
     /// Errors: those of `submit`, in the same order. The node is unchanged by each.
     ///
     /// Rules: The replicated log 10 and 13; Refusals 4
-    pub fn submit_on(&mut self, call: &Call<O::Alloc>) -> Result<Ticket, Fault>
+    pub fn submit_borrowed(&mut self, call: &Call<O::Alloc>) -> Result<Ticket, Fault>
         requires fits { CallFits call.now }
         ensures ticket { IfOk result (λ ticket. ticket ≡ length self.old.tickets) }
         ensures taken { OnOk result (submit_fault self.old ≡ None) }
@@ -211,7 +211,7 @@ impl<O: Object> Node<O> {
             Input::Noise => self.begin(outs),
             Input::Stop => {
                 self.begin(outs)?;
-                self.halt();
+                self.stop_for_good();
                 Ok(())
             }
         }
@@ -462,7 +462,7 @@ impl<O: Object> Node<O> {
     /// Stops the node for good, and frees the core's memory.
     ///
     /// Does not allocate.
-    fn halt(&mut self)
+    fn stop_for_good(&mut self)
         requires { is_stopped self.old.core.state ≡ false }
         ensures { self.new ≡ node_stopped self.old }
     {

@@ -74,14 +74,14 @@ abbrev pub calls_due : {A : Type 0} → List (TicketCall A) → List (OneCall A)
 calls_due pending base = map (λ (t : TicketCall _). Call t.call) (filter (λ (t : TicketCall _). not (contains_call base t)) pending)
 
 -- the places of a base past those committed before or by restoring
-abbrev pub places_past : {A : Type 0} → ℕ → Log A → List (OneCall A)
-places_past committed log = drop (max committed log.trimmed - log.trimmed) log.calls
+abbrev pub uncommitted_places : {A : Type 0} → ℕ → Log A → List (OneCall A)
+uncommitted_places committed log = drop (max committed log.trimmed - log.trimmed) log.calls
 
 -- due at the message that turns the exchange `old` into `new`, if it completes it; `epochs` are the node's after it
 abbrev pub due_when_complete : {A : Type 0} → Node A → List (Epoch A) → Exchange A → Exchange A → List (Payload A)
 due_when_complete n epochs old new =
     if is_exchange_complete new && not (is_exchange_complete old)
-    then calls_due (node_pending n) (places_past (node_known_log n).committed (retained_log (known_log_of n.group epochs)))
+    then calls_due (node_pending n) (uncommitted_places (node_known_log n).committed (retained_log (known_log_of n.group epochs)))
     else []
 
 -- The due payloads of outputs. The node is the one before the step, and the core the one after it: payloads are due only in a

@@ -15,7 +15,7 @@ pub use Rattle.ring_core_spec.specs.State.{is_stopped}
 use Rattle.ring_log.specs.EpochHistories.{complete_exchange}
 use Rattle.ring_log.specs.KnownLog.{KnownLog, known_log_of, known_log_length, retained_log}
 use Rattle.ring_log.specs.Logs.{committed_calls}
-use Rattle.ring_log.specs.Epochs.{Epoch, epochs_opening}
+use Rattle.ring_log.specs.Epochs.{Epoch, history_opening_of}
 use Rattle.ring_session.specs.Snapshots.{table_snapshot, restored_table}
 use Rattle.ring_session.specs.Table.{Table, opening as table_opening, table_next}
 use Rattle.ring_session.specs.TicketEffects.{done_after, table_effects}
@@ -36,7 +36,7 @@ pub record Node (A : Type 0) : Type 0 where
 
 -- processor `me` of the group at the opening
 abbrev pub node_opening : {A : Type 0} → Group → ℕ → Node A
-node_opening group me = record { group = group; core = opening group.count me; epochs = epochs_opening me; tickets = []; done = []; answers = [] }
+node_opening group me = record { group = group; core = opening group.count me; epochs = history_opening_of me; tickets = []; done = []; answers = [] }
 
 -- the known log of a node
 abbrev pub node_known_log : {A : Type 0} → Node A → KnownLog A

@@ -40,7 +40,7 @@ pub fn ring_of_one()
 ///
 /// Rules: The replicated log 11, 12 and 14
 /// Formats: nine calls in one visit
-pub fn nine_calls()
+pub fn example_nine_calls()
     ensures sent { shown sent_nine 1 ≡ (0, 9) ∷ [] }
     ensures answered { shown answered_nine 1 ≡ (9, 9) ∷ [] }
     ensures told { length answered_nine.told ≡ 9 }
@@ -83,7 +83,7 @@ pub fn submitted_again()
 ///
 /// Rules: The replicated log 20
 /// Formats: dropped places
-pub fn dropped_places()
+pub fn example_dropped_places()
     ensures before { shown (after_lots 3) 1 ≡ (192, 192) ∷ [] }
     ensures kept { node_trimmed ((after_lots 3).nodes 1) ≡ 0 }
     ensures after { shown (after_lots 4) 1 ≡ (256, 256) ∷ [] }
@@ -118,7 +118,7 @@ pub fn restored_snapshot()
 /// that wasn't sent, change nothing.
 ///
 /// Rules: The replicated log 13; The book and the threads 4
-pub fn refused_submits()
+pub fn example_refused_submits()
     ensures full { one_too_many.told ≡ refused_at 1 65 2 ∷ [] }
     ensures stopped { late_submit.told ≡ refused_at 1 1 8 ∷ [] }
     ensures unsubmitted { late_submit.history ≡ [] }

@@ -7,7 +7,7 @@ use refusing_alloc::RefusingHeap;
 use ring_base::{Fault, State};
 use ring_object::Object;
 use ring_session::{Answer, Ticket};
-use ring_things::{Counters, Outcome, reply_with};
+use ring_things::{Counters, Outcome, outcome_reply_with};
 use std::alloc::Global;
 use std::test::Fail;
 
@@ -74,7 +74,7 @@ fn trims<O: Object>(
     let is_right = match driven.turn() {
         Ok(()) => {
             let trimmed = (State::Operational, 1, 256, 256, 256, 256);
-            let last = Answer::Done(reply_with(Outcome::Done, 256));
+            let last = Answer::Done(outcome_reply_with(Outcome::Done, 256));
             shown(driven) == (trimmed, ((256, 256), 256, 0))
                 && driven.node.reply(Ticket::new(255)) == Some(last)
         }

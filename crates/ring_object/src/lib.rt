@@ -19,4 +19,4 @@ pub use laws::object_law;
 pub use nothing::StatelessObject;
 pub use object::Object;
 pub use short::{MAX_REPLY, Reply, ShortBytes};
-pub use sized::append_sized;
+pub use sized::append_sized_snapshot;

@@ -17,7 +17,7 @@ use ring_base::Fault;
 /// Errors: `Memory` if an allocation fails; the bytes of `out` are then unchanged.
 ///
 /// Formats: Snapshots
-pub fn append_sized<O: Object>(object: &O, out: &mut Vec<u8, O::Alloc>) -> Result<(), Fault>
+pub fn append_sized_snapshot<O: Object>(object: &O, out: &mut Vec<u8, O::Alloc>) -> Result<(), Fault>
     ensures content { OnOk result (O.is_content object.now) }
     ensures ok { OnOk result (out.new.items ≡ out.old.items ++ sized 8 (O.sequential.snapshot_of object.now)) }
     ensures err { OnErr result (out.new.items ≡ out.old.items) }

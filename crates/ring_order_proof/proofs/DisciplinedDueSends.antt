@@ -23,7 +23,7 @@ use Rattle.ring_core_spec.specs.State.{Core}
 use Rattle.ring_log.specs.declared.received_head.ReceivedHead.{ReceivedHead}
 use Rattle.ring_log.specs.declared.wanted.Wanted.{Wanted}
 use Rattle.ring_log.specs.Heads.{chosen_head, least_committed}
-use Rattle.ring_log.specs.Exchanges.{Exchange, exchange_opening, wanted_of, wanted_by, wanted}
+use Rattle.ring_log.specs.Exchanges.{Exchange, exchange_opening, wanted_from_owner, wanted_from_heads, wanted}
 use Rattle.ring_log.specs.KnownLog.{KnownLog, restores, known_log_restored, known_log_joined, adopts, adopts_wanted, kept_by, dropped_by, known_log_of, retained_log}
 use Rattle.ring_log.specs.Parts.{nth_part, parts_between}
 use Rattle.ring_log.specs.Epochs.{Epoch}
@@ -32,7 +32,7 @@ use Rattle.ring_log.proofs.WholeExchanges.{received_head, some-whole}
 use Rattle.ring_log_proof.proofs.CompleteExchanges.{complete_exchange-from}
 use Rattle.ring_session.specs.Tickets.{TicketCall}
 use Rattle.ring_node_spec.specs.Nodes.{Node, node_known_log, node_pending, snapshot_kept, runs}
-use Rattle.ring_node_spec.specs.DueSends.{has_all_heads, parts_due, snaps_due, is_snapshot_kept, places_due, owner_due, calls_due, places_past}
+use Rattle.ring_node_spec.specs.DueSends.{has_all_heads, parts_due, snaps_due, is_snapshot_kept, places_due, owner_due, calls_due, uncommitted_places}
 use Rattle.ring_node_spec.specs.DueSends.{due_when_complete, owner_due_on_heads, due_between, due_in_epoch, due_at_agreed}
 use Rattle.ring_log_proof.specs.Discipline.{FollowsHead}
 
@@ -87,23 +87,23 @@ follows_undropped places k End h = h
 
 -- A wanted snapshot stands for the places below the wanted ones
 
-of_head : (owner least : ℕ) (head : OneHead) (at : ℕ) → (wanted_of owner head least).snapshot ≡ Some at → at ≡ (wanted_of owner head least).from
+of_head : (owner least : ℕ) (head : OneHead) (at : ℕ) → (wanted_from_owner owner head least).snapshot ≡ Some at → at ≡ (wanted_from_owner owner head least).from
 of_head owner least head at =
     cond_both (nat_lt least head.trimmed) (record { owner = owner; snapshot = Some head.trimmed; from = head.trimmed; to = head.length })
     (record { owner = owner; snapshot = None; from = least; to = head.length }) (λ (w : Wanted). w.snapshot ≡ Some at → at ≡ w.from)
     (λ t e. let same : head.trimmed ≡ at = cc e in sym same) (λ f e. absurd (cc e))
 
-of_heads : (heads : List ReceivedHead) (w : Wanted) (at : ℕ) → wanted_by heads ≡ Some w → w.snapshot ≡ Some at → at ≡ w.from
+of_heads : (heads : List ReceivedHead) (w : Wanted) (at : ℕ) → wanted_from_heads heads ≡ Some w → w.snapshot ≡ Some at → at ≡ w.from
 of_heads [] w at e snap = absurd (cc e)
 of_heads (s ∷ rest) w at e snap =
     let chosen = chosen_head s rest in
     let least = least_committed s.head.committed rest in
-    let same : wanted_of chosen.sender chosen.head least ≡ w = cc e in
+    let same : wanted_from_owner chosen.sender chosen.head least ≡ w = cc e in
     subst (λ (v : Wanted). v.snapshot ≡ Some at → at ≡ v.from) same (of_head chosen.sender least chosen.head at) snap
 
 pub snapshot_from : {A : Type 0} (e : Exchange A) (w : Wanted) (at : ℕ) → wanted e ≡ Some w → w.snapshot ≡ Some at → at ≡ w.from
 snapshot_from e w at =
-    cond_both (e.missing_heads == nobody) (wanted_by e.heads) None (λ o. o ≡ Some w → w.snapshot ≡ Some at → at ≡ w.from)
+    cond_both (e.missing_heads == nobody) (wanted_from_heads e.heads) None (λ o. o ≡ Some w → w.snapshot ≡ Some at → at ≡ w.from)
     (λ t wants. of_heads e.heads w at wants) (λ f wants. absurd (cc wants))
 
 -- Parts
@@ -192,7 +192,7 @@ calls_follow own calls pending = any_each (FollowsHead own) _ _ (λ t. tt)
 whole_follows : {A : Type 0} → (own : KnownLog A) (n : Node A) (epochs : List (Epoch A)) (old new : Exchange A)
     → Each (FollowsHead own) (due_when_complete n epochs old new)
 whole_follows own n epochs old new =
-    let places = places_past (node_known_log n).committed (retained_log (known_log_of n.group epochs)) in
+    let places = uncommitted_places (node_known_log n).committed (retained_log (known_log_of n.group epochs)) in
     cond_both _ (calls_due (node_pending n) places) [] (Each (FollowsHead own)) (λ e. calls_follow own places (node_pending n)) (λ e. tt)
 
 -- the ring runs and is primary

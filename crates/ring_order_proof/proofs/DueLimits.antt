@@ -39,7 +39,7 @@ use Rattle.ring_session.specs.Tickets.{TicketCall, unanswered}
 use Rattle.ring_node_spec.specs.EpochHistories.{epochs_after}
 use Rattle.ring_node_spec.specs.Nodes.{Node, node_known_log, node_pending, snapshot_kept, runs}
 use Rattle.ring_node_spec.specs.DueSends.{due_at_regular, has_all_heads, parts_due, snaps_due, is_snapshot_kept, places_due, owner_due, due_when_heads_complete}
-use Rattle.ring_node_spec.specs.DueSends.{contains_call, calls_due, places_past, due_when_complete, owner_due_on_heads, due_between, due_in_epoch, due_at_agreed, due_by}
+use Rattle.ring_node_spec.specs.DueSends.{contains_call, calls_due, uncommitted_places, due_when_complete, owner_due_on_heads, due_between, due_in_epoch, due_at_agreed, due_by}
 use Rattle.ring_order_proof.specs.NodeFits.{HeardFits, EpochFits, EpochsFit, IsMarkedUpTo, TicketsFit}
 use Rattle.ring_order_proof.proofs.LogLimits.{ExchangeFits, stay_exchange, PlacesFit, WantedFits, wanted_fits, kept_fits, head_fits, parts_fit, pieces_fit}
 use Rattle.ring_order_proof.proofs.OutputLimits.{Tells}
@@ -256,7 +256,7 @@ module _ {O A : Type 0} (object : Sequential O) (n : Node A) (tickets : TicketsF
       Each PayloadFits (due_between object n before epochs old new)
   due_between_fit before epochs old new h x =
       let k = known_log_of n.group before in
-      let past = places_past (node_known_log n).committed (retained_log (known_log_of n.group epochs)) in
+      let past = uncommitted_places (node_known_log n).committed (retained_log (known_log_of n.group epochs)) in
       each-append PayloadFits (owner_due_on_heads object n k old new) (due_when_complete n epochs old new)
       (stated_due_fit n.core.me (snapshot_kept object k) k old new (kept_fits n.group before h).calls x)
       (cond_both (is_exchange_complete new && not (is_exchange_complete old)) (calls_due (node_pending n) past) [] (Each PayloadFits)

@@ -13,7 +13,7 @@ use Rattle.ring_core_spec.specs.declared.input.Input.TheVariants.{Frame as CoreF
 use Rattle.ring_core_spec.specs.declared.out.Out.{Out}
 use Rattle.ring_log.specs.KnownLog.{KnownLog, known_log_of, retained_log, is_known_log_sound}
 use Rattle.ring_log.specs.Logs.{committed_calls}
-use Rattle.ring_log.specs.Epochs.{Epoch, epochs_opening}
+use Rattle.ring_log.specs.Epochs.{Epoch, history_opening_of}
 use Rattle.ring_node_spec.specs.EpochHistories.{epochs_after}
 use Rattle.ring_node_spec.specs.Nodes.{Node, node_known_log, node_stopped, is_closed, is_restored}
 use Rattle.ring_node_spec.specs.DueSends.{due_by}
@@ -132,6 +132,6 @@ module _ {O A : Type 0} (object : Sequential O) where
 pub opening-knows : {A : Type 0} (group : Group) → WorldKnows {A = A} group (world_opening group)
 opening-knows {A} group = record { here = refl; groups = λ i. refl; knows = λ i. record { tickets = tt; sent = λ s older h. silent i s older h } }
   where
-    silent : (i : ℕ) (s : Epoch A) (older : List (Epoch A)) → HasEpoch (epochs_opening i) s older → Each (IsKnownCall (IssuedIn {A = A} [])) s.sent
+    silent : (i : ℕ) (s : Epoch A) (older : List (Epoch A)) → HasEpoch (history_opening_of i) s older → Each (IsKnownCall (IssuedIn {A = A} [])) s.sent
     silent i s older (inl e) = subst (λ (t : Epoch A). Each (IsKnownCall (IssuedIn {A = A} [])) t.sent) e.0 tt
     silent i s older (inr e) = absurd e

@@ -25,7 +25,7 @@ use Rattle.ring_payload.specs.declared.content.Payload.TheVariants.{Call, Wrappe
 use Rattle.ring_wire.specs.declared.message.Message.{Message}
 use Rattle.ring_log.specs.declared.received_head.ReceivedHead.{ReceivedHead}
 use Rattle.ring_log.specs.declared.wanted.Wanted.{Wanted}
-use Rattle.ring_log.specs.Exchanges.{Exchange, exchange_opening, wanted_of, wanted_by, wanted, is_next_piece, is_wanted, heard}
+use Rattle.ring_log.specs.Exchanges.{Exchange, exchange_opening, wanted_from_owner, wanted_from_heads, wanted, is_next_piece, is_wanted, heard}
 use Rattle.ring_log.specs.Heads.{chosen_head, least_committed}
 use Rattle.ring_log.specs.KnownLog.{KnownLog, IsKnownLog, known_log_length, restores, known_log_restored, first_joined, known_log_joined, known_log_adopted, adopts_wanted, adopts}
 use Rattle.ring_log.specs.KnownLog.{followed_by, kept_by, dropped_by, known_log_of, known_log_head, keeps_kept, is_known_log_sound}
@@ -89,21 +89,21 @@ abbrev pub WantedFits : Option Wanted → Type 0
 WantedFits None = Unit {0}
 WantedFits (Some w) = (w.to ≤ max_number) × PlacesFit w.snapshot
 
-wanted_of_fits : (owner least : ℕ) (h : OneHead) → HeadFits h → WantedFits (Some (wanted_of owner h least))
+wanted_of_fits : (owner least : ℕ) (h : OneHead) → HeadFits h → WantedFits (Some (wanted_from_owner owner h least))
 wanted_of_fits owner least h f =
     cond_both (nat_lt least h.trimmed) (record { owner = owner; snapshot = Some h.trimmed; from = h.trimmed; to = h.length })
     (record { owner = owner; snapshot = None; from = least; to = h.length }) (λ (w : Wanted). WantedFits (Some w))
     (λ t. (f.length, (let some = ltb-true least h.trimmed t in omega (arith, some), omega (arith, f.trimmed, f.committed, f.length))))
     (λ t. (f.length, tt))
 
-wanted_by_fits : (heads : List ReceivedHead) → Each (λ (s : ReceivedHead). HeadFits s.head) heads → WantedFits (wanted_by heads)
+wanted_by_fits : (heads : List ReceivedHead) → Each (λ (s : ReceivedHead). HeadFits s.head) heads → WantedFits (wanted_from_heads heads)
 wanted_by_fits [] h = tt
 wanted_by_fits (s ∷ rest) h =
     let chosen = chosen_head s rest in
     wanted_of_fits chosen.sender (least_committed s.head.committed rest) chosen.head (chosen-is (λ (s : ReceivedHead). HeadFits s.head) s rest h.0 h.1)
 
 pub wanted_fits : {A : Type 0} → (e : Exchange A) → ExchangeFits e → WantedFits (wanted e)
-wanted_fits e f = cond_both (e.missing_heads == nobody) (wanted_by e.heads) None WantedFits (λ t. wanted_by_fits e.heads f.heads) (λ t. tt)
+wanted_fits e f = cond_both (e.missing_heads == nobody) (wanted_from_heads e.heads) None WantedFits (λ t. wanted_by_fits e.heads f.heads) (λ t. tt)
 
 -- Calls
 

@@ -22,7 +22,7 @@ use Rattle.ring_core_spec.specs.State.{Core, Transmission, StepResult, frame_at}
 use Rattle.ring_core_spec.specs.Stepping.{ring_step}
 use Rattle.ring_core_spec.specs.declared.input.Input.TheVariants.{Frame as CoreFrame, Timeout as CoreTimeout}
 use Rattle.ring_core_spec.specs.declared.out.Out.{Out}
-use Rattle.ring_log.specs.Epochs.{Epoch, epochs_opening, epochs_with_sends, epochs_with_trim, above}
+use Rattle.ring_log.specs.Epochs.{Epoch, history_opening_of, epochs_with_sends, epochs_with_trim, above}
 use Rattle.ring_log.specs.EpochHistories.{CompleteExchange, complete_exchange, log_of, committed_of, filled, fronts_below}
 use Rattle.ring_log.specs.KnownLog.{KnownLog, kept_by, known_log_opening, known_log_of, retained_log, is_known_log_sound}
 use Rattle.ring_log.specs.Logs.{committed_calls}
@@ -195,8 +195,8 @@ longest-same {A} before after count longest same is = record {
 
 -- ---- the known log of a node
 
-pub epochs_opening-known : (A : Type 0) (group : Group) (me : ℕ) → (known_log_of group (epochs_opening {A = A} me)).committed ≡ 0
-epochs_opening-known A group me =
+pub history_opening_of-known : (A : Type 0) (group : Group) (me : ℕ) → (known_log_of group (history_opening_of {A = A} me)).committed ≡ 0
+history_opening_of-known A group me =
     let none : complete_exchange {A = A} group (only me) [] ≡ None = cond_both (is_primary group (only me)) None None (λ (o : Option (CompleteExchange A)). o ≡ None) (λ t. refl)
     (λ f. refl) in
     ap (λ (o : Option (CompleteExchange A)). (kept_by (record { seq = 0; rep = me }) known_log_opening o o).committed) none
@@ -577,7 +577,7 @@ module _ {O A : Type 0} (object : Sequential O) (group : Group) (few : group.cou
       let is : IsWorld group (world_opening {A = A} group) = world-is [] in record {
         fronts = λ i low high.
             let size = size-is group (world_opening {A = A} group) is i low high in
-            let none = epochs_opening-known A group i in
+            let none = history_opening_of-known A group i in
             ([], append-nil (committed_by group (world_opening {A = A} group) i) ∙ empty (committed_by group (world_opening {A = A} group) i) (omega (arith, size, none)));
         some = inl refl;
       }

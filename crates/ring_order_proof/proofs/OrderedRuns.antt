@@ -11,7 +11,7 @@ use Rattle.ring_base.specs.Processors.{only}
 use Rattle.ring_base.proofs.Each.{each-append}
 use Rattle.ring_object.specs.Operations.{Sequential}
 use Rattle.ring_payload.specs.declared.call.Call.{Call}
-use Rattle.ring_log.specs.Epochs.{Epoch, epochs_opening, above}
+use Rattle.ring_log.specs.Epochs.{Epoch, history_opening_of, above}
 use Rattle.ring_log.specs.EpochHistories.{CompleteExchange, complete_exchange, committed_by, restored_by, committed_of, log_of, filled, fronts_below}
 use Rattle.ring_session.specs.Deduplicated.{deduplicated}
 use Rattle.ring_node_spec.specs.declared.event.Event.{Event}
@@ -134,7 +134,7 @@ opening-none {A} group i =
     let fronts = fronts_below group (epochs_in w) (above (epochs_in w i)) in
     let none : complete_exchange group (only i) [] ≡ None = cond_both (is_primary group (only i)) None None (λ (o : Option (CompleteExchange A)). o ≡ None) (λ t. refl)
     (λ f. refl) in
-    cond_both (is_node w i) (epochs_opening i) [] (λ (l : List (Epoch A)). committed_of group (filled fronts i l) ≡ [])
+    cond_both (is_node w i) (history_opening_of i) [] (λ (l : List (Epoch A)). committed_of group (filled fronts i l) ≡ [])
     (λ t. ap (λ (o : Option (CompleteExchange A)). committed_by [] (fronts i 0) (restored_by (fronts i 0) [] o) o) none) (λ f. refl)
 
 pub opening-order : {A : Type 0} (group : Group) → order {A = A} (world_opening group) ≡ []

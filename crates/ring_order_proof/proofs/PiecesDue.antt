@@ -40,7 +40,7 @@ use Rattle.ring_log.specs.Logs.{Log}
 use Rattle.ring_log.specs.KnownLog.{KnownLog, kept_by, dropped_by, known_log_of, retained_log, known_log_head}
 use Rattle.ring_log_proof.proofs.CompleteExchanges.{complete_exchange-front}
 use Rattle.ring_session.specs.Tickets.{TicketCall}
-use Rattle.ring_node_spec.specs.DueSends.{has_all_heads, parts_due, snaps_due, is_snapshot_kept, places_due, owner_due, calls_due, places_past, due_when_complete}
+use Rattle.ring_node_spec.specs.DueSends.{has_all_heads, parts_due, snaps_due, is_snapshot_kept, places_due, owner_due, calls_due, uncommitted_places, due_when_complete}
 use Rattle.ring_node_spec.specs.DueSends.{contains_call, owner_due_on_heads, due_at_regular, due_between, due_in_epoch, due_at, due_by}
 use Rattle.ring_node_spec.specs.EpochHistories.{epochs_after_event, epochs_after}
 use Rattle.ring_node_spec.proofs.EpochsAfterOutputs.{through-append}
@@ -162,9 +162,9 @@ module _ {O A : Type 0} (object : Sequential O) (n : Node A) (core : Core A) whe
   whole-pieces : (older epochs : List (Epoch A)) (old new : Exchange A) → Each (P older) (due_when_complete n epochs old new)
   whole-pieces older epochs old new =
       cond_both (is_exchange_complete new && not (is_exchange_complete old))
-      (calls_due (node_pending n) (places_past (node_known_log n).committed (retained_log (known_log_of n.group epochs)))) [] (Each (P older))
+      (calls_due (node_pending n) (uncommitted_places (node_known_log n).committed (retained_log (known_log_of n.group epochs)))) [] (Each (P older))
       (λ t. calls-pieces (snapshot_kept object (known_log_of n.group older)) (node_pending n)
-      (places_past (node_known_log n).committed (retained_log (known_log_of n.group epochs)))) (λ f. tt)
+      (uncommitted_places (node_known_log n).committed (retained_log (known_log_of n.group epochs)))) (λ f. tt)
 
   received_head-pieces : (s : Epoch A) (older : List (Epoch A)) (new : Exchange A) → is_primary n.group s.members ≡ true → IsFrozen n.group (s ∷ older)
       → Each (P older) (owner_due_on_heads object n (known_log_of n.group (s ∷ older)) (after_all (exchange_opening s.members) s.heard) new)

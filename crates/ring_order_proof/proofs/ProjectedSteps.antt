@@ -17,7 +17,7 @@ use Rattle.ring_core_spec.specs.declared.out.Out.TheVariants.{Send as SendOut, A
 use Rattle.ring_core_spec.specs.State.{Core, StepResult, halted}
 use Rattle.ring_core_spec.specs.Giving.{may_install}
 use Rattle.ring_core_spec.specs.Stepping.{ring_step}
-use Rattle.ring_log.specs.Epochs.{Epoch, epochs_opening, epochs_with_sends, epochs_with_trim}
+use Rattle.ring_log.specs.Epochs.{Epoch, history_opening_of, epochs_with_sends, epochs_with_trim}
 use Rattle.ring_node_spec.specs.declared.input.Input.{Input as NodeInput}
 use Rattle.ring_node_spec.specs.EpochHistories.{epochs_after_event, epochs_after}
 use Rattle.ring_node_spec.specs.Nodes.{Node, node_known_log, node_stopped, is_closed, is_restored}
@@ -99,33 +99,33 @@ other_given {A} i j h (o ∷ outs) =
 -- The lives of all nodes consist of their cores' outputs
 
 abbrev pub AreLives : {A : Type 0} → (ℕ → Node A) → List (ℕ × Out A) → Type 0
-AreLives nodes outs = (i : ℕ) → epochs_as_received (nodes i).epochs ≡ epochs_after (epochs_opening i) (filter_map (output_if_by i) outs)
+AreLives nodes outs = (i : ℕ) → epochs_as_received (nodes i).epochs ≡ epochs_after (history_opening_of i) (filter_map (output_if_by i) outs)
 
 -- one node has another life, extended by its core's further outputs
 lives_put : {A : Type 0} → (nodes : ℕ → Node A) (outs : List (ℕ × Out A)) (i : ℕ) (n : Node A) (more : List (Out A)) →
     epochs_as_received n.epochs ≡ epochs_as_received (epochs_after (nodes i).epochs more) → AreLives nodes outs → AreLives (put_node nodes i n) (outs ++ by i more)
 lives_put {A} nodes outs i n more h node_epochs j = elim (eqb_tells j i) [
-  | inl same ↦ subst (λ k. epochs_as_received (put_node nodes i n k).epochs ≡ epochs_after (epochs_opening k) (filter_map (output_if_by k) (outs ++ by i more))) (sym same.1) here
+  | inl same ↦ subst (λ k. epochs_as_received (put_node nodes i n k).epochs ≡ epochs_after (history_opening_of k) (filter_map (output_if_by k) (outs ++ by i more))) (sym same.1) here
   | inr other ↦ there other.0 (away other.1)
 ]
   where
-    here : epochs_as_received (put_node nodes i n i).epochs ≡ epochs_after (epochs_opening i) (filter_map (output_if_by i) (outs ++ by i more))
+    here : epochs_as_received (put_node nodes i n i).epochs ≡ epochs_after (history_opening_of i) (filter_map (output_if_by i) (outs ++ by i more))
     here =
         ap (λ b. epochs_as_received (cond b n (nodes i)).epochs) (eq-eqb i i refl)
         ∙ h
         ∙ through_unsent (nodes i).epochs more
         ∙ ap (λ l. epochs_after l more) (node_epochs i)
-        ∙ sym (through-append (epochs_opening i) (filter_map (output_if_by i) outs) more)
-        ∙ ap (λ xs. epochs_after (epochs_opening i) (filter_map (output_if_by i) outs ++ xs)) (sym (own_given i more))
-        ∙ ap (epochs_after (epochs_opening i)) (sym (filter_map-append (output_if_by i) outs (by i more)))
+        ∙ sym (through-append (history_opening_of i) (filter_map (output_if_by i) outs) more)
+        ∙ ap (λ xs. epochs_after (history_opening_of i) (filter_map (output_if_by i) outs ++ xs)) (sym (own_given i more))
+        ∙ ap (epochs_after (history_opening_of i)) (sym (filter_map-append (output_if_by i) outs (by i more)))
 
-    there : (j == i) ≡ false → (i == j) ≡ false → epochs_as_received (put_node nodes i n j).epochs ≡ epochs_after (epochs_opening j) (filter_map (output_if_by j) (outs ++ by i more))
+    there : (j == i) ≡ false → (i == j) ≡ false → epochs_as_received (put_node nodes i n j).epochs ≡ epochs_after (history_opening_of j) (filter_map (output_if_by j) (outs ++ by i more))
     there e f =
         ap (λ b. epochs_as_received (cond b n (nodes j)).epochs) e
         ∙ node_epochs j
-        ∙ ap (epochs_after (epochs_opening j)) (sym (append-nil (filter_map (output_if_by j) outs)))
-        ∙ ap (λ xs. epochs_after (epochs_opening j) (filter_map (output_if_by j) outs ++ xs)) (sym (other_given i j f more))
-        ∙ ap (epochs_after (epochs_opening j)) (sym (filter_map-append (output_if_by j) outs (by i more)))
+        ∙ ap (epochs_after (history_opening_of j)) (sym (append-nil (filter_map (output_if_by j) outs)))
+        ∙ ap (λ xs. epochs_after (history_opening_of j) (filter_map (output_if_by j) outs ++ xs)) (sym (other_given i j f more))
+        ∙ ap (epochs_after (history_opening_of j)) (sym (filter_map-append (output_if_by j) outs (by i more)))
 
     away : j ≢ i → (i == j) ≡ false
     away d = elim (eqb_tells i j) [

@@ -27,7 +27,7 @@ use Rattle.ring_log.specs.EpochHistories.{after_all}
 use Rattle.ring_session.specs.Tickets.{TicketCall, unanswered}
 use Rattle.ring_node_spec.specs.EpochHistories.{epochs_after_event, epochs_after}
 use Rattle.ring_node_spec.specs.Nodes.{Node, node_known_log, node_pending, node_stopped, snapshot_kept, is_closed, is_restored, runs, runs_adopted}
-use Rattle.ring_node_spec.specs.DueSends.{has_all_heads, places_past, parts_due, snaps_due, is_snapshot_kept, places_due, owner_due, due_when_heads_complete, calls_due}
+use Rattle.ring_node_spec.specs.DueSends.{has_all_heads, uncommitted_places, parts_due, snaps_due, is_snapshot_kept, places_due, owner_due, due_when_heads_complete, calls_due}
 use Rattle.ring_node_spec.specs.DueSends.{due_when_complete, due_between, due_in_epoch, due_at_agreed, due_at, due_by}
 use Rattle.ring_node_spec.specs.declared.input.Input.{Input}
 use Rattle.ring_node_spec.specs.declared.input.Input.TheVariants.{Frame, Noise, Timeout, Stop}
@@ -98,7 +98,7 @@ module _ {A : Type 0} (Known : OneCall A → Type 0) where
     between-known n before epochs old new h =
         let k = known_log_of n.group before in
         let bytes = snapshot_kept object k in
-        let past = places_past (node_known_log n).committed (retained_log (known_log_of n.group epochs)) in
+        let past = uncommitted_places (node_known_log n).committed (retained_log (known_log_of n.group epochs)) in
         each-append (IsKnownCall Known) (due_when_heads_complete n.core.me bytes (retained_log k) old new) (due_when_complete n epochs old new)
         (none-known (has_all_heads new && not (has_all_heads old)) (owner_due n.core.me bytes (retained_log k) (wanted new))
         (owner-known n.core.me bytes (retained_log k) (wanted new)))

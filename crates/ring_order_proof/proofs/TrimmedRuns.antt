@@ -17,7 +17,7 @@ use Rattle.ring_core_spec.specs.Stepping.{ring_step}
 use Rattle.ring_log.specs.KnownLog.{KnownLog, known_log_opening, kept_by, dropped_by, known_log_of, known_log_length, retained_log, is_known_log_sound}
 use Rattle.ring_log.specs.EpochHistories.{CompleteExchange, complete_exchange}
 use Rattle.ring_log.specs.Logs.{committed_calls, trim_after, is_due_to_trim}
-use Rattle.ring_log.specs.Epochs.{Epoch, epochs_opening, epochs_with_sends, epochs_with_trim}
+use Rattle.ring_log.specs.Epochs.{Epoch, history_opening_of, epochs_with_sends, epochs_with_trim}
 use Rattle.ring_log.proofs.CommittedOf.{epochs_with_sends-kept}
 use Rattle.ring_log_proof.proofs.KnownLogSuffixes.{kept-short}
 use Rattle.ring_node_spec.specs.DueSends.{due_by}
@@ -51,8 +51,8 @@ epochs_with_trim-unripe group places (s ∷ older) is =
     let none : now.committed - now.trimmed ≡ 0 = omega (arith, is) in
     ap (nat_le trim_after) none
 
-pub epochs_opening-kept : (A : Type 0) (group : Group) (me : ℕ) → known_log_of group (epochs_opening {A = A} me) ≡ dropped_by 0 known_log_opening
-epochs_opening-kept A group me =
+pub history_opening_of-kept : (A : Type 0) (group : Group) (me : ℕ) → known_log_of group (history_opening_of {A = A} me) ≡ dropped_by 0 known_log_opening
+history_opening_of-kept A group me =
     let none : complete_exchange {A = A} group (only me) [] ≡ None = cond_both (is_primary group (only me)) None None (λ (o : Option (CompleteExchange A)). o ≡ None) (λ t. refl)
     (λ f. refl) in
     ap (λ (o : Option (CompleteExchange A)). dropped_by 0 (kept_by (record { seq = 0; rep = me }) known_log_opening o o)) none
@@ -114,7 +114,7 @@ module _ {O A : Type 0} (object : Sequential O) where
   opening-none : (group : Group) (me : ℕ) → IsUndropping (node_opening {A = A} group me)
   opening-none group me =
       let n : Node A = node_opening group me in
-      let same = epochs_opening-kept A group me in
+      let same = history_opening_of-kept A group me in
       record {
         none = drops-unripe (is_closed n.group n.epochs) (node_known_log n) (ap (λ (k : KnownLog A). is_due_to_trim (retained_log k)) same);
         short = (let own = ap (λ (k : KnownLog A). known_log_length k) same in omega (arith, own));

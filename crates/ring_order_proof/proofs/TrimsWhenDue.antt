@@ -61,7 +61,7 @@ use Rattle.ring_order_proof.proofs.RestoredTables.{ComesBack}
 use Rattle.ring_order_proof.proofs.RunFacts.{node_is}
 use Rattle.ring_order_proof.proofs.SentPieces.{all_hand_own}
 use Rattle.ring_order_proof.proofs.TrimmedRuns.{epochs_with_sends-closed, epochs_with_trim-unripe}
-use Rattle.ring_order_proof.proofs.TrimmedRuns.{epochs_opening-kept, drops-unripe}
+use Rattle.ring_order_proof.proofs.TrimmedRuns.{history_opening_of-kept, drops-unripe}
 
 -- Two known logs with as many committed and dropped places
 
@@ -279,7 +279,7 @@ module _ {O A : Type 0} (object : Sequential O) (back : ComesBack object A) (gro
   opening-none : HaveNoneDue (world_opening group)
   opening-none i low high =
       drops-unripe object true (node_known_log ((world_opening {A = A} group).nodes i))
-      (ap (λ (k : KnownLog A). is_due_to_trim (retained_log k)) (epochs_opening-kept A group i))
+      (ap (λ (k : KnownLog A). is_due_to_trim (retained_log k)) (history_opening_of-kept A group i))
 
   pub none-due : (events : List (Event A)) → Each EventKeeps events → HaveNoneDue (at events)
   none-due events limits = run-none [] events tt limits opening-none

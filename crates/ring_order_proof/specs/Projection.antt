@@ -13,7 +13,7 @@ use Rattle.ring_core_spec.specs.declared.input.Input.TheVariants.{Frame as Frame
 use Rattle.ring_core_spec.specs.declared.out.Out.{Out}
 use Rattle.ring_core_spec.specs.State.{Transmission, StepResult, frame_at}
 use Rattle.ring_core_spec.specs.Stepping.{ring_step}
-use Rattle.ring_log.specs.Epochs.{Epoch, epochs_opening}
+use Rattle.ring_log.specs.Epochs.{Epoch, history_opening_of}
 use Rattle.ring_node_spec.specs.DueSends.{due_by}
 use Rattle.ring_node_spec.specs.EpochHistories.{epochs_after}
 use Rattle.ring_node_spec.specs.Nodes.{Node, is_restored}
@@ -45,7 +45,7 @@ pub record IsRingRun {A : Type 0} (group : Group) (w : World A) : Type 0 where
   pub events : List (RingEvent A)
   pub outs : List (ℕ × Out A)
   pub part : run (unformed group.count) events ≡ ring_part w outs
-  pub node_epochs : (i : ℕ) → epochs_as_received (w.nodes i).epochs ≡ epochs_after (epochs_opening i) (outs_of (ring_part w outs) i)
+  pub node_epochs : (i : ℕ) → epochs_as_received (w.nodes i).epochs ≡ epochs_after (history_opening_of i) (outs_of (ring_part w outs) i)
 
 -- The events of cores in an event of nodes
 

@@ -35,7 +35,7 @@ use ring_object::Object;
 /// This also holds when a core has run its step and nothing has been handed over yet.
 ///
 /// Rules: The replicated log 2, 10 and 20
-pub fn discipline_law<O: Object>()
+pub fn hand_over_law<O: Object>()
     ensures discipline { (group : Group) (events : List (Event O.Alloc)) → KeepsDiscipline group (epochs_in (run O.sequential (world_opening group) events)) }
     ensures drops { (group : Group) (events : List (Event O.Alloc)) → DropsCommitted group (epochs_in (run O.sequential (world_opening group) events)) }
     ensures goes_on { (group : Group) (before later : List (Event O.Alloc)) (i : ℕ) →
@@ -58,7 +58,7 @@ pub fn discipline_law<O: Object>()
 /// step ends with an exchange open, so the test for an open exchange never decides.
 ///
 /// Rules: The replicated log 20
-pub fn trim_law<O: Object>()
+pub fn prompt_trim_law<O: Object>()
     ensures after { (group : Group) (events : List (Event O.Alloc)) (node : ℕ) → group.count ≤ 16 →
         AllByRecursion EventKeeps events → 1 ≤ node → node ≤ group.count →
         let w = run O.sequential (world_opening group) events in

@@ -23,7 +23,7 @@ use ring_object::Object;
 /// beginning, whatever snapshot it restored.
 ///
 /// Rules: The replicated log 1, 18 and 20; Sessions 6
-pub fn effects_law<O: Object>()
+pub fn committed_effects_law<O: Object>()
     ensures places { (group : Group) (events : List (Event O.Alloc)) (node : ℕ) → group.count ≤ 16 → 1 ≤ node → node ≤ group.count →
         let w = run O.sequential (world_opening group) events in
         CountsPlaces (w.nodes node) }

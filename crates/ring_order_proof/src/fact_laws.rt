@@ -27,7 +27,7 @@ use ring_object::Object;
 ///   member's front has reached.
 ///
 /// Rules: Outputs 3, 8, 9 and 11; Rings and states 2 and 7; Token and window 13
-pub fn facts_law<O: Object>()
+pub fn order_premises_law<O: Object>()
     ensures runs { (group : Group) (events : List (Event O.Alloc)) → group.count ≤ 16 → HasFacts (run O.sequential (world_opening group) events) }
     ensures steps { (group : Group) (events : List (Event O.Alloc)) (node : ℕ) (input : Input O.Alloc) → group.count ≤ 16 → 1 ≤ node → node ≤ group.count →
         let w = run O.sequential (world_opening group) events in

@@ -42,14 +42,14 @@ pub fn node_fits_law<O: Object>()
 /// bytes.
 ///
 /// Rules: Limits 1; Sessions 12
-pub fn call_keeps_law<A: Allocator + Copy>(call: &OneCall<A>)
+pub fn call_fits_snapshot_law<A: Allocator + Copy>(call: &OneCall<A>)
     ensures { CallFits call.now → KeepsLimits call.now }
 {
     // A law without effect at run time. The proof uses it to show that the operation's bytes are below 256.
-    bytes_law(call.op.as_slice());
+    operation_bytes_law(call.op.as_slice());
 }
 
 /// States that bytes in code are numbers below 256.
-fn bytes_law(bytes: &[u8])
+fn operation_bytes_law(bytes: &[u8])
     ensures { AreBytes bytes.now }
 {}

@@ -44,7 +44,7 @@ pub fn step_counts_law<O: Object>()
 /// States that a node of a run has at most 64 unanswered tickets, so that no step gives more than 64 answers.
 ///
 /// Rules: The replicated log 13 and 14
-pub fn pending_law<O: Object>()
+pub fn pending_tickets_law<O: Object>()
     ensures pending { (group : Group) (events : List (Event O.Alloc)) (node : ℕ) →
         let w = run O.sequential (world_opening group) events in
         length (node_pending (w.nodes node)) ≤ 64 }
@@ -60,7 +60,7 @@ pub fn pending_law<O: Object>()
 /// limits of a call.
 ///
 /// Rules: The replicated log 14; Sessions 8
-pub fn done_law<O: Object>()
+pub fn done_calls_law<O: Object>()
     ensures { (group : Group) (events : List (Event O.Alloc)) (node : ℕ) → group.count ≤ 16 → AllByRecursion EventKeeps events → 1 ≤ node →
         node ≤ group.count →
         let w = run O.sequential (world_opening group) events in
@@ -111,7 +111,7 @@ pub fn frames_law<O: Object>()
 /// This holds for every run of at most 16 nodes whose issued calls are within the limits of a call.
 ///
 /// Rules: Limits 1; The replicated log 13 and 14
-pub fn growth_law<O: Object>()
+pub fn event_growth_law<O: Object>()
     ensures frames { (group : Group) (events : List (Event O.Alloc)) (e : Event O.Alloc) → group.count ≤ 16 → AllByRecursion EventFits events →
         let w = run O.sequential (world_opening group) events in
         length (happens O.sequential w e).frames ≤ length w.frames + 64 }

@@ -22,7 +22,7 @@ use std::alloc::{Allocator, Global};
 /// one, are those of its own visits, in the same order.
 ///
 /// Rules: Outputs 8; Token and window 9
-pub fn texts_law<A: Allocator + Copy>()
+pub fn ring_texts_law<A: Allocator + Copy>()
     ensures { (n : ℕ) (events : List (RingEvent A)) → HasTexts (run (unformed n) events) }
 {}
 
@@ -36,13 +36,13 @@ pub fn send_order_law<O: Object>()
     ensures { (group : Group) (events : List (Event O.Alloc)) (i : ℕ) → SendsInOrder ((run_nodes O.sequential (world_opening group) events).nodes i) }
 {}
 
-/// States `texts_law` for the global allocator.
+/// States `ring_texts_law` for the global allocator.
 ///
 /// Nothing calls this function. It shows that an allocator meets the bounds for which the law is proved.
 ///
 /// Rules: Outputs 8
-pub fn texts_at_global()
+pub fn ring_texts_law_for_global()
     ensures { (n : ℕ) (events : List (RingEvent Heap)) → HasTexts (run (unformed n) events) }
 {
-    texts_law::<Global>();
+    ring_texts_law::<Global>();
 }

@@ -57,8 +57,8 @@ true-is_count : (n : ℕ) → IsCount n → is_count n ≡ true
 true-is_count n h = grind (arith, nat_tests)
 
 -- whether a pack of these calls is within the limit of bytes, as a test
-abbrev pub fits_pack_limit : {A : Type 0} → List (Call A) → Bool
-fits_pack_limit cs = nat_le (pack_bytes cs) max_pack_bytes
+abbrev pub is_within_pack_bytes : {A : Type 0} → List (Call A) → Bool
+is_within_pack_bytes cs = nat_le (pack_bytes cs) max_pack_bytes
 
 -- the format of a count and that many calls
 abbrev calls : {A : Type 0} → Format (ℕ × List (Call A))
@@ -66,7 +66,7 @@ calls = followed (such is_count byte) (λ n. times n call)
 
 -- the fields of a pack: its count and its calls, within the limit of bytes
 abbrev pack_fields : {A : Type 0} → Format (ℕ × List (Call A))
-pack_fields = such (λ p. fits_pack_limit p.1) calls
+pack_fields = such (λ p. is_within_pack_bytes p.1) calls
 
 -- the pack with these fields
 abbrev from_fields : {A : Type 0} → ℕ × List (Call A) → Pack A

@@ -5,11 +5,11 @@
 
 ghost use Rattle.std.specs.Prelude.{◌≡◌, ℕ, ◌+◌, ◌^◌, ◌<◌, ◌≤◌, List, [], ◌∷◌, ◌++◌, length};
 ghost use Rattle.ring_codec.specs.Reading.{Appends, IsReadResult};
-ghost use Rattle.ring_payload.specs.Packs.{fits_pack_limit as is_short_pack};
+ghost use Rattle.ring_payload.specs.Packs.{is_within_pack_bytes as is_short_pack};
 
 use crate::call::Call;
 use bytes::BytesMut;
-use ring_codec::{Decode, Encode, Fault, MAX, Reader, read_many, size_many, write_many};
+use ring_codec::{Decode, Encode, Fault, MAX, Reader, decode_list, list_encoded_len, encode_list};
 use std::alloc::{AllocError, Allocator, Global};
 use std::marker::Model;
 
@@ -102,14 +102,14 @@ impl<A: Allocator + Copy> Encode for Part<A> {
     ghost format = { part_format };
 
     fn size(&self) -> usize {
-        9 + size_many(self.calls.as_slice())
+        9 + list_encoded_len(self.calls.as_slice())
     }
 
     fn write<B: Allocator + Copy>(&self, out: &mut BytesMut<B>) {
         let calls = self.calls.as_slice();
         self.first.write(out);
         (calls.len() as u8).write(out);
-        write_many(calls, out);
+        encode_list(calls, out);
     }
 }
 
@@ -124,7 +124,7 @@ impl<A: Allocator + Copy> Decode<A> for Part<A> {
         if count < 1 || count > MAX_PART_CALLS {
             return Err(Fault::BadFrame);
         }
-        let calls = read_many(alloc, count as usize, from)?;
+        let calls = decode_list(alloc, count as usize, from)?;
         Ok(Part {
             first,
             calls: Calls::from_vec(calls),
@@ -155,7 +155,7 @@ pub const MAX_PACK_CALLS: u8 = 16;
 pub const MAX_PACK_BYTES: usize = 7276;
 
 /// Returns whether a pack of `calls` is at most `MAX_PACK_BYTES` long.
-fn fits_pack_limit<A: Allocator + Copy>(calls: &[Call<A>]) -> bool
+fn is_within_pack_bytes<A: Allocator + Copy>(calls: &[Call<A>]) -> bool
     ensures { result ≡ is_short_pack calls.now }
 {
     let mut left = MAX_PACK_BYTES - 2;
@@ -183,13 +183,13 @@ impl<A: Allocator + Copy> Encode for Pack<A> {
     ghost format = { pack_format };
 
     fn size(&self) -> usize {
-        1 + size_many(self.calls.as_slice())
+        1 + list_encoded_len(self.calls.as_slice())
     }
 
     fn write<B: Allocator + Copy>(&self, out: &mut BytesMut<B>) {
         let calls = self.calls.as_slice();
         (calls.len() as u8).write(out);
-        write_many(calls, out);
+        encode_list(calls, out);
     }
 }
 
@@ -200,8 +200,8 @@ impl<A: Allocator + Copy> Decode<A> for Pack<A> {
         if count < 2 || count > MAX_PACK_CALLS {
             return Err(Fault::BadFrame);
         }
-        let calls = read_many(alloc, count as usize, from)?;
-        if !fits_pack_limit(calls.as_slice()) {
+        let calls = decode_list(alloc, count as usize, from)?;
+        if !is_within_pack_bytes(calls.as_slice()) {
             return Err(Fault::BadFrame);
         }
         Ok(Pack {

@@ -126,7 +126,7 @@ impl<A: Allocator + Copy> Decode<A> for Content<A> {
             tags::HEAD => Ok(Content::Head(Head::read_whole(alloc, from)?)),
             tags::PART => Ok(Content::Part(Decode::read(alloc, from)?)),
             tags::PACK => Ok(Content::Pack(Decode::read(alloc, from)?)),
-            tags::TRIMMED_HEAD => Ok(Content::Head(Head::read_trimmed(alloc, from)?)),
+            tags::TRIMMED_HEAD => Ok(Content::Head(Head::decode_trimmed_head(alloc, from)?)),
             tags::SNAP => Ok(Content::Snap(Decode::read(alloc, from)?)),
             _ => Err(Fault::BadFrame),
         }
@@ -288,7 +288,7 @@ impl<A: Allocator + Copy> Decode<A> for Payload<A> {
             tags::HEAD => Head::read_whole(alloc, from).map(|head| Payload::Head(head)),
             tags::PART => Decode::read(alloc, from).map(|part| Payload::Part(part)),
             tags::PACK => Decode::read(alloc, from).map(|pack| Payload::Pack(pack)),
-            tags::TRIMMED_HEAD => Head::read_trimmed(alloc, from).map(|head| Payload::Head(head)),
+            tags::TRIMMED_HEAD => Head::decode_trimmed_head(alloc, from).map(|head| Payload::Head(head)),
             tags::SNAP => Decode::read(alloc, from).map(|snap| Payload::Snap(snap)),
             _ => Err(Fault::BadFrame),
         }

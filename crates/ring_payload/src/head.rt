@@ -99,7 +99,7 @@ impl Head {
     ///
     /// Formats: Payloads
     #[tactic(auto, unfolding(crate::specs::Heads::trimmed_at))]
-    pub(crate) fn read_trimmed<A: Allocator + Copy>(
+    pub(crate) fn decode_trimmed_head<A: Allocator + Copy>(
         alloc: A,
         from: &mut Reader<'_>,
     ) -> Result<Head, Fault>
@@ -155,7 +155,7 @@ impl<A: Allocator + Copy> Decode<A> for Head {
         let tag: u8 = Decode::read(alloc, from)?;
         match tag {
             tags::HEAD => Head::read_whole(alloc, from),
-            tags::TRIMMED_HEAD => Head::read_trimmed(alloc, from),
+            tags::TRIMMED_HEAD => Head::decode_trimmed_head(alloc, from),
             _ => Err(Fault::BadFrame),
         }
     }

@@ -25,7 +25,7 @@ pub use operation::{CallOperation, MAX_OPERATION};
 pub use piece::Piece;
 pub use ring_codec::{
     Decode, Encode, EncodedNumbers, Fault, Ghost, MAX, PROCESSORS, Proc, ProcSet, Reader, RingId,
-    WINDOW_SIZE, Wire, ghost_of, read_in_place, read_sized, write_many, write_sized,
+    WINDOW_SIZE, Wire, ghost_of, decode_list_into, read_sized, encode_list, encode_length_prefixed,
 };
 pub use snap::{MAX_PIECE_BYTES, MAX_SNAPSHOT, Snap};
 pub use versions::FIRST_VERSION;

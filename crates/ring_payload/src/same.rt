@@ -100,13 +100,13 @@ fn is_same_snap<A: Allocator + Copy>(one: &Snap<A>, other: &Snap<A>) -> bool
 fn is_same_head(one: &Head, other: &Head) -> bool
     ensures { IsTrue result ↔ (one.now ≡ other.now) }
 {
-    is_same_last(one.last, other.last)
+    is_same_last_primary(one.last, other.last)
         && one.length == other.length
         && one.committed == other.committed
         && one.trimmed == other.trimmed
 }
 
-fn is_same_last(one: Option<RingId>, other: Option<RingId>) -> bool
+fn is_same_last_primary(one: Option<RingId>, other: Option<RingId>) -> bool
     ensures { IsTrue result ↔ (one ≡ other) }
 {
     match (one, other) {

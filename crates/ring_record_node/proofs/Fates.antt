@@ -35,7 +35,7 @@ use Rattle.ring_node_spec.specs.Nodes.{Node, node_known_log, is_stopped, is_clos
 use Rattle.ring_node_spec.specs.Stepping.{NodeStepResult, with_dropped, newly_committed, drops, ended, did, settled, node_after_outputs, send_of, node_step}
 use Rattle.ring_node_spec.specs.declared.input.Input.TheVariants.{Frame as FrameInput}
 use Rattle.ring_order_proof.proofs.StepSends.{step_sends}
-use Rattle.ring_clock.specs.StepOutcomes.{has_sent, is_token}
+use Rattle.ring_clock.specs.StepOutcomes.{has_sent_frame, is_token}
 
 -- Frames sent to somebody
 
@@ -48,7 +48,7 @@ to_one i = nonzero (only i) (pow_pos (i - 1))
 
 -- something is sent to somebody
 abbrev Goes : {A : Type 0} → List (OutgoingFrame A) → Type 0
-Goes sends = has_sent (addressed sends) ≡ true
+Goes sends = has_sent_frame (addressed sends) ≡ true
 
 goes_first : {A : Type 0} → (s : OutgoingFrame A) (sends : List (OutgoingFrame A)) → not (s.to == nobody) ≡ true → Goes (s ∷ sends)
 goes_first s sends e = rw e refl
@@ -56,7 +56,7 @@ goes_first s sends e = rw e refl
 goes_behind : {A : Type 0} → (before sends : List (OutgoingFrame A)) → Goes sends → Goes (before ++ sends)
 goes_behind [] sends e = e
 goes_behind {A} (s ∷ before) sends e =
-    cond_both (not (s.to == nobody)) (s ∷ addressed (before ++ sends)) (addressed (before ++ sends)) (λ (xs : List (OutgoingFrame A)). has_sent xs ≡ true)
+    cond_both (not (s.to == nobody)) (s ∷ addressed (before ++ sends)) (addressed (before ++ sends)) (λ (xs : List (OutgoingFrame A)). has_sent_frame xs ≡ true)
     (λ x. refl) (λ x. goes_behind before sends e)
 
 goes_by : {A : Type 0} → (s : OutgoingFrame A) (sends behind : List (OutgoingFrame A)) (b : Bool) → not (s.to == nobody) ≡ b → (Goes sends → Goes (sends ++ behind))
@@ -125,10 +125,10 @@ taken_by c a (inl e) taken = absurd (taken e)
 taken_by c a (inr h) taken = proposal_behind (may_propose_after a && proposes (apply_transition c a).core) (apply_transition c a) h
 
 taken_sends : {A : Type 0} → (c : Core A) (frame : Frame A) → is_token (FrameInput frame) ≡ true → ¬ (decide c (CoreFrame frame) ≡ Ignore)
-    → has_sent (filter_map send_of (ring_step c (CoreFrame frame)).outs) ≡ true
+    → has_sent_frame (filter_map send_of (ring_step c (CoreFrame frame)).outs) ≡ true
 taken_sends c frame e taken =
     let i = CoreFrame frame in
-    ap has_sent (step_sends c i) ∙ taken_by c (decide c i) (named_sends (is_named c.total frame) c frame (frame_sends c frame e)) taken
+    ap has_sent_frame (step_sends c i) ∙ taken_by c (decide c i) (named_sends (is_named c.total frame) c frame (frame_sends c frame e)) taken
 
 -- A step of a node
 
@@ -143,17 +143,17 @@ module _ {O A : Type 0} (object : Sequential O) where
   settled-sends old new outs k = ended-sends (is_closed old.group new.epochs) k (did object old new outs k (newly_committed (node_known_log old) k))
 
   ignored_if : (b : Bool) (old new : Node A) (outs : List (Out A)) (k : KnownLog A) → filter_map send_of outs ≡ []
-      → has_sent (settled object b old new outs k).sends ≡ false
+      → has_sent_frame (settled object b old new outs k).sends ≡ false
   ignored_if false old new outs k e = refl
-  ignored_if true old new outs k e = ap has_sent (settled-sends old new outs k ∙ e)
+  ignored_if true old new outs k e = ap has_sent_frame (settled-sends old new outs k ∙ e)
 
-  taken_if : (b : Bool) (old new : Node A) (outs : List (Out A)) (k : KnownLog A) → has_sent (filter_map send_of outs) ≡ true
-      → is_stopped (settled object b old new outs k).node.core.state ≡ false → has_sent (settled object b old new outs k).sends ≡ true
+  taken_if : (b : Bool) (old new : Node A) (outs : List (Out A)) (k : KnownLog A) → has_sent_frame (filter_map send_of outs) ≡ true
+      → is_stopped (settled object b old new outs k).node.core.state ≡ false → has_sent_frame (settled object b old new outs k).sends ≡ true
   taken_if false old new outs k e runs = absurd (cc runs)
-  taken_if true old new outs k e runs = ap has_sent (settled-sends old new outs k) ∙ e
+  taken_if true old new outs k e runs = ap has_sent_frame (settled-sends old new outs k) ∙ e
 
   -- at a token that is ignored, nothing is sent
-  pub nothing_sent : (n : Node A) (frame : Frame A) → decide n.core (CoreFrame frame) ≡ Ignore → has_sent (node_step object n (FrameInput frame)).sends ≡ false
+  pub nothing_sent : (n : Node A) (frame : Frame A) → decide n.core (CoreFrame frame) ≡ Ignore → has_sent_frame (node_step object n (FrameInput frame)).sends ≡ false
   nothing_sent n frame e =
       let s = ring_step n.core (CoreFrame frame) in
       let epochs = epochs_after n.epochs s.outs in
@@ -163,7 +163,7 @@ module _ {O A : Type 0} (object : Sequential O) where
 
   -- at one that is taken, something is, if the node goes on
   pub something_sent : (n : Node A) (frame : Frame A) → is_token (FrameInput frame) ≡ true → ¬ (decide n.core (CoreFrame frame) ≡ Ignore)
-      → is_stopped (node_step object n (FrameInput frame)).node.core.state ≡ false → has_sent (node_step object n (FrameInput frame)).sends ≡ true
+      → is_stopped (node_step object n (FrameInput frame)).node.core.state ≡ false → has_sent_frame (node_step object n (FrameInput frame)).sends ≡ true
   something_sent n frame e taken runs =
       let s = ring_step n.core (CoreFrame frame) in
       let epochs = epochs_after n.epochs s.outs in

@@ -22,7 +22,7 @@ use crate::encoded::{EncodedStep, write_encoded};
 use crate::encoding_node::EncodingNode;
 use crate::frame_inputs::input_of;
 use ring_base::{Fault, Fixed, Kind, State};
-use ring_clock::{NodeClock, Periods, has_sent, is_token, step_outcome, timeout_in};
+use ring_clock::{NodeClock, Periods, has_sent_frame, is_token, step_outcome, timeout_in};
 use ring_counts::{CountedInput, NodeCounts, NodeGauges};
 use ring_failure::Failure;
 use ring_node::Input;
@@ -157,7 +157,7 @@ impl<O: Object> RecordNode<O> {
         let is_token = is_token(&input);
         match self.step(input) {
             Ok(encoded) => {
-                let is_taken = has_sent(encoded.outs.sends.as_slice());
+                let is_taken = has_sent_frame(encoded.outs.sends.as_slice());
                 self.write_step_and_end(&encoded, TokenOutcome::new(is_token, is_taken), out)
             }
             Err(fault) => self.write_refusal_and_end(

@@ -152,7 +152,7 @@ pub fn write_status_record<W: Write>(
 ) -> io::Result<()>
     ensures { OnOk result (Appends (W.contents out.old) (W.contents out.new) (status_record state ring committed log trimmed members)) }
 {
-    let bytes = bytes_of_status(state, ring, committed, log, trimmed);
+    let bytes = encode_status(state, ring, committed, log, trimmed);
     match members {
         Some(members) => write_record(out, kinds::STATUS, &bytes, &members.bytes()),
         None => write_record(out, kinds::STATUS, &bytes, &[]),
@@ -160,7 +160,7 @@ pub fn write_status_record<W: Write>(
 }
 
 /// Encodes a node's status, without the members of its ring.
-fn bytes_of_status(state: State, ring: RingId, committed: u64, log: u64, trimmed: u64) -> [u8; 34]
+fn encode_status(state: State, ring: RingId, committed: u64, log: u64, trimmed: u64) -> [u8; 34]
     ensures { result ≡ status_bytes state ring committed log trimmed }
 {
     let mut bytes = [0; 34];

@@ -8,7 +8,7 @@ ghost use Rattle.std.specs.List.{list_all};
 ghost use Rattle.ring_base.specs.Processors.{has, elements};
 ghost use Rattle.ring_recover.specs.Installing.{in_front, is_ready_by};
 
-use crate::history::{nothing_seen, one_after};
+use crate::history::{nothing_seen, with_message_last};
 use crate::kinds::{is_end, is_user};
 use ring_base::{Ghost, ProcSet};
 use ring_window::{Message, Window};
@@ -90,7 +90,7 @@ impl<A: Allocator + Copy> Ends<A> {
         } else if is_user(&message.payload) {
             self.has_user = true;
         }
-        self.history = one_after(&self.history, message);
+        self.history = with_message_last(&self.history, message);
     }
 
     /// Returns whether the counted messages allow the new ring's installation.
@@ -103,7 +103,7 @@ impl<A: Allocator + Copy> Ends<A> {
     pub fn is_ready(&self, members: ProcSet, mark: u64) -> bool
         ensures { result ≡ is_ready_by self.now members mark }
     {
-        have_all(self.ended, members) && (self.last <= mark || self.has_user)
+        has_all_members(self.ended, members) && (self.last <= mark || self.has_user)
     }
 }
 
@@ -121,7 +121,7 @@ impl<A: Allocator + Copy> Clone for Ends<A> {
     }
 }
 
-fn have_all(those: ProcSet, members: ProcSet) -> bool
+fn has_all_members(those: ProcSet, members: ProcSet) -> bool
     ensures { result ≡ list_all (has those) (elements members) }
 {
     members.iter().all(|member| those.contains(member))

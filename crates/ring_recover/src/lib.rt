@@ -25,6 +25,6 @@ pub use laws::{finish_law, plan_law};
 pub use numbers::{NumberIterator, Numbers};
 pub use plan::{Plan, Plans};
 pub use ring_commit::Configuration;
-pub use ring_window::{bits_law, front_law};
+pub use ring_window::{held_bits_law, unique_front_law};
 pub use unwrapping::unwrap;
 pub use wrapping::wrap;

@@ -13,16 +13,16 @@ ghost use Rattle.ring_recover.specs.Chosen.{chosen};
 ghost use Rattle.ring_recover.specs.Plans.{plan_from, safe, low};
 ghost use Rattle.ring_recover.specs.Wrapping.{is_wrap_of, is_wrapped, has_own_end};
 ghost use Rattle.ring_recover.specs.Deliveries.{is_complete, regular_part, transitional_part, past_gap_part, finish};
-ghost use Rattle.ring_recover.specs.RecoveryState.{recovery_opening, with_seen, next_to_wrap, old_of, is_users, is_from};
+ghost use Rattle.ring_recover.specs.RecoveryState.{recovery_opening, with_seen, next_to_wrap, old_ring_of, is_users, is_sent_by_any};
 ghost use Rattle.ring_base.specs.Numbers.{window_size};
 
 use crate::delivery::Delivery;
-use crate::history::{nothing_seen, one_before};
+use crate::history::{nothing_seen, with_message_first};
 use crate::kinds::{is_end, is_user};
 use crate::numbers::Numbers;
 use crate::offsets::{COUNT, Offsets};
 use crate::reports::{
-    greatest_mark, known_after, least_front, least_mark, none_behind, reports_of,
+    greatest_mark, reported_offsets_after, least_front, least_mark, none_behind, reports_of,
     transitional_members_among,
 };
 use ring_base::{Ghost, Proc, ProcSet, RingId, WINDOW_SIZE, ghost_of};
@@ -94,7 +94,7 @@ impl<A: Allocator + Copy> Plan<A> {
     pub fn from_commit(me: Proc, token: &CommitToken) -> Option<Plan<A>>
         ensures { result ≡ option_map (recovery_opening me) (plan_from me token.now) }
     {
-        let old = old_of(me, token)?;
+        let old = old_ring_of(me, token)?;
         let entries = token.entries.as_slice();
         let reports = reports_of(&old, entries);
         let reports = reports.as_slice();
@@ -110,7 +110,7 @@ impl<A: Allocator + Copy> Plan<A> {
             least: least_mark(reports),
             safe,
             low: least_front(reports),
-            known: known_after(safe, reports),
+            known: reported_offsets_after(safe, reports),
             wrapped: Offsets::new(),
             ended: false,
             plan,
@@ -179,7 +179,7 @@ impl<A: Allocator + Copy> Plan<A> {
         if is_end(&message.payload) && message.sender == self.me {
             self.ended = true;
         }
-        self.seen = one_before(&self.seen, message);
+        self.seen = with_message_first(&self.seen, message);
     }
 
     /// Returns whether an End of this node was recorded. If so, it must not send another.
@@ -222,7 +222,7 @@ impl<A: Allocator + Copy> Plan<A> {
     {
         for before in self.low..window.highest() {
             let number = before + 1;
-            if !self.wrapped.has((before - self.safe) as usize) && has_users(window, number) {
+            if !self.wrapped.has((before - self.safe) as usize) && has_user_message(window, number) {
                 return Some(number);
             }
         }
@@ -257,7 +257,7 @@ impl<A: Allocator + Copy> Plan<A> {
         requires ring { window.now.ring ≡ self.now.plan.old }
         ensures { result ≡ is_complete self.now.plan window.now.held }
     {
-        self.safe <= window.front() && are_held(&self.known, self.safe, window)
+        self.safe <= window.front() && holds_all_offsets(&self.known, self.safe, window)
     }
 
     /// Returns the numbers that are safe in the old regular configuration: above the least reported safe mark, up to
@@ -327,8 +327,8 @@ impl<A: Allocator + Copy> Clone for Plan<A> {
 }
 
 /// Returns the old ring of processor `me`, or `None` if it isn't a member or a member has no entry yet.
-fn old_of(me: Proc, token: &CommitToken) -> Option<RingId>
-    ensures { result ≡ old_of me token.now }
+fn old_ring_of(me: Proc, token: &CommitToken) -> Option<RingId>
+    ensures { result ≡ old_ring_of me token.now }
 {
     let entries = token.entries.as_slice();
     if !token.members.contains(me) || entries.len() < token.members.len() as usize {
@@ -372,7 +372,7 @@ fn mark_offset(offsets: &mut Offsets, after: u64, number: u64)
 }
 
 /// Returns whether the window still has message `number` and it is a user message.
-fn has_users<A: Allocator + Copy>(window: &Window<A>, number: u64) -> bool
+fn has_user_message<A: Allocator + Copy>(window: &Window<A>, number: u64) -> bool
     ensures { result ≡ is_users (kept window.now number) }
 {
     match window.get(number) {
@@ -382,7 +382,7 @@ fn has_users<A: Allocator + Copy>(window: &Window<A>, number: u64) -> bool
 }
 
 /// Returns whether the window holds the number `after + 1 + offset` for each of the offsets.
-fn are_held<A: Allocator + Copy>(offsets: &Offsets, after: u64, window: &Window<A>) -> bool
+fn holds_all_offsets<A: Allocator + Copy>(offsets: &Offsets, after: u64, window: &Window<A>) -> bool
     ensures { result ≡ list_all (holds window.now.held window.now.ring) (chosen after offsets.now.words) }
 {
     for j in 0..COUNT {
@@ -418,23 +418,23 @@ fn is_past<A: Allocator + Copy>(
     after: u64,
     offset: usize,
 ) -> bool
-    ensures { result ≡ (nat_lt offset reach && (nat_lt gap offset && (is_set known.now.words offset && is_from senders (kept window.now
+    ensures { result ≡ (nat_lt offset reach && (nat_lt gap offset && (is_set known.now.words offset && is_sent_by_any senders (kept window.now
         (after + 1 + offset))))) }
 {
     (offset as u64) < reach
         && gap < offset
         && known.has(offset)
-        && is_from(senders, window, after, offset)
+        && is_sent_by_any(senders, window, after, offset)
 }
 
 /// Returns whether the window still has message `after + 1 + offset`, and one of `senders` sent it.
-fn is_from<A: Allocator + Copy>(
+fn is_sent_by_any<A: Allocator + Copy>(
     senders: ProcSet,
     window: &Window<A>,
     after: u64,
     offset: usize,
 ) -> bool
-    ensures { result ≡ is_from senders (kept window.now (after + 1 + offset)) }
+    ensures { result ≡ is_sent_by_any senders (kept window.now (after + 1 + offset)) }
 {
     let reach = window.highest().saturating_sub(after);
     let offset = offset as u64;

@@ -83,19 +83,19 @@ pub(crate) fn least_front(reports: &[CommitEntry]) -> u64
 /// j.
 ///
 /// No reported front may be below `safe`.
-pub(crate) fn known_after(safe: u64, reports: &[CommitEntry]) -> Offsets
+pub(crate) fn reported_offsets_after(safe: u64, reports: &[CommitEntry]) -> Offsets
     requires { none_behind safe reports.now ≡ true }
     ensures { (j : ℕ) → j < window_size → is_set result.words j ≡ list_any (is_reported (safe + 1 + j)) reports.now }
 {
-    Offsets::from_test(|j| is_any_holding(safe, j, reports))
+    Offsets::from_test(|j| is_offset_reported(safe, j, reports))
 }
 
 /// Returns whether some report holds the number `safe + 1 + offset`, provided that no reported front is below `safe`.
-fn is_any_holding(safe: u64, offset: usize, reports: &[CommitEntry]) -> bool
+fn is_offset_reported(safe: u64, offset: usize, reports: &[CommitEntry]) -> bool
     ensures { none_behind safe reports.now ≡ true → result ≡ list_any (is_reported (safe + 1 + offset)) reports.now }
 {
     for report in reports {
-        if is_holding(safe, offset, report) {
+        if reports_offset(safe, offset, report) {
             return true;
         }
     }
@@ -103,7 +103,7 @@ fn is_any_holding(safe: u64, offset: usize, reports: &[CommitEntry]) -> bool
 }
 
 /// Returns whether the report holds the number `safe + 1 + offset`, provided that its front is at least `safe`.
-fn is_holding(safe: u64, offset: usize, report: &CommitEntry) -> bool
+fn reports_offset(safe: u64, offset: usize, report: &CommitEntry) -> bool
     ensures { safe ≤ report.now.front → result ≡ is_reported (safe + 1 + offset) report.now }
 {
     let ahead = report.front.saturating_sub(safe);

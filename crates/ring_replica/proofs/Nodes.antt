@@ -28,7 +28,7 @@ use Rattle.ring_session.specs.declared.answered.TicketAnswer.{TicketAnswer}
 use Rattle.ring_session.specs.declared.pending.Pending.{Pending}
 use Rattle.ring_session.specs.Pendings.{pending_from, contains_call}
 use Rattle.ring_replication.specs.NodeSpec.{epochs_after_event, epochs_after, Node, node_known_log, node_pending, is_stopped, is_closed, is_restored, snapshot_kept}
-use Rattle.ring_replication.specs.NodeSpec.{runs, runs_some, calls_due, due_when_heads_complete, places_past, due_when_complete, owner_due_on_heads, due_in_epoch}
+use Rattle.ring_replication.specs.NodeSpec.{runs, runs_some, calls_due, due_when_heads_complete, uncommitted_places, due_when_complete, owner_due_on_heads, due_in_epoch}
 use Rattle.ring_replication.specs.NodeSpec.{due_at_agreed, due_at, due_by, handed_over, node_after_outputs, NodeStepResult, send_of, drops, newly_committed, table_since}
 use Rattle.ring_replication.specs.NodeSpec.{settled, after_core, submitted, submit_fault}
 use Rattle.ring_replication.specs.Replications.{StepContext, bytes_at, is_running, calls_to_resend, due_sends_when_complete, due_sends_in_epoch, due_sends_on_message, due_sends_at, due_sends_by}
@@ -81,7 +81,7 @@ module _ {O A : Type 0} (object : Sequential O) (n : Node A) (core : Core A) whe
 
   whole-due : (epochs : List (Epoch A)) (old new : Exchange A) → due_when_complete n epochs old new ≡ due_sends_when_complete m epochs old new
   whole-due epochs old new =
-      ap (λ l. if is_exchange_complete new && not (is_exchange_complete old) then l else []) (calls-due (places_past (node_known_log n).committed (retained_log (known_log_of n.group epochs))))
+      ap (λ l. if is_exchange_complete new && not (is_exchange_complete old) then l else []) (calls-due (uncommitted_places (node_known_log n).committed (retained_log (known_log_of n.group epochs))))
 
   epoch-due : (s : Epoch A) (before : List (Epoch A)) (x : Message A) (epochs : List (Epoch A))
       → snapshot_kept object (known_log_of n.group before) ≡ bytes_at m (known_log_of n.group before)

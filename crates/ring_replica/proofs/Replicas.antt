@@ -12,7 +12,7 @@ use Rattle.ring_object.specs.Operations.{Sequential}
 use Rattle.ring_payload.specs.declared.call.Call.{Call as OneCall}
 use Rattle.ring_session.specs.Table.{Table, opening}
 use Rattle.ring_log.specs.Logs.{Log, log_length, committed_calls}
-use Rattle.ring_log.specs.Epochs.{epochs_opening, epochs_with_sends}
+use Rattle.ring_log.specs.Epochs.{history_opening_of, epochs_with_sends}
 use Rattle.ring_log.specs.EpochHistories.{CompleteExchange}
 use Rattle.ring_log.specs.KnownLog.{KnownLog, IsKnownLog, known_log_opening, kept_by, known_log_of, known_log_length, dropped_by, retained_log}
 use Rattle.ring_log.proofs.CommittedOf.{epochs_with_sends-kept}
@@ -43,14 +43,14 @@ none-more log =
 
 -- ---- the opening
 
-epochs_opening-kept : {A : Type 0} (group : Group) (me : ℕ) → known_log_of {A = A} group (epochs_opening me) ≡ known_log_opening
-epochs_opening-kept {A} group me =
+history_opening_of-kept : {A : Type 0} (group : Group) (me : ℕ) → known_log_of {A = A} group (history_opening_of me) ≡ known_log_opening
+history_opening_of-kept {A} group me =
     ap (λ (o : Option (CompleteExchange A)). dropped_by 0 (kept_by (record { seq = 0; rep = me }) known_log_opening o o)) (complete_exchange-nothing group (only me))
 
 pub history_opening-replica : {O A : Type 0} (object : Sequential O) (group : Group) (me : ℕ) (table : Table O) → table ≡ opening object.initial
     → IsReplica {A = A} object (replication_opening group me) table no_tickets None 0 0 0 false (ghost_state_opening me)
 history_opening-replica {O} {A} object group me table is =
-    let b = epochs_opening-kept {A = A} group me in
+    let b = history_opening_of-kept {A = A} group me in
     record {
       logged = ap (λ (k : KnownLog A). known_log_length k) (sym b);
       committed = ap (λ (k : KnownLog A). k.committed) (sym b);
@@ -268,8 +268,8 @@ pub history_opening-counted : {O A : Type 0} (object : Sequential O) (group : Gr
     → IsCounted object replication table tickets None 0 0 0 0 0 false ghost_state
 history_opening-counted {O} {A} object group me replication table tickets ghost_state ec e et ea =
     let k = history_opening-as object group me replication table tickets ghost_state ec e et ea in
-    let b = epochs_opening-kept {A = A} group me in
-    let none : 0 ≡ effects_at object (known_log_of {A = A} group (epochs_opening me)) (known_log_of {A = A} group (epochs_opening me)).committed =
+    let b = history_opening_of-kept {A = A} group me in
+    let none : 0 ≡ effects_at object (known_log_of {A = A} group (history_opening_of me)) (known_log_of {A = A} group (history_opening_of me)).committed =
     ap (λ (y : KnownLog A). effects_at object y y.committed) (sym b) in
     let group_is : replication.group ≡ group = ap (λ (x : Replication A). x.group) ec in
     record {

@@ -19,7 +19,7 @@ use Rattle.ring_core_spec.specs.declared.out.Out.{Out}
 use Rattle.ring_payload.specs.Limits.{max_snapshot}
 use Rattle.ring_session.specs.Snapshots.{table_snapshot, restored_table}
 use Rattle.ring_log.specs.Logs.{Log, committed_calls, is_due_to_trim}
-use Rattle.ring_log.specs.Epochs.{Epoch, epochs_opening, epochs_with_sends, epochs_with_trim}
+use Rattle.ring_log.specs.Epochs.{Epoch, history_opening_of, epochs_with_sends, epochs_with_trim}
 use Rattle.ring_log.specs.KnownLog.{KnownLog, IsKnownLog, known_log_of, known_log_length, retained_log, is_known_log_sound}
 use Rattle.ring_session.specs.declared.answered.TicketAnswer.{TicketAnswer}
 use Rattle.ring_session.specs.Pendings.{Tickets, AreTickets, pending_from}
@@ -54,7 +54,7 @@ pub record ReplicaGhostState (A : Type 0) : Type 0 where
 
 -- the ghost state of processor `me` at the opening
 abbrev pub ghost_state_opening : {A : Type 0} → ℕ → ReplicaGhostState A
-ghost_state_opening me = record { epochs = epochs_opening me; tickets = []; done = []; answers = [] }
+ghost_state_opening me = record { epochs = history_opening_of me; tickets = []; done = []; answers = [] }
 
 -- the ghost state after a finished step, which did these calls and gave these answers
 abbrev pub ghost_state_after_step : {A : Type 0} → ReplicaGhostState A → List (Epoch A) → List (OneCall A) → List (TicketAnswer A) → ReplicaGhostState A
@@ -68,7 +68,7 @@ ghost_state_after_ticket ghost_state c runs =
 -- processor `me` of the group at the opening
 abbrev pub replica_opening : {A : Type 0} → Group → ℕ → Replica A
 replica_opening group me =
-    record { group = group; me = me; epochs = epochs_opening me; epochs_in_step = epochs_opening me; tickets = []; done = []; answers = []; doing = []; leaving = []; stopped = false }
+    record { group = group; me = me; epochs = history_opening_of me; epochs_in_step = history_opening_of me; tickets = []; done = []; answers = []; doing = []; leaving = []; stopped = false }
 
 -- all steps are finished
 pub record IsBetweenSteps {A : Type 0} (r : Replica A) : Type 0 where

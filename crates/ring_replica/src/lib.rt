@@ -14,7 +14,7 @@ mod replica;
 
 pub use given::ReplicaOutput;
 pub use laws::replica_law;
-pub use mark_laws::marks_law;
+pub use mark_laws::epoch_safe_marks_law;
 pub use replica::Replica;
 pub use ring_replication::{HeldLog, Input, Replication};
 pub use ring_session::{Answer, Ticket, TicketAnswer, copy_of};

@@ -542,7 +542,7 @@ fn apply_committed<O: Object>(
         return Ok(None);
     }
     given.committed = new_calls(alloc, held.log(), committed)?;
-    let effects = effects_in(held, sessions, effects);
+    let effects = effects_after_restore(held, sessions, effects);
     let (answers, effects_in_step) = new_answers(
         alloc,
         sessions,
@@ -597,7 +597,7 @@ fn restore<O: Object>(
 }
 
 /// Returns the number of calls that took effect: that of the sessions if they were restored, otherwise `effects`.
-fn effects_in<O: Object>(held: &HeldLog<O::Alloc>, sessions: &Sessions<O>, effects: u64) -> u64
+fn effects_after_restore<O: Object>(held: &HeldLog<O::Alloc>, sessions: &Sessions<O>, effects: u64) -> u64
     ensures { result ≡ (if is_some held.now.before then table_effects sessions.now else effects) }
 {
     if held.is_restored() {

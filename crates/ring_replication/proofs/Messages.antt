@@ -18,7 +18,7 @@ use Rattle.ring_payload.specs.declared.content.Payload.TheVariants.{Call, Wrappe
 use Rattle.ring_wire.specs.declared.message.Message.{Message}
 use Rattle.ring_log.specs.declared.base.Base.{Base}
 use Rattle.ring_log.specs.declared.wanted.Wanted.{Wanted}
-use Rattle.ring_log.specs.Exchanges.{Exchange, exchange_opening, wanted_by, wanted, hear_head, is_next_piece, hear_snap, is_wanted, hear_part, heard}
+use Rattle.ring_log.specs.Exchanges.{Exchange, exchange_opening, wanted_from_heads, wanted, hear_head, is_next_piece, hear_snap, is_wanted, hear_part, heard}
 use Rattle.ring_log.specs.Exchanges.{has_all_wanted, is_exchange_complete, snapshot_by, base_from, handed_out, base_at, exchange_drained}
 use Rattle.ring_log.specs.Logs.{Log, log_length, appended, restores as log_restores, restored_log, joined_log, adopted, is_log_length, is_adoptable}
 use Rattle.ring_log.specs.Epochs.{Epoch}
@@ -37,7 +37,7 @@ use Rattle.ring_session.specs.declared.pending.Pending.{Pending}
 use Rattle.ring_replication.specs.declared.delivery_context.DeliveryContext.{DeliveryContext}
 use Rattle.ring_replication.specs.declared.stage.ExchangeStage.{ExchangeStage}
 use Rattle.ring_replication.specs.declared.stage.ExchangeStage.TheVariants.{NotPrimary, Exchanging, Adopted}
-use Rattle.ring_node_spec.specs.DueSends.{has_all_heads, owner_due, due_when_heads_complete, places_past}
+use Rattle.ring_node_spec.specs.DueSends.{has_all_heads, owner_due, due_when_heads_complete, uncommitted_places}
 use Rattle.ring_replication.specs.Replications.{MayRestore}
 use Rattle.ring_replication.specs.Replications.{HeldLog, held_log_restored, held_log_adopted, stage_by_exchange, stage_in, reached_places, watermark_of, watermark_at, calls_to_resend, owner_asked, if_runs}
 use Rattle.ring_replication.specs.Replications.{MessageEffect, base_effect, message_effect, StepContext, bytes_at, owner_due_sends, due_sends_when_complete, due_sends_on_message}
@@ -51,7 +51,7 @@ after_all-push e (y ∷ ys) x = after_all-push (exchange_after_message e y) ys x
 
 -- before all Heads are received nothing is wanted
 unstated-wanted : {A : Type 0} (e : Exchange A) → has_all_heads e ≡ false → wanted e ≡ None
-unstated-wanted e f = cond-false (e.missing_heads == nobody) (wanted_by e.heads) None f
+unstated-wanted e f = cond-false (e.missing_heads == nobody) (wanted_from_heads e.heads) None f
 
 exchange_drained-wanted : {A : Type 0} (e : Exchange A) → wanted (exchange_drained e) ≡ wanted e
 exchange_drained-wanted {A} e = cond_both (is_exchange_complete e) (record e { bytes = []; received_calls = [] }) e (λ (r : Exchange A). wanted r ≡ wanted e) (λ t. refl) (λ f. refl)
@@ -407,13 +407,13 @@ module _ {A : Type 0} (group : Group) (s : Epoch A) (older : List (Epoch A)) (x 
         by true = refl
         by false = refl
 
-    epochs_with_message-base : places ++ if_runs delivery_context.runs (calls_to_resend pending (places_past delivery_context.committed (log_by group s older (s.heard ++ x ∷ [])))) ≡ due
+    epochs_with_message-base : places ++ if_runs delivery_context.runs (calls_to_resend pending (uncommitted_places delivery_context.committed (log_by group s older (s.heard ++ x ∷ [])))) ≡ due
         → Hears group s older x h (base_effect delivery_context pending h (exchange_drained e) places (Some base)) due
     epochs_with_message-base is_due = record {
       sound = sound-now group s older x (is_adoptable h.log base) (Some whole) k.old some fits-is;
       stage = λ t. at;
       log = λ t. held-log ∙ adopted-here t;
-      due = λ t. ap (λ l. places ++ if_runs delivery_context.runs (calls_to_resend pending (places_past delivery_context.committed l))) (held-log ∙ adopted-here t) ∙ is_due;
+      due = λ t. ap (λ l. places ++ if_runs delivery_context.runs (calls_to_resend pending (uncommitted_places delivery_context.committed l))) (held-log ∙ adopted-here t) ∙ is_due;
       reach = λ t. ap log_length (held-log ∙ adopted-here t) ∙ reach-here t;
       onward = λ t. onward-here (restores known v) refl t;
     }
@@ -588,7 +588,7 @@ module _ {A : Type 0} (group : Group) (s : Epoch A) (older : List (Epoch A)) (x 
 
   -- the places of the base past those committed before
   abbrev past : List (OneCall A)
-  past = places_past delivery_context.committed (log_by group s older text)
+  past = uncommitted_places delivery_context.committed (log_by group s older text)
 
   -- the due payloads if the exchange becomes this one
   abbrev due_for : Exchange A → List (Payload A)
@@ -635,16 +635,16 @@ module _ {A : Type 0} (group : Group) (s : Epoch A) (older : List (Epoch A)) (x 
       ap (λ l. due_when_heads_complete delivery_context.me (bytes_at this_moment now) l before_it new) (sym k.logged)
       ∙ ap (λ bs. due_when_heads_complete delivery_context.me bs h.log before_it new) bytes
 
-  past-is : places_past delivery_context.committed (retained_log (known_log_of group (with_message s x ∷ older))) ≡ past
+  past-is : uncommitted_places delivery_context.committed (retained_log (known_log_of group (with_message s x ∷ older))) ≡ past
   past-is =
-      ap (places_past delivery_context.committed)
+      ap (uncommitted_places delivery_context.committed)
       (kept-log group s.members s.ring (known_log_of group older) s.trimmed text (upto s.mark text) (complete_exchange group s.members text)
       (complete_exchange group s.members (upto s.mark text)) refl refl (upto-front s.mark text))
 
   due-is : Kept_before → is_primary group s.members ≡ true → due ≡ (if delivery_context.runs then due_for (exchange_after_message before_it x) else [])
   due-is k p =
       let left : Exchange A → List (OneCall A) → List (Payload A) = λ new l. if is_exchange_complete new && not (is_exchange_complete before_it) then calls_to_resend pending l else [] in
-      let past_places = places_past delivery_context.committed (retained_log (known_log_of group (with_message s x ∷ older))) in
+      let past_places = uncommitted_places delivery_context.committed (retained_log (known_log_of group (with_message s x ∷ older))) in
       let made : Exchange A → List (Payload A) = λ new. owner_due_sends this_moment (known_log_of group (s ∷ older)) before_it new ++ left new past_places in
       let new = exchange_after_message before_it x in
       sym (due-by delivery_context.runs (is_primary group s.members) (made (after_all (exchange_opening s.members) text)) p)

@@ -16,12 +16,12 @@ use Rattle.ring_log.specs.declared.base.Base.{Base}
 use Rattle.ring_log.specs.declared.wanted.Wanted.{Wanted}
 use Rattle.ring_log.specs.Exchanges.{Exchange, exchange_opening, wanted, heard, is_exchange_complete, base_at, exchange_drained}
 use Rattle.ring_log.specs.Logs.{Log, empty, log_length, appended, restores, restored_log, joined_log, trimmed_log, is_adoptable, is_log_length}
-use Rattle.ring_log.specs.Epochs.{Epoch, epochs_opening, epochs_with_trim}
+use Rattle.ring_log.specs.Epochs.{Epoch, history_opening_of, epochs_with_trim}
 use Rattle.ring_log.specs.EpochHistories.{CompleteExchange, complete_exchange_from, after_all, complete_exchange, upto}
 use Rattle.ring_log.specs.KnownLog.{KnownLog, IsKnownLog, adopts, watermark_by, known_log_of, retained_log, is_known_log_sound}
 use Rattle.ring_session.specs.declared.pending.Pending.{Pending}
 use Rattle.ring_session.specs.Pendings.{contains_call}
-use Rattle.ring_node_spec.specs.DueSends.{owner_due, due_when_heads_complete, places_past, due_at_regular}
+use Rattle.ring_node_spec.specs.DueSends.{owner_due, due_when_heads_complete, uncommitted_places, due_at_regular}
 use Rattle.ring_node_spec.specs.EpochHistories.{epochs_after_event}
 use Rattle.ring_node_spec.specs.Nodes.{is_closed}
 use Rattle.ring_replication.specs.declared.delivery_context.DeliveryContext.{DeliveryContext}
@@ -82,8 +82,8 @@ pub record HeldLog (A : Type 0) : Type 0 where
   pub snapshot : List ℕ
 
 -- the stored log at the opening: the log is empty, and there is no snapshot
-abbrev pub held_log_opening : {A : Type 0} → HeldLog A
-held_log_opening = record { log = empty; before = None; snapshot = [] }
+abbrev pub empty_held_history : {A : Type 0} → HeldLog A
+empty_held_history = record { log = empty; before = None; snapshot = [] }
 
 -- the log whose committed places are those at the end of the last step, if a snapshot was restored since; otherwise the
 -- log
@@ -116,7 +116,7 @@ pub record Replication (A : Type 0) : Type 0 where
 
 -- the replication of processor `me` of the group at the opening
 abbrev pub replication_opening : {A : Type 0} → Group → ℕ → Replication A
-replication_opening group me = record { group = group; me = me; epochs = epochs_opening me; held = held_log_opening; consistent = true }
+replication_opening group me = record { group = group; me = me; epochs = history_opening_of me; held = empty_held_history; consistent = true }
 
 -- the replication after the committed places are dropped, in the epochs too, if their snapshot is given
 abbrev pub replication_trimmed : {A : Type 0} → Replication A → Option (List ℕ) → Replication A
@@ -227,7 +227,7 @@ held_if delivery_context h (Some base) = held_log_adopted h delivery_context.rin
 abbrev pub calls_if : {A : Type 0} → DeliveryContext → List (Pending A) → HeldLog A → Option (Base A) → List (Payload A)
 calls_if delivery_context pending h None = []
 calls_if delivery_context pending h (Some base) =
-    if_runs delivery_context.runs (calls_to_resend pending (places_past delivery_context.committed (held_log_adopted h delivery_context.ring base).log))
+    if_runs delivery_context.runs (calls_to_resend pending (uncommitted_places delivery_context.committed (held_log_adopted h delivery_context.ring base).log))
 
 -- the stage after the message: without a base the exchange is still open
 abbrev pub stage_if : {A : Type 0} → Exchange A → Option (Base A) → ExchangeStage A
@@ -298,7 +298,7 @@ bytes_at m k = if nat_lt m.trimmed k.trimmed then k.snapshot else m.snapshot
 -- places
 abbrev pub due_sends_when_complete : {A : Type 0} → StepContext A → List (Epoch A) → Exchange A → Exchange A → List (Payload A)
 due_sends_when_complete m epochs old new =
-    if is_exchange_complete new && not (is_exchange_complete old) then calls_to_resend m.pending (places_past m.committed (retained_log (known_log_of m.group epochs))) else []
+    if is_exchange_complete new && not (is_exchange_complete old) then calls_to_resend m.pending (uncommitted_places m.committed (retained_log (known_log_of m.group epochs))) else []
 
 -- due when the last Head is received: the owner's payloads
 abbrev pub owner_due_sends : {A : Type 0} → StepContext A → KnownLog A → Exchange A → Exchange A → List (Payload A)

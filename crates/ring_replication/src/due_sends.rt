@@ -38,7 +38,7 @@ pub(crate) fn add_owner_sends<A: Allocator + Copy + Drop>(
     match (before, after) {
         (None, Some(wanted)) => {
             if delivery_context.runs && wanted.owner == delivery_context.me {
-                add_wanted(alloc, held, &wanted, due)
+                add_wanted_sends(alloc, held, &wanted, due)
             } else {
                 Ok(())
             }
@@ -51,7 +51,7 @@ pub(crate) fn add_owner_sends<A: Allocator + Copy + Drop>(
 ///
 /// A wanted snapshot is sent only if it is the one that the node keeps. If none is wanted, no wanted place may be
 /// dropped.
-fn add_wanted<A: Allocator + Copy + Drop>(
+fn add_wanted_sends<A: Allocator + Copy + Drop>(
     alloc: A,
     held: &HeldLog<A>,
     wanted: &Wanted,
@@ -119,7 +119,7 @@ fn add_parts<A: Allocator + Copy>(
 /// Errors: `Memory` if an allocation fails; the contents of `due` are then unspecified.
 ///
 /// Rules: The replicated log 10
-pub(crate) fn add_calls<A: Allocator + Copy + Drop>(
+pub(crate) fn add_pending_calls<A: Allocator + Copy + Drop>(
     pending: &[Pending<A>],
     places: &[Call<A>],
     due: &mut Vec<Payload<A>, A>,

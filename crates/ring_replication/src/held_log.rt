@@ -6,7 +6,7 @@ ghost use Rattle.std.specs.Prelude.{◌≡◌, ◌+◌, ◌∷◌, [], true, is_
 ghost use Rattle.ring_base.specs.Prefixes.{IsListPrefix};
 ghost use Rattle.ring_base.specs.declared.fault.Fault.TheVariants.{Memory};
 ghost use Rattle.ring_log.specs.Logs.{appended, committed_upto, committed_log, committed_calls, log_length, is_log_length, is_adoptable};
-ghost use Rattle.ring_replication.specs.Replications.{held_log_opening, reported_log, held_log_adopted, held_log_trimmed};
+ghost use Rattle.ring_replication.specs.Replications.{empty_held_history, reported_log, held_log_adopted, held_log_trimmed};
 
 use ring_base::{Fault, RingId};
 use ring_log::{Adoption, Base, Log, Snapshot};
@@ -54,7 +54,7 @@ impl<A: Allocator + Copy + Drop> HeldLog<A> {
     ///
     /// Rules: The replicated log 1
     pub(crate) fn new(alloc: A) -> HeldLog<A>
-        ensures { result ≡ held_log_opening }
+        ensures { result ≡ empty_held_history }
     {
         HeldLog {
             log: Log::new(alloc),

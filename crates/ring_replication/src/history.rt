@@ -1,7 +1,7 @@
 //! The history of a node as ghost values, for contracts only.
 
 ghost use Rattle.std.specs.Prelude.{◌≡◌, List, [], ◌∷◌, ◌++◌};
-ghost use Rattle.ring_log.specs.Epochs.{epochs_opening, epochs_with_message, epochs_with_mark, epochs_with_sends, epochs_with_trim, epoch_opening};
+ghost use Rattle.ring_log.specs.Epochs.{history_opening_of, epochs_with_message, epochs_with_mark, epochs_with_sends, epochs_with_trim, epoch_opening};
 ghost use Rattle.ring_replication.specs.Replications.{handed_if};
 
 use ring_base::{Ghost, Proc, ProcSet, RingId, ghost_of, ghost_step};
@@ -30,8 +30,8 @@ impl<A: Allocator + Copy> Model for EpochHistory<A> {
 }
 
 /// Returns the history of processor `me` at the opening: one epoch, in the ring (0, `me`).
-pub(crate) fn epochs_opening<A: Allocator + Copy>(me: Proc) -> Ghost<EpochHistory<A>>
-    ensures { result.value ≡ epochs_opening me }
+pub(crate) fn history_opening_of<A: Allocator + Copy>(me: Proc) -> Ghost<EpochHistory<A>>
+    ensures { result.value ≡ history_opening_of me }
 {
     ghost_of(&me)
 }

@@ -7,12 +7,12 @@ ghost use Rattle.ring_base.specs.Prefixes.{IsListPrefix};
 ghost use Rattle.ring_base.specs.declared.fault.Fault.TheVariants.{Memory};
 ghost use Rattle.ring_payload.specs.Kinds.{calls_of};
 ghost use Rattle.ring_log.specs.Logs.{committed_calls, appended, log_length, is_log_length, is_adoptable};
-ghost use Rattle.ring_node_spec.specs.DueSends.{places_past};
+ghost use Rattle.ring_node_spec.specs.DueSends.{uncommitted_places};
 ghost use Rattle.ring_replication.specs.Replications.{message_effect, exchanging_effect, stage_after, fits_if, held_if, calls_if, calls_to_resend};
 ghost use Rattle.ring_replication.specs.Replications.{if_runs, watermark_at, reported_log, held_log_adopted};
 
 use crate::delivery_context::DeliveryContext;
-use crate::due_sends::{add_calls, add_owner_sends};
+use crate::due_sends::{add_pending_calls, add_owner_sends};
 use crate::held_log::HeldLog;
 use crate::stage::ExchangeStage;
 use ring_base::Fault;
@@ -140,7 +140,7 @@ fn adopt<A: Allocator + Copy + Drop>(
     ensures fits { IfOk result (λ fits. fits ≡ is_adoptable held.old.log base) }
     ensures held { OnOk result (is_adoptable held.old.log base ≡ true → held.new ≡ held_log_adopted held.old delivery_context.now.ring base) }
     ensures due { OnOk result (is_adoptable held.old.log base ≡ true → due.new.items ≡ due.old.items
-        ++ if_runs delivery_context.now.runs (calls_to_resend pending.now (places_past delivery_context.now.committed (held_log_adopted held.old delivery_context.now.ring base).log))) }
+        ++ if_runs delivery_context.now.runs (calls_to_resend pending.now (uncommitted_places delivery_context.now.committed (held_log_adopted held.old delivery_context.now.ring base).log))) }
     ensures front { IsListPrefix (committed_calls (reported_log held.old)) (committed_calls (reported_log held.new)) }
     ensures refused { IfErr result (λ fault. fault ≡ Memory) }
 {
@@ -149,9 +149,9 @@ fn adopt<A: Allocator + Copy + Drop>(
         return Ok(false);
     }
     if delivery_context.runs {
-        add_calls(
+        add_pending_calls(
             pending,
-            places_past(held.log(), delivery_context.committed),
+            uncommitted_places(held.log(), delivery_context.committed),
             due,
         )?;
     }
@@ -159,8 +159,8 @@ fn adopt<A: Allocator + Copy + Drop>(
 }
 
 /// Returns the places of a log that are neither dropped nor among the first `committed` places.
-fn places_past<A: Allocator + Copy>(log: &Log<A>, committed: u64) -> &[Call<A>]
-    ensures { result.now ≡ places_past committed log.now }
+fn uncommitted_places<A: Allocator + Copy>(log: &Log<A>, committed: u64) -> &[Call<A>]
+    ensures { result.now ≡ uncommitted_places committed log.now }
 {
     let calls = log.calls();
     let first = committed.max(log.trimmed()) - log.trimmed();

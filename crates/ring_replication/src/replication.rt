@@ -19,7 +19,7 @@ ghost use Rattle.ring_node_spec.specs.EpochHistories.{epochs_after_event, epochs
 use crate::delivery_context::DeliveryContext;
 use crate::held_log::HeldLog;
 use crate::history::{
-    EpochHistory, dropped, epochs_opening, heard, history_with_call, history_with_epoch,
+    EpochHistory, dropped, history_opening_of, heard, history_with_call, history_with_epoch,
     history_with_mark, history_with_sends,
 };
 use crate::reach::{LogWatermark, copy_watermarks, pop_covered};
@@ -107,7 +107,7 @@ impl<A: Allocator + Copy + Drop> Replication<A> {
             mark: 0,
             watermarks: VecDeque::new(alloc),
             consistent: true,
-            epochs: epochs_opening(me),
+            epochs: history_opening_of(me),
         }
     }
 

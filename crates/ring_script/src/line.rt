@@ -8,7 +8,7 @@ ghost use Rattle.ring_script.specs.Lines.{stop_at, cut_line_at, pump_at, frame_a
 ghost use Rattle.ring_script.specs.Reading.{IsParseResultOrMemory, IsParseResult};
 
 use crate::groups::Groups;
-use crate::hex_word::hex_bytes_of;
+use crate::hex_word::decode_hex_word;
 use crate::operation::encode_operation;
 use crate::vocabulary::Vocabulary;
 use crate::words::{Words, is};
@@ -181,7 +181,7 @@ fn parse_noise<A: Allocator + Copy>(
     let Some(word) = words.next_word() else {
         return Err(Fault::BadScript);
     };
-    match hex_bytes_of(alloc, word, MAX_FRAME_BYTES) {
+    match decode_hex_word(alloc, word, MAX_FRAME_BYTES) {
         Ok(bytes) => Ok(ScriptLine::Noise { node, bytes }),
         Err(fault) => Err(fault),
     }

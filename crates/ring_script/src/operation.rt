@@ -9,7 +9,7 @@ ghost use Rattle.ring_base.specs.declared.fault.Fault.TheVariants.{Memory};
 ghost use Rattle.ring_script.specs.Operations.{is_name, named_at, raw_at, operation_at, argument_after, arguments_after};
 ghost use Rattle.ring_script.specs.Reading.{IsParseResultOrMemory};
 
-use crate::hex_word::hex_bytes_of;
+use crate::hex_word::decode_hex_word;
 use crate::vocabulary::{Argument, Vocabulary, form_of};
 use crate::words::{Words, is};
 use ring_base::Fault;
@@ -63,7 +63,7 @@ fn encode_raw<A: Allocator + Copy>(
     let Some(word) = words.next_word() else {
         return Err(Fault::BadScript);
     };
-    match hex_bytes_of(alloc, word, MAX_OPERATION) {
+    match decode_hex_word(alloc, word, MAX_OPERATION) {
         Ok(encoded) => {
             *bytes = encoded;
             Ok(())

@@ -11,7 +11,7 @@ ghost use Rattle.ring_script.specs.Fits.{AreFit};
 ghost use Rattle.ring_script.specs.Lines.{request_of, request_in};
 ghost use Rattle.ring_script.specs.Reading.{IsParseResultOrMemory, IsParseResult};
 ghost use Rattle.ring_script.specs.Numbers.{number_at};
-ghost use Rattle.ring_script.specs.Scripts.{nodes_of, unless_skipped, at_line};
+ghost use Rattle.ring_script.specs.Scripts.{parse_node_words, unless_skipped, at_line};
 ghost use Rattle.ring_script.specs.Scripts.{nodes_in, requests_in, script_by, script_of, numbered_by, schedule_by, AreAmong, Answers};
 ghost use Rattle.ring_script.specs.Scripts.{max_script_bytes, IsAllOf, IsScriptOfInputBy, IsScriptOfInput, IsInputFault};
 ghost use Rattle.ring_script.specs.Votes.{nodes_with_one_vote};
@@ -234,7 +234,7 @@ pub(crate) fn at_line(fault: Fault, number: u64) -> ScriptFault
 ///
 /// Errors: `BadScript` if it is not of the form `nodes N`.
 fn first_of(line: &[u8]) -> Result<Option<Fixed>, Fault>
-    ensures { IsParseResult (λ told. told) result (unless_skipped nodes_of line.now) }
+    ensures { IsParseResult (λ told. told) result (unless_skipped parse_node_words line.now) }
 {
     if !are_ascii(line) {
         return Err(Fault::BadScript);
@@ -242,7 +242,7 @@ fn first_of(line: &[u8]) -> Result<Option<Fixed>, Fault>
     if is_skipped(line) {
         return Ok(None);
     }
-    match nodes_of(line) {
+    match parse_node_words(line) {
         Ok(nodes) => Ok(Some(nodes)),
         Err(fault) => Err(fault),
     }
@@ -298,9 +298,9 @@ pub(crate) fn are_ascii(line: &[u8]) -> bool
 /// Parses a line `nodes N`, and returns that many nodes, with one vote each.
 ///
 /// Errors: `BadScript` if it isn't such a line.
-#[tactic(auto, unfolding(crate::specs::Scripts::nodes_of))]
-fn nodes_of(line: &[u8]) -> Result<Fixed, Fault>
-    ensures { IsParseResult (λ nodes. nodes) result (nodes_of line.now) }
+#[tactic(auto, unfolding(crate::specs::Scripts::parse_node_words))]
+fn parse_node_words(line: &[u8]) -> Result<Fixed, Fault>
+    ensures { IsParseResult (λ nodes. nodes) result (parse_node_words line.now) }
 {
     let mut words = Words::new(line, b' ');
     match words.next_word() {

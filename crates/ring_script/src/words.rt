@@ -89,7 +89,7 @@ impl<'a> Words<'a> {
             return Err(Fault::BadScript);
         };
         let digits = Digits::leading(text);
-        if !are_plain(&text[..digits.count]) {
+        if !have_no_leading_zero(&text[..digits.count]) {
             return Err(Fault::BadScript);
         }
         match behind(&text[digits.count..], self.separator) {
@@ -193,7 +193,7 @@ fn with_digit(number: u64, digit: u8) -> Option<u64>
 }
 
 /// Returns whether there are digits, without a leading zero except in `0` itself.
-fn are_plain(digits: &[u8]) -> bool
+fn have_no_leading_zero(digits: &[u8]) -> bool
     requires { list_all is_ascii_digit digits.now ≡ true }
     ensures { result ≡ is_decimal digits.now }
 {

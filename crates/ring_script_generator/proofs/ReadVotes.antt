@@ -9,7 +9,7 @@ use Rattle.ring_base.proofs.TwoEqual.{ap-both}
 use Rattle.ring_script.specs.Lines.{LineRequest}
 use Rattle.ring_script.specs.Numbers.{word_at}
 use Rattle.ring_script.specs.Operations.{OperationForm}
-use Rattle.ring_script.specs.Scripts.{Schedule, nodes_of, unless_skipped, requests_in, with_nodes, with_votes, then_nodes, nodes_in, schedule_of, script_by}
+use Rattle.ring_script.specs.Scripts.{Schedule, parse_node_words, unless_skipped, requests_in, with_nodes, with_votes, then_nodes, nodes_in, schedule_of, script_by}
 use Rattle.ring_script.specs.Votes.{votes_at, votes_of, is_votes, then_votes, votes_in}
 use Rattle.ring_script.specs.Words.{LinesLeft, words_of, whole, are_ascii, is_skipped, lines_of}
 use Rattle.ring_base.proofs.Cases.{and_then_some}
@@ -25,8 +25,8 @@ whole_is read x e = grind arith
 
 -- ---- one line.
 
-alike_whole : (line : List ℕ) → IfSome (nodes_of line) Whole
-unfolding nodes_of
+alike_whole : (line : List ℕ) → IfSome (parse_node_words line) Whole
+unfolding parse_node_words
 alike_whole line = grind (arith, length-replicate {A = ℕ})
 
 voted_is : (nodes : Group) (line : List ℕ) (voted : Group) → votes_of nodes line ≡ Some voted → Whole voted
@@ -67,7 +67,7 @@ votes_whole nodes before (line ∷ lines) whole =
           ]
     ]
 
-told_whole : (line : List ℕ) → IfSome (unless_skipped nodes_of line) (λ told. IfSome told Whole)
+told_whole : (line : List ℕ) → IfSome (unless_skipped parse_node_words line) (λ told. IfSome told Whole)
 told_whole line = grind (arith, alike_whole line)
 
 then_whole : (number : ℕ) (told : Option (Option Group)) (lines : List (List ℕ)) (others : Result (Group × LinesLeft) ℕ)
@@ -80,7 +80,7 @@ nodes_whole : (before : ℕ) (lines : List (List ℕ)) → IfOk (nodes_in before
 unfolding nodes_in
 nodes_whole before [] = tt
 nodes_whole before (line ∷ lines) =
-    then_whole (before + 1) (unless_skipped nodes_of line) lines (nodes_in (before + 1) lines) (told_whole line) (nodes_whole (before + 1) lines)
+    then_whole (before + 1) (unless_skipped parse_node_words line) lines (nodes_in (before + 1) lines) (told_whole line) (nodes_whole (before + 1) lines)
 
 -- ---- a script.
 

@@ -80,7 +80,7 @@ impl<V: Vocabulary, A: Allocator> ScriptBuilder<V, A> {
 
     /// A client retries its last call.
     fn retry_call(&mut self) -> Result<(), Fault> {
-        self.retry()?;
+        self.repeat_last_call()?;
         let turns = self.draws.draw_between(1, 40);
         self.pump_about(turns)
     }

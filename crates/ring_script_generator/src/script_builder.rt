@@ -308,7 +308,7 @@ impl<V: Vocabulary, A: Allocator> ScriptBuilder<V, A> {
     /// Errors: `Memory` if an allocation fails; a part of the text may then have been appended.
     ///
     /// Formats: Scripts
-    pub fn retry(&mut self) -> Result<(), Fault> {
+    pub fn repeat_last_call(&mut self) -> Result<(), Fault> {
         let place = self.draws.draw_below(4);
         let client = self.clients[place as usize];
         let node = self.draws.draw_member(self.live).unwrap_or(client.home);

@@ -32,7 +32,7 @@ use Rattle.ring_session.specs.DeduplicatedLaws.{numbered_once, takes_effect-numb
 use Rattle.ring_session.specs.SessionAnswer.{refusal, is_same, repeated, answer_after, call_reply, session_answer, is_done}
 use Rattle.ring_session.specs.SessionAnswerLaws.{call_reply-front, position-is_same, session_answer-at, same_cases}
 use Rattle.ring_session.specs.Table.{LastCall, Table, table_of, opening, session_of, last_number, last_call, has_room}
-use Rattle.ring_session.specs.Table.{is_taken, kept_answer, other_answer, table_answer, table_next, table_after}
+use Rattle.ring_session.specs.Table.{is_taken, kept_answer, answer_unless_next, table_answer, table_next, table_after}
 use Rattle.ring_session.proofs.Entries.{set_value-known, length-new, lookup-insert_same, lookup-insert_other, sorted_none, sorted_insert}
 
 -- ---- the content of a table
@@ -368,9 +368,9 @@ module _ {O A : Type 0} (object : Sequential O) where
   pub done-taken : (table : Table O) (c : Call A) → is_done (table_answer object table c) ≡ is_taken table c
   done-taken table c =
       let last = session_of table c.client in
-      let apart : is_done (other_answer last c) ≡ false = other_not-done (c.number == last_number last)
+      let apart : is_done (answer_unless_next last c) ≡ false = other_not-done (c.number == last_number last)
       (nat_lt c.number (last_number last)) (kept_answer last c.op) (last_not-done last c.op) in
-      done_where (c.number == last_number last + 1) (has_room table c.client) (object.reply table.content c.op) (other_answer last c) apart
+      done_where (c.number == last_number last + 1) (has_room table c.client) (object.reply table.content c.op) (answer_unless_next last c) apart
 
   -- So after a list of calls it answers `Done` exactly if the call takes effect.
   pub table_effect : (calls : List (Call A)) (c : Call A) → is_done (table_answer object (table_after object calls) c) ≡ takes_effect (deduplicated calls) c

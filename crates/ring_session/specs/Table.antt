@@ -56,8 +56,8 @@ kept_answer None operation = refusal Conflict
 kept_answer (Some last) operation = if bytes_eq last.operation operation then Kept last.reply else refusal Conflict
 
 -- The answer to a call whose number isn't its client's next.
-abbrev pub other_answer : {A : Type 0} → Option LastCall → Call A → Answer
-other_answer last c =
+abbrev pub answer_unless_next : {A : Type 0} → Option LastCall → Call A → Answer
+answer_unless_next last c =
     if c.number == last_number last then kept_answer last c.op
     else if nat_lt c.number (last_number last) then refusal Stale
     else refusal NumberGap
@@ -68,7 +68,7 @@ module _ {O : Type 0} (object : Sequential O) where
   table_answer table c =
       let last = session_of table c.client in
       if c.number == last_number last + 1 then (if has_room table c.client then Done (object.reply table.content c.op) else refusal SessionsFull)
-      else other_answer last c
+      else answer_unless_next last c
 
   -- Sessions 3: the table after a call. A call that takes effect is applied and kept; any other call leaves the table
   -- unchanged.

@@ -6,7 +6,7 @@
 ghost use Rattle.std.specs.Prelude.{◌≡◌, ◌++◌, take, vec_len, IfErr, OnOk, Some};
 ghost use Rattle.ring_base.specs.declared.fault.Fault.TheVariants.{Memory};
 ghost use Rattle.ring_session.specs.Snapshots.{last_call_encoding};
-ghost use Rattle.ring_session.specs.Table.{other_answer};
+ghost use Rattle.ring_session.specs.Table.{answer_unless_next};
 
 use crate::answer::Answer;
 use crate::snapshots::append_number;
@@ -24,7 +24,7 @@ use std::alloc::Allocator;
 ///
 /// Rules: Sessions 12
 /// Formats: Snapshots
-pub fn append_last<A: Allocator + Copy>(
+pub fn append_last_call<A: Allocator + Copy>(
     last: &LastCall<A>,
     out: &mut Vec<u8, A>,
 ) -> Result<(), Fault>
@@ -47,8 +47,8 @@ pub fn append_last<A: Allocator + Copy>(
 /// the same number, with `Stale` for a smaller one, and with `NumberGap` for a greater one.
 ///
 /// Rules: Sessions 3
-pub fn other_answer<A: Allocator + Copy>(last: &LastCall<A>, call: &Call<A>) -> Answer
-    ensures { result ≡ other_answer (Some last.now) call.now }
+pub fn answer_unless_next<A: Allocator + Copy>(last: &LastCall<A>, call: &Call<A>) -> Answer
+    ensures { result ≡ answer_unless_next (Some last.now) call.now }
 {
     if call.number == last.number() {
         if last.operation() == call.op.as_slice() {

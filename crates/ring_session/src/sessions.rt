@@ -7,17 +7,17 @@ ghost use Rattle.ring_base.specs.declared.fault.Fault.TheVariants.{Memory, Sessi
 ghost use Rattle.ring_payload.specs.declared.call.Call.{Call};
 ghost use Rattle.ring_object.specs.Snapshots.{IsSnapshotRefusal};
 ghost use Rattle.ring_session.specs.Deduplicated.{max_clients};
-ghost use Rattle.ring_session.specs.SessionAnswer.{refusal, reply_in, session_answer};
+ghost use Rattle.ring_session.specs.SessionAnswer.{refusal, decode_reply, session_answer};
 ghost use Rattle.ring_session.specs.Snapshots.{table_snapshot, restored_table};
 ghost use Rattle.ring_session.specs.TicketEffects.{numbers_in, table_effects};
 ghost use Rattle.ring_session.specs.Table.{opening, session_of, table_answer, table_next, table_after};
 
 use crate::MAX_CLIENTS;
 use crate::answer::Answer;
-use crate::session::other_answer;
+use crate::session::answer_unless_next;
 use crate::snapshots::{append_clients, parts_of, read_clients};
 use ring_base::Fault;
-use ring_object::{Object, append_sized, copy_by_snapshot};
+use ring_object::{Object, append_sized_snapshot, copy_by_snapshot};
 use ring_payload::Call;
 use ring_session_entry::LastCall;
 use std::alloc::Allocator;
@@ -85,7 +85,7 @@ impl<O: Object> Sessions<O> {
             → IfOk result (λ answer. session_answer O.sequential (calls ++ call.now ∷ []) (length calls) ≡ Some answer) }
 
         // A call of number 0 has no reply, and `SessionsFull` comes only with exactly `max_clients` known clients.
-        ensures replied_from_one { IfOk result (λ answer. IsSome (reply_in answer) → 1 ≤ call.now.number) }
+        ensures replied_from_one { IfOk result (λ answer. IsSome (decode_reply answer) → 1 ≤ call.now.number) }
         ensures full_only_at_limit { IfOk result (λ answer. answer ≡ refusal SessionsFull → length self.old.sessions ≡ max_clients) }
     {
         match self.sessions.get_mut(&call.client) {
@@ -93,7 +93,7 @@ impl<O: Object> Sessions<O> {
                 if last.is_next(call.number) {
                     Ok(Answer::Done(last.apply(&mut self.object, call)?))
                 } else {
-                    Ok(other_answer(last, call))
+                    Ok(answer_unless_next(last, call))
                 }
             }
             // An unknown client's last number is 0.
@@ -141,7 +141,7 @@ impl<O: Object> Sessions<O> {
         ensures refused { IfErr result (λ fault. fault ≡ Memory) }
     {
         append_clients(out, &self.sessions)?;
-        append_sized(&self.object, out)
+        append_sized_snapshot(&self.object, out)
     }
 
     /// Returns the table whose snapshot is exactly `bytes`, in memory of `alloc`.

@@ -14,7 +14,7 @@ ghost use Rattle.ring_session.specs.Deduplicated.{max_clients};
 ghost use Rattle.ring_session.specs.Snapshots.{client_encoding, reply_at, next_at, clients_at, clients_in, AreParts};
 
 use crate::MAX_CLIENTS;
-use crate::session::append_last;
+use crate::session::append_last_call;
 use byteorder::{BigEndian, ByteOrder};
 use ring_base::Fault;
 use ring_object::MAX_REPLY;
@@ -67,7 +67,7 @@ pub fn append_clients<A: Allocator + Copy>(
     append_number(out, sessions.len() as u64, 2)?;
     for (client, last) in sessions.iter() {
         append_number(out, u64::from(*client), 4)?;
-        append_last(last, out)?;
+        append_last_call(last, out)?;
     }
     Ok(())
 }
@@ -182,7 +182,7 @@ impl<'a> ClientFields<'a> {
 /// Splits off the first client.
 ///
 /// Returns `None` if there is none, or its number is below `low`.
-fn first_client(low: u64, bytes: &[u8]) -> Option<(ClientFields<'_>, &[u8])>
+fn split_off_client(low: u64, bytes: &[u8]) -> Option<(ClientFields<'_>, &[u8])>
     ensures { option_map (λ p. (p.0, p.1.now)) result ≡ next_at low bytes.now }
 {
     let (client, rest) = first_number(4, bytes)?;
@@ -211,7 +211,7 @@ fn bytes_after_clients(count: u64, bytes: &[u8]) -> Option<&[u8]>
     let mut rest = bytes;
     let mut low = 0;
     for _i in 0..count {
-        let Some((client_entry, behind)) = first_client(low, rest) else {
+        let Some((client_entry, behind)) = split_off_client(low, rest) else {
             return None;
         };
         low = client_entry.above();
@@ -264,7 +264,7 @@ pub fn read_clients<A: Allocator + Copy>(
     let mut rest = bytes;
     let mut low = 0;
     for _i in 0..count {
-        let (client_entry, behind) = first_client(low, rest).unwrap();
+        let (client_entry, behind) = split_off_client(low, rest).unwrap();
         let last = client_entry.last_call(alloc)?;
         sessions.insert(client_entry.client(), last)?;
         low = client_entry.above();

@@ -307,7 +307,7 @@ fn answer_to<A: Allocator + Copy + Drop>(
 /// It compares each of these tickets with the call. A ticket whose call is in `before` gets no answer.
 ///
 /// Errors: `Memory` if an allocation fails.
-fn answer_without_buckets<A: Allocator + Copy + Drop>(
+fn append_unbucketed_answers<A: Allocator + Copy + Drop>(
     pending: &[Pending<A>],
     before: &[Call<A>],
     call: &Call<A>,
@@ -365,7 +365,7 @@ pub fn answers_of<O: Object>(
         return Ok((Vec::new(alloc), 0));
     }
     if pending.is_empty() {
-        return Ok((Vec::new(alloc), apply_all(sessions, committed)?));
+        return Ok((Vec::new(alloc), apply_and_count_effects(sessions, committed)?));
     }
     answers_of_pending(alloc, sessions, pending, committed)
 }
@@ -373,7 +373,7 @@ pub fn answers_of<O: Object>(
 /// Applies calls to the sessions, in order, and returns the number of calls that took effect.
 ///
 /// Errors: `Memory` if an allocation fails.
-fn apply_all<O: Object>(
+fn apply_and_count_effects<O: Object>(
     sessions: &mut Sessions<O>,
     committed: &[Call<O::Alloc>],
 ) -> Result<u64, Fault>
@@ -417,7 +417,7 @@ fn answers_of_pending<O: Object>(
             effects += 1;
         }
         answer_to(&buckets, &mut gone, near, call, answer, &mut answers)?;
-        answer_without_buckets(beyond, &committed[..place], call, answer, &mut answers)?;
+        append_unbucketed_answers(beyond, &committed[..place], call, answer, &mut answers)?;
     }
     Ok((answers, effects))
 }

@@ -30,7 +30,7 @@ use Rattle.ring_core_spec.specs.Joining.{gather_entered, join_effect_at, is_gath
 use Rattle.ring_core_spec.specs.Handing.{takes_first_round, takes_second_round, takes_start}
 use Rattle.ring_core_spec.specs.Deciding.{Ignore, Enqueue, Take, Visit, Fill, Learn, is_taken, decide_message, decide_token}
 use Rattle.ring_core_spec.specs.Deciding.{transition_in_gather, transition_into_gather, decide_join_elsewhere, decide_join, decide_round}
-use Rattle.ring_core_spec.specs.Deciding.{decide_commit, decide_frame, decide_if_named, decide_time, decide_user}
+use Rattle.ring_core_spec.specs.Deciding.{decide_commit, decide_frame, decide_if_named, decide_time, decide_in_operational}
 use Rattle.ring_core_spec.specs.Deciding.{decide_payload, decide}
 use Rattle.ring_srp_transitions.specs.Allowing.{Allows, InputFits, TokenGoes, VisitAllowed}
 use Rattle.ring_srp_transitions.specs.RunningCores.{is_running}
@@ -129,7 +129,7 @@ in_time c Recovery Loss h = tt
 in_time c Recovery JoinTime h = tt
 in_time c Recovery Consensus h = tt
 
-in_user : {A : Type 0} (c : Core A) (payload : Payload A) → Allows c (decide_user payload)
+in_user : {A : Type 0} (c : Core A) (payload : Payload A) → Allows c (decide_in_operational payload)
 in_user c payload = cond_both (is_queued payload) (Enqueue payload) Ignore (Allows c) (λ e. tt) (λ e. tt)
 
 in_payload : {A : Type 0} (s : State) (c : Core A) (payload : Payload A) → Allows c (decide_payload s payload)

@@ -16,7 +16,7 @@ ghost use Rattle.ring_srp_transitions.specs.Allowing.{InputFits};
 ghost use Rattle.ring_core_spec.specs.Tokens.{first_token};
 ghost use Rattle.ring_srp.specs.Given.{IsGiven};
 
-use crate::stepping::{receive, send, step, step_into_one_list, visit_first};
+use crate::stepping::{receive, send, step, step_into_one_list, visit_first_token};
 use ring_base::{Fault, Fixed, Ghost, Kind, Proc, RingId, State, ghost_now, pair_result};
 use ring_core_spec::{Configuration, Input, Out, OutgoingFrame};
 use ring_payload::Payload;
@@ -334,7 +334,7 @@ fn start_representative<A: Allocator + Copy>(
     ensures outs { IfOk result (λ start_representative. start_representative.1.items ≡ sent (token_visited (formed fixed.count 1) (first_token (all_of fixed.count).ring)).sends) }
     ensures refused { IfErr result (λ fault. fault ≡ Memory) }
 {
-    let outs = visit_first(&mut running_core, fixed);
+    let outs = visit_first_token(&mut running_core, fixed);
     pair_result(running_core, outs)
 }
 

@@ -98,14 +98,14 @@ pub(crate) fn receive<A: Allocator + Copy>(
     ensures running { OnOk result (is_stopped running_core.old.state ≡ false) }
     ensures refused { IfErr result (λ fault. fault ≡ Memory) }
 {
-    match running_core.visited_by(frame) {
+    match running_core.token_to_visit(frame) {
         Some(token) => step_with_token(running_core, token, sends),
-        None => receive_other(running_core, frame, sends),
+        None => step_with_other_frame(running_core, frame, sends),
     }
 }
 
 /// Runs one step on a frame whose transition isn't `Visit`.
-fn receive_other<A: Allocator + Copy>(
+fn step_with_other_frame<A: Allocator + Copy>(
     running_core: &mut RunningCore<A>,
     frame: &Frame<A>,
     sends: &mut Vec<OutgoingFrame<A>, A>,
@@ -232,7 +232,7 @@ fn visit_and_propose<A: Allocator + Copy>(
 /// Errors: `Memory` if an allocation fails; the core is then unspecified.
 ///
 /// Rules: Rings and states 14; The commit token 7
-pub(crate) fn visit_first<A: Allocator + Copy>(
+pub(crate) fn visit_first_token<A: Allocator + Copy>(
     running_core: &mut RunningCore<A>,
     fixed: Fixed,
 ) -> Result<Vec<Out<A>, A>, Fault>
@@ -349,7 +349,7 @@ fn apply_transition<A: Allocator + Copy>(
         Transition::Enqueue(payload) => running_core.enqueue(payload),
         Transition::Repeat => running_core.repeat(sends),
         Transition::Announce => running_core.announce(sends),
-        Transition::Invite => running_core.invite(sends),
+        Transition::Invite => running_core.send_invitation_join(sends),
         Transition::GiveUp => {
             running_core.give_up();
             running_core.announce(sends)

@@ -25,14 +25,14 @@ abbrev pub with_ring : {A : Type 0} → History A → Configuration → CommitEn
 with_ring h running own = record h { rings = running ∷ h.rings; reports = record { ring = running.ring; entry = own } ∷ h.reports }
 
 -- The lists after a visit of the token: the newest of these visits.
-abbrev pub with_visit : {A : Type 0} → History A → List (TokenVisit A) → History A
-with_visit h [] = h
-with_visit h (v ∷ turns) = record h { turns = v ∷ h.turns }
+abbrev pub history_with_core_visit : {A : Type 0} → History A → List (TokenVisit A) → History A
+history_with_core_visit h [] = h
+history_with_core_visit h (v ∷ turns) = record h { turns = v ∷ h.turns }
 
 -- The lists after a full commit token raises the safe mark of an old ring.
-abbrev pub with_plan : {A : Type 0} → History A → CommitToken → RingId → ℕ → History A
-with_plan h k old mark = record h { raises = record { ring = old; mark = mark } ∷ h.raises; plans = k ∷ h.plans }
+abbrev pub history_with_plan : {A : Type 0} → History A → CommitToken → RingId → ℕ → History A
+history_with_plan h k old mark = record h { raises = record { ring = old; mark = mark } ∷ h.raises; plans = k ∷ h.plans }
 
 -- The lists after a ring is installed.
-abbrev pub with_install : {A : Type 0} → History A → Configuration → History A
-with_install h running = record h { installs = running ∷ h.installs }
+abbrev pub history_with_install : {A : Type 0} → History A → Configuration → History A
+history_with_install h running = record h { installs = running ∷ h.installs }

@@ -38,7 +38,7 @@ pub fn give_agreed<A: Allocator + Copy>(
 {
     for before in below..window.front() {
         if let Some(message) = window.get(before + 1) {
-            give_message(window.ring(), message, outs)?;
+            push_agreed_if_user(window.ring(), message, outs)?;
         }
     }
     Ok(())
@@ -46,7 +46,7 @@ pub fn give_agreed<A: Allocator + Copy>(
 
 /// Appends an `Agreed` for the message if it is a user message.
 #[inline(never)]
-fn give_message<A: Allocator + Copy>(
+fn push_agreed_if_user<A: Allocator + Copy>(
     ring: RingId,
     message: &Message<A>,
     outs: &mut Vec<Out<A>, A>,
@@ -79,13 +79,13 @@ pub fn give_safe<A: Allocator + Copy>(
     ensures refused { IfErr result (λ fault. fault ≡ Memory) }
 {
     if before < mark {
-        give_mark(ring, mark, outs)?;
+        push_safe(ring, mark, outs)?;
     }
     Ok(())
 }
 
 #[inline(never)]
-fn give_mark<A: Allocator + Copy>(
+fn push_safe<A: Allocator + Copy>(
     ring: RingId,
     mark: u64,
     outs: &mut Vec<Out<A>, A>,
@@ -114,13 +114,13 @@ pub fn give_rest<A: Allocator + Copy>(
     ensures refused { IfErr result (λ fault. fault ≡ Memory) }
 {
     for number in numbers.iter() {
-        give_number(window, number, outs)?;
+        push_rest_of_number(window, number, outs)?;
     }
     Ok(())
 }
 
 /// Appends a `Rest` for message `number`, if the window still has it and it is a user message.
-fn give_number<A: Allocator + Copy>(
+fn push_rest_of_number<A: Allocator + Copy>(
     window: &Window<A>,
     number: u64,
     outs: &mut Vec<Out<A>, A>,
@@ -129,13 +129,13 @@ fn give_number<A: Allocator + Copy>(
     ensures refused { IfErr result (λ fault. fault ≡ Memory) }
 {
     match window.get(number) {
-        Some(message) => give_if_users(message, outs),
+        Some(message) => push_rest_if_user(message, outs),
         None => Ok(()),
     }
 }
 
 /// Appends a `Rest` for the message if it is a user message.
-fn give_if_users<A: Allocator + Copy>(
+fn push_rest_if_user<A: Allocator + Copy>(
     message: &Message<A>,
     outs: &mut Vec<Out<A>, A>,
 ) -> Result<(), Fault>

@@ -17,8 +17,8 @@ mod wrapping;
 
 pub use giving::{give_agreed, give_deferred, give_rest, give_safe};
 pub use history::{
-    CoreHistory, formed_of, none, one_first, one_last, opened, with_install, with_plan, with_ring,
-    with_visit,
+    CoreHistory, formed_history, none, one_first, ghost_list_with_last, opened, history_with_install, history_with_plan, with_ring,
+    history_with_core_visit,
 };
 pub use packing::take_packed;
 pub use queued::is_queued;

@@ -40,12 +40,12 @@ pub fn take_packed<A: Allocator + Copy>(
     if queue.is_empty() {
         return Ok(Vec::new(alloc));
     }
-    take_some(alloc, queue, most)
+    take_from_nonempty(alloc, queue, most)
 }
 
 /// Does the same for a queue that isn't empty.
 #[inline(never)]
-fn take_some<A: Allocator + Copy>(
+fn take_from_nonempty<A: Allocator + Copy>(
     alloc: A,
     queue: &mut VecDeque<Payload<A>, A>,
     most: u64,
@@ -57,7 +57,7 @@ fn take_some<A: Allocator + Copy>(
 {
     let mut payloads = Vec::with_capacity(alloc, queue.len().min(most as usize))?;
     for _ in 0..most {
-        let Some(payload) = take_message(alloc, queue)? else {
+        let Some(payload) = take_next_payload(alloc, queue)? else {
             return Ok(payloads);
         };
         payloads.push(payload)?;
@@ -68,7 +68,7 @@ fn take_some<A: Allocator + Copy>(
 /// Takes the payload of one new message from the queue, if there is one. The Calls of a Pack are moved, not copied.
 ///
 /// Errors: `Memory` if an allocation fails. Some of the queue's first payloads may then be lost; the rest is unchanged.
-fn take_message<A: Allocator + Copy>(
+fn take_next_payload<A: Allocator + Copy>(
     alloc: A,
     queue: &mut VecDeque<Payload<A>, A>,
 ) -> Result<Option<Payload<A>>, Fault>

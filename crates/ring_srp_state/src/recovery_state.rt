@@ -58,7 +58,7 @@ impl<A: Allocator + Copy> RecoveryState<A> {
     {
         for before in self.most..self.part.window.front() {
             if let Some(message) = self.part.window.get(before + 1) {
-                keep_copy(message, &mut self.deferred)?;
+                push_copy_if_user(message, &mut self.deferred)?;
             }
             self.most = before + 1;
         }
@@ -111,7 +111,7 @@ fn copied_messages<A: Allocator + Copy>(
 /// Appends a copy of the message if it is a user message.
 ///
 /// Errors: `Memory` if an allocation fails; nothing is appended.
-fn keep_copy<A: Allocator + Copy>(
+fn push_copy_if_user<A: Allocator + Copy>(
     message: &Message<A>,
     deferred: &mut Vec<Message<A>, A>,
 ) -> Result<(), Fault>

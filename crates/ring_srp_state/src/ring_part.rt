@@ -157,7 +157,7 @@ impl<A: Allocator + Copy> RingPart<A> {
             &mut forwarded.requests,
         );
         let front = self.window.front();
-        visit_as(&mut self.visit, token, front, count, fresh, forwarded);
+        visit_with_payloads(&mut self.visit, token, front, count, fresh, forwarded);
         self.window.forget(self.visit.safe());
     }
 
@@ -200,7 +200,7 @@ fn merge_requests(remaining_requests: &Requests, missing: &mut Requests)
 ///
 /// The ghost argument of `Visit::visit_into` is chosen from a call's own arguments, so this function takes `fresh` as
 /// one of them.
-fn visit_as<A: Allocator + Copy>(
+fn visit_with_payloads<A: Allocator + Copy>(
     visit: &mut Visit<A>,
     token: &Token,
     front: u64,

@@ -94,7 +94,7 @@ fn add_token<A: Allocator + Copy>(
     ensures refused { IfErr result (λ fault. fault ≡ Memory) }
 {
     if !token.requests.as_slice().is_empty() {
-        return add_asking(sends, to, token);
+        return push_token_with_requests(sends, to, token);
     }
     sends.reserve(1)?;
     sends.push_reserved(OutgoingFrame {
@@ -113,7 +113,7 @@ fn add_token<A: Allocator + Copy>(
 
 /// Does the same for a token that may have requests.
 #[inline(never)]
-fn add_asking<A: Allocator + Copy>(
+fn push_token_with_requests<A: Allocator + Copy>(
     sends: &mut Vec<OutgoingFrame<A>, A>,
     to: ProcSet,
     token: &Token,

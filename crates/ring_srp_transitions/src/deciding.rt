@@ -8,7 +8,7 @@ ghost use Rattle.ring_payload.specs.Packing.{is_queued};
 ghost use Rattle.ring_token.specs.Turns.{first_token};
 ghost use Rattle.ring_srp_transitions.specs.CodeTransitions.{transition_of};
 ghost use Rattle.ring_core_spec.specs.Deciding.{decide, decide_frame, decide_token, decide_join, decide_commit};
-ghost use Rattle.ring_core_spec.specs.Deciding.{decide_round, decide_time, decide_payload, decide_user, transition_in_gather};
+ghost use Rattle.ring_core_spec.specs.Deciding.{decide_round, decide_time, decide_payload, decide_in_operational, transition_in_gather};
 ghost use Rattle.ring_core_spec.specs.Deciding.{transition_into_gather, decide_join_elsewhere, is_taken};
 ghost use Rattle.ring_core_spec.specs.Deciding.{Take as TakeAct, Visit as VisitAct, Ignore as IgnoreAct};
 ghost use Rattle.ring_core_spec.specs.declared.input.Input.TheVariants.{Frame as FrameInput};
@@ -61,7 +61,7 @@ impl<A: Allocator + Copy> RunningCore<A> {
     /// choose `Visit` with this token.
     ///
     /// Rules: Token and window 6
-    pub fn visited_by<'a>(&self, frame: &'a Frame<A>) -> Option<&'a Token>
+    pub fn token_to_visit<'a>(&self, frame: &'a Frame<A>) -> Option<&'a Token>
         ensures { IfSome result (λ token. VisitAct token.now ≡ decide self.now (FrameInput frame.now)) }
     {
         match frame {
@@ -121,16 +121,16 @@ impl<A: Allocator + Copy> RunningCore<A> {
         ensures { result ≡ is_taken self.now message.now }
     {
         match self.state {
-            State::Recovery | State::Operational => self.takes_in(&self.running, message),
+            State::Recovery | State::Operational => self.takes_message_of(&self.running, message),
             State::Gather => {
-                self.floor() == message.ring.seq && self.takes_in(&self.installed, message)
+                self.floor() == message.ring.seq && self.takes_message_of(&self.installed, message)
             }
             State::Commit | State::Stopped => false,
         }
     }
 
     /// Returns whether a message belongs to this ring, its sender is a member, and its number is new.
-    fn takes_in(&self, configuration: &Configuration, message: &Message<A>) -> bool
+    fn takes_message_of(&self, configuration: &Configuration, message: &Message<A>) -> bool
         requires { configuration.now.ring ≡ ring_in_use self.now.state self.now }
         ensures { result ≡ (same_ring message.now.ring configuration.now.ring
             && has configuration.now.members message.now.sender && takes_number self.now message.now.ring
@@ -271,7 +271,7 @@ impl<A: Allocator + Copy> RunningCore<A> {
         ensures { transition_of result ≡ decide_payload self.now.state payload }
     {
         match self.state {
-            State::Operational => decide_user(payload),
+            State::Operational => decide_in_operational(payload),
             State::Gather | State::Commit | State::Recovery | State::Stopped => Transition::Ignore,
         }
     }
@@ -318,8 +318,8 @@ pub fn first_token(ring: RingId) -> Token
 }
 
 /// Returns the transition for a payload in Operational.
-fn decide_user<A: Allocator + Copy>(payload: Payload<A>) -> Transition<A>
-    ensures { transition_of result ≡ decide_user payload }
+fn decide_in_operational<A: Allocator + Copy>(payload: Payload<A>) -> Transition<A>
+    ensures { transition_of result ≡ decide_in_operational payload }
 {
     if is_queued(&payload) {
         Transition::Enqueue(payload)

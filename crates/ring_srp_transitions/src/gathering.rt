@@ -120,7 +120,7 @@ impl<A: Allocator + Copy> RunningCore<A> {
     /// Errors: `Memory` if an allocation fails; the contents of `sends` are then unspecified.
     ///
     /// Rules: Timeouts 4
-    pub fn invite(&self, sends: &mut Vec<OutgoingFrame<A>, A>) -> Result<(), Fault>
+    pub fn send_invitation_join(&self, sends: &mut Vec<OutgoingFrame<A>, A>) -> Result<(), Fault>
         ensures ok { OnOk result (sends.new.items ≡ sends.old.items ++ addressed (join_invitation self.now ∷ [])) }
         ensures refused { IfErr result (λ fault. fault ≡ Memory) }
     {

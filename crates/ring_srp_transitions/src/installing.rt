@@ -14,7 +14,7 @@ use crate::running_core::RunningCore;
 use ring_base::{Fault, State};
 use ring_core_spec::Out;
 use ring_recover::Delivery;
-use ring_srp_state::{give_deferred, give_rest, with_install};
+use ring_srp_state::{give_deferred, give_rest, history_with_install};
 use ring_wire::Message;
 use std::alloc::{Allocator, Global};
 
@@ -73,8 +73,8 @@ impl<A: Allocator + Copy> RunningCore<A> {
         ensures outs { OnOk result (outs.new.items ≡ outs.old.items ++ all_installation_outputs self.old) }
         ensures refused { IfErr result (λ fault. fault ≡ Memory) }
     {
-        self.make_room_to_install(outs)?;
-        self.give_change(delivery, outs)?;
+        self.reserve_installation_outputs(outs)?;
+        self.give_configurations(delivery, outs)?;
         let deferred = self.settle();
         let ring = self.installed.ring;
         let before = RingProgress {
@@ -90,7 +90,7 @@ impl<A: Allocator + Copy> RunningCore<A> {
     ///
     /// These are the two configurations, the messages in the old ring's window, the deferred messages of the running
     /// ring, those that its front covers after them, and its safe mark.
-    fn make_room_to_install(&self, outs: &mut Vec<Out<A>, A>) -> Result<(), Fault>
+    fn reserve_installation_outputs(&self, outs: &mut Vec<Out<A>, A>) -> Result<(), Fault>
         ensures kept { outs.new.items ≡ outs.old.items }
         ensures refused { IfErr result (λ fault. fault ≡ Memory) }
     {
@@ -109,7 +109,7 @@ impl<A: Allocator + Copy> RunningCore<A> {
     }
 
     /// Appends the transitional configuration with the rest of the old ring, and the regular configuration.
-    fn give_change(&self, delivery: &Delivery, outs: &mut Vec<Out<A>, A>) -> Result<(), Fault>
+    fn give_configurations(&self, delivery: &Delivery, outs: &mut Vec<Out<A>, A>) -> Result<(), Fault>
         requires due { may_install self.now ≡ true }
         requires delivery { delivery.now ≡ whole_delivery (plan self.now) self.now.held }
         ensures ok { OnOk result (outs.new.items ≡ outs.old.items ++ change_outputs self.now) }
@@ -132,7 +132,7 @@ impl<A: Allocator + Copy> RunningCore<A> {
         ensures safe { mark self.old self.old.running.ring ≤ result.most }
     {
         let recovery_state = self.recovery.take().unwrap();
-        let history = with_install(&self.history, self.running);
+        let history = history_with_install(&self.history, self.running);
         self.kept = recovery_state.part;
         self.installed = self.running;
         self.state = State::Operational;

@@ -16,7 +16,7 @@ use crate::running_core::RunningCore;
 use ring_base::{Fault, Ghost, ProcSet, State};
 use ring_core_spec::OutgoingFrame;
 use ring_payload::Payload;
-use ring_srp_state::with_visit;
+use ring_srp_state::history_with_core_visit;
 use ring_wire::{Requests, Token};
 use std::alloc::Allocator;
 
@@ -70,16 +70,16 @@ impl<A: Allocator + Copy> RunningCore<A> {
         ensures refused { IfErr result (λ fault. fault ≡ Memory) }
     {
         match self.state {
-            State::Recovery => self.pass_running(token, remaining_requests, count, fresh),
+            State::Recovery => self.pass_in_recovery(token, remaining_requests, count, fresh),
             _ => {
-                self.pass_installed(token, remaining_requests, count, fresh);
+                self.pass_in_operational(token, remaining_requests, count, fresh);
                 Ok(())
             }
         }
     }
 
     /// Does the same in Recovery. It first defers the user messages that the window may drop.
-    fn pass_running(
+    fn pass_in_recovery(
         &mut self,
         token: &Token,
         remaining_requests: &Requests,
@@ -106,13 +106,13 @@ impl<A: Allocator + Copy> RunningCore<A> {
                 to,
                 &mut self.last_sent,
             );
-            self.history = with_visit(&self.history, &recovery_state.part.visit);
+            self.history = history_with_core_visit(&self.history, &recovery_state.part.visit);
         }
         Ok(())
     }
 
     /// Does the same in Operational, where the running ring is the installed one.
-    fn pass_installed(
+    fn pass_in_operational(
         &mut self,
         token: &Token,
         remaining_requests: &Requests,
@@ -136,6 +136,6 @@ impl<A: Allocator + Copy> RunningCore<A> {
             to,
             &mut self.last_sent,
         );
-        self.history = with_visit(&self.history, &self.kept.visit);
+        self.history = history_with_core_visit(&self.history, &self.kept.visit);
     }
 }

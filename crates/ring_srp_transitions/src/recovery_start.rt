@@ -16,7 +16,7 @@ use ring_base::{Fault, Ghost, ProcSet, State, ghost_now};
 use ring_commit::receiver;
 use ring_core_spec::OutgoingFrame;
 use ring_recover::{Ends, Plan};
-use ring_srp_state::{RecoveryState, RingPart, with_plan};
+use ring_srp_state::{RecoveryState, RingPart, history_with_plan};
 use ring_token::Visit;
 use ring_window::Window;
 use ring_wire::{CommitBox, CommitToken, Frame};
@@ -70,7 +70,7 @@ impl<A: Allocator + Copy> RunningCore<A> {
         ensures { self.new ≡ core_in_recovery self.old received.now.value last_sent }
     {
         let safe = plan.safe();
-        let history = with_plan(&self.history, received, self.installed.ring, safe);
+        let history = history_with_plan(&self.history, received, self.installed.ring, safe);
         let visit = Visit::new(self.me, self.running.ring);
         self.kept.visit.raise(safe);
         self.kept.window.forget(safe);

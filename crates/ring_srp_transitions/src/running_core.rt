@@ -12,7 +12,7 @@ use ring_commit::Configuration;
 use ring_core_spec::OutgoingFrame;
 use ring_join::Gather;
 use ring_payload::Payload;
-use ring_srp_state::{CoreHistory, RecoveryState, RingPart, formed_of, none, opened};
+use ring_srp_state::{CoreHistory, RecoveryState, RingPart, formed_history, none, opened};
 use ring_wire::{CommitEntry, Message};
 use std::alloc::{Allocator, Global};
 use std::collections::VecDeque;
@@ -116,7 +116,7 @@ impl<A: Allocator + Copy> RunningCore<A> {
             kept,
             recovery: None,
             held: none(),
-            history: formed_of(fixed, me),
+            history: formed_history(fixed, me),
         })
     }
 

@@ -22,7 +22,7 @@ use crate::running_core::RunningCore;
 use ring_base::{Fault, Ghost, MAX, ProcSet, State, VISIT_LIMIT, WINDOW_SIZE};
 use ring_core_spec::{Out, OutgoingFrame};
 use ring_payload::Payload;
-use ring_srp_state::{none, one_last, send_message, take_packed};
+use ring_srp_state::{none, ghost_list_with_last, send_message, take_packed};
 use ring_token::requests_left;
 use ring_wire::{Message, Requests, Token};
 use std::alloc::Allocator;
@@ -48,15 +48,15 @@ impl<A: Allocator + Copy> RunningCore<A> {
         ensures refused { IfErr result (λ fault. fault ≡ Memory) }
     {
         if token.requests.as_slice().is_empty() {
-            self.visit_asked(token, &token.requests, sends)
+            self.visit_with_remaining(token, &token.requests, sends)
         } else {
-            self.visit_asking(token, sends)
+            self.visit_with_requests(token, sends)
         }
     }
 
     /// Does the same for a token with requests, some of which may remain.
     #[inline(never)]
-    fn visit_asking(
+    fn visit_with_requests(
         &mut self,
         token: &Token,
         sends: &mut Vec<OutgoingFrame<A>, A>,
@@ -67,7 +67,7 @@ impl<A: Allocator + Copy> RunningCore<A> {
         ensures refused { IfErr result (λ fault. fault ≡ Memory) }
     {
         let remaining_requests = self.remaining_requests(token);
-        self.visit_asked(token, &remaining_requests, sends)
+        self.visit_with_remaining(token, &remaining_requests, sends)
     }
 
     /// Returns an empty list with capacity for the outputs of the coming visit: an `Agreed` for each new message, and a
@@ -96,7 +96,7 @@ impl<A: Allocator + Copy> RunningCore<A> {
     }
 
     /// Visits an accepted token, with `remaining_requests` as those of its requests that stay.
-    fn visit_asked(
+    fn visit_with_remaining(
         &mut self,
         token: &Token,
         remaining_requests: &Requests,
@@ -111,7 +111,7 @@ impl<A: Allocator + Copy> RunningCore<A> {
         self.repeat_requested(token, sends)?;
         let payloads = self.new_payloads(token)?;
         let count = payloads.len() as u64;
-        let fresh = self.send_new(token, payloads, sends)?;
+        let fresh = self.send_new_messages(token, payloads, sends)?;
         self.pass_token(token, remaining_requests, count, &fresh, sends)
     }
 
@@ -177,7 +177,7 @@ impl<A: Allocator + Copy> RunningCore<A> {
     }
 
     /// Sends the new messages, numbered from `seq` + 1 on, and holds them. Returns their payloads, for contracts.
-    fn send_new(
+    fn send_new_messages(
         &mut self,
         token: &Token,
         payloads: Vec<Payload<A>, A>,
@@ -219,7 +219,7 @@ impl<A: Allocator + Copy> RunningCore<A> {
         let mut number = token.seq;
         for payload in payloads {
             number += 1;
-            fresh = one_last(&fresh, &payload);
+            fresh = ghost_list_with_last(&fresh, &payload);
             let message = Message {
                 ring: token.ring,
                 number,

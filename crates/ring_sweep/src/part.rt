@@ -91,7 +91,7 @@ fn try_from_base<O: Object>(
     for place in begin..end {
         let injection = Injection::at(script.nodes.count(), part.from + place);
         ahead.go_to(script, injection.before)?;
-        let is_legal = try_one(alloc, ahead, script, injection)?;
+        let is_legal = try_variant(alloc, ahead, script, injection)?;
         keep_first(
             &mut illegal,
             is_legal,
@@ -115,7 +115,7 @@ fn keep_first(first: &mut Option<Injection>, is_legal: bool, count: u8, place: u
 /// Runs the variant with this injection from the base run, which must be at the injection's event.
 ///
 /// Returns whether it is legal.
-fn try_one<O: Object>(
+fn try_variant<O: Object>(
     alloc: O::Alloc,
     ahead: &BaseRun<O>,
     script: &Script<O::Alloc>,
@@ -128,13 +128,13 @@ fn try_one<O: Object>(
     ensures refused { IfErr result (λ fault. fault ≡ Memory) }
 {
     match ahead.counted_run.copy() {
-        Ok(mut copy) => try_in(alloc, ahead, &mut copy, script, injection),
+        Ok(mut copy) => try_variant_in_copy(alloc, ahead, &mut copy, script, injection),
         Err(fault) => Err(fault),
     }
 }
 
-/// Runs a variant as [`try_one`] does, in a given copy of the base run.
-fn try_in<O: Object>(
+/// Runs a variant as [`try_variant`] does, in a given copy of the base run.
+fn try_variant_in_copy<O: Object>(
     alloc: O::Alloc,
     ahead: &BaseRun<O>,
     copy: &mut CountedRun<O>,

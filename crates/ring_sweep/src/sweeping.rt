@@ -292,7 +292,7 @@ fn run_all<O: Object>(alloc: O::Alloc, script: &Script<O::Alloc>) -> Result<Swee
 {
     let events = count_events::<O>(alloc, script)?;
     let variants = count_variants(events, script.nodes.count())?;
-    let illegal = try_alone::<O>(alloc, script, variants)?;
+    let illegal = try_on_this_thread::<O>(alloc, script, variants)?;
     Ok(SweepResult {
         events,
         variants,
@@ -362,7 +362,7 @@ fn count_variants(events: u64, count: u8) -> Result<u64, Fault>
 /// Runs the first `variants` variants on this thread.
 ///
 /// Returns the injection of the first one that isn't legal, or `None` if all are.
-fn try_alone<O: Object>(
+fn try_on_this_thread<O: Object>(
     alloc: O::Alloc,
     script: &Script<O::Alloc>,
     variants: u64,

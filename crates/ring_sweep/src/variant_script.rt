@@ -125,7 +125,7 @@ fn print_variant_in<T: Object, O: Write, E: Write>(
         let _ = writeln!(err, "totem: there is no variant {place}");
         return BAD_COMMAND_LINE;
     }
-    match print_with(text, script, script_position, injection, out) {
+    match print_with_injection(text, script, script_position, injection, out) {
         Ok(()) => 0,
         Err(failure) => report(err, failure),
     }
@@ -134,7 +134,7 @@ fn print_variant_in<T: Object, O: Write, E: Write>(
 /// Prints a script's text with an injection at this position.
 ///
 /// Errors: `Output` if writing fails.
-fn print_with<A: Allocator + Copy, O: Write>(
+fn print_with_injection<A: Allocator + Copy, O: Write>(
     text: &[u8],
     script: &Script<A>,
     script_position: ScriptPosition,

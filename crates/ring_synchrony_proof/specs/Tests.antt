@@ -1,5 +1,5 @@
 -- Virtual synchrony as a test, fact by fact, to compute for worked runs, for random schedules and for wrong lives.
--- `tests_law` states that a test succeeds exactly if its fact holds.
+-- `tests_decide_facts_law` states that a test succeeds exactly if its fact holds.
 -- Rules: Outputs 11
 use Rattle.std.specs.Prelude.{ℕ, Bool, true, false, ◌&&◌, ◌||◌, ◌==◌, nat_lt, nat_le, if◌then◌else◌, List, [], ◌∷◌, ◌++◌, map, Option, Some, None}
 use Rattle.std.specs.List.{list_all, list_any}

@@ -17,7 +17,7 @@ use std::alloc::{Allocator, Global};
 /// So does the test for all five together. The law holds for every world of ring cores, with any outputs.
 ///
 /// Rules: Outputs 11
-pub fn tests_law<A: Allocator + Copy>()
+pub fn tests_decide_facts_law<A: Allocator + Copy>()
     ensures same_text { (w : World A) → Decides (has_same_text w) (HasSameText w) }
     ensures safe_delivery { (w : World A) → Decides (delivers_safely w) (DeliversSafely w) }
     ensures same_deliveries { (w : World A) → Decides (delivers_alike w) (DeliversAlike w) }
@@ -35,5 +35,5 @@ pub fn tests_law<A: Allocator + Copy>()
 pub fn tests_at_global()
     ensures { (w : World Heap) → Decides (is_virtually_synchronous w) (IsVirtuallySynchronous w) }
 {
-    tests_law::<Global>();
+    tests_decide_facts_law::<Global>();
 }

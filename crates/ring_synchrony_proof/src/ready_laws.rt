@@ -34,7 +34,7 @@ pub fn order_law<A: Allocator + Copy>()
 /// - A processor that holds a user message of a ring within its front has installed that ring.
 ///
 /// Rules: Recovery 7 and 8
-pub fn ready_law<A: Allocator + Copy>()
+pub fn ready_rings_installed_law<A: Allocator + Copy>()
     ensures complete { (n : ℕ) (events : List (RingEvent A)) (q : ℕ) → ReadyIsComplete ((run (unformed n) events).cores q) }
     ensures installed { (n : ℕ) (events : List (RingEvent A)) (q : ℕ) → ReadyIsInstalled ((run (unformed n) events).cores q) }
     ensures heard { (n : ℕ) (events : List (RingEvent A)) → HoldersHaveInstalled (run (unformed n) events) }
@@ -59,6 +59,6 @@ pub fn laws_at_global()
     ensures { (n : ℕ) (events : List (RingEvent Heap)) → IsVirtuallySynchronous (run (unformed n) events) }
 {
     order_law::<Global>();
-    ready_law::<Global>();
+    ready_rings_installed_law::<Global>();
     virtual_synchrony_law::<Global>();
 }

@@ -21,8 +21,8 @@ abbrev pub done_with : ℕ → ReplyParts
 done_with value = record { outcome = Done; value = Some value }
 
 -- The content didn't allow the operation, and the reply has a value.
-abbrev pub refused_with : ℕ → ReplyParts
-refused_with value = record { outcome = NotDone; value = Some value }
+abbrev pub not_done_with : ℕ → ReplyParts
+not_done_with value = record { outcome = NotDone; value = Some value }
 
 -- The bytes of a reply; the byte `FF` for an operation that couldn't be decoded.
 abbrev pub replied : Option ReplyParts → List ℕ

@@ -7,7 +7,7 @@ ghost use Rattle.std.specs.Prelude.{◌≡◌, Some};
 ghost use Rattle.ring_things.specs.Counters.{decoding, encoding};
 
 use crate::operations::{Operation, key_operation, key_value_operation};
-use crate::replies::{Outcome, reply, reply_with};
+use crate::replies::{Outcome, reply, outcome_reply_with};
 use crate::table::Table;
 use byteorder::{BigEndian, ByteOrder};
 use ring_base::Fault;
@@ -78,11 +78,11 @@ impl<A: Allocator + Copy + Drop> Object for Counters<A> {
             {
                 Some(count) => {
                     self.counts.set(key, count);
-                    reply_with(Outcome::Done, count)
+                    outcome_reply_with(Outcome::Done, count)
                 }
                 None => reply(Outcome::NotDone),
             },
-            Some(CounterOperation::Read(key)) => reply_with(Outcome::Done, self.counts.get(key)),
+            Some(CounterOperation::Read(key)) => outcome_reply_with(Outcome::Done, self.counts.get(key)),
             None => reply(Outcome::Unreadable),
         })
     }

@@ -10,7 +10,7 @@ ghost use Rattle.ring_things.specs.Names.{most, decoding, encoding, by_bytes, Ar
 ghost use Rattle.ring_things.specs.Names.{next_name as name_at, names_of, snapshot_of};
 ghost use Rattle.ring_things.specs.NamesLaws.{Fits};
 
-use crate::operations::{Operation, with_head_byte};
+use crate::operations::{Operation, prefixed_bytes};
 use crate::replies::{Outcome, reply};
 use byteorder::{BigEndian, ByteOrder};
 use ring_base::Fault;
@@ -113,10 +113,10 @@ impl<A: Allocator + Copy + Drop> Object for Names<A> {
         }
         let count = BigEndian::read_u16(bytes) as usize;
         let rest = &bytes[2..];
-        if count > MAX_NAMES || !are_names(count, rest) {
+        if count > MAX_NAMES || !are_encoded_names(count, rest) {
             return Err(Fault::BadSnapshot);
         }
-        let names = read_names(alloc, count, rest)?;
+        let names = decode_names(alloc, count, rest)?;
         Ok(Names { names })
     }
 }
@@ -246,7 +246,7 @@ fn named(code: u8, name: &[u8]) -> Result<Operation, Fault>
     if name.len() > MAX_NAME_LENGTH {
         return Err(Fault::OpTooLong);
     }
-    Ok(with_head_byte(code, name))
+    Ok(prefixed_bytes(code, name))
 }
 
 /// An operation of a set of names, decoded.
@@ -326,7 +326,7 @@ fn behind<'a>(name: &Name, bytes: &'a [u8]) -> &'a [u8]
 }
 
 /// Returns whether the bytes are exactly the encodings of `count` names, strictly ascending.
-fn are_names(count: usize, bytes: &[u8]) -> bool
+fn are_encoded_names(count: usize, bytes: &[u8]) -> bool
     ensures { result ≡ is_some (names_of count [] bytes.now) }
 {
     let mut rest = bytes;
@@ -346,7 +346,7 @@ fn are_names(count: usize, bytes: &[u8]) -> bool
 /// The bytes must be exactly their encodings.
 ///
 /// Errors: `Memory` if an allocation fails.
-fn read_names<A: Allocator + Copy + Drop>(
+fn decode_names<A: Allocator + Copy + Drop>(
     alloc: A,
     count: usize,
     bytes: &[u8],

@@ -1,7 +1,7 @@
 //! Lists of numbers of 8 bytes each, big-endian.
 
 ghost use Rattle.std.specs.Prelude.{◌≡◌, ◌+◌, ◌*◌, ◌≤◌, ◌++◌, length, IfOk, IfErr, vec_len, vec_capacity};
-ghost use Rattle.ring_things.specs.Numbers.{list_encoding, numbers_of};
+ghost use Rattle.ring_things.specs.Numbers.{list_encoding, member_numbers};
 
 use byteorder::{BigEndian, ByteOrder};
 use ring_base::Fault;
@@ -10,7 +10,7 @@ use std::alloc::Allocator;
 /// Appends `numbers` to `out`, in order, in 8 bytes each, big-endian.
 ///
 /// `out` must have room for them. Does not allocate.
-pub(crate) fn append_numbers<A: Allocator>(out: &mut Vec<u8, A>, numbers: &[u64])
+pub(crate) fn append_encoded_numbers<A: Allocator>(out: &mut Vec<u8, A>, numbers: &[u64])
     requires { vec_len out.old + 8 * length numbers.now ≤ vec_capacity out.old }
     ensures items { out.new.items ≡ out.old.items ++ list_encoding 8 numbers.now }
     ensures len { vec_len out.new ≡ vec_len out.old + 8 * length numbers.now }
@@ -28,13 +28,13 @@ pub(crate) fn append_numbers<A: Allocator>(out: &mut Vec<u8, A>, numbers: &[u64]
 /// `bytes` must have exactly 8 * `count` bytes.
 ///
 /// Errors: `Memory` if an allocation fails.
-pub(crate) fn read_numbers<A: Allocator + Copy + Drop>(
+pub(crate) fn decode_numbers<A: Allocator + Copy + Drop>(
     alloc: A,
     count: usize,
     bytes: &[u8],
 ) -> Result<Vec<u64, A>, Fault>
     requires { length bytes.now ≡ 8 * count }
-    ensures ok { IfOk result (λ numbers. numbers.items ≡ numbers_of 8 count bytes.now) }
+    ensures ok { IfOk result (λ numbers. numbers.items ≡ member_numbers 8 count bytes.now) }
     ensures refused { IfErr result (λ fault. fault ≡ Fault.Memory) }
 {
     let mut numbers = vec![in alloc; 0; count]?;

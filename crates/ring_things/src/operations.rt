@@ -44,7 +44,7 @@ pub fn key_value_operation(code: u8, key: u8, value: u64) -> Operation
 }
 
 /// Returns the byte `head` followed by the bytes `text`, which must be fewer than `N`.
-pub fn with_head_byte<const N: usize>(head: u8, text: &[u8]) -> ShortBytes<N>
+pub fn prefixed_bytes<const N: usize>(head: u8, text: &[u8]) -> ShortBytes<N>
     requires { length text.now < N }
     ensures { result ≡ head ∷ text.now }
 {

@@ -6,9 +6,9 @@
 ghost use Rattle.std.specs.Prelude.{◌≡◌, ◌+◌, ◌*◌, ◌≤◌, ◌++◌, length, Some, IfOk, IfErr, OnOk};
 ghost use Rattle.ring_things.specs.Queue.{decoding, encoding};
 
-use crate::numbers::{append_numbers, read_numbers};
+use crate::numbers::{append_encoded_numbers, decode_numbers};
 use crate::operations::Operation;
-use crate::replies::{Outcome, reply, reply_with};
+use crate::replies::{Outcome, reply, outcome_reply_with};
 use byteorder::{BigEndian, ByteOrder};
 use ring_base::Fault;
 use ring_object::{Object, Reply};
@@ -87,10 +87,10 @@ impl<A: Allocator + Copy + Drop> Object for Queue<A> {
                 reply(Outcome::Done)
             }
             Some(QueueOperation::Pop) => match self.items.pop_front() {
-                Some(value) => reply_with(Outcome::Done, value),
+                Some(value) => outcome_reply_with(Outcome::Done, value),
                 None => reply(Outcome::NotDone),
             },
-            Some(QueueOperation::Count) => reply_with(Outcome::Done, self.items.len() as u64),
+            Some(QueueOperation::Count) => outcome_reply_with(Outcome::Done, self.items.len() as u64),
             None => reply(Outcome::Unreadable),
         })
     }
@@ -102,8 +102,8 @@ impl<A: Allocator + Copy + Drop> Object for Queue<A> {
         BigEndian::write_u16(&mut head, count as u16);
         out.extend_from_slice(&head).unwrap();
         let (first, last) = self.items.as_slices();
-        append_numbers(out, first);
-        append_numbers(out, last);
+        append_encoded_numbers(out, first);
+        append_encoded_numbers(out, last);
         Ok(())
     }
 
@@ -116,7 +116,7 @@ impl<A: Allocator + Copy + Drop> Object for Queue<A> {
         if count > MAX_ITEMS || rest.len() != 8 * count {
             return Err(Fault::BadSnapshot);
         }
-        let items = VecDeque::from_vec(read_numbers(alloc, count, rest)?);
+        let items = VecDeque::from_vec(decode_numbers(alloc, count, rest)?);
         Ok(Queue { items })
     }
 }

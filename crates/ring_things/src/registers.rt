@@ -7,7 +7,7 @@ ghost use Rattle.std.specs.Prelude.{◌≡◌, Some};
 ghost use Rattle.ring_things.specs.Registers.{decoding, encoding};
 
 use crate::operations::{Operation, key_operation, key_value_operation};
-use crate::replies::{Outcome, reply, reply_with};
+use crate::replies::{Outcome, reply, outcome_reply_with};
 use crate::table::Table;
 use byteorder::{BigEndian, ByteOrder};
 use ring_base::Fault;
@@ -72,7 +72,7 @@ impl<A: Allocator + Copy + Drop> Object for Registers<A> {
 
     fn apply(&mut self, op: &[u8]) -> Result<Reply, Fault> {
         Ok(match RegisterOperation::read(op) {
-            Some(RegisterOperation::Get(key)) => reply_with(Outcome::Done, self.values.get(key)),
+            Some(RegisterOperation::Get(key)) => outcome_reply_with(Outcome::Done, self.values.get(key)),
             Some(RegisterOperation::Put(key, value)) => {
                 self.values.set(key, value);
                 reply(Outcome::Done)
@@ -80,7 +80,7 @@ impl<A: Allocator + Copy + Drop> Object for Registers<A> {
             Some(RegisterOperation::CompareAndSet(key, expected, new)) => {
                 let value = self.values.get(key);
                 if value != expected {
-                    return Ok(reply_with(Outcome::NotDone, value));
+                    return Ok(outcome_reply_with(Outcome::NotDone, value));
                 }
                 self.values.set(key, new);
                 reply(Outcome::Done)

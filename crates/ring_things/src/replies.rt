@@ -74,12 +74,12 @@ impl ReplyParts {
         ensures found { IfSome result (λ replied. encoding replied ≡ reply.now) }
         ensures only { (replied : OneReplied) → ValueFits replied.value → encoding replied ≡ reply.now → result ≡ Some replied }
     {
-        reply_in(reply)
+        decode_reply(reply)
     }
 }
 
 /// Decodes a reply, as [`ReplyParts::read`] does.
-fn reply_in(bytes: &[u8]) -> Option<ReplyParts>
+fn decode_reply(bytes: &[u8]) -> Option<ReplyParts>
     ensures { result ≡ decoding bytes.now }
 {
     let [code, rest @ ..] = bytes else {
@@ -106,7 +106,7 @@ pub fn reply(outcome: Outcome) -> Reply
 /// Returns the reply of nine bytes: the byte of `outcome`, then `value` in 8 bytes, big-endian.
 ///
 /// Formats: Operations and replies
-pub fn reply_with(outcome: Outcome, value: u64) -> Reply
+pub fn outcome_reply_with(outcome: Outcome, value: u64) -> Reply
     ensures { result ≡ code_of outcome ∷ big_bytes 8 value }
 {
     let mut bytes = [outcome as u8; 9];

@@ -11,13 +11,13 @@ ghost use Rattle.ring_things.specs.ShelfLaws.{AreContents};
 
 use crate::counters::Counters;
 use crate::names::Names;
-use crate::operations::{Operation, ShelfOperation, with_head_byte};
+use crate::operations::{Operation, ShelfOperation, prefixed_bytes};
 use crate::queue::Queue;
 use crate::registers::Registers;
 use crate::replies::{Outcome, reply};
 use byteorder::{BigEndian, ByteOrder};
 use ring_base::Fault;
-use ring_object::{Object, Reply, append_sized};
+use ring_object::{Object, Reply, append_sized_snapshot};
 use std::marker::Model;
 
 /// A composite object: four objects of any types as one object.
@@ -136,7 +136,7 @@ impl<
     }
 
     fn restore(alloc: P::Alloc, bytes: &[u8]) -> Result<Self, Fault> {
-        let Some((first, second, third, fourth)) = split_all(bytes) else {
+        let Some((first, second, third, fourth)) = split_shelf_snapshot(bytes) else {
             return Err(Fault::BadSnapshot);
         };
         let front = both(P::restore(alloc, first), Q::restore(alloc, second));
@@ -177,7 +177,7 @@ impl ShelfPlace {
     pub fn operation(self, operation: &Operation) -> ShelfOperation
         ensures { result ≡ number_of self ∷ operation.now }
     {
-        with_head_byte(self as u8, operation.as_slice())
+        prefixed_bytes(self as u8, operation.as_slice())
     }
 }
 
@@ -199,10 +199,10 @@ fn append_all<
     ensures front { take (vec_len out.old) out.new.items ≡ out.old.items }
     ensures refused { IfErr result (λ fault. fault ≡ Fault.Memory) }
 {
-    append_sized(first, out)?;
-    append_sized(second, out)?;
-    append_sized(third, out)?;
-    append_sized(fourth, out)
+    append_sized_snapshot(first, out)?;
+    append_sized_snapshot(second, out)?;
+    append_sized_snapshot(third, out)?;
+    append_sized_snapshot(fourth, out)
 }
 
 /// Splits the bytes into a text preceded by its length, and the rest.
@@ -225,7 +225,7 @@ fn split_text(bytes: &[u8]) -> Option<(&[u8], &[u8])>
 /// Splits the bytes into exactly four texts, each preceded by its length.
 ///
 /// Returns `None` if they are anything else.
-fn split_all(bytes: &[u8]) -> Option<(&[u8], &[u8], &[u8], &[u8])>
+fn split_shelf_snapshot(bytes: &[u8]) -> Option<(&[u8], &[u8], &[u8], &[u8])>
     ensures { option_map (λ texts. (texts.0.now, texts.1.now, texts.2.now, texts.3.now)) result
         ≡ texts_of bytes.now }
 {

@@ -5,7 +5,7 @@
 ghost use Rattle.std.specs.Prelude.{◌≡◌, ◌++◌, slice_index, slice_set, Some, IfOk, IfErr, OnOk, OnErr};
 ghost use Rattle.ring_things.specs.Numbers.{list_encoding};
 
-use crate::numbers::{append_numbers, read_numbers};
+use crate::numbers::{append_encoded_numbers, decode_numbers};
 use ring_base::Fault;
 use std::alloc::{Allocator, Global};
 use std::marker::Model;
@@ -84,7 +84,7 @@ impl<A: Allocator + Copy + Drop> Table<A> {
         ensures refused { IfErr result (λ fault. fault ≡ Fault.Memory) }
     {
         out.reserve(8 * KEYS)?;
-        append_numbers(out, self.numbers.as_slice());
+        append_encoded_numbers(out, self.numbers.as_slice());
         Ok(())
     }
 
@@ -101,7 +101,7 @@ impl<A: Allocator + Copy + Drop> Table<A> {
         if bytes.len() != 8 * KEYS {
             return Err(Fault::BadSnapshot);
         }
-        let numbers = read_numbers(alloc, KEYS, bytes)?;
+        let numbers = decode_numbers(alloc, KEYS, bytes)?;
         Ok(Table { numbers })
     }
 }

@@ -42,16 +42,16 @@ is_mine me None = true
 is_mine me (Some i) = i == me
 
 -- Whether a node may set the `aru`: its front is below the `aru`, or no other node holds the `aru` back.
-abbrev pub may_set : ℕ → ℕ → Token → Bool
-may_set me front t = nat_lt front t.aru || is_mine me t.aru_id
+abbrev pub may_set_aru : ℕ → ℕ → Token → Bool
+may_set_aru me front t = nat_lt front t.aru || is_mine me t.aru_id
 
 -- The forwarded `aru`.
 abbrev pub aru_after : ℕ → ℕ → Token → ℕ
-aru_after me front t = if may_set me front t then front else t.aru
+aru_after me front t = if may_set_aru me front t then front else t.aru
 
 -- The forwarded `aru_id`: the node that holds the `aru` back, none if the `aru` is `seq`.
 abbrev pub aru_id_after : ℕ → ℕ → ℕ → Token → Option ℕ
-aru_id_after me front seq t = if may_set me front t then (if front == seq then None else Some me) else t.aru_id
+aru_id_after me front seq t = if may_set_aru me front t then (if front == seq then None else Some me) else t.aru_id
 
 -- (d) The requests of the forwarded token
 

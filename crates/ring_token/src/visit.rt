@@ -7,7 +7,7 @@ ghost use Rattle.ring_base.specs.Numbers.{max_number};
 ghost use Rattle.ring_base.specs.Rings.{same_ring};
 ghost use Rattle.ring_wire.specs.Messages.{Payload as OnePayload};
 ghost use Rattle.ring_token.specs.Turns.{is_accepted};
-ghost use Rattle.ring_token.specs.Visits.{may_set, token_after};
+ghost use Rattle.ring_token.specs.Visits.{may_set_aru, token_after};
 ghost use Rattle.ring_token.specs.Histories.{without_visits, turn_by, with_turn, with_raise, mark_of};
 
 use ring_base::{Ghost, MAX, Proc, RingId, ghost_of};
@@ -190,8 +190,8 @@ fn is_acceptable(ring: &RingId, next: u64, high: u64, token: &Token) -> bool
 }
 
 /// Returns whether a member may set `aru` to its front: the front is below `aru`, or no other member holds `aru` back.
-fn may_set(me: Proc, front: u64, token: &Token) -> bool
-    ensures { result ≡ may_set me front token.now }
+fn may_set_aru(me: Proc, front: u64, token: &Token) -> bool
+    ensures { result ≡ may_set_aru me front token.now }
 {
     front < token.aru || token.aru_id.is_none_or(|holder| holder == me)
 }
@@ -205,7 +205,7 @@ fn forward(me: Proc, token: &Token, front: u64, sent: u64, forwarded: &mut Token
     forwarded.ring = token.ring;
     forwarded.number = token.number + 1;
     forwarded.seq = token.seq + sent;
-    if may_set(me, front, token) {
+    if may_set_aru(me, front, token) {
         forwarded.aru = front;
         forwarded.aru_id = if front == forwarded.seq {
             None

@@ -74,7 +74,7 @@ impl Selection {
     /// Returns the fault of a selection that begins after the last of `events` events, or `None` if it doesn't.
     ///
     /// Formats: The command line
-    pub(crate) fn fault_behind(&self, events: u64) -> Option<SelectionFault> {
+    pub(crate) fn fault_after_events(&self, events: u64) -> Option<SelectionFault> {
         if self.from <= events {
             return None;
         }

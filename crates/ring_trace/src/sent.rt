@@ -38,7 +38,7 @@ pub(crate) fn write_frames<O: Object, F: Write>(
 /// Errors: `Memory` if an allocation fails.
 ///
 /// Formats: The command line
-pub(crate) fn sent_of<O: Object>(
+pub(crate) fn are_calls_sent<O: Object>(
     alloc: O::Alloc,
     world: &World<O>,
     calls: &[WaitingCall],
@@ -72,7 +72,7 @@ fn note_frames<O: Object>(
         let Some((from, _)) = world.frame(number) else {
             return Ok(());
         };
-        let Ok(length) = Frame::<O::Alloc>::get_into(alloc, rest, place) else {
+        let Ok(length) = Frame::<O::Alloc>::decode_first_frame_into(alloc, rest, place) else {
             return Err(Fault::Memory);
         };
         if let Some(Frame::Message(message)) = &*place

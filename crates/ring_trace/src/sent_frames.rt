@@ -129,7 +129,7 @@ impl<A: Allocator + Copy> SentFrames<A> {
     ) -> Result<(), Fault> {
         let begin = self.end();
         let rest = bytes.get(begin..).unwrap_or(&[]);
-        let Ok(length) = Frame::<A>::get_into(alloc, rest, place) else {
+        let Ok(length) = Frame::<A>::decode_first_frame_into(alloc, rest, place) else {
             return Err(Fault::Memory);
         };
         self.frames.push(SentFrame {

@@ -10,12 +10,12 @@ ghost use Rattle.ring_console.specs.Running.{run_opening, IsLineDone, IsPumpDone
 
 use crate::counting::{CountedEvent, count_event};
 use crate::details::{input_of_line, input_of_turn, send_values};
-use crate::event_subject::{EventSubject, event_subject_of, write_turn, write_what};
+use crate::event_subject::{EventSubject, event_subject_of, write_turn, write_event_description};
 use crate::node_view::NodeView;
 use crate::places::print_places;
 use crate::restoring::restored_by;
 use crate::selection::{Selection, SelectionFault};
-use crate::sent::{sent_of, write_frames};
+use crate::sent::{are_calls_sent, write_frames};
 use crate::sent_frames::{SentFrames, add_sent_frames};
 use crate::sides::sides_of;
 use ring_base::{Fault, Fixed, PROCESSORS, Proc, ProcSet, State};
@@ -150,7 +150,7 @@ impl<O: Object> Tracer<O> {
         self.form.print_opening(out, self.nodes)?;
         self.take(script, out)?;
         self.print_fold_end(out)?;
-        *fault = self.selection.fault_behind(self.events);
+        *fault = self.selection.fault_after_events(self.events);
         if fault.is_some() {
             return Err(Failure::Output);
         }
@@ -229,7 +229,7 @@ impl<O: Object> Tracer<O> {
         if is_cut {
             self.trace_picture.add_heal(self.events)
         } else {
-            self.trace_picture.add_nothing(self.events);
+            self.trace_picture.begin_empty_column(self.events);
             Ok(())
         }
     }
@@ -267,7 +267,7 @@ impl<O: Object> Tracer<O> {
         ensures { self.new.run ≡ self.old.run }
     {
         self.what.clear();
-        write_what(&mut self.what, &self.trace_vocabulary, line, kind)?;
+        write_event_description(&mut self.what, &self.trace_vocabulary, line, kind)?;
         if self.form.format.has_details() {
             self.input = input_of_line(self.form.alloc, &self.trace_vocabulary, line, kind)?;
         }
@@ -365,7 +365,7 @@ impl<O: Object> Tracer<O> {
             return self.trace_event(&event_subject, out);
         }
         if self.selection.has(self.events, Some(pair.receiver)) {
-            self.fold.add_lost();
+            self.fold.count_lost_copy();
             self.add_turn(pair, None)?;
         }
         Ok(())
@@ -759,7 +759,7 @@ impl<O: Object> Tracer<O> {
         if calls.is_empty() {
             return Ok(());
         }
-        let are_sent = sent_of(self.alloc, self.run.world(), calls)?;
+        let are_sent = are_calls_sent(self.alloc, self.run.world(), calls)?;
         for (place, (waiting, is_sent)) in calls.iter().zip(are_sent.iter()).enumerate() {
             let is_logged = self.is_logged(waiting.node, calls.get(..place).unwrap_or(&[]))?;
             let why = self.reason(waiting.node, *is_sent, is_logged);

@@ -6,7 +6,7 @@
 ghost use Rattle.std.specs.Prelude.{◌≡◌, IfErr};
 ghost use Rattle.ring_base.specs.declared.fault.Fault.TheVariants.{Memory};
 
-use crate::values::numbers_of;
+use crate::values::member_numbers;
 use ring_base::{Fault, Proc, ProcSet};
 use ring_payload::Call;
 use ring_trace_words::{DeliveryKind, OperationWords, TraceVocabulary};
@@ -137,7 +137,7 @@ impl SendValue {
     {
         Ok(SendValue {
             frame,
-            to: numbers_of(alloc, to)?,
+            to: member_numbers(alloc, to)?,
             says,
             calls,
         })

@@ -12,7 +12,7 @@ use crate::lines::{
     CountsLine, CutLine, EventLine, FoldLine, NodesLine, PlaceLine, TotalsLine, VERSION,
     WaitingLine,
 };
-use crate::values::{answer_value, change_values, frame_counts_value, numbers_of, told_values};
+use crate::values::{answer_value, change_values, frame_counts_value, member_numbers, told_values};
 use ring_base::{Fault, Fixed, ProcSet};
 use ring_failure::Failure;
 use ring_payload::Call;
@@ -295,7 +295,7 @@ fn groups_of(alloc: Global, groups: &[ProcSet]) -> Result<Vec<Vec<u8>>, Fault>
 {
     let mut numbers = Vec::new(alloc);
     for group in groups {
-        numbers.push(numbers_of(alloc, *group)?)?;
+        numbers.push(member_numbers(alloc, *group)?)?;
     }
     Ok(numbers)
 }

@@ -109,7 +109,7 @@ fn change_value(alloc: Global, change: &Change) -> Result<ChangeValue, Fault>
             share,
         } => {
             let ring = format!(in alloc; "{ring}")?;
-            let members = numbers_of(alloc, *members)?;
+            let members = member_numbers(alloc, *members)?;
             Ok(ChangeValue::Ring(RingValue {
                 ring,
                 members,
@@ -233,7 +233,7 @@ fn told_value<A: Allocator + Copy>(
 /// Returns the numbers of a set's members.
 ///
 /// Errors: `AllocError` if an allocation fails.
-pub(crate) fn numbers_of(alloc: Global, set: ProcSet) -> Result<Vec<u8>, AllocError> {
+pub(crate) fn member_numbers(alloc: Global, set: ProcSet) -> Result<Vec<u8>, AllocError> {
     let mut numbers = Vec::new(alloc);
     for node in set.iter() {
         numbers.push(node.number())?;

@@ -203,11 +203,11 @@ fn write_wall_mark<W: Write>(
 
 /// Returns the width of the label of a side.
 fn side_width(members: ProcSet) -> u64 {
-    letters_of(members).saturating_mul(LETTER)
+    set_text_width(members).saturating_mul(LETTER)
 }
 
 /// Returns the number of letters that a set takes, its braces included.
-pub(crate) fn letters_of(set: ProcSet) -> u64 {
+pub(crate) fn set_text_width(set: ProcSet) -> u64 {
     let mut letters = 2u64;
     for node in set.iter() {
         letters = letters.saturating_add(if node.number() < 10 { 2 } else { 3 });

@@ -101,7 +101,7 @@ impl Canvas {
     }
 
     /// Returns the lower edge of the last lane, in the strip and in a band.
-    pub fn foot(self) -> u64 {
+    pub fn lanes_bottom(self) -> u64 {
         u64::from(self.lanes)
             .saturating_mul(LANE)
             .saturating_add(HEAD)
@@ -109,7 +109,7 @@ impl Canvas {
 
     /// Returns the height of the strip, which is also that of a band.
     pub fn bottom(self) -> u64 {
-        self.foot().saturating_add(FOOT)
+        self.lanes_bottom().saturating_add(FOOT)
     }
 
     /// Returns the number of bands, at least 1.

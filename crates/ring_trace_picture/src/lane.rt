@@ -2,7 +2,7 @@
 //!
 //! Formats: The command line
 
-use crate::bands::letters_of;
+use crate::bands::set_text_width;
 use crate::canvas::{Band, Canvas};
 use crate::mark::{LaneColour, PictureMark, PlacedMark};
 use crate::shapes::{LETTER, write_bar, write_ring, write_stop};
@@ -128,7 +128,7 @@ fn write_label<W: Write>(
         return Ok(());
     };
     let room = end.saturating_sub(canvas.x(column)) / LETTER;
-    let has_members = letters_of(ring.1).saturating_add(5) <= room;
+    let has_members = set_text_width(ring.1).saturating_add(5) <= room;
     if has_members || room >= 4 {
         write_ring(out, canvas, lane, ring, column, has_members)?;
     }

@@ -10,7 +10,7 @@ ghost use Rattle.ring_trace_picture.specs.TracePictures.{submit_mark, change_mar
 ghost use Rattle.ring_failure.specs.Failures.{IsOutputOrMemory};
 
 use crate::arcs::ArcEnd;
-use crate::bands::letters_of;
+use crate::bands::set_text_width;
 use crate::mark::{LaneColour, PictureMark};
 use crate::picture::Picture;
 use ring_base::{Fault, Fixed, Proc, ProcSet, State};
@@ -237,7 +237,7 @@ impl<A: Allocator + Copy> TracePicture<A> {
                 members: *group,
                 before,
             })?;
-            before = before.saturating_add(letters_of(*group));
+            before = before.saturating_add(set_text_width(*group));
         }
         Ok(())
     }
@@ -262,7 +262,7 @@ impl<A: Allocator + Copy> TracePicture<A> {
     /// `events` is the number of events before it.
     ///
     /// Formats: The command line
-    pub fn add_nothing(&mut self, events: u64)
+    pub fn begin_empty_column(&mut self, events: u64)
         ensures { self.new.picture ≡ column_begun self.old.picture events }
     {
         self.picture.begin(events);

@@ -24,7 +24,7 @@ impl fmt::Display for ArgumentWords<'_> {
         let mut rest = self.bytes;
         let mut is_behind = self.is_behind;
         for argument in self.arguments {
-            let length = length_in(*argument, rest);
+            let length = argument_len_in(*argument, rest);
             if is_behind {
                 f.write_str(" ")?;
             }
@@ -57,7 +57,7 @@ impl fmt::Display for RawWords<'_> {
 }
 
 /// Returns whether the bytes are the prefix `first` and then exactly these arguments, with no byte left over.
-pub(crate) fn is_form(first: &[u8], arguments: &[Argument], bytes: &[u8]) -> bool {
+pub(crate) fn fits_prefix_and_arguments(first: &[u8], arguments: &[Argument], bytes: &[u8]) -> bool {
     bytes.starts_with(first) && are_arguments(arguments, bytes.get(first.len()..).unwrap_or(&[]))
 }
 
@@ -65,7 +65,7 @@ pub(crate) fn is_form(first: &[u8], arguments: &[Argument], bytes: &[u8]) -> boo
 fn are_arguments(arguments: &[Argument], bytes: &[u8]) -> bool {
     let mut rest = bytes;
     for argument in arguments {
-        let length = length_in(*argument, rest);
+        let length = argument_len_in(*argument, rest);
         if rest.len() < length || (*argument == Argument::Name && !is_name(rest)) {
             return false;
         }
@@ -77,7 +77,7 @@ fn are_arguments(arguments: &[Argument], bytes: &[u8]) -> bool {
 /// Returns the length of the argument that these bytes begin with.
 ///
 /// A name takes all of them.
-fn length_in(argument: Argument, bytes: &[u8]) -> usize {
+fn argument_len_in(argument: Argument, bytes: &[u8]) -> usize {
     match argument {
         Argument::Key => 1,
         Argument::Value => 8,

@@ -85,7 +85,7 @@ impl Fold {
     /// The count saturates at `u64::MAX`.
     ///
     /// Formats: The command line
-    pub fn add_lost(&mut self)
+    pub fn count_lost_copy(&mut self)
         ensures { self.new ≡ record self.old { lost = following self.old.lost } }
     {
         self.lost = self.lost.saturating_add(1);

@@ -68,7 +68,7 @@ impl HeldBits {
     /// Returns the bits shifted down by `first`: bit j of the result is bit `first` + j.
     ///
     /// `first` must be at most 256. The bits that are shifted in are clear.
-    pub(crate) fn from_bit(&self, first: usize) -> HeldBits
+    pub(crate) fn shifted_down(&self, first: usize) -> HeldBits
         requires { first ≤ window_size }
         ensures { (j : ℕ) → is_set result.words j ≡ is_set self.now.words (first + j) }
     {

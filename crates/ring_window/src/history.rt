@@ -5,7 +5,7 @@ ghost use Rattle.std.specs.Prelude.{◌≡◌, [], ◌∷◌};
 use ring_base::{Ghost, ghost_of};
 
 /// Returns the empty history: no message has been held yet.
-pub(crate) fn held_log_opening<M>() -> Ghost<[M; 0]>
+pub(crate) fn empty_held_history<M>() -> Ghost<[M; 0]>
     ensures { result.value ≡ [] }
 {
     ghost_of(&())

@@ -9,6 +9,6 @@ mod history;
 mod laws;
 mod window;
 
-pub use laws::{bits_law, front_law};
+pub use laws::{held_bits_law, unique_front_law};
 pub use ring_wire::{Content, Message, Payload, Wrapped};
 pub use window::Window;

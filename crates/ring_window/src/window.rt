@@ -11,7 +11,7 @@ ghost use Rattle.ring_window.specs.Places.{place_of, in_place};
 ghost use Rattle.ring_base.specs.Numbers.{window_size};
 
 use crate::held_bits::HeldBits;
-use crate::history::{held_log_opening, one_more};
+use crate::history::{empty_held_history, one_more};
 use ring_base::{Fault, Ghost, RingId, WINDOW_SIZE};
 use ring_wire::{MAX_REQUESTS, Message, Requests};
 use std::alloc::{AllocError, Allocator, Global};
@@ -66,8 +66,8 @@ impl<A: Allocator + Copy> Window<A> {
             front: 0,
             highest: 0,
             bits: HeldBits::new(),
-            places: empty_places(alloc)?,
-            history: held_log_opening(),
+            places: empty_slots(alloc)?,
+            history: empty_held_history(),
         })
     }
 
@@ -220,8 +220,8 @@ impl<A: Allocator + Copy> Window<A> {
         if upto <= self.mark {
             return;
         }
-        clear_places(&mut self.places, self.mark, upto);
-        self.bits = self.bits.from_bit((upto - self.mark) as usize);
+        clear_slots(&mut self.places, self.mark, upto);
+        self.bits = self.bits.shifted_down((upto - self.mark) as usize);
         self.mark = upto;
     }
 
@@ -250,7 +250,7 @@ impl<A: Allocator + Copy> Clone for Window<A> {
             highest: self.highest,
             bits: self.bits,
             history: self.history.clone()?,
-            places: copied_places(&self.places)?,
+            places: copied_slots(&self.places)?,
         })
     }
 }
@@ -282,7 +282,7 @@ fn front_with(bits: &HeldBits, mark: u64, front: u64, number: u64) -> u64
 /// Returns 256 empty slots for a window's messages.
 ///
 /// Errors: `Memory` if an allocation fails.
-fn empty_places<A: Allocator + Copy>(alloc: A) -> Result<Vec<Option<Message<A>>, A>, Fault>
+fn empty_slots<A: Allocator + Copy>(alloc: A) -> Result<Vec<Option<Message<A>>, A>, Fault>
     ensures count { IfOk result (λ places. length places.items ≡ window_size) }
     ensures empty { IfOk result (λ places. (j : ℕ) → slice_index_or places.items j None ≡ None) }
     ensures refused { IfErr result (λ fault. fault ≡ Memory) }
@@ -297,7 +297,7 @@ fn empty_places<A: Allocator + Copy>(alloc: A) -> Result<Vec<Option<Message<A>>,
 /// Returns a copy of the slots.
 ///
 /// Errors: `AllocError` if an allocation fails.
-fn copied_places<A: Allocator + Copy>(
+fn copied_slots<A: Allocator + Copy>(
     places: &Vec<Option<Message<A>>, A>,
 ) -> Result<Vec<Option<Message<A>>, A>, AllocError>
     ensures { IfOk result (λ copy. copy.items ≡ places.now.items) }
@@ -316,7 +316,7 @@ fn put<A: Allocator + Copy>(places: &mut Vec<Option<Message<A>>, A>, message: Me
 }
 
 /// Empties the slots of the numbers after `mark` up to `upto`, of which there must be at most 256.
-fn clear_places<A: Allocator + Copy>(places: &mut Vec<Option<Message<A>>, A>, mark: u64, upto: u64)
+fn clear_slots<A: Allocator + Copy>(places: &mut Vec<Option<Message<A>>, A>, mark: u64, upto: u64)
     requires count { length places.old.items ≡ window_size }
     requires order { mark ≤ upto }
     requires inside { upto ≤ mark + window_size }

@@ -186,8 +186,8 @@ entry_test e = nat_le e.mark e.front
     && (nat_le e.front max_number && (nat_le e.front (e.mark + window_size)
     && (held_test e.front e.mark e.held window_size && (not (e.old.seq == 0) || nothing_test e))))
 
-has_no_report : (e : CommitEntry) → (not (e.old.seq == 0) || nothing_test e) ≡ true → e.old.seq ≡ 0 → ReportsNothing e
-has_no_report e h z =
+is_opening_report : (e : CommitEntry) → (not (e.old.seq == 0) || nothing_test e) ≡ true → e.old.seq ≡ 0 → ReportsNothing e
+is_opening_report e h z =
     let new : (e.old.seq == 0) ≡ true = eq-eqb _ _ z in
     let passed : nothing_test e ≡ true = rw new at h in
     let a = and_parts _ _ passed in
@@ -235,7 +235,7 @@ entry_format = tested_fields_format entry_fields from_fields entry_test entry_en
         front = leb-true _ _ b.0;
         window = leb-true _ _ c.0;
         held = held_test-true p.1.0 p.1.1.0 p.1.1.1 window_size d.0;
-        nothing = has_no_report (from_fields p) d.1;
+        nothing = is_opening_report (from_fields p) d.1;
       };
   back = λ e f. ((e.old, (e.front, (e.mark, e.held))), (f.old, (omega (arith, f.front), (omega (arith, f.front, f.mark), f.bits))), refl);
   passes = λ e f. rw (le-leb _ _ f.mark, le-leb _ _ f.front, le-leb _ _ f.window, true-held_test e.front e.mark e.held window_size f.held, nothing_is e f.nothing) refl;

@@ -6,11 +6,11 @@
 ghost use Rattle.std.specs.Prelude.{◌≡◌, ℕ, ◌+◌, ◌^◌, ◌<◌, ◌≤◌, Bool, ◌&&◌, ◌==◌, not, List, [], ◌∷◌, ◌++◌, length};
 ghost use Rattle.ring_payload.specs.Codecs.{Appends, IsReadResult, IsReadResultBy};
 ghost use Rattle.ring_payload.specs.Base.{elements, smallest, nobody};
-ghost use Rattle.ring_wire.specs.Commits.{is_report as is_report_of, are_reports as are_reports_of};
+ghost use Rattle.ring_wire.specs.Commits.{is_report_of_member as is_report_of, are_reports_of_members as are_reports_of};
 
 use crate::entries::{CommitEntry, Entries};
 use bytes::BytesMut;
-use ring_payload::{Decode, Encode, Fault, Proc, ProcSet, Reader, RingId, write_many};
+use ring_payload::{Decode, Encode, Fault, Proc, ProcSet, Reader, RingId, encode_list};
 use std::alloc::Allocator;
 
 /// `CommitToken`: the token that goes round a proposed ring twice to form it.
@@ -33,20 +33,20 @@ pub struct CommitToken {
 
 /// Returns whether the entry's old ring has a lower number than `ring` and, if that number is 0, is the opening ring of
 /// `member`.
-fn is_report(entry: &CommitEntry, ring: &RingId, member: Proc) -> bool
+fn is_report_of_member(entry: &CommitEntry, ring: &RingId, member: Proc) -> bool
     ensures { result ≡ is_report_of ring.now member entry.now }
 {
     entry.old.seq < ring.seq && (entry.old.seq != 0 || entry.old.rep == member)
 }
 
 /// Returns whether the entries may be those of the first members, in ascending order, one for each.
-fn are_reports(entries: &[CommitEntry], ring: &RingId, members: ProcSet) -> bool
+fn are_reports_of_members(entries: &[CommitEntry], ring: &RingId, members: ProcSet) -> bool
     ensures { result ≡ are_reports_of ring.now (elements members) entries.now }
 {
     let mut left = members.iter();
     for entry in entries {
         let is_right = match left.next() {
-            Some(member) => is_report(entry, ring, member),
+            Some(member) => is_report_of_member(entry, ring, member),
             None => false,
         };
         if !is_right {
@@ -78,7 +78,7 @@ impl CommitToken {
             && self.is_representative_valid()
             && self.hop >= 1
             && u32::from(self.hop) <= 2 * self.members.len()
-            && are_reports(self.entries.as_slice(), &self.ring, self.members)
+            && are_reports_of_members(self.entries.as_slice(), &self.ring, self.members)
     }
 }
 
@@ -103,7 +103,7 @@ impl Encode for CommitToken {
         self.ring.write(out);
         self.members.write(out);
         self.hop.write(out);
-        write_many(self.entries.as_slice(), out);
+        encode_list(self.entries.as_slice(), out);
     }
 }
 

@@ -12,7 +12,7 @@ use crate::valid::if_valid;
 use arrayvec::ArrayVec;
 use bytes::BytesMut;
 use ring_payload::{
-    Decode, Encode, Fault, MAX, PROCESSORS, Proc, Reader, RingId, WINDOW_SIZE, read_in_place,
+    Decode, Encode, Fault, MAX, PROCESSORS, Proc, Reader, RingId, WINDOW_SIZE, decode_list_into,
 };
 use std::alloc::{AllocError, Allocator};
 use std::marker::Model;
@@ -115,7 +115,7 @@ impl CommitEntry {
     }
 
     /// Returns whether front, mark and all bits are 0.
-    fn has_no_report(&self) -> bool
+    fn is_opening_report(&self) -> bool
         ensures { result ≡ nothing_test self.now }
     {
         self.front == 0 && self.mark == 0 && are_zero(&self.held)
@@ -129,7 +129,7 @@ impl CommitEntry {
             && self.front <= MAX
             && self.front <= self.mark + WINDOW_SIZE
             && self.is_held_valid()
-            && (self.old.seq != 0 || self.has_no_report())
+            && (self.old.seq != 0 || self.is_opening_report())
     }
 }
 
@@ -276,6 +276,6 @@ impl Entries {
         requires empty { self.old ≡ [] }
         ensures { IsReadResultBy (λ _. self.new) result from.new (times_at count entry_at from.old) }
     {
-        read_in_place(alloc, count, from, &mut self.entries)
+        decode_list_into(alloc, count, from, &mut self.entries)
     }
 }

@@ -21,7 +21,7 @@ use crate::join::Join;
 use crate::message::Message;
 use crate::token::{BorrowedToken, Token};
 use bytes::BytesMut;
-use ring_payload::{Decode, Encode, FIRST_VERSION, Fault, Reader, Wire, read_sized, write_sized};
+use ring_payload::{Decode, Encode, FIRST_VERSION, Fault, Reader, Wire, read_sized, encode_length_prefixed};
 use std::alloc::{Allocator, Global};
 use std::mem::size_of;
 
@@ -96,19 +96,19 @@ impl<A: Allocator + Copy> Encode for Frame<A> {
         match self {
             Frame::Message(message) => {
                 MESSAGE.write(out);
-                write_sized(message, out);
+                encode_length_prefixed(message, out);
             }
             Frame::Token(token) => {
                 TOKEN.write(out);
-                write_sized(token, out);
+                encode_length_prefixed(token, out);
             }
             Frame::Join(join) => {
                 JOIN.write(out);
-                write_sized(join, out);
+                encode_length_prefixed(join, out);
             }
             Frame::Commit(commit) => {
                 COMMIT.write(out);
-                write_sized(commit, out);
+                encode_length_prefixed(commit, out);
             }
         }
     }
@@ -132,7 +132,7 @@ fn read_message<A: Allocator + Copy>(
     if version != message.payload.version() {
         return Err(Fault::BadFrame);
     }
-    put_message(message, place);
+    place_message(message, place);
     Ok(())
 }
 
@@ -140,7 +140,7 @@ fn read_message<A: Allocator + Copy>(
 ///
 /// A message that is already there is overwritten in place.
 #[inline(always)]
-fn put_message<A: Allocator + Copy>(message: Message<A>, place: &mut Option<Frame<A>>)
+fn place_message<A: Allocator + Copy>(message: Message<A>, place: &mut Option<Frame<A>>)
     ensures { place.new ≡ Some (MessageFrame message) }
 {
     match place {
@@ -176,14 +176,14 @@ fn read_token<A: Allocator + Copy>(
     }
     match place {
         Some(Frame::Token(kept)) => token.fill(kept),
-        _ => put_token(&token, place),
+        _ => place_token(&token, place),
     }
     Ok(())
 }
 
 /// Puts `token` in `place`, which holds no token yet.
 #[inline(never)]
-fn put_token<A: Allocator + Copy>(token: &BorrowedToken<'_>, place: &mut Option<Frame<A>>)
+fn place_token<A: Allocator + Copy>(token: &BorrowedToken<'_>, place: &mut Option<Frame<A>>)
     ensures { place.new ≡ Some (TokenFrame token.now) }
 {
     put(Some(Frame::Token(Token::blank())), place);
@@ -288,7 +288,7 @@ impl<A: Allocator + Copy> Frame<A> {
     /// `src`. `place` is then unchanged.
     ///
     /// Formats: Frames
-    pub fn get_into(alloc: A, src: &[u8], place: &mut Option<Frame<A>>) -> Result<usize, Fault>
+    pub fn decode_first_frame_into(alloc: A, src: &[u8], place: &mut Option<Frame<A>>) -> Result<usize, Fault>
         ensures found { IfOk result (λ len. IfSome place.new (λ frame. IsEncodedPrefix encoding_of FrameFits src.now frame len)) }
         ensures placed { OnOk result (IsSome place.new) }
         ensures bad { IfErr result (λ fault. fault ≡ BadFrame → HasNoEncodedPrefix {A = OneFrame A} encoding_of FrameFits src.now) }

@@ -31,12 +31,12 @@ pub struct Message<A: Allocator + Copy = Global> {
 }
 
 impl<A: Allocator + Copy> Message<A> {
-    ghost use Rattle.ring_wire.specs.Messages.{is_older, message_test};
+    ghost use Rattle.ring_wire.specs.Messages.{is_wrapped_older, message_test};
 
     /// Returns whether the old ring of a Wrapped has a lower number than the message's ring; true for any other
     /// payload.
-    fn is_older(&self) -> bool
-        ensures { result ≡ is_older self.now.payload self.now.ring }
+    fn is_wrapped_older(&self) -> bool
+        ensures { result ≡ is_wrapped_older self.now.payload self.now.ring }
     {
         match &self.payload {
             Payload::Wrapped(wrapped) => wrapped.ring.seq < self.ring.seq,
@@ -48,7 +48,7 @@ impl<A: Allocator + Copy> Message<A> {
     fn is_valid(&self) -> bool
         ensures { result ≡ message_test self.now }
     {
-        self.ring.seq >= 1 && self.number >= 1 && self.number <= MAX && self.is_older()
+        self.ring.seq >= 1 && self.number >= 1 && self.number <= MAX && self.is_wrapped_older()
     }
 }
 

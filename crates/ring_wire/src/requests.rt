@@ -8,7 +8,7 @@ ghost use Rattle.ring_payload.specs.Codecs.{Appends, IsReadResult};
 
 use arrayvec::ArrayVec;
 use bytes::BytesMut;
-use ring_payload::{Decode, Encode, EncodedNumbers, Fault, Reader, write_many};
+use ring_payload::{Decode, Encode, EncodedNumbers, Fault, Reader, encode_list};
 use std::alloc::{AllocError, Allocator};
 use std::marker::Model;
 
@@ -133,7 +133,7 @@ impl Encode for Requests {
     fn write<B: Allocator + Copy>(&self, out: &mut BytesMut<B>) {
         let numbers = self.as_slice();
         (numbers.len() as u8).write(out);
-        write_many(numbers, out);
+        encode_list(numbers, out);
     }
 }
 
@@ -149,7 +149,7 @@ impl Requests {
     ///
     /// Formats: Frames
     #[tactic(auto, unfolding(crate::specs::Tokens::requests_at))]
-    pub(crate) fn borrow_numbers<'a, A: Allocator + Copy>(
+    pub(crate) fn read_borrowed_requests<'a, A: Allocator + Copy>(
         alloc: A,
         from: &mut Reader<'a>,
     ) -> Result<EncodedNumbers<'a>, Fault>
@@ -167,7 +167,7 @@ impl Requests {
 
 impl<A: Allocator + Copy> Decode<A> for Requests {
     fn read(alloc: A, from: &mut Reader<'_>) -> Result<Requests, Fault> {
-        let numbers = Requests::borrow_numbers(alloc, from)?;
+        let numbers = Requests::read_borrowed_requests(alloc, from)?;
         let mut requests = Requests::new();
         requests.fill(&numbers);
         Ok(requests)

@@ -24,7 +24,7 @@ impl<A: Allocator + Copy> Frame<A> {
             (Frame::Message(one), Frame::Message(other)) => is_same_message(one, other),
             (Frame::Token(one), Frame::Token(other)) => is_same_token(one, other),
             (Frame::Join(one), Frame::Join(other)) => is_same_join(one, other),
-            (Frame::Commit(one), Frame::Commit(other)) => is_same_commit(
+            (Frame::Commit(one), Frame::Commit(other)) => is_same_commit_token(
                 one.token(),
                 other.token(),
             ),
@@ -62,7 +62,7 @@ fn is_same_join(one: &Join, other: &Join) -> bool
         && one.fail_set.bits() == other.fail_set.bits()
 }
 
-fn is_same_commit(one: &CommitToken, other: &CommitToken) -> bool
+fn is_same_commit_token(one: &CommitToken, other: &CommitToken) -> bool
     ensures { IsTrue result ↔ (one.now ≡ other.now) }
 {
     is_same_ring(one.ring, other.ring)
@@ -78,14 +78,14 @@ fn are_same_entries(some: &[CommitEntry], others: &[CommitEntry]) -> bool
         return false;
     }
     for i in 0..some.len() {
-        if !is_same_entry(&some[i], &others[i]) {
+        if !is_same_commit_entry(&some[i], &others[i]) {
             return false;
         }
     }
     true
 }
 
-fn is_same_entry(one: &CommitEntry, other: &CommitEntry) -> bool
+fn is_same_commit_entry(one: &CommitEntry, other: &CommitEntry) -> bool
     ensures { IsTrue result ↔ (one.now ≡ other.now) }
 {
     is_same_ring(one.old, other.old)

@@ -102,7 +102,7 @@ impl<'a> BorrowedToken<'a> {
             seq: Decode::read(alloc, from)?,
             aru: Decode::read(alloc, from)?,
             aru_id: Decode::read(alloc, from)?,
-            requests: Requests::borrow_numbers(alloc, from)?,
+            requests: Requests::read_borrowed_requests(alloc, from)?,
         };
         let is_valid = token.is_valid();
         token.if_valid(is_valid)
@@ -224,9 +224,9 @@ impl Encode for Token {
 
 impl<A: Allocator + Copy> Decode<A> for Token {
     fn read(alloc: A, from: &mut Reader<'_>) -> Result<Token, Fault> {
-        let borrow_numbers = BorrowedToken::read(alloc, from)?;
+        let read_borrowed_requests = BorrowedToken::read(alloc, from)?;
         let mut token = Token::blank();
-        borrow_numbers.fill(&mut token);
+        read_borrowed_requests.fill(&mut token);
         Ok(token)
     }
 }

@@ -3,7 +3,7 @@
 //! Rules: The book and the threads 5; Sessions 9
 
 ghost use Rattle.std.specs.Prelude.{◌≡◌, ℕ, ◌+◌, ◌≤◌, [], ◌∷◌, ◌++◌, length, vec_len, vec_capacity};
-ghost use Rattle.ring_session.specs.SessionAnswer.{reply_in};
+ghost use Rattle.ring_session.specs.SessionAnswer.{decode_reply};
 ghost use Rattle.ring_node_spec.specs.Worlds.{items_of, reply_items, told_by};
 ghost use Rattle.ring_node_spec.specs.declared.told.Told.TheVariants.{Answer as ToldAnswer};
 ghost use Rattle.ring_world.specs.SpareCalls.{HasCopy, HaveCopies, without, copies_after_answers};
@@ -39,7 +39,7 @@ pub(crate) fn record_answers<A: Allocator + Copy>(
 {
     if !answers.is_empty() {
         let answers = mem::replace(answers, Vec::new(alloc));
-        record_all(told, history, spares, node, answers);
+        record_all_answers(told, history, spares, node, answers);
     }
 }
 
@@ -48,7 +48,7 @@ pub(crate) fn record_answers<A: Allocator + Copy>(
 /// A function of its own keeps the large stack slot of an answer and its call out of the caller, which mostly has no
 /// answers.
 #[inline(never)]
-fn record_all<A: Allocator + Copy>(
+fn record_all_answers<A: Allocator + Copy>(
     told: &mut Vec<Told<A>, A>,
     history: &mut Vec<Item<A>, A>,
     spares: &mut SpareCalls<A>,
@@ -81,7 +81,7 @@ fn record_answer<A: Allocator + Copy>(
     ensures told { told.new.items ≡ told.old.items ++ ToldAnswer node answered.call answered.answer ∷ [] }
     ensures told_len { vec_len told.new ≡ vec_len told.old + 1 }
     ensures told_capacity { vec_capacity told.new ≡ vec_capacity told.old }
-    ensures history { history.new.items ≡ history.old.items ++ reply_items answered.call (reply_in answered.answer) }
+    ensures history { history.new.items ≡ history.old.items ++ reply_items answered.call (decode_reply answered.answer) }
     ensures history_len { vec_len history.new ≤ vec_len history.old + 1 }
     ensures history_capacity { vec_capacity history.new ≡ vec_capacity history.old }
     ensures spares { spares.new.calls ≡ without spares.old.calls answered.ticket }
@@ -94,7 +94,7 @@ fn record_answer<A: Allocator + Copy>(
 /// Appends the answer's reply to the history, if it has one.
 fn reply<A: Allocator + Copy>(history: &mut Vec<Item<A>, A>, call: Call<A>, answer: &Answer)
     requires { vec_len history.old + 1 ≤ vec_capacity history.old }
-    ensures items { history.new.items ≡ history.old.items ++ reply_items call (reply_in answer.now) }
+    ensures items { history.new.items ≡ history.old.items ++ reply_items call (decode_reply answer.now) }
     ensures len { vec_len history.new ≤ vec_len history.old + 1 }
     ensures capacity { vec_capacity history.new ≡ vec_capacity history.old }
 {

@@ -7,7 +7,7 @@ ghost use Rattle.ring_order_proof.specs.Linear.{EventKeeps};
 
 use ring_base::Fault;
 use ring_node_spec::{Event, Item, Told};
-use ring_order_proof::fit_laws::call_keeps_law;
+use ring_order_proof::fit_laws::call_fits_snapshot_law;
 use std::alloc::Allocator;
 
 /// Returns a copy of the event.
@@ -72,7 +72,7 @@ fn event_keeps_law<A: Allocator + Copy>(event: &Event<A>)
     ensures { EventFits event.now → EventKeeps event.now }
 {
     match event {
-        Event::Issue(_, call) => call_keeps_law(call),
+        Event::Issue(_, call) => call_fits_snapshot_law(call),
         Event::Deliver(_, _) | Event::Noise(_, _) | Event::Timeout(_, _) | Event::Stop(_) => {}
     }
 }

@@ -150,7 +150,7 @@ impl<A: Allocator + Copy> Frames<A> {
     /// Errors: only `Memory`, if an allocation fails; the contents of `place` are then unspecified.
     ///
     /// Rules: The book and the threads 3 and 4
-    pub(crate) fn read_to(
+    pub(crate) fn decode_if_sent_to(
         &self,
         alloc: A,
         node: Proc,
@@ -253,7 +253,7 @@ fn decode<A: Allocator + Copy>(
     // only one encoding.
     encoding_law::<A>();
     unique_encoding_law::<A>();
-    Frame::<A>::get_into(alloc, &bytes[mark.start..mark.end], place)?;
+    Frame::<A>::decode_first_frame_into(alloc, &bytes[mark.start..mark.end], place)?;
     Ok(())
 }
 

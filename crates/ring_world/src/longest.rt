@@ -201,7 +201,7 @@ fn copy_first<A: Allocator + Copy>(
 {
     let mut copies = Vec::with_capacity(alloc, room)?;
     for segment in segments {
-        copy_upto(&mut copies, segment.calls(), many)?;
+        copy_until_len(&mut copies, segment.calls(), many)?;
     }
     Ok(copies)
 }
@@ -226,7 +226,7 @@ fn order_of<A: Allocator + Copy + Drop>(
 /// Appends copies of the calls, in order, until the list has `many` calls.
 ///
 /// Errors: `Memory` if an allocation fails.
-fn copy_upto<A: Allocator + Copy>(
+fn copy_until_len<A: Allocator + Copy>(
     copies: &mut Vec<Call<A>, A>,
     calls: &[Call<A>],
     many: usize,

@@ -41,10 +41,10 @@ use ring_base::{Fault, Fixed, Kind, Proc, ProcSet};
 use ring_node::{Input, Node, OutgoingFrame, Outs};
 use ring_node_spec::{Event, Item, Told};
 use ring_object::Object;
-use ring_order_proof::effect_laws::effects_law;
-use ring_order_proof::frame_laws::{frames_law, pending_law, step_counts_law};
+use ring_order_proof::effect_laws::committed_effects_law;
+use ring_order_proof::frame_laws::{frames_law, pending_tickets_law, step_counts_law};
 use ring_order_proof::laws::linear_law;
-use ring_order_proof::longest_laws::longest_law;
+use ring_order_proof::longest_laws::longest_committed_log_law;
 use ring_payload::Call;
 use ring_session::copy_of;
 use ring_wire::Frame;
@@ -305,7 +305,7 @@ impl<O: Object> World<O> {
     {
         // A law: no effect at run time. The proof takes from it that the effective calls of the longest log are the
         // order.
-        longest_law::<O>();
+        longest_committed_log_law::<O>();
         self.run_record.longest.order(self.alloc)
     }
 
@@ -319,7 +319,7 @@ impl<O: Object> World<O> {
     {
         // A law: no effect at run time. The proof takes from it that a node's sessions count the effective calls of its
         // log.
-        effects_law::<O>();
+        committed_effects_law::<O>();
         max_effects(&self.nodes)
     }
 
@@ -338,7 +338,7 @@ impl<O: Object> World<O> {
     {
         // A law: no effect at run time. The proof takes from it that a node's committed places are a prefix of the
         // longest log.
-        longest_law::<O>();
+        longest_committed_log_law::<O>();
         let place = usize::from(node.number()) - 1;
         let many = self.nodes[place].committed_len();
         self.run_record.longest.first(self.alloc, many)
@@ -436,13 +436,13 @@ impl<O: Object> World<O> {
         // Laws: no effect at run time. The proof takes from them that a step gives at most 64 frames and answers, all
         // within the limits.
         step_counts_law::<O>();
-        pending_law::<O>();
+        pending_tickets_law::<O>();
         frames_law::<O>();
         let place = usize::from(node.number()) - 1;
         if place >= self.nodes.len() {
             return self.idle(event);
         }
-        let is_step = read_delivered(
+        let is_step = decode_delivered_frame(
             &self.run_record.frames,
             self.alloc,
             event,
@@ -461,7 +461,7 @@ impl<O: Object> World<O> {
         ) {
             Ok(()) => {
                 let many = self.nodes[place].committed_len();
-                keep_step(
+                record_step_outputs(
                     self.alloc,
                     node,
                     many,
@@ -522,8 +522,8 @@ impl<O: Object> World<O> {
         self.run_record.make_room()?;
         self.spares[place].make_room()?;
         let copies = issue_copies(event, call)?;
-        match self.nodes[place].submit_on(call) {
-            Ok(_) => keep_issue(
+        match self.nodes[place].submit_borrowed(call) {
+            Ok(_) => record_submit(
                 &mut self.run_record.events,
                 &mut self.run_record.history,
                 &mut self.spares[place],
@@ -621,7 +621,7 @@ fn new_spares<A: Allocator + Copy>(alloc: A, count: u8) -> Result<Vec<SpareCalls
 /// It is for a timeout, and for a frame that was sent to that node.
 ///
 /// Errors: only `Memory`, if an allocation fails.
-fn read_delivered<A: Allocator + Copy>(
+fn decode_delivered_frame<A: Allocator + Copy>(
     frames: &Frames<A>,
     alloc: A,
     event: &Event<A>,
@@ -632,7 +632,7 @@ fn read_delivered<A: Allocator + Copy>(
     ensures refused { IfErr result (λ fault. fault ≡ Memory) }
 {
     match event {
-        Event::Deliver(node, number) => frames.read_to(alloc, *node, *number, place),
+        Event::Deliver(node, number) => frames.decode_if_sent_to(alloc, *node, *number, place),
         Event::Timeout(_, _) => Ok(true),
         Event::Issue(_, _) | Event::Noise(_, _) | Event::Stop(_) => Ok(false),
     }
@@ -695,7 +695,7 @@ fn issue_copies<A: Allocator + Copy>(
 /// Records a submit that the node took.
 ///
 /// There must be room.
-fn keep_issue<A: Allocator + Copy>(
+fn record_submit<A: Allocator + Copy>(
     events: &mut Vec<Event<A>, A>,
     history: &mut Vec<Item<A>, A>,
     spares: &mut SpareCalls<A>,
@@ -768,7 +768,7 @@ fn event_or_stop<A: Allocator + Copy>(fault: Fault, event: Event<A>, node: Proc)
 ///
 /// `committed` is the node's committed length after the step. The frames must be within the limits of their format, and
 /// there must be room.
-fn keep_step<A: Allocator + Copy>(
+fn record_step_outputs<A: Allocator + Copy>(
     alloc: A,
     node: Proc,
     committed: u64,

@@ -4,10 +4,10 @@
 
 ghost use Rattle.std.specs.Prelude.{◌≡◌, IfSome};
 ghost use Rattle.ring_client.specs.Asking.{IsClientVisible};
-ghost use Rattle.ring_world_port.specs.Answers.{is_submitted_call, answer_of, answer_in};
+ghost use Rattle.ring_world_port.specs.Answers.{is_submitted_call, answer_of, first_answer_in};
 
 use ring_base::Proc;
-use ring_client::{Op, client_visible};
+use ring_client::{Op, if_client_visible};
 use ring_node_spec::Told;
 use ring_payload::Call;
 use ring_session::Answer;
@@ -47,7 +47,7 @@ impl SubmittedCall {
         match told {
             Told::Answer(node, call, answer) => {
                 if self.is(*node, call) {
-                    client_visible(*answer)
+                    if_client_visible(*answer)
                 } else {
                     None
                 }
@@ -61,8 +61,8 @@ impl SubmittedCall {
     /// A report belongs to the call if node, client, number and operation are the same. Refused submits are skipped.
     ///
     /// Rules: Clients 8
-    pub fn answer_in<A: Allocator + Copy>(&self, told: &[Told<A>]) -> Option<Answer>
-        ensures value { result ≡ answer_in self.now told.now }
+    pub fn first_answer_in<A: Allocator + Copy>(&self, told: &[Told<A>]) -> Option<Answer>
+        ensures value { result ≡ first_answer_in self.now told.now }
         ensures told { IfSome result IsClientVisible }
     {
         for one in told {

@@ -12,7 +12,7 @@ ghost use Rattle.ring_node_spec.specs.WorldLimits.{EventFits};
 ghost use Rattle.ring_world.specs.OpenCopies.{frames_of, all_copies};
 ghost use Rattle.ring_world.specs.Pumping.{HasRunEvent, IsUnchanged};
 ghost use Rattle.ring_world.specs.WorldView.{world_of};
-ghost use Rattle.ring_world_port.specs.Answers.{answer_in, submitted_call_of, IsToldSince, HasTold};
+ghost use Rattle.ring_world_port.specs.Answers.{first_answer_in, submitted_call_of, IsToldSince, HasTold};
 ghost use Rattle.ring_world_port.specs.Network.{IsNetworkUnchanged, IsIssuable, IsIssued, IsNotIssued, HappensIf, HasTurned, HasLostTurn};
 ghost use Rattle.ring_world_port.specs.Network.{fault_of, hears, delivery_event, timeout_kind, timeout_in, refusal_in};
 
@@ -257,12 +257,12 @@ impl<O: Object> Network<O> {
     ///
     /// If there is none, performs a turn; if an allocation fails in the turn, that is ignored.
     fn poll(&mut self, call: &SubmittedCall, scanned: usize) -> Option<Answer>
-        ensures answer { result ≡ answer_in call.now (drop scanned self.old.pump.world_view.told) }
+        ensures answer { result ≡ first_answer_in call.now (drop scanned self.old.pump.world_view.told) }
         ensures told { IfSome result IsClientVisible }
         ensures same { IfSome result (λ _. self.new ≡ self.old) }
         ensures turn { IfNone result (HasTurned O.sequential self.old self.new ⊎ HasLostTurn self.old self.new) }
     {
-        let answer = call.answer_in(told_after(self.world().told(), scanned));
+        let answer = call.first_answer_in(reports_from(self.world().told(), scanned));
         if answer.is_none() {
             let _ = self.turn();
         }
@@ -305,7 +305,7 @@ impl<O: Object> Network<O> {
         ensures group { self.new.group ≡ self.old.group }
         ensures refused { IfErr result (λ fault. fault ≡ Memory) }
     {
-        self.time_out_member()?;
+        self.run_timeout_of_member()?;
         self.timeouts = self.timeouts.saturating_add(1);
         Ok(())
     }
@@ -313,7 +313,7 @@ impl<O: Object> Network<O> {
     /// Runs the timeout of the group's member whose turn it is, if the group has a member.
     ///
     /// Errors: those of `run_event`.
-    fn time_out_member(&mut self) -> Result<(), Fault>
+    fn run_timeout_of_member(&mut self) -> Result<(), Fault>
         ensures ok { OnOk result (HappensIf O.sequential (timeout_in (world_of O.sequential self.old.pump.world_view) self.old.group self.old.timeouts)
             self.old.pump self.new.pump) }
         ensures err { OnErr result (IsUnchanged self.old.pump self.new.pump) }
@@ -371,7 +371,7 @@ fn refusal_at<A: Allocator + Copy>(told: &[Told<A>], place: usize) -> Result<(),
 }
 
 /// Returns the list without its first `many` reports.
-fn told_after<A: Allocator + Copy>(told: &[Told<A>], many: usize) -> &[Told<A>]
+fn reports_from<A: Allocator + Copy>(told: &[Told<A>], many: usize) -> &[Told<A>]
     ensures { result.now ≡ drop many told.now }
 {
     &told[many.min(told.len())..]

@@ -127,25 +127,25 @@ pub(crate) fn task_of<'a>(
     words: &'a io::Result<Vec<String>>,
 ) -> Result<CommandTask<'a>, Error> {
     match command_of(alloc) {
-        Ok(mut command) => task_for(alloc, &mut command, words),
+        Ok(mut command) => parse_with_command(alloc, &mut command, words),
         Err(error) => Err(Error::from(error)),
     }
 }
 
 /// Parses the words with the parser `command`.
-fn task_for<'a>(
+fn parse_with_command<'a>(
     alloc: Global,
     command: &mut Command<'a>,
     words: &'a io::Result<Vec<String>>,
 ) -> Result<CommandTask<'a>, Error> {
     match words {
-        Ok(words) => task_among(alloc, command, words.as_slice()),
+        Ok(words) => parse_readable_words(alloc, command, words.as_slice()),
         Err(error) => Err(unreadable(command, error)),
     }
 }
 
 /// Parses words that could be read.
-fn task_among<'a>(
+fn parse_readable_words<'a>(
     alloc: Global,
     command: &mut Command<'a>,
     words: &'a [String],
@@ -179,13 +179,13 @@ fn parser_error(command: &mut Command<'_>, wrong: &str) -> Error {
 /// Returns the task of the parsed words, or the message for what is wrong with them.
 fn task_of_matches<'a>(matches: &ArgMatches<'a>) -> Result<CommandTask<'a>, &'static str> {
     match matches.subcommand() {
-        Some((name, of)) => task_in(name, of),
+        Some((name, of)) => task_of_command(name, of),
         None => Err(NO_COMMAND),
     }
 }
 
 /// Returns the task of the command `name` with these words, or the message for what is wrong with them.
-fn task_in<'a>(name: &str, of: &ArgMatches<'a>) -> Result<CommandTask<'a>, &'static str> {
+fn task_of_command<'a>(name: &str, of: &ArgMatches<'a>) -> Result<CommandTask<'a>, &'static str> {
     match name {
         "gen" => generate_in(of),
         "explore" => explore_in(of),

@@ -65,7 +65,7 @@ fn list_explained<R: Files + AllocGlobal, I: Read, O: Write, E: Write>(
     err: &mut E,
 ) -> u8 {
     match read_all(rt, file, input) {
-        Ok(bytes) => list_bytes(rt.alloc(), bytes.as_slice(), out, err),
+        Ok(bytes) => list_and_explain(rt.alloc(), bytes.as_slice(), out, err),
         Err(error) => report_unread(&error, err),
     }
 }
@@ -103,7 +103,7 @@ fn report_unread<E: Write>(error: &Error, err: &mut E) -> u8 {
 /// Lists the frames of these bytes.
 ///
 /// If a fault is reported on `err`, a line below explains why no frame begins there.
-fn list_bytes<O: Write, E: Write>(alloc: Global, bytes: &[u8], out: &mut O, err: &mut E) -> u8 {
+fn list_and_explain<O: Write, E: Write>(alloc: Global, bytes: &[u8], out: &mut O, err: &mut E) -> u8 {
     let Ok(mut fault) = Vec::with_capacity(alloc, MAX_FAULT_LINE) else {
         return report(err, Failure::Refused(Fault::Memory));
     };

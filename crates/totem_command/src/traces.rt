@@ -60,7 +60,7 @@ fn format_in(of: &ArgMatches<'_>) -> Format {
 /// Returns the options without the files.
 ///
 /// A function of its own, since no function may take both a `Proc` and borrowed words.
-fn asked_of(traced: &TraceArguments<'_>) -> TraceOptions {
+fn trace_options_of(traced: &TraceArguments<'_>) -> TraceOptions {
     TraceOptions {
         format: traced.format,
         selection: Selection {
@@ -116,7 +116,7 @@ fn trace_text<
     O: Write,
     E: Write,
 >(rt: &R, traced: &TraceArguments<'_>, text: &[u8], out: &mut O, err: &mut E) -> u8 {
-    let asked = asked_of(traced);
+    let asked = trace_options_of(traced);
     match traced.frames {
         Some(path) => {
             let mut sent = Vec::new(rt.alloc());

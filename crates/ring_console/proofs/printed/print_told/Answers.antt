@@ -10,5 +10,5 @@ loop-one-preserved g c =
     let within : k < length told = omega (arith, c.loop-one-test.true) in
     let at : slice_get told k ≡ Some c.one-item.result = slice_get_read told (length told) k c.one-item.result refl within c.one-item.is in
     told_more (g.W.Write.contents c.args.out.now) (g.W.Write.contents c.loop-one.out)
-    (g.W.Write.contents c.print_one.new.out) told k c.one-item.result at c.loop-one.invariant
-    c.in_ok-print_one.ensures.line
+    (g.W.Write.contents c.print_report.new.out) told k c.one-item.result at c.loop-one.invariant
+    c.in_ok-print_report.ensures.line

@@ -33,11 +33,11 @@ returns-then-is_some-clause-ok g t c =
     let less : from < upto = omega (arith, is_end, grows) in
     let most : upto ≤ many = omega (arith, is_end, within, is_many) in
     let round = c.part-round.result in
-    let explore_totals = c.in_ok-explore_totals.explore_totals.illegal in
-    let tried = same_scripts g.O.Object.sequential g.V.Vocabulary.forms round c.args.plan.now round.first (round.first + seeds_in round.first round.last) explore_totals
-    c.part-round.ensures.votes c.part-round.ensures.lines c.in_ok-explore_totals.ensures.ok in
-    λ order. tried_more IsT (first + from) (first + upto) (first + many) explore_totals (sym c.is_some.ensures ∙ c.if-is_some.true) (omega (arith, most))
-    (tried_part IsT first from upto round.first round.last explore_totals less (omega (arith, most)) c.part-round.ensures.first c.part-round.ensures.last
+    let seed_totals = c.in_ok-seed_totals.seed_totals.illegal in
+    let tried = same_scripts g.O.Object.sequential g.V.Vocabulary.forms round c.args.plan.now round.first (round.first + seeds_in round.first round.last) seed_totals
+    c.part-round.ensures.votes c.part-round.ensures.lines c.in_ok-seed_totals.ensures.ok in
+    λ order. tried_more IsT (first + from) (first + upto) (first + many) seed_totals (sym c.is_some.ensures ∙ c.if-is_some.true) (omega (arith, most))
+    (tried_part IsT first from upto round.first round.last seed_totals less (omega (arith, most)) c.part-round.ensures.first c.part-round.ensures.last
     tried)
 
 pub returns-clause-ok : goal.returns-clause-ok
@@ -54,11 +54,11 @@ returns-clause-ok g t c =
     let less : from < upto = omega (arith, is_end, grows) in
     let most : upto ≤ many = omega (arith, is_end, within, is_many) in
     let round = c.part-round.result in
-    let explore_totals = c.in_ok-explore_totals.explore_totals.illegal in
-    let tried = same_scripts g.O.Object.sequential g.V.Vocabulary.forms round c.args.plan.now round.first (round.first + seeds_in round.first round.last) explore_totals
-    c.part-round.ensures.votes c.part-round.ensures.lines c.in_ok-explore_totals.ensures.ok in
+    let seed_totals = c.in_ok-seed_totals.seed_totals.illegal in
+    let tried = same_scripts g.O.Object.sequential g.V.Vocabulary.forms round c.args.plan.now round.first (round.first + seeds_in round.first round.last) seed_totals
+    c.part-round.ensures.votes c.part-round.ensures.lines c.in_ok-seed_totals.ensures.ok in
     let others = c.in_ok-others.others.illegal in
     λ order. subst (λ (f : Option ℕ). AreTried IsT (first + from) (first + many) f) (sym c.add.ensures.illegal)
-    (tried_append IsT (first + from) (first + upto) (first + many) explore_totals others (omega (arith, less)) (omega (arith, most))
-    (tried_part IsT first from upto round.first round.last explore_totals less (omega (arith, most)) c.part-round.ensures.first c.part-round.ensures.last
+    (tried_append IsT (first + from) (first + upto) (first + many) seed_totals others (omega (arith, less)) (omega (arith, most))
+    (tried_part IsT first from upto round.first round.last seed_totals less (omega (arith, most)) c.part-round.ensures.first c.part-round.ensures.last
     tried) (c.in_ok-others.ensures.ok most))

@@ -1,7 +1,7 @@
 use Rattle.std.proofs.Common.{◌≤◌, ◌+◌, max, ℕ, length, sym, subst, Option, ◌∙◌, arith}
 use Rattle.std.proofs.lemmas.Iterator.Adapters.{YieldsList-from_vec}
 use Rattle.std.proofs.lemmas.Iterator.Consumers.{YieldsList-turn, YieldsList-end}
-use Rattle.ring_explore.specs.declared.explore_totals.ExploreTotals.{ExploreTotals}
+use Rattle.ring_explore.specs.declared.seed_totals.ExploreTotals.{ExploreTotals}
 use Rattle.ring_failure.specs.Shares.{share_begin}
 use Rattle.ring_failure.proofs.Sharing.{found_of, one_longer, shares_end}
 use Rattle.ring_explore.specs.Explored.{AreTried, seeds_in}
@@ -24,9 +24,9 @@ loop-part-preserved g c =
     let all = c.requires.len in
     let len = parts.ok.0 in
     let given = c.requires.each k c.in-Some.part (omega (arith, less, all, len)) in
-    let explore_totals = found_of c.in-Some.part _ c.in_ok-explore_totals.explore_totals
-    (λ (f : ExploreTotals). AreTried IsT (first + share_begin many shares k) (first + share_begin many shares (k + 1)) f.illegal) turn.1 c.in_ok-explore_totals.was given in
-    let more = tried_share IsT first many shares k c.loop-part.all.illegal c.in_ok-explore_totals.explore_totals.illegal c.loop-part.invariant explore_totals in
+    let seed_totals = found_of c.in-Some.part _ c.in_ok-seed_totals.seed_totals
+    (λ (f : ExploreTotals). AreTried IsT (first + share_begin many shares k) (first + share_begin many shares (k + 1)) f.illegal) turn.1 c.in_ok-seed_totals.was given in
+    let more = tried_share IsT first many shares k c.loop-part.all.illegal c.in_ok-seed_totals.seed_totals.illegal c.loop-part.invariant seed_totals in
     let next = one_longer c.loop-part.yielded c.in-Some.part in
     subst (λ (n : ℕ). AreTried IsT first (first + share_begin many shares n) c.add.new.self.illegal) next
     (subst (λ (f : Option ℕ). AreTried IsT first (first + share_begin many shares (k + 1)) f) (sym c.add.ensures.illegal) more)

@@ -8,7 +8,7 @@ use Rattle.ring_host.proofs.item.read_frame.Goals as goal
 
 pub returns-clause-read : goal.returns-clause-read
 returns-clause-read g c =
-    got-read c.get_into.new.place c.args.bytes.now c.in_ok-len.len c.in_ok-len.ensures.found c.in_ok-len.ensures.placed c.if-len-bytes.false
+    got-read c.decode_first_frame_into.new.place c.args.bytes.now c.in_ok-len.len c.in_ok-len.ensures.found c.in_ok-len.ensures.placed c.if-len-bytes.false
 
 pub returns-in_err-len-clause-bad : goal.returns-in_err-len-clause-bad
 returns-in_err-len-clause-bad g c =
@@ -17,4 +17,4 @@ returns-in_err-len-clause-bad g c =
 
 pub returns-then-len-bytes-clause-bad : goal.returns-then-len-bytes-clause-bad
 returns-then-len-bytes-clause-bad g c =
-    λ h. got-none c.get_into.new.place c.args.bytes.now c.in_ok-len.len c.in_ok-len.ensures.found c.in_ok-len.ensures.placed c.if-len-bytes.true
+    λ h. got-none c.decode_first_frame_into.new.place c.args.bytes.now c.in_ok-len.len c.in_ok-len.ensures.found c.in_ok-len.ensures.placed c.if-len-bytes.true

@@ -53,7 +53,7 @@ returns-clause-effects_in_step g c =
     let log = c.log-2.result.now in
     let table = table_held object held c.args.sessions.now in
     c.in_ok-answers.ensures.effects
-    ∙ ap (λ e. min (2 ^ 64 - 1) (e + done_after object c.restore.new.sessions (newly_committed_calls c.args.committed log))) c.effects_in-effects.ensures
+    ∙ ap (λ e. min (2 ^ 64 - 1) (e + done_after object c.restore.new.sessions (newly_committed_calls c.args.committed log))) c.effects_after_restore-effects.ensures
     ∙ ap (λ t. min (2 ^ 64 - 1) ((if is_some held.before then table_effects t else c.args.effects) + done_after object t (newly_committed_calls c.args.committed log)))
     (c.in_ok-fits.ensures.table holds)
     ∙ ap (λ l. min (2 ^ 64 - 1) ((if is_some held.before then table_effects table else c.args.effects) + done_after object table (newly_committed_calls c.args.committed l)))

@@ -42,10 +42,10 @@ loop-place-preserved g c =
       answers =
           answers-on object c.loop-place.sessions c.apply.new.self pending more _ i call c.in_ok-answer.answer
           (answers_behind object c.args.sessions.now pending [] more)
-          c.loop-place.answers.items c.answer_without_buckets.new.answers.items rest first refl answer after
+          c.loop-place.answers.items c.append_unbucketed_answers.new.answers.items rest first refl answer after
           (answers_to-split (take i more) call c.in_ok-answer.answer pending c.split_at.result.0.now c.split_at.result.1.now
-          c.loop-place.answers.items c.answer_to.new.answers.items c.answer_without_buckets.new.answers.items c.split_at.ensures.by_index.0
-          (c.in_ok-answer_to.ensures.answers (take i more) c.loop-place.invariant.gone) c.in_ok-answer_without_buckets.ensures.answers)
+          c.loop-place.answers.items c.answer_to.new.answers.items c.append_unbucketed_answers.new.answers.items c.split_at.ensures.by_index.0
+          (c.in_ok-answer_to.ensures.answers (take i more) c.loop-place.invariant.gone) c.in_ok-append_unbucketed_answers.ensures.answers)
           c.loop-place.invariant.answers;
     }
 

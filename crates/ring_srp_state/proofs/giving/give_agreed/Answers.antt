@@ -7,7 +7,7 @@ use Rattle.ring_window.specs.Held.{front_of}
 use Rattle.ring_recover.proofs.MessagesInFront.{kept_found}
 use Rattle.ring_srp_state.specs.Users.{agreed_in, agreed_of}
 use Rattle.ring_srp_state.proofs.UsersOfWindow.{agreed_first, agreed_some, agreed_none, agreed_last}
-use Rattle.ring_srp_state.proofs.giving.give_agreed.Goals.{in-Some+in_ok-give_message, in_default}
+use Rattle.ring_srp_state.proofs.giving.give_agreed.Goals.{in-Some+in_ok-push_agreed_if_user, in_default}
 use Rattle.ring_srp_state.proofs.giving.give_agreed.Goals as goal
 
 pub loop-before-init : goal.loop-before-init
@@ -24,8 +24,8 @@ loop-before-preserved g c =
     let there = kept_found w (k + 1) (omega (arith, c.requires, c.loop-before.invariant.1)) in
     let top : k + 1 ≤ max below (front_of w.held w.ring) = omega (arith, c.loop-before-test.true, c.front-before-end.ensures) in
     elim c.match-get.branch [
-      | in-Some+in_ok-give_message v ↦ rw v.outs-is (
-        v.in_ok-give_message.ensures.ok
+      | in-Some+in_ok-push_agreed_if_user v ↦ rw v.outs-is (
+        v.in_ok-push_agreed_if_user.ensures.ok
             ∙ ap (λ q. c.loop-before.outs.items ++ agreed_of q v.in-Some.message.now) v.ring.ensures
             ∙ ap (λ ys. ys ++ agreed_of w.ring v.in-Some.message.now) c.loop-before.invariant.0
             ∙ append_assoc outs (agreed_in w below k) (agreed_of w.ring v.in-Some.message.now)

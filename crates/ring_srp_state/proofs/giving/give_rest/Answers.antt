@@ -13,7 +13,7 @@ loop-number-preserved g c =
     let ns = c.loop-number.yielded in
     let outs = c.args.outs.now.items in
     let one = rest_of w (c.in-Some.number ∷ []) in
-    c.in_ok-give_number.ensures.ok
+    c.in_ok-push_rest_of_number.ensures.ok
     ∙ ap (λ (xs : List (Out g.row.A.Denot)). xs ++ one) c.loop-number.invariant
     ∙ append_assoc outs (rest_of w ns) one
     ∙ ap (λ (xs : List (Out g.row.A.Denot)). outs ++ xs) (sym (rest_parts w ns (c.in-Some.number ∷ [])))

@@ -17,8 +17,8 @@ returns-then-place-eq0-clause-absent g c = λ two_is.
           (inr w.if-script_position-injection.true)
     ]
 
-pub print_with-requires : goal.print_with-requires
-print_with-requires g c =
+pub print_with_injection-requires : goal.print_with_injection-requires
+print_with_injection-requires g c =
     few_before c.at-injection.result c.args.place c.saturating_sub.result c.count.result c.at-injection.ensures c.saturating_sub.ensures (omega arith)
 
 pub returns-in-Ok-2-clause-printed : goal.returns-in-Ok-2-clause-printed

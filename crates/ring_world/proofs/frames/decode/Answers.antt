@@ -7,12 +7,12 @@ use Rattle.ring_world.proofs.frames.decode.Goals as goal
 
 pub returns : goal.returns
 returns g c = λ frame encoded.
-    put_is (slice_range c.args.bytes.now c.args.mark.start c.args.mark.end) c.get_into.new.place c.in_ok-get_into.field-0 frame encoded
-    c.encoding_law.ensures c.unique_encoding_law.ensures c.in_ok-get_into.ensures.found c.in_ok-get_into.ensures.placed
+    put_is (slice_range c.args.bytes.now c.args.mark.start c.args.mark.end) c.decode_first_frame_into.new.place c.in_ok-decode_first_frame_into.field-0 frame encoded
+    c.encoding_law.ensures c.unique_encoding_law.ensures c.in_ok-decode_first_frame_into.ensures.found c.in_ok-decode_first_frame_into.ensures.placed
 
-pub returns-in_err-get_into : goal.returns-in_err-get_into
-returns-in_err-get_into g c = λ frame encoded.
-    let plain : c.in_err-get_into.field-0.0 ≡ Memory =
-    put_refused (slice_range c.args.bytes.now c.args.mark.start c.args.mark.end) c.in_err-get_into.field-0.0 frame encoded
-    c.encoding_law.ensures c.in_err-get_into.ensures.bad c.in_err-get_into.ensures.faults in
+pub returns-in_err-decode_first_frame_into : goal.returns-in_err-decode_first_frame_into
+returns-in_err-decode_first_frame_into g c = λ frame encoded.
+    let plain : c.in_err-decode_first_frame_into.field-0.0 ≡ Memory =
+    put_refused (slice_range c.args.bytes.now c.args.mark.start c.args.mark.end) c.in_err-decode_first_frame_into.field-0.0 frame encoded
+    c.encoding_law.ensures c.in_err-decode_first_frame_into.ensures.bad c.in_err-decode_first_frame_into.ensures.faults in
     search (rules, plain)

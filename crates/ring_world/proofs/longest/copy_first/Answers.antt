@@ -16,7 +16,7 @@ loop-segment-preserved g c =
     let x = c.segment-item.result in
     let many = c.args.many in
     let at = slice_get_read xs (length xs) i x refl c.loop-segment-test.true c.segment-item.is in
-    c.in_ok-copy_upto.ensures.ok ∙ ap (λ l. c.loop-segment.copies.items ++ take (many - length c.loop-segment.copies.items) l) c.calls.ensures
+    c.in_ok-copy_until_len.ensures.ok ∙ ap (λ l. c.loop-segment.copies.items ++ take (many - length c.loop-segment.copies.items) l) c.calls.ensures
     ∙ ap (λ l. l ++ take (many - length l) x) c.loop-segment.invariant
     ∙ sym (ap (take many) (calls_of-more xs i x at) ∙ take-both many (calls_of (take i xs)) x)
 

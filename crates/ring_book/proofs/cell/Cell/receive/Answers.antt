@@ -14,8 +14,8 @@ use Rattle.ring_book.proofs.Stops.{memory_runs, other_stopped}
 use Rattle.ring_node_spec.proofs.NodeChanges.{stopped_same}
 use Rattle.ring_book.proofs.cell.Cell.receive.Goals as goal
 
-pub step_of-requires : goal.step_of-requires
-step_of-requires g c = record {
+pub step_with_outputs-requires : goal.step_with_outputs-requires
+step_with_outputs-requires g c = record {
   input = rw c.new-received_frame.ensures c.requires.fits;
   sends = rw c.in-Ok.ensures.sends (c.node_fits_law.ensures.sends c.self.inside.node (Comes c.args.frame.now) c.self.invariant.sound c.requires.fits);
   room = c.self.invariant.text;
@@ -28,32 +28,32 @@ pub invariant_of-self : goal.invariant_of-self
 invariant_of-self g c =
     let m = node_machine g.O.Object.sequential g.K.BookName.name.group in
     let e = c.in-Ok.ensures in
-    let l = c.step_of.result in
-    let stepped : IsStep m c.self.inside.node l c.receive_into.new.self = rw (c.step_of.ensures.step, c.new-received_frame.ensures) record {
+    let l = c.step_with_outputs.result in
+    let stepped : IsStep m c.self.inside.node l c.receive_into.new.self = rw (c.step_with_outputs.ensures.step, c.new-received_frame.ensures) record {
       fits = c.requires.fits;
       makes = (e.runs, e.ok, e.sends, e.answers, e.committed);
       committed = c.committed_len-places.ensures;
     } in
     cell_adds m NodeFits g.K.BookName.name c.self.inside.me _ c.self.inside.node c.receive_into.new.self
-    c.self.inside.journal c.push_reserved.new.self _ _ l c.self.invariant (ap (λ x. x.node) c.step_of.ensures.step) stepped
+    c.self.inside.journal c.push_reserved.new.self _ _ l c.self.invariant (ap (λ x. x.node) c.step_with_outputs.ensures.step) stepped
     (node_sound g.O.Object.sequential g.K.BookName.name.group c.node_fits_law.ensures.step c.node_fits_law.ensures.submit
-    c.self.inside.node l c.receive_into.new.self c.self.invariant.sound stepped) c.step_of.ensures.room c.push_reserved.ensures.ring
+    c.self.inside.node l c.receive_into.new.self c.self.invariant.sound stepped) c.step_with_outputs.ensures.room c.push_reserved.ensures.ring
     c.push_reserved.ensures.sent.0
 
 pub returns-in-Ok : goal.returns-in-Ok
 returns-in-Ok g c =
     let m = node_machine g.O.Object.sequential g.K.BookName.name.group in
     let e = c.in-Ok.ensures in
-    let l = c.step_of.result in
-    let stepped : IsStep m c.self.inside.node l c.receive_into.new.self = rw (c.step_of.ensures.step, c.new-received_frame.ensures) record {
+    let l = c.step_with_outputs.result in
+    let stepped : IsStep m c.self.inside.node l c.receive_into.new.self = rw (c.step_with_outputs.ensures.step, c.new-received_frame.ensures) record {
       fits = c.requires.fits;
       makes = (e.runs, e.ok, e.sends, e.answers, e.committed);
       committed = c.committed_len-places.ensures;
     } in
     rw (← c.self.view_is) record {
       step = l;
-      step_node = ap (λ x. x.node) c.step_of.ensures.step;
-      step_input = ap (λ x. x.input) c.step_of.ensures.step ∙ ap (λ f. Received (Comes f) c.args.at) c.new-received_frame.ensures;
+      step_node = ap (λ x. x.node) c.step_with_outputs.ensures.step;
+      step_input = ap (λ x. x.input) c.step_with_outputs.ensures.step ∙ ap (λ f. Received (Comes f) c.args.at) c.new-received_frame.ensures;
       stepped = stepped;
       journal = c.push_reserved.ensures.sent.0;
       was = c.if-self.false;

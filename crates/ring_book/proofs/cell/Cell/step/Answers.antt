@@ -13,8 +13,8 @@ use Rattle.ring_book.proofs.Stops.{memory_runs, other_stopped}
 use Rattle.ring_node_spec.proofs.NodeChanges.{stopped_same}
 use Rattle.ring_book.proofs.cell.Cell.step.Goals as goal
 
-pub step_of-requires : goal.step_of-requires
-step_of-requires g c = record {
+pub step_with_outputs-requires : goal.step_with_outputs-requires
+step_with_outputs-requires g c = record {
   input = c.requires;
   sends = rw c.in-Ok.ensures.sends (c.node_fits_law.ensures.sends c.self.inside.node c.args.input c.self.invariant.sound c.requires);
   room = c.self.invariant.text;
@@ -27,32 +27,32 @@ pub invariant_of-self : goal.invariant_of-self
 invariant_of-self g c =
     let m = node_machine g.O.Object.sequential g.K.BookName.name.group in
     let e = c.in-Ok.ensures in
-    let l = c.step_of.result in
-    let stepped : IsStep m c.self.inside.node l c.step_into.new.self = rw c.step_of.ensures.step record {
+    let l = c.step_with_outputs.result in
+    let stepped : IsStep m c.self.inside.node l c.step_into.new.self = rw c.step_with_outputs.ensures.step record {
       fits = c.requires;
       makes = (e.runs, e.ok, e.sends, e.answers, e.committed);
       committed = c.committed_len-places.ensures;
     } in
     cell_adds m NodeFits g.K.BookName.name c.self.inside.me _ c.self.inside.node c.step_into.new.self
-    c.self.inside.journal c.push_reserved.new.self _ _ l c.self.invariant (ap (λ x. x.node) c.step_of.ensures.step) stepped
+    c.self.inside.journal c.push_reserved.new.self _ _ l c.self.invariant (ap (λ x. x.node) c.step_with_outputs.ensures.step) stepped
     (node_sound g.O.Object.sequential g.K.BookName.name.group c.node_fits_law.ensures.step c.node_fits_law.ensures.submit
-    c.self.inside.node l c.step_into.new.self c.self.invariant.sound stepped) c.step_of.ensures.room c.push_reserved.ensures.ring
+    c.self.inside.node l c.step_into.new.self c.self.invariant.sound stepped) c.step_with_outputs.ensures.room c.push_reserved.ensures.ring
     c.push_reserved.ensures.sent.0
 
 pub returns-in-Ok : goal.returns-in-Ok
 returns-in-Ok g c =
     let m = node_machine g.O.Object.sequential g.K.BookName.name.group in
     let e = c.in-Ok.ensures in
-    let l = c.step_of.result in
-    let stepped : IsStep m c.self.inside.node l c.step_into.new.self = rw c.step_of.ensures.step record {
+    let l = c.step_with_outputs.result in
+    let stepped : IsStep m c.self.inside.node l c.step_into.new.self = rw c.step_with_outputs.ensures.step record {
       fits = c.requires;
       makes = (e.runs, e.ok, e.sends, e.answers, e.committed);
       committed = c.committed_len-places.ensures;
     } in
     rw (← c.self.view_is) record {
       step = l;
-      step_node = ap (λ x. x.node) c.step_of.ensures.step;
-      step_input = ap (λ x. x.input) c.step_of.ensures.step;
+      step_node = ap (λ x. x.node) c.step_with_outputs.ensures.step;
+      step_input = ap (λ x. x.input) c.step_with_outputs.ensures.step;
       stepped = stepped;
       journal = c.push_reserved.ensures.sent.0;
       was = c.if-self.false;

@@ -16,23 +16,23 @@ invariant_of-self-2 g c =
     let m = node_machine g.O.Object.sequential g.K.BookName.name.group in
     let e = c.in_ok-ticket.ensures in
     let l = c.called.result in
-    let stepped : IsStep m c.self.inside.node l c.submit_on.new.self = rw c.called.ensures record {
-      fits = c.call_keeps_law.ensures c.requires;
+    let stepped : IsStep m c.self.inside.node l c.submit_borrowed.new.self = rw c.called.ensures record {
+      fits = c.call_fits_snapshot_law.ensures c.requires;
       makes = (e.taken, e.ok, refl, refl, refl);
       committed = c.committed_len-places.ensures;
     } in
-    cell_adds m NodeFits g.K.BookName.name c.self.inside.me _ c.self.inside.node c.submit_on.new.self
+    cell_adds m NodeFits g.K.BookName.name c.self.inside.me _ c.self.inside.node c.submit_borrowed.new.self
     c.self.inside.journal c.push_reserved.new.self _ _ l c.self.invariant (ap (λ x. x.node) c.called.ensures) stepped
     (node_sound g.O.Object.sequential g.K.BookName.name.group c.node_fits_law.ensures.step c.node_fits_law.ensures.submit
-    c.self.inside.node l c.submit_on.new.self c.self.invariant.sound stepped) c.self.invariant.text c.push_reserved.ensures.ring c.push_reserved.ensures.sent.0
+    c.self.inside.node l c.submit_borrowed.new.self c.self.invariant.sound stepped) c.self.invariant.text c.push_reserved.ensures.ring c.push_reserved.ensures.sent.0
 
 pub returns-clause-given : goal.returns-clause-given
 returns-clause-given g c =
     let m = node_machine g.O.Object.sequential g.K.BookName.name.group in
     let e = c.in_ok-ticket.ensures in
     let l = c.called.result in
-    let stepped : IsStep m c.self.inside.node l c.submit_on.new.self = rw c.called.ensures record {
-      fits = c.call_keeps_law.ensures c.requires;
+    let stepped : IsStep m c.self.inside.node l c.submit_borrowed.new.self = rw c.called.ensures record {
+      fits = c.call_fits_snapshot_law.ensures c.requires;
       makes = (e.taken, e.ok, refl, refl, refl);
       committed = c.committed_len-places.ensures;
     } in

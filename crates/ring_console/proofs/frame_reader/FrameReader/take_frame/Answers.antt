@@ -13,7 +13,7 @@ use Rattle.ring_console.proofs.frame_reader.FrameReader.take_frame.Goals as goal
 pub returns-in-Ok-clause-next : goal.returns-in-Ok-clause-next
 returns-in-Ok-clause-next g c =
     let self = c.args.self.now in
-    let place = c.get_into.new.place in
+    let place = c.decode_first_frame_into.new.place in
     let found : IfSome place (λ (frame : Frame g.row.A.Denot). IsEncodedPrefix encoding_of FrameFits
     (take (length self.bytes.items - self.taken) (drop self.taken self.bytes.items)) frame c.in-Ok.length)
     = rw c.deref.ensures.value at c.in-Ok.ensures.found in

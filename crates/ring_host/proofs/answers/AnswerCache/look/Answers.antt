@@ -1,6 +1,6 @@
 use Rattle.std.proofs.Common.{◌≡◌, ◌+◌, ℕ, List, Option, Some, ap, sym, subst, ◌∙◌}
 use Rattle.ring_session.specs.declared.answer.Answer.{Answer}
-use Rattle.ring_book.specs.Lines.{answer_of_ticket, answer_in}
+use Rattle.ring_book.specs.Lines.{answer_of_ticket, first_answer_in}
 use Rattle.ring_host.proofs.Looks.{are_answered}
 use Rattle.ring_host.proofs.answers.AnswerCache.look.Goals as goal
 
@@ -14,5 +14,5 @@ pub returns-clause-found : goal.returns-clause-found
 returns-clause-found g c = λ i answer there.
     let from = c.number.result in
     let same : from ≡ c.args.ticket.now.ticket = let e = c.number.ensures in cc in
-    subst (λ (n : ℕ). answer_in c.args.book.now.lines c.args.ticket.now.node (n + i) ≡ Some answer) same
+    subst (λ (n : ℕ). first_answer_in c.args.book.now.lines c.args.ticket.now.node (n + i) ≡ Some answer) same
     (sym (ap (λ (told : List (Option Answer)). answer_of_ticket told (from + i)) c.answers.ensures) ∙ c.keep.ensures i answer there)

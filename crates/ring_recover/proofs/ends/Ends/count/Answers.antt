@@ -10,7 +10,7 @@ use Rattle.ring_recover.proofs.ends.Ends.count.Goals as goal
 pub invariant_of-self : goal.invariant_of-self
 invariant_of-self g c =
     let x = c.args.message.now in
-    rw c.one_after.ensures (elim c.if-is_end.branch [
+    rw c.with_message_last.ensures (elim c.if-is_end.branch [
       | then-is_end w ↦
           let h = sym c.is_end.ensures ∙ w.if-is_end.true in
           rw (w.self-inside-is, w.max-self-inside.ensures) (counted_end c.self.inside.history.value x _ _ _ _ _ c.self.invariant h

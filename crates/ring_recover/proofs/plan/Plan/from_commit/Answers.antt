@@ -24,7 +24,7 @@ invariant_of-result g c =
       safe_is = c.greatest_mark-safe.ensures ∙ ap safe_of reports;
       low_is = c.least_front.ensures ∙ ap (λ (es : List CommitEntry). least (map (λ (e : CommitEntry). e.front) es)) reports;
       sound = omega (arith, c.greatest_mark-safe.ensures, c.least_front.ensures, safe_low rs none);
-      known_is = λ j l. c.known_after.ensures j l ∙ ap (list_any (is_reported (c.greatest_mark-safe.result + 1 + j))) reports;
+      known_is = λ j l. c.reported_offsets_after.ensures j l ∙ ap (list_any (is_reported (c.greatest_mark-safe.result + 1 + j))) reports;
       wrapped_is = λ j l. c.new.ensures j;
       ended_is = refl;
     }

@@ -13,7 +13,7 @@ forget-requires g c =
     let h = c.args.self.now.visit in
     let w = c.args.self.now.window in
     let v : TokenVisit g.row.A.Denot = turn_by h.me c.front-front.result c.args.fresh.now.value c.fill_requests.new.requests c.args.token.now in
-    rw (c.safe.ensures, c.visit_as.ensures.visit) (mark_within v h.turns h.raises h.ring (front_of w.held w.ring) c.requires.ring
+    rw (c.safe.ensures, c.visit_with_payloads.ensures.visit) (mark_within v h.turns h.raises h.ring (front_of w.held w.ring) c.requires.ring
     c.requires.led c.requires.reached)
 
 pub returns-clause-token : goal.returns-clause-token
@@ -23,7 +23,7 @@ returns-clause-token g c =
     let t = c.args.token.now in
     let remaining_requests = c.args.remaining_requests.now in
     let lacks : ℕ → List ℕ = λ n. missing w.held w.ring w.mark (t.seq + n) in
-    c.visit_as.ensures.token
+    c.visit_with_payloads.ensures.token
     ∙ ap (λ n. token_after h.me n c.args.count c.fill_requests.new.requests t) c.front-front.ensures
     ∙ ap (λ ns. token_after h.me (front_of w.held w.ring) c.args.count ns t) c.fill_requests.ensures
     ∙ ap (λ n. token_after h.me (front_of w.held w.ring) n (requests_after remaining_requests (lacks n)) t) (sym c.requires.count)
@@ -36,7 +36,7 @@ returns-clause-visit g c =
     let fresh = c.args.fresh.now.value in
     let remaining_requests = c.args.remaining_requests.now in
     let lacks : ℕ → List ℕ = λ n. missing w.held w.ring w.mark (t.seq + n) in
-    c.visit_as.ensures.visit
+    c.visit_with_payloads.ensures.visit
     ∙ ap (λ n. with_turn h (turn_by h.me n fresh c.fill_requests.new.requests t)) c.front-front.ensures
     ∙ ap (λ ns. with_turn h (turn_by h.me (front_of w.held w.ring) fresh ns t)) c.fill_requests.ensures
     ∙ ap (λ n. with_turn h (turn_by h.me (front_of w.held w.ring) fresh (requests_after remaining_requests (lacks n)) t)) (sym c.requires.count)

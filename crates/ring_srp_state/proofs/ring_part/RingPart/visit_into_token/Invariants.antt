@@ -1,5 +1,5 @@
 -- The payloads of the new messages.
 use Rattle.ring_srp_state.proofs.ring_part.RingPart.visit_into_token.Given as goal
 
-abbrev pub ghost-visit_as : goal.ghost-visit_as
-ghost-visit_as g a = a.fresh.now.value
+abbrev pub ghost-visit_with_payloads : goal.ghost-visit_with_payloads
+ghost-visit_with_payloads g a = a.fresh.now.value

@@ -15,4 +15,4 @@ invariant_of-result g c =
     let visit = rw c.all_of.ensures at c.in_ok-kept.ensures.visit in
     rw (c.all_of-2.ensures, c.all_of-3.ensures)
     (starts_in_all c.args.fixed.count c.args.me c.new-2.result c.in_ok-kept.kept.window c.in_ok-kept.kept.visit c.new-3.result.items
-    c.none.result.value c.formed_of.result.value low c.requires gathers window visit c.none.ensures c.formed_of.ensures)
+    c.none.result.value c.formed_history.result.value low c.requires gathers window visit c.none.ensures c.formed_history.ensures)

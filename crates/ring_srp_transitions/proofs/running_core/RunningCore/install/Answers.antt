@@ -20,9 +20,9 @@ returns-clause-core g c = on_ok c.give.result c.settle-deferred.ensures.core
 pub returns-clause-outs : goal.returns-clause-outs
 returns-clause-outs g c =
     on_ok_weaker c.give.result
-    (λ h. then_by c.args.self.now c.settle-deferred.new.self c.args.outs.now.items c.give_change.new.outs.items c.give_deferred.new.outs.items
+    (λ h. then_by c.args.self.now c.settle-deferred.new.self c.args.outs.now.items c.give_configurations.new.outs.items c.give_deferred.new.outs.items
     c.give.new.outs.items c.self.inside.installed.ring c.settle-deferred.result.most c.settle-deferred.result.messages.items
-    (c.in_ok-give_change.ensures.ok ∙ ap (λ ys. ys ++ change_outputs c.args.self.now)
-    c.make_room_to_install.ensures.kept) c.in_ok-give_deferred.ensures.ok h c.settle-deferred.ensures.core (ap (λ
+    (c.in_ok-give_configurations.ensures.ok ∙ ap (λ ys. ys ++ change_outputs c.args.self.now)
+    c.reserve_installation_outputs.ensures.kept) c.in_ok-give_deferred.ensures.ok h c.settle-deferred.ensures.core (ap (λ
     (x : Core g.row.A.Denot). x.installed.ring) c.self.view_is) c.settle-deferred.ensures.deferred c.settle-deferred.ensures.far)
     c.give.ensures.ok

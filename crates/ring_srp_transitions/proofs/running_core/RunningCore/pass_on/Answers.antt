@@ -6,8 +6,8 @@ use Rattle.ring_srp_transitions.specs.RunningCores.{is_running}
 use Rattle.ring_srp_transitions.proofs.TokenForwarding.{running_state}
 use Rattle.ring_srp_transitions.proofs.running_core.RunningCore.pass_on.Goals as goal
 
-pub pass_installed-requires : goal.pass_installed-requires
-pass_installed-requires g c =
+pub pass_in_operational-requires : goal.pass_in_operational-requires
+pass_in_operational-requires g c =
     let s = c.self.inside in
     let e : s.state ≡ c.args.self.now.state = ap (λ (x : Core g.row.A.Denot). x.state) c.self.view_is in
     let is : s.state ≡ Operational = elim (running_state s.state (ap is_running e ∙ c.requires.runs)) [

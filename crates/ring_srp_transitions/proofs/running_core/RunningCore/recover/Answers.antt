@@ -23,6 +23,6 @@ invariant_of-self g c =
     ∙ ap (λ (x : Core g.row.A.Denot). safe_at x k) inside in
     let running = ap (λ (x : Core g.row.A.Denot). opened {A = g.row.A.Denot} x.running.ring) inside in
     let planned = ap (λ (x : Core g.row.A.Denot). recovery_opening {A = g.row.A.Denot} x.me (plan_at x k)) inside in
-    rw (c.with_plan-history.ensures, c.forget.ensures, c.raise.ensures, c.replace.ensures.after, c.replace-2.ensures.after)
+    rw (c.history_with_plan-history.ensures, c.forget.ensures, c.raise.ensures, c.replace.ensures.after, c.replace-2.ensures.after)
     (into_recovery _ c.self.invariant allowed is (recovers _ c.self.invariant allowed is _ (c.requires.window ∙ running) c.new-visit.ensures
     (c.requires.plan ∙ planned) c.new.ensures refl c.new-2.ensures.items))

@@ -72,7 +72,7 @@ loop-payload-preserved g c =
     c.others-others.ensures in
     record {
       number = omega (arith, length_push ps p, e);
-      told = c.one_last-fresh.ensures ∙ ap (λ xs. xs ++ p ∷ []) c.loop-payload.invariant.told;
+      told = c.ghost_list_with_last-fresh.ensures ∙ ap (λ xs. xs ++ p ∷ []) c.loop-payload.invariant.told;
       held = c.in_ok-send_and_hold.ensures.core ∙ holding_more now t ps p n count x c.loop-payload.self e same c.loop-payload.invariant.held;
       out = sends_more now t ps p n count x c.args.sends.now.items c.loop-payload.sends.items
           c.send_and_hold.new.sends.items e same c.loop-payload.invariant.out goes;

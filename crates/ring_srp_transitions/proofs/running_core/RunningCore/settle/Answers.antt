@@ -12,6 +12,6 @@ unwrap-recovery_state-requires g c =
 
 pub invariant_of-self : goal.invariant_of-self
 invariant_of-self g c =
-    rw (c.with_install-history.ensures)
+    rw (c.history_with_install-history.ensures)
     (into_operational c.self.invariant (sym c.take.ensures.value ∙ c.unwrap-recovery_state.ensures)
     (ap (λ (x : Core g.row.A.Denot). x.state) c.self.view_is ∙ due_in c.args.self.now c.requires) c.take.ensures.after)

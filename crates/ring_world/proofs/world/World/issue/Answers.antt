@@ -38,9 +38,9 @@ invariant_of-self-in_err-copies g c =
     let here = place g (goal.at.invariant_of-self-in_err-copies g c).In_ok-make_room in
     (spared here c.make_room-2.new.self c.index_mut.ensures.value c.in_ok-make_room-2.ensures.calls).world
 
-pub keep_issue-requires-clause-spares_room : goal.keep_issue-requires-clause-spares_room
-keep_issue-requires-clause-spares_room g c =
-    let same = spare_put (place g (goal.at.keep_issue-requires-clause-spares_room g c).In_ok-make_room) c.make_room-2.new.self c.index_mut-in-Ok.ensures.value in
+pub record_submit-requires-clause-spares_room : goal.record_submit-requires-clause-spares_room
+record_submit-requires-clause-spares_room g c =
+    let same = spare_put (place g (goal.at.record_submit-requires-clause-spares_room g c).In_ok-make_room) c.make_room-2.new.self c.index_mut-in-Ok.ensures.value in
     subst (λ (x : SpareCalls g.row.O-Alloc.Denot). 0 < x.places) (sym same) c.in_ok-make_room-2.ensures.room
 
 pub invariant_of-self-in-Ok : goal.invariant_of-self-in-Ok
@@ -48,16 +48,16 @@ invariant_of-self-in-Ok g c =
     let here = place g (goal.at.invariant_of-self-in-Ok g c).In_ok-make_room in
     let spare = spared here c.make_room-2.new.self c.index_mut.ensures.value c.in_ok-make_room-2.ensures.calls in
     let copies = c.in_ok-copies.ensures in
-    issue_world spare c.in_ok-copies.copies.event c.requires.event copies.event c.index_mut-2.ensures.value c.keep_issue.new.spares
-    (copies.keeps c.requires.fits) c.in-Ok.ensures.taken c.in-Ok.ensures.ok c.index_mut-in-Ok.ensures.value copies.spare c.keep_issue.ensures.spares
-    copies.call c.keep_issue.ensures.history c.keep_issue.ensures.events
+    issue_world spare c.in_ok-copies.copies.event c.requires.event copies.event c.index_mut-2.ensures.value c.record_submit.new.spares
+    (copies.keeps c.requires.fits) c.in-Ok.ensures.taken c.in-Ok.ensures.ok c.index_mut-in-Ok.ensures.value copies.spare c.record_submit.ensures.spares
+    copies.call c.record_submit.ensures.history c.record_submit.ensures.events
 
 pub returns-in-Ok-clause-ok : goal.returns-in-Ok-clause-ok
 returns-in-Ok-clause-ok g c =
     let here = place g (goal.at.returns-in-Ok-clause-ok g c).In_ok-make_room in
     let spare = spared here c.make_room-2.new.self c.index_mut.ensures.value c.in_ok-make_room-2.ensures.calls in
     issue_goes spare c.in_ok-copies.copies.event c.requires.event c.in_ok-copies.ensures.event c.index_mut-2.ensures.value c.in-Ok.ensures.taken
-    c.keep_issue.ensures.events
+    c.record_submit.ensures.events
 
 pub invariant_of-self-in-Err : goal.invariant_of-self-in-Err
 invariant_of-self-in-Err g c =

@@ -32,7 +32,7 @@ place g c =
     roomy there room.events room.told room.history room.frames room.longest
 
 -- the input by which it steps
-by : (g : Over) (c : In_ok-make_room g) → IsStepBy g.O.Object.sequential c.args.self.now c.args.event.now c.args.node c.read_delivered.new.place
+by : (g : Over) (c : In_ok-make_room g) → IsStepBy g.O.Object.sequential c.args.self.now c.args.event.now c.args.node c.decode_delivered_frame.new.place
 by g c =
     let k = c.self.inside in
     let placed = c.in_ok-is_step.ensures in
@@ -82,16 +82,16 @@ index_mut-requires-in-Ok g c =
     let many = c.self.inside.spares.ok.0 in
     omega (arith, there, many)
 
-pub keep_step-requires : goal.keep_step-requires
-keep_step-requires g c =
-    let at = goal.at.keep_step-requires g c in
+pub record_step_outputs-requires : goal.record_step_outputs-requires
+record_step_outputs-requires g c =
+    let at = goal.at.record_step_outputs-requires g c in
     let here = place g at.In_ok-make_room in
     let step = by g at.In_ok-make_room in
     let so = stepped_so (given step.there c.in-Ok.ensures) in
     let sends = c.step_counts_law.ensures.sends c.index_mut.result.now step.input step.fits in
     let same = ap length so.sends in
     let few = answers_few here c.index_mut.ensures.value so
-    (c.pending_law.ensures.answers c.self.inside.fixed c.make_room.new.self.events.items c.args.node step.input) in
+    (c.pending_tickets_law.ensures.answers c.self.inside.fixed c.make_room.new.self.events.items c.args.node step.input) in
     record {
       fit = sends_fit here c.index_mut.ensures.value so
           (c.frames_law.ensures.steps c.self.inside.fixed c.make_room.new.self.events.items c.args.node step.input
@@ -108,10 +108,10 @@ invariant_of-self-in-Ok g c =
     let at = goal.at.invariant_of-self-in-Ok g c in
     let step = by g at.In_ok-make_room in
     step_world (place g at.In_ok-make_room) c.index_mut.ensures.value (stepped_so (given step.there c.in-Ok.ensures)) c.args.event.now c.index_mut-in-Ok.ensures.value step.same
-    c.in_ok-kept.kept c.keep_step.new.spares c.in_ok-kept.ensures.ok step.steps
-    (c.push_reserved.ensures.items ∙ ap (λ v. v.items ++ c.in_ok-kept.kept ∷ []) c.keep_step.ensures.events) c.keep_step.ensures.spares
-    c.keep_step.ensures.frames c.keep_step.ensures.history c.keep_step.ensures.told
-    (c.keep_step.ensures.longest ∙ ap (λ n. c.make_room.new.self.longest.calls ++ calls_past (length c.make_room.new.self.longest.calls) n c.step_node.new.outs.committed.items)
+    c.in_ok-kept.kept c.record_step_outputs.new.spares c.in_ok-kept.ensures.ok step.steps
+    (c.push_reserved.ensures.items ∙ ap (λ v. v.items ++ c.in_ok-kept.kept ∷ []) c.record_step_outputs.ensures.events) c.record_step_outputs.ensures.spares
+    c.record_step_outputs.ensures.frames c.record_step_outputs.ensures.history c.record_step_outputs.ensures.told
+    (c.record_step_outputs.ensures.longest ∙ ap (λ n. c.make_room.new.self.longest.calls ++ calls_past (length c.make_room.new.self.longest.calls) n c.step_node.new.outs.committed.items)
     (c.committed_len-many.ensures ∙ ap (λ (n : Node g.row.O-Alloc.Denot). (node_known_log n).committed)
     (node_put (place g at.In_ok-make_room) c.step_node.new.node c.index.ensures)))
 
@@ -122,7 +122,7 @@ returns-in-Ok g c =
     record {
       ok = step_goes (place g at.In_ok-make_room) c.index_mut.ensures.value (stepped_so (given step.there c.in-Ok.ensures)) c.args.event.now c.index_mut-in-Ok.ensures.value
           step.same c.in_ok-kept.kept c.in_ok-kept.ensures.ok
-          (c.push_reserved.ensures.items ∙ ap (λ v. v.items ++ c.in_ok-kept.kept ∷ []) c.keep_step.ensures.events) c.keep_step.ensures.told;
+          (c.push_reserved.ensures.items ∙ ap (λ v. v.items ++ c.in_ok-kept.kept ∷ []) c.record_step_outputs.ensures.events) c.record_step_outputs.ensures.told;
       err = tt;
       done = ap (λ (r : WorldView g.row.O-Alloc.Denot). r.done) c.self.view_is;
       refused = tt;
