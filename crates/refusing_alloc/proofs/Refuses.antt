@@ -17,8 +17,8 @@ use denote.Builtin.{bool}
 use denote.Steps.{nothing, only}
 use denote.Triple.Statement.{Contract}
 use denote.Triple.Spec.{triple_of}
-use Rattle.refusing_alloc.specs.contracts.requests.Requests as RQ
-use Rattle.refusing_alloc.specs.contracts.requests.Requests.count_and_is_refused as RN
+use Rattle.refusing_alloc.specs.contracts.request_counter.RequestCounter as RQ
+use Rattle.refusing_alloc.specs.contracts.request_counter.RequestCounter.count_and_is_refused as RN
 
 abbrev pub Row : RattleType
 Row = RQ.the_row

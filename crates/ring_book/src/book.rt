@@ -13,14 +13,14 @@ ghost use Rattle.ring_book_lines.specs.Lines.{HasBytesAt};
 
 use crate::PLACES;
 use crate::answer_indexes::AnswerIndex;
+use crate::book_name::BookName;
 use crate::cell::Cell;
-use crate::name::BookName;
 use bytes::BytesMut;
 use ring_base::{Fault, Proc};
-use ring_book_lines::laws::book_run_law;
+use ring_book_lines::book_run_laws::book_run_law;
 use ring_book_lines::{
-    FrameRef, Line, LogSegment, Step, extend_longest_log, has_bytes_at, history, is_deliverable,
-    linear_law, order,
+    FrameRef, Line, LogSegment, Step, extend_longest_log, has_bytes_at, history_of_lines,
+    is_deliverable, linear_law, order_of_segments,
 };
 use ring_node_spec::Item;
 use ring_object::Object;
@@ -49,14 +49,14 @@ pub struct Place {
 pub struct Book<O: Object, K: BookName<O::Alloc>> {
     lines: Vec<Line<O::Alloc>, O::Alloc>,
     reserved: u32,
-    ends: Vec<Consumer<Step<O::Alloc>, O::Alloc>, O::Alloc>,
+    journal_ends: Vec<Consumer<Step<O::Alloc>, O::Alloc>, O::Alloc>,
     /// The answers of each node's tickets.
     answer_indexes: Vec<AnswerIndex<O::Alloc>, O::Alloc>,
     /// The length of the longest committed log, in places, and the segments of lines that make it up.
-    total: usize,
+    longest_log_len: usize,
     segments: Vec<LogSegment, O::Alloc>,
     /// A scratch buffer for encoding a frame.
-    text: BytesMut<O::Alloc>,
+    frame_buffer: BytesMut<O::Alloc>,
     of: PhantomData<(O, K)>,
 }
 
@@ -64,15 +64,15 @@ impl<O: Object, K: BookName<O::Alloc>> Model for Book<O, K> {
     ghost use Rattle.std.specs.Prelude.{◌+◌, length, vec_capacity};
     ghost use Rattle.ring_book.specs.Books.{IsBook};
     ghost use Rattle.ring_book_lines.specs.Machines.{node_machine};
-    ghost use Rattle.ring_book.specs.Seen.{BookView};
+    ghost use Rattle.ring_book.specs.BookViews.{BookView};
 
     ghost Value = { BookView O.Alloc };
 
     ghost view = { λ b. record { lines = b.lines.items; reserved = b.reserved } };
 
     ghost invariant = { λ b. IsBook (node_machine O.sequential K.name.group) K.name b.lines.items b.reserved
-        b.ends.items b.answer_indexes.items (record { total = b.total; segments = b.segments.items }) (vec_capacity b.lines)
-        (vec_capacity b.segments) (length b.text.items + b.text.spare) };
+        b.journal_ends.items b.answer_indexes.items (record { total = b.longest_log_len; segments = b.segments.items }) (vec_capacity b.lines)
+        (vec_capacity b.segments) (length b.frame_buffer.items + b.frame_buffer.spare) };
 }
 
 impl<O: Object, K: BookName<O::Alloc>> Book<O, K> {
@@ -89,7 +89,7 @@ impl<O: Object, K: BookName<O::Alloc>> Book<O, K> {
     ghost use Rattle.ring_order_proof.specs.Linear.{HasCommittedPlaces, FollowsOrder};
     ghost use Rattle.ring_book_lines.specs.Logs.{committed_calls_of};
     ghost use Rattle.ring_book_lines.specs.Lines.{sent_at, steps_of};
-    ghost use Rattle.ring_book_lines.specs.Puts.{IsPut};
+    ghost use Rattle.ring_book_lines.specs.AppendedFrames.{IsPut};
     ghost use Rattle.ring_book_lines.specs.Steps.{LineView};
     ghost use Rattle.ring_book_lines.specs.Machines.{node_machine};
     ghost use Rattle.ring_book.specs.Openings.{empty_book};
@@ -114,11 +114,11 @@ impl<O: Object, K: BookName<O::Alloc>> Book<O, K> {
         Book {
             lines: Vec::new(alloc),
             reserved: 0,
-            ends,
+            journal_ends: ends,
             answer_indexes,
-            total: 0,
+            longest_log_len: 0,
             segments: Vec::new(alloc),
-            text,
+            frame_buffer: text,
             of: PhantomData,
         }
     }
@@ -234,7 +234,13 @@ impl<O: Object, K: BookName<O::Alloc>> Book<O, K> {
         ensures ok { IsOk result ↔ HasBytesAt self.old.lines at node bytes.now }
         ensures err { IfErr result (λ e. e ≡ Stranger) }
     {
-        if has_bytes_at(self.lines.as_slice(), at, node, bytes, &mut self.text) {
+        if has_bytes_at(
+            self.lines.as_slice(),
+            at,
+            node,
+            bytes,
+            &mut self.frame_buffer,
+        ) {
             Ok(())
         } else {
             Err(Fault::Stranger)
@@ -278,7 +284,7 @@ impl<O: Object, K: BookName<O::Alloc>> Book<O, K> {
         ensures ok { IfOk result (λ items. items.items ≡ history_of self.now.lines) }
         ensures refused { IfErr result (λ e. e ≡ Memory) }
     {
-        history(*self.lines.allocator(), self.lines.as_slice())
+        history_of_lines(*self.lines.allocator(), self.lines.as_slice())
     }
 
     /// Returns the order of the list's run: copies of the calls that take effect in the longest committed log of all
@@ -295,7 +301,7 @@ impl<O: Object, K: BookName<O::Alloc>> Book<O, K> {
     {
         // A law: no effect at run time. The proof takes from it that such lines are a run of the group.
         book_run_law::<O>();
-        order(
+        order_of_segments(
             *self.lines.allocator(),
             self.lines.as_slice(),
             self.segments.as_slice(),
@@ -322,7 +328,7 @@ impl<O: Object, K: BookName<O::Alloc>> Book<O, K> {
         ensures { IsPut (sent_at self.now.lines at) out.old.items out.new.items result }
     {
         match self.line(at.line) {
-            Some(line) => line.frames().put(at.place, out),
+            Some(line) => line.frames().append_encoding(at.place, out),
             None => Err(Fault::Stranger),
         }
     }
@@ -337,28 +343,32 @@ impl<O: Object, K: BookName<O::Alloc>> Book<O, K> {
             return Err(Fault::Stranger);
         }
         let at = cell.me.number() as usize - 1;
-        let end = &mut self.ends[at];
+        let end = &mut self.journal_ends[at];
         if end.slots_beside(&mut cell.journal) == 0 {
             return Err(Fault::Stranger);
         }
-        if !is_deliverable(self.lines.as_slice(), end.peek_known(), &mut self.text) {
+        if !is_deliverable(
+            self.lines.as_slice(),
+            end.peek_known(),
+            &mut self.frame_buffer,
+        ) {
             return Err(Fault::Stranger);
         }
         let step = end.pop_known();
         cell.journal.slots_beside(end);
         self.answer_indexes[at].add_answers(&step);
         let number = self.lines.len() as u32;
-        extend_longest_log(&mut self.total, &mut self.segments, number, &step);
+        extend_longest_log(&mut self.longest_log_len, &mut self.segments, number, &step);
         self.lines.push_reserved(Line::new(number, step));
         self.reserved -= 1;
-        cell.ahead = false;
+        cell.is_step_unentered = false;
         Ok(())
     }
 
     /// Returns the last line.
     ///
     /// There must be one.
-    fn last(&self) -> &Line<O::Alloc>
+    fn last_line_of_book(&self) -> &Line<O::Alloc>
         requires { 0 < length self.now.lines }
         ensures { slice_get self.now.lines (length self.now.lines - 1) ≡ Some result.now }
     {
@@ -380,7 +390,7 @@ impl<O: Object, K: BookName<O::Alloc>> Book<O, K> {
             (λ _ _. ⊤) (λ n. IsEnterResult self.old n cell.old cell.new result)) }
     {
         self.append_step_of_cell(cell)?;
-        Ok(self.last())
+        Ok(self.last_line_of_book())
     }
 }
 

@@ -1,7 +1,7 @@
 -- Histories, line by line and reply by reply.
 use Rattle.std.proofs.Common.{◌≡◌, ℕ, zero, suc, ◌≤◌, ◌++◌, List, [], ◌∷◌, length, arith, take, Some, slice_get, refl, ap, sym, ◌∙◌, append-nil, append_assoc}
-use Rattle.ring_session.specs.declared.answered.TicketAnswer.{TicketAnswer}
-use Rattle.ring_node_spec.specs.Worlds.{items_of as replies, reply_items}
+use Rattle.ring_session.specs.declared.ticket_answer.TicketAnswer.{TicketAnswer}
+use Rattle.ring_node_spec.specs.Worlds.{reply_items_of as replies, reply_items}
 use Rattle.ring_session.specs.SessionAnswer.{decode_reply}
 use Rattle.ring_book_lines.specs.Steps.{LineView}
 use Rattle.ring_book_lines.specs.Events.{items_in, history_of}

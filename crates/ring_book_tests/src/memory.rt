@@ -132,7 +132,7 @@ fn one_refused(alloc: Global, nodes: u8, passed: u64) -> (bool, bool) {
 fn requests(alloc: Global, nodes: u8) -> u64 {
     let ample = RefusingHeap::new(alloc, u64::MAX);
     if counted(&ample, nodes) == Ok(true) {
-        ample.requests()
+        ample.request_count()
     } else {
         0
     }

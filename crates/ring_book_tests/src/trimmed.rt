@@ -87,7 +87,7 @@ fn form<O: Object, K: BookName<O::Alloc>>(driven: &mut DrivenBook<O, K>) -> Resu
 
 /// Cuts node 3 off, and does 290 calls at nodes 1 and 2.
 fn part<O: Object, K: BookName<O::Alloc>>(driven: &mut DrivenBook<O, K>) -> Result<(), Fault> {
-    driven.cut(ProcSet::only(Proc::new(3)));
+    driven.cut(ProcSet::singleton(Proc::new(3)));
     driven.time_out(1, Kind::Loss)?;
     driven.pump(200)?;
     driven.time_out(1, Kind::Consensus)?;

@@ -7,7 +7,7 @@ ghost use Rattle.std.specs.Prelude.{◌≡◌, ℕ, ◌≤◌, List, [], ◌∷�
 ghost use Rattle.std.specs.declared.alloc.Global.{Global as Heap};
 ghost use Rattle.ring_base.specs.Numbers.{numbers_from};
 ghost use Rattle.ring_base.specs.declared.ring_id.RingId.{RingId};
-ghost use Rattle.ring_core_spec.specs.State.{all_of};
+ghost use Rattle.ring_core_spec.specs.State.{formed_ring_of};
 ghost use Rattle.ring_core_spec.specs.Views.{front};
 ghost use Rattle.ring_core_proof.specs.declared.event.RingEvent.{RingEvent};
 ghost use Rattle.ring_core_proof.specs.Worlds.{run, unformed, run_formed};
@@ -31,7 +31,7 @@ pub fn ring_members_law<A: Allocator + Copy>()
     ensures shared { (n : ℕ) (events : List (RingEvent A)) → SharesRings (run (unformed n) events).cores }
     ensures same { (n : ℕ) (events : List (RingEvent A)) → NameSameMembers (run (unformed n) events).cores }
     ensures parts { (n : ℕ) (events : List (RingEvent A)) → AllTakePart (run (unformed n) events).cores }
-    ensures formed { (n q : ℕ) (events : List (RingEvent A)) → ((run_formed n events).cores q).rings ≡ all_of n ∷ [] }
+    ensures formed { (n q : ℕ) (events : List (RingEvent A)) → ((run_formed n events).cores q).rings ≡ formed_ring_of n ∷ [] }
 {}
 
 /// States the facts of the two rounds of the commit tokens, in every run from the opening.
@@ -116,7 +116,7 @@ pub fn outputs_are_held_law<A: Allocator + Copy>()
     ensures unformed { (n : ℕ) (events : List (RingEvent A)) → OutputsAreHeld (run (unformed n) events) }
     ensures formed { (n : ℕ) (events : List (RingEvent A)) → 1 ≤ n → OutputsAreHeld (run_formed n events) }
     ensures numbers { (n i : ℕ) (events : List (RingEvent A)) → agreed_numbers (run_formed n events) i
-        ≡ numbers_from 1 (front ((run_formed n events).cores i) (all_of n).ring) }
+        ≡ numbers_from 1 (front ((run_formed n events).cores i) (formed_ring_of n).ring) }
 {}
 
 /// States that each member of a ring holds every number that any processor's `Safe` covers, then and ever after.
@@ -144,7 +144,7 @@ pub fn formed_facts_law<A: Allocator + Copy>()
 /// A law is proved for all allocators that meet its bounds; this function shows that `Global` does.
 ///
 /// Rules: Outputs 8
-pub fn laws_at_global()
+pub fn chain_laws_at_global()
     ensures { (n : ℕ) (events : List (RingEvent Heap)) (ring : RingId) → HasOneText (run (unformed n) events) ring }
 {
     ring_members_law::<Global>();

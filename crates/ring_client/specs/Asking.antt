@@ -7,7 +7,7 @@ use Rattle.ring_base.specs.declared.fault.Fault.{Fault}
 use Rattle.ring_payload.specs.declared.call.Call.{Call}
 use Rattle.ring_session.specs.declared.answer.Answer.{Answer}
 use Rattle.ring_session.specs.declared.answer.Answer.TheVariants.{Done, Kept, Refused}
-use Rattle.ring_client.specs.declared.asked.Asked.{Asked}
+use Rattle.ring_client.specs.declared.last_request.Asked.{Asked}
 
 -- a call of this client and number with this operation was submitted, and not polled yet
 abbrev pub just_submitted : ℕ → ℕ → List ℕ → Asked

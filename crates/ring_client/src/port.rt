@@ -5,7 +5,7 @@
 ghost use Rattle.std.specs.Prelude.{◌≡◌, IfSome, IfErr, OnOk};
 ghost use Rattle.ring_client.specs.Asking.{asked_after_submit, asked_after_refusal, asked_after_poll, if_client_visible, IsClientVisible};
 
-use crate::asked::Asked;
+use crate::last_request::Asked;
 use ring_base::Fault;
 use ring_payload::Call;
 use ring_session::Answer;
@@ -18,7 +18,7 @@ use std::alloc::Allocator;
 ///
 /// Rules: Clients 2
 pub trait Port: Drop {
-    ghost use Rattle.ring_client.specs.declared.asked.Asked.{Asked};
+    ghost use Rattle.ring_client.specs.declared.last_request.Asked.{Asked};
 
     /// The allocator of the calls.
     type Alloc: Allocator + Copy + Drop;

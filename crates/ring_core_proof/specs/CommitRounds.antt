@@ -19,7 +19,7 @@ use Rattle.ring_core_spec.specs.Views.{own_entry}
 use Rattle.ring_core_spec.specs.Deciding.{Transition, Ignore, decide}
 use Rattle.ring_core_proof.specs.declared.event.RingEvent.{RingEvent}
 use Rattle.ring_core_proof.specs.declared.event.RingEvent.TheVariants.{Send, Deliver, Timeout, Stop}
-use Rattle.ring_core_proof.specs.Worlds.{Transmission, World, is_node, happens, run}
+use Rattle.ring_core_proof.specs.Worlds.{Transmission, World, is_node, world_after_event, run}
 
 -- The test holds for any two items of the list, in their order.
 abbrev pub all_pairs : {T : Type 0} → (T → T → Bool) → List T → Bool
@@ -131,7 +131,7 @@ taken_in w (Stop i) = []
 -- The commit tokens taken in a list of events, in order.
 abbrev pub takings : {A : Type 0} → World A → List (RingEvent A) → List Taking
 takings w [] = []
-takings w (e ∷ es) = taken_in w e ++ takings (happens w e) es
+takings w (e ∷ es) = taken_in w e ++ takings (world_after_event w e) es
 
 -- The two are of different rings or of different hops.
 abbrev pub are_other_hops : Taking → Taking → Bool

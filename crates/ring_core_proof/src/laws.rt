@@ -9,12 +9,12 @@ ghost use Rattle.std.specs.List.{list_all, flat_map, AllByRecursion};
 ghost use Rattle.ring_base.specs.Numbers.{numbers_from, window_size};
 ghost use Rattle.ring_base.specs.declared.ring_id.RingId.{RingId};
 ghost use Rattle.ring_payload.specs.declared.content.Payload.{Payload};
-ghost use Rattle.ring_payload.specs.Kinds.{is_user, unpacked_payloads};
-ghost use Rattle.ring_payload.specs.Packing.{AreQueued, IsLongestRun, first_run, packed_payloads, unpacked_rest};
+ghost use Rattle.ring_payload.specs.PayloadKinds.{is_user, unpacked_payloads};
+ghost use Rattle.ring_payload.specs.Packing.{AreQueued, IsLongestRun, longest_call_run, packed_payloads, unpacked_rest};
 ghost use Rattle.ring_payload.specs.Payloads.{PayloadFits};
 ghost use Rattle.ring_wire.specs.declared.commit.CommitToken.{CommitToken};
 ghost use Rattle.ring_core_spec.specs.Windows.{holds};
-ghost use Rattle.ring_core_spec.specs.Joins.{AllSaySame};
+ghost use Rattle.ring_core_spec.specs.Joins.{AllHaveOwnSets};
 ghost use Rattle.ring_core_spec.specs.Commits.{receiver};
 ghost use Rattle.ring_core_spec.specs.declared.input.Input.{Input};
 ghost use Rattle.ring_core_spec.specs.State.{Core, opening};
@@ -25,9 +25,9 @@ ghost use Rattle.ring_core_proof.specs.declared.event.RingEvent.{RingEvent};
 ghost use Rattle.ring_core_proof.specs.Worlds.{World, run, unformed};
 ghost use Rattle.ring_core_proof.specs.CommitRounds.{has_rising_rings, is_taken, takings};
 ghost use Rattle.ring_core_proof.specs.Moves.{IsMoved};
-ghost use Rattle.ring_core_proof.specs.LawWords.{IsInputOf, HasPassed, IsFalling, TakesCommit, AreTurnsOf, AreFreshOf, HasEnded};
+ghost use Rattle.ring_core_proof.specs.LawConditions.{IsInputOf, HasPassed, IsFalling, TakesCommit, AreTurnsOf, AreFreshOf, HasEnded};
 
-use ring_core_spec::{held_bits_law, finish_law, unique_front_law, two_visits_safe_law};
+use ring_core_spec::{finish_law, held_bits_law, two_visits_safe_law, unique_front_law};
 use std::alloc::{Allocator, Global};
 
 /// States that the transition chosen for an input has passed the tests that the rules name for it.
@@ -100,7 +100,7 @@ pub fn held_within_window_law<A: Allocator + Copy>()
 ///
 /// Rules: Gather 3 and 9
 pub fn agreement_law<A: Allocator + Copy>()
-    ensures { (n me : ℕ) (inputs : List (Input A)) → AllSaySame (after_inputs (opening n me) inputs).gathering }
+    ensures { (n me : ℕ) (inputs : List (Input A)) → AllHaveOwnSets (after_inputs (opening n me) inputs).gathering }
 {}
 
 /// States that each visit of a core follows the rules, after any inputs from the opening, whatever the token requests.
@@ -136,7 +136,7 @@ pub fn end_follows_wraps_law<A: Allocator + Copy>()
 ///
 /// Rules: Token and window 9
 pub fn packing_law<A: Allocator + Copy>()
-    ensures longest { (queue : List (Payload A)) → IsLongestRun queue (first_run queue) }
+    ensures longest { (queue : List (Payload A)) → IsLongestRun queue (longest_call_run queue) }
     ensures few { (count : ℕ) (queue : List (Payload A)) → length (packed_payloads count queue) ≤ count }
     ensures unpacked_payloads { (count : ℕ) (queue : List (Payload A)) → AreQueued queue → flat_map unpacked_payloads (packed_payloads count queue) ++ unpacked_rest count queue ≡ queue }
     ensures fits { (count : ℕ) (queue : List (Payload A)) → AllByRecursion PayloadFits queue → AllByRecursion PayloadFits (packed_payloads count queue) }
@@ -160,7 +160,7 @@ pub fn core_laws_of_worlds<A: Allocator + Copy>()
         ((run (unformed n) events).cores i).held ((run (unformed n) events).cores i).turns }
     ensures fresh { (n i : ℕ) (events : List (RingEvent A)) → AreFreshOf ((run (unformed n) events).cores i).me
         ((run (unformed n) events).cores i).held ((run (unformed n) events).cores i).turns }
-    ensures joins { (n i : ℕ) (events : List (RingEvent A)) → AllSaySame ((run (unformed n) events).cores i).gathering }
+    ensures joins { (n i : ℕ) (events : List (RingEvent A)) → AllHaveOwnSets ((run (unformed n) events).cores i).gathering }
     ensures ends { (n i : ℕ) (events : List (RingEvent A)) → HasEnded ((run (unformed n) events).cores i) }
 {}
 
@@ -181,7 +181,7 @@ pub fn second_round_law<A: Allocator + Copy>()
 /// A law is proved for all allocators that meet its bounds; this function shows that `Global` does.
 ///
 /// Rules: Token and window 3
-pub fn laws_at_global()
+pub fn core_laws_at_global()
     ensures { (n me : ℕ) (inputs : List (Input Heap)) (ring : RingId) → mark (after_inputs (opening n me) inputs)
         ring ≤ front (after_inputs (opening n me) inputs) ring }
 {

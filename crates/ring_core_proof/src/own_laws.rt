@@ -56,7 +56,7 @@ pub fn report_unchanged_law<A: Allocator + Copy>()
 /// A law is proved for all allocators that meet its bounds; this function shows that `Global` does.
 ///
 /// Rules: Rings and states 2 to 7
-pub fn laws_at_global()
+pub fn own_laws_at_global()
     ensures { (n me : ℕ) (inputs : List (Input Heap)) → LocalFacts (after_inputs (opening n me) inputs) }
 {
     left_ring_unchanged_law::<Global>();

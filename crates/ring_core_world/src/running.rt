@@ -9,7 +9,7 @@ ghost use Rattle.ring_core_proof.specs.Limits.{EventFits};
 ghost use Rattle.ring_core_proof.specs.Worlds.{has_effect_on_formed};
 ghost use Rattle.ring_core_world.specs.Running.{world_of, run_extended, acts};
 
-use crate::cores::Cores;
+use crate::cores::CoreWorld;
 use ring_base::{Fault, Kind, Proc};
 use ring_core_proof::RingEvent;
 use ring_core_spec::Out;
@@ -24,7 +24,7 @@ use std::alloc::Allocator;
 ///
 /// Rules: Rings and states 14 and 15
 pub(crate) fn run_events<A: Allocator + Copy>(
-    cores: Cores<A>,
+    cores: CoreWorld<A>,
     formed: bool,
     events: &[RingEvent<A>],
     done: &mut u64,
@@ -46,23 +46,23 @@ pub(crate) fn run_events<A: Allocator + Copy>(
 
 /// Applies an event, unless it has no effect from this opening.
 fn apply_if_effective<A: Allocator + Copy>(
-    world: Cores<A>,
+    world: CoreWorld<A>,
     formed: bool,
     event: &RingEvent<A>,
-) -> Result<Cores<A>, Fault>
+) -> Result<CoreWorld<A>, Fault>
     requires { EventFits event.now }
     ensures ok { IfOk result (λ after. after ≡ run_extended world (filter (acts formed) (event.now ∷ []))) }
     ensures refused { IfErr result (λ fault. fault ≡ Memory) }
 {
-    if acts(formed, event) {
-        world.happens(event)
+    if has_effect(formed, event) {
+        world.apply_event(event)
     } else {
         Ok(world)
     }
 }
 
 /// Returns whether an event has an effect: from the opening every event does.
-fn acts<A: Allocator + Copy>(formed: bool, event: &RingEvent<A>) -> bool
+fn has_effect<A: Allocator + Copy>(formed: bool, event: &RingEvent<A>) -> bool
     ensures { result ≡ acts formed event.now }
 {
     !formed || has_effect_on_formed(event)

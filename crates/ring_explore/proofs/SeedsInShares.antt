@@ -5,7 +5,7 @@ use Rattle.std.specs.Option.{option_or}
 use Rattle.ring_failure.specs.Shares.{share_begin}
 use Rattle.ring_failure.proofs.Sharing.{under_or_past, share_grows}
 use Rattle.std.specs.Prelude.{◌^◌}
-use Rattle.ring_explore.specs.declared.seed_totals.ExploreTotals.{ExploreTotals}
+use Rattle.ring_explore.specs.declared.explore_totals.ExploreTotals.{ExploreTotals}
 use Rattle.ring_explore.specs.Explored.{AreTried, seeds_in}
 
 module _ (IsTried : Bool → Type 0) where

@@ -10,7 +10,7 @@ use Rattle.ring_script.specs.Operations.{OperationForm}
 use Rattle.ring_script.specs.Scripts.{script_by, schedule_by}
 use Rattle.ring_script_generator.specs.Generated.{IsGeneratedBy}
 use Rattle.ring_console.specs.Running.{RunView, run_opening, AreLinesDone, IsLegal, legal_line}
-use Rattle.ring_explore.specs.declared.seed_totals.ExploreTotals.{ExploreTotals}
+use Rattle.ring_explore.specs.declared.explore_totals.ExploreTotals.{ExploreTotals}
 use Rattle.ring_explore.specs.Explored.{AreTried, illegal_of, seeds_in}
 use Rattle.ring_explore.specs.Tried.{IsTried, IsTriedIn}
 use Rattle.ring_explore.specs.declared.plan.ExplorePlan.{ExplorePlan}

@@ -13,11 +13,11 @@ ghost use Rattle.ring_failure.specs.Shares.{share_begin};
 ghost use Rattle.ring_explore.specs.Explored.{AreTried, seeds_in, totals_text, IsTotals, IsIllegal};
 ghost use Rattle.ring_explore.specs.Tried.{IsTriedIn, IsNotTried, IsNotExplored};
 
-use crate::seed_totals::ExploreTotals;
-use crate::one::try_seed;
+use crate::explore_totals::ExploreTotals;
 use crate::plan::ExplorePlan;
+use crate::seed_run::try_seed;
 use ring_base::Fault;
-use ring_console::{Failure, ShelfVocabulary, StandardObjects, Vocabulary, report};
+use ring_console::{Failure, ShelfVocabulary, StandardObjects, Vocabulary, report_failure};
 use ring_failure::{NOT_LEGAL, ProgressMeter, round_end, share_begin};
 use ring_object::Object;
 use ring_script_generator::generate_script_by;
@@ -27,7 +27,7 @@ use std::thread::{self, Threads};
 use std::time::Clock;
 
 /// The number of seeds for each thread in the first round.
-const FIRST: u64 = 16;
+const FIRST_ROUND_SEEDS: u64 = 16;
 
 /// Generates the script of each seed for the standard object, runs it, and checks that its run is legal.
 ///
@@ -109,7 +109,7 @@ pub fn explore_of<
     match explore_all::<T, V, R, O, P>(rt, alloc, &plan, threads, out, progress) {
         Ok(true) => 0,
         Ok(false) => NOT_LEGAL,
-        Err(failure) => report(err, failure),
+        Err(failure) => report_failure(err, failure),
     }
 }
 
@@ -176,7 +176,7 @@ fn print_result<T: Object, V: Vocabulary, O: Write>(
             Ok(false)
         }
         None => {
-            print_totals(plan.many(), seed_totals, out)?;
+            print_totals(plan.seed_count(), seed_totals, out)?;
             Ok(true)
         }
     }
@@ -240,15 +240,15 @@ fn try_all<
 {
     match progress {
         Some(out) => {
-            let size = u64::from(threads).saturating_mul(FIRST);
-            let mut meter = ProgressMeter::new(rt, plan.many(), size);
+            let size = u64::from(threads).saturating_mul(FIRST_ROUND_SEEDS);
+            let mut meter = ProgressMeter::new(rt, plan.seed_count(), size);
             let seed_totals = try_rounds::<O, V, R, P>(
                 rt, alloc, plan, 0, threads, &mut meter, out,
             );
             meter.clear(out);
             seed_totals
         }
-        None => try_part::<O, V, R>(rt, alloc, plan, threads),
+        None => try_round::<O, V, R>(rt, alloc, plan, threads),
     }
 }
 
@@ -273,13 +273,13 @@ fn try_rounds<
         → AreTried (IsTriedIn O.sequential V.forms plan.now) (plan.now.first + from) (plan.now.first + many) seed_totals.illegal) }
     ensures refused { IfErr result (IsNotTried plan.now.votes.now) }
 {
-    let many = plan.many();
+    let many = plan.seed_count();
     if from >= many {
         return Ok(ExploreTotals::new());
     }
-    let upto = round_end(from, meter.size(), many);
-    let round = plan.part(from, upto);
-    let mut seed_totals = try_part::<O, V, R>(rt, alloc, &round, threads)?;
+    let upto = round_end(from, meter.next_round_items(), many);
+    let round = plan.sub_plan(from, upto);
+    let mut seed_totals = try_round::<O, V, R>(rt, alloc, &round, threads)?;
     if seed_totals.illegal.is_some() {
         return Ok(seed_totals);
     }
@@ -290,7 +290,7 @@ fn try_rounds<
 }
 
 /// Tries the seeds of a plan in a single round.
-fn try_part<O: Object<Alloc = Global> + Send, V: Vocabulary + Send, R: Threads + Sync>(
+fn try_round<O: Object<Alloc = Global> + Send, V: Vocabulary + Send, R: Threads + Sync>(
     rt: &R,
     alloc: Global,
     plan: &ExplorePlan<'_>,
@@ -366,7 +366,7 @@ fn try_share<O: Object<Alloc = Global>, V: Vocabulary>(
         (plan.now.first + share_begin many shares (share + 1)) seed_totals.illegal) }
     ensures refused { IfErr result (IsNotGenerated plan.now.votes.now) }
 {
-    let many = plan.many();
+    let many = plan.seed_count();
     let mut seed_totals = ExploreTotals::new();
     let begin = share_begin(many, shares, share);
     let end = share_begin(many, shares, share.saturating_add(1));

@@ -3,10 +3,10 @@
 //! Formats: The command line
 #![tactic(auto)]
 
-mod seed_totals;
+mod explore_totals;
 mod exploring;
-mod one;
 mod plan;
+mod seed_run;
 
 pub use exploring::{explore, explore_of};
 pub use plan::ExplorePlan;

@@ -4,7 +4,7 @@ use Rattle.std.proofs.Common.{IfSome}
 use Rattle.ring_base.specs.Group.{Group}
 use Rattle.ring_object.specs.Operations.{Sequential}
 use Rattle.ring_session.specs.declared.answer.Answer.{Answer}
-use Rattle.ring_session.specs.declared.answered.TicketAnswer.{TicketAnswer}
+use Rattle.ring_session.specs.declared.ticket_answer.TicketAnswer.{TicketAnswer}
 use Rattle.ring_book_lines.proofs.AnswersByTicket.{length-with_answers}
 use Rattle.ring_book.specs.Lines.{LineInput, Submitted, Received, answers_after_step, answers_after_steps, answers_of_node, answer_of_ticket, first_answer_in, IsRun, steps_of}
 use Rattle.ring_book.specs.Lines.{call_in, calls_of, StepView, LineView}

@@ -5,7 +5,7 @@ use Rattle.ring_base.specs.declared.fault.Fault.{Fault}
 use Rattle.ring_base.specs.declared.fault.Fault.TheVariants.{NotMember, Memory}
 use Rattle.ring_client.specs.Asking.{new_asked}
 use Rattle.ring_client.specs.Calling.{ClientOf}
-use Rattle.ring_client.specs.declared.asked.Asked.{Asked}
+use Rattle.ring_client.specs.declared.last_request.Asked.{Asked}
 use Rattle.ring_host_port.specs.Gauges.{TableId}
 use Rattle.ring_seat.specs.Seats.{SeatView, IsAt}
 

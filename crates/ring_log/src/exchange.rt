@@ -13,7 +13,7 @@ use crate::received_head::ReceivedHead;
 use crate::snapshot::Snapshot;
 use crate::wanted::Wanted;
 use ring_base::{Fault, Proc, ProcSet};
-use ring_wire::{Call, Calls, Head, MAX_SNAPSHOT, Part, Payload, Snap};
+use ring_wire::{Call, CallList, Head, MAX_SNAPSHOT, Part, Payload, Snap};
 use std::alloc::{AllocError, Allocator, Global};
 use std::marker::Model;
 use std::mem;
@@ -162,7 +162,9 @@ impl<A: Allocator + Copy> Exchange<A> {
                 sender,
                 head: *head,
             })?;
-            self.missing_heads = self.missing_heads.less(ProcSet::only(sender));
+            self.missing_heads = self
+                .missing_heads
+                .without_members(ProcSet::singleton(sender));
         }
         Ok(())
     }
@@ -222,7 +224,7 @@ impl<A: Allocator + Copy> Exchange<A> {
         ensures err { OnErr result (self.new ≡ self.old) }
         ensures refused { IfErr result (λ fault. fault ≡ Memory) }
     {
-        if self.is_wanted(sender, part) {
+        if self.is_wanted_part(sender, part) {
             let calls = part.calls.as_slice();
             self.received_calls.extend_from_slice(calls)?;
             self.places += calls.len() as u64;
@@ -231,13 +233,14 @@ impl<A: Allocator + Copy> Exchange<A> {
     }
 
     /// Returns whether a Part is the next wanted one, and no bytes of a wanted snapshot are missing.
-    fn is_wanted(&self, sender: Proc, part: &Part<A>) -> bool
+    fn is_wanted_part(&self, sender: Proc, part: &Part<A>) -> bool
         ensures value { result ≡ is_wanted (wanted self.now) self.now.received_bytes self.now.total self.now.places sender part.now }
         ensures room { result ≡ true → self.now.places + length part.now.calls < 2 ^ 64 }
     {
         match self.wanted() {
             Some(wanted) => {
-                self.has_wanted_snapshot(&wanted) && is_next(&wanted, self.places, sender, part)
+                self.has_wanted_snapshot(&wanted)
+                    && is_next_part(&wanted, self.places, sender, part)
             }
             None => false,
         }
@@ -261,14 +264,19 @@ impl<A: Allocator + Copy> Exchange<A> {
         Some(Base {
             from: wanted.from,
             snapshot,
-            calls: Calls::from_vec(calls),
+            calls: CallList::from_vec(calls),
         })
     }
 }
 
 /// Returns whether a Part comes from the owner, begins where the received places end, and ends within the wanted
 /// places.
-fn is_next<A: Allocator + Copy>(wanted: &Wanted, places: u64, sender: Proc, part: &Part<A>) -> bool
+fn is_next_part<A: Allocator + Copy>(
+    wanted: &Wanted,
+    places: u64,
+    sender: Proc,
+    part: &Part<A>,
+) -> bool
     ensures value { result ≡ is_next wanted.now places sender part.now }
     ensures room { result ≡ true → places + length part.now.calls < 2 ^ 64 }
 {

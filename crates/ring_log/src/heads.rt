@@ -49,7 +49,7 @@ fn chosen_head(first: ReceivedHead, rest: &[ReceivedHead]) -> ReceivedHead
 {
     let mut best = first;
     for received_head in rest {
-        if best.is_behind(received_head) {
+        if best.is_chosen_after(received_head) {
             best = *received_head;
         }
     }

@@ -22,7 +22,7 @@ use Rattle.ring_log.specs.declared.wanted.Wanted.{Wanted}
 use Rattle.ring_log.specs.Heads.{chosen_head, least_committed}
 use Rattle.ring_log.specs.Exchanges.{Exchange, exchange_opening, wanted_from_owner, wanted_from_heads, wanted, hear_head, has_wanted_snapshot, is_next_piece, hear_snap, is_next, is_wanted}
 use Rattle.ring_log.specs.Exchanges.{hear_part, heard, has_all_wanted, is_exchange_complete}
-use Rattle.ring_log.specs.EpochHistories.{exchange_after_message, after_all}
+use Rattle.ring_log.specs.EpochHistories.{exchange_after_message, exchange_after_messages}
 use Rattle.ring_log.proofs.WholeExchanges.{wants_nothing}
 use Rattle.ring_log_proof.proofs.ChosenHead.{IsNoLess, chosen-is, chosen-greatest, least-first, least-each}
 
@@ -151,7 +151,7 @@ module _ {A : Type 0} (Says : ℕ → OneHead → Type 0) (logs : ℕ → List (
   epochs_with_message-payload e p End honest k = k
 
   pub epochs_with_message-all : (e : Exchange A) (xs : List (Message A)) → Each (λ (x : Message A). IsHonest Says logs x.sender x.payload) xs → Hears e
-      → Hears (after_all e xs)
+      → Hears (exchange_after_messages e xs)
   epochs_with_message-all e [] honest k = k
   epochs_with_message-all e (x ∷ xs) honest k = epochs_with_message-all (exchange_after_message e x) xs honest.1 (epochs_with_message-payload e x.sender x.payload honest.0 k)
 

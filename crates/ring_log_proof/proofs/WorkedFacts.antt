@@ -11,7 +11,7 @@ use Rattle.ring_base.specs.Members.{everybody_members}
 use Rattle.ring_base.specs.Rings.{same_ring}
 use Rattle.ring_base.specs.declared.ring_id.RingId.{RingId}
 use Rattle.ring_base.proofs.SameRing.{ring_same}
-use Rattle.ring_payload.specs.Kinds.{unpacked_payloads}
+use Rattle.ring_payload.specs.PayloadKinds.{unpacked_payloads}
 use Rattle.ring_payload.specs.declared.content.Payload.TheVariants.{Call}
 use Rattle.ring_log.specs.Examples.{group_of_three, message_of}
 use Rattle.ring_log.specs.Messages.{Message}

@@ -27,8 +27,8 @@ ghost use Rattle.ring_log_proof.specs.RingFacts.{HasEpoch, EpochIn, Rises, AreAb
 ghost use Rattle.ring_log_proof.specs.Discipline.{ConsistentEpochs, KeepsDiscipline, DropsOnlyCommitted, DropsCommitted, HasOwnerSnapshots, KeepsRules};
 ghost use Rattle.ring_log_proof.specs.Settled.{IsSettled};
 ghost use Rattle.ring_log_proof.specs.Views.{IsView};
-ghost use Rattle.ring_log_proof.specs.Time.{IsEpochsExtended, EpochEvent, epochs_after_events, AllMayHappen, SendsOnlyKnown, SendsKnown};
-ghost use Rattle.ring_log_proof.specs.Time.{ConsistentMoment, IsOrderlyRun, last_of_run, committed_at};
+ghost use Rattle.ring_log_proof.specs.EpochEvents.{IsEpochsExtended, EpochEvent, epochs_after_events, AllMayHappen, SendsOnlyKnown, SendsKnown};
+ghost use Rattle.ring_log_proof.specs.EpochEvents.{ConsistentMoment, IsOrderlyRun, last_of_run, committed_at};
 
 use std::alloc::{Allocator, Global};
 
@@ -84,7 +84,7 @@ pub fn settled_law<A: Allocator + Copy>()
 /// consistent epochs.
 ///
 /// Rules: The replicated log 12, 16 and 17
-pub fn committed_law<A: Allocator + Copy>()
+pub fn committed_calls_law<A: Allocator + Copy>()
     ensures settled { (group : Group) (m : ConsistentEpochs A group) (p : ℕ) →
         (committed_of group (m.node_epochs p) ≡ []) ⊎ IsSettled group m.node_epochs m.members (committed_of group (m.node_epochs p)) }
     ensures front { (group : Group) (m : ConsistentEpochs A group) (p : ℕ) → IsListPrefix (committed_of group (m.node_epochs p)) (log_of group (m.node_epochs p)) }
@@ -202,7 +202,7 @@ pub fn events_extend_epochs_law<A: Allocator + Copy>()
 /// next. At each moment the committed calls of all nodes are prefixes of one list, and all have been issued.
 ///
 /// Rules: The replicated log 12 and 17; Sessions 10 and 11
-pub fn run_law<A: Allocator + Copy>()
+pub fn committed_calls_grow_law<A: Allocator + Copy>()
     ensures grows { (group : Group) (moment : ConsistentMoment A group) (rest : List (ConsistentMoment A group)) (p : ℕ) → IsOrderlyRun moment rest →
         IsListPrefix (committed_at moment p) (committed_at (last_of_run moment rest) p) }
     ensures one_list { (group : Group) (moment : ConsistentMoment A group) (processors : List ℕ) →
@@ -210,12 +210,12 @@ pub fn run_law<A: Allocator + Copy>()
     ensures issued { (group : Group) (moment : ConsistentMoment A group) (p : ℕ) → Each (Contains moment.issued) (committed_at moment p) }
 {}
 
-/// States a part of [`committed_law`] for the allocator that programs use. Nothing calls this function.
+/// States a part of [`committed_calls_law`] for the allocator that programs use. Nothing calls this function.
 ///
 /// A law is proved for all allocators that meet its bounds; this function shows that `Global` does.
 ///
 /// Rules: The replicated log 16
-pub fn laws_at_global()
+pub fn log_laws_at_global()
     ensures { (group : Group) (m : ConsistentEpochs Heap group) (p : ℕ) → IsListPrefix (committed_of group (m.node_epochs p)) (log_of group (m.node_epochs p)) }
 {
     truthful_heads_law::<Global>();
@@ -225,6 +225,6 @@ pub fn laws_at_global()
     known_log_law::<Global>();
     only_issued_calls_law::<Global>();
     events_extend_epochs_law::<Global>();
-    run_law::<Global>();
-    committed_law::<Global>();
+    committed_calls_grow_law::<Global>();
+    committed_calls_law::<Global>();
 }

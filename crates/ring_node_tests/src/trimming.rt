@@ -70,7 +70,7 @@ fn trims<O: Object>(
     heap: &RefusingHeap,
 ) -> Result<(u64, u64, bool), Fault> {
     fill_almost_to_trim(driven)?;
-    let before = heap.requests();
+    let before = heap.request_count();
     let is_right = match driven.turn() {
         Ok(()) => {
             let trimmed = (State::Operational, 1, 256, 256, 256, 256);
@@ -84,7 +84,7 @@ fn trims<O: Object>(
         }
         Err(_) => false,
     };
-    Ok((before, heap.requests(), is_right))
+    Ok((before, heap.request_count(), is_right))
 }
 
 /// Does the same with a new node whose memory is in `heap`.

@@ -23,9 +23,9 @@ ghost use Rattle.ring_node_spec.specs.Nodes.{Node, node_known_log, node_pending}
 ghost use Rattle.ring_node_spec.specs.Stepping.{node_step, send_of};
 ghost use Rattle.ring_node_spec.specs.declared.event.Event.{Event};
 ghost use Rattle.ring_node_spec.specs.WorldLimits.{EventFits};
-ghost use Rattle.ring_node_spec.specs.Worlds.{world_opening, happens, run, whole_epochs_in};
+ghost use Rattle.ring_node_spec.specs.Worlds.{world_opening, world_after_event, run, whole_epochs_in};
 ghost use Rattle.ring_order_proof.specs.Done.{HasDone};
-ghost use Rattle.ring_order_proof.specs.Linear.{EventKeeps};
+ghost use Rattle.ring_order_proof.specs.Linear.{IsEventCallWithinLimits};
 
 use ring_object::Object;
 
@@ -61,7 +61,7 @@ pub fn pending_tickets_law<O: Object>()
 ///
 /// Rules: The replicated log 14; Sessions 8
 pub fn done_calls_law<O: Object>()
-    ensures { (group : Group) (events : List (Event O.Alloc)) (node : ℕ) → group.count ≤ 16 → AllByRecursion EventKeeps events → 1 ≤ node →
+    ensures { (group : Group) (events : List (Event O.Alloc)) (node : ℕ) → group.count ≤ 16 → AllByRecursion IsEventCallWithinLimits events → 1 ≤ node →
         node ≤ group.count →
         let w = run O.sequential (world_opening group) events in
         HasDone O.sequential (w.nodes node) (committed_of group (whole_epochs_in w node)) }
@@ -76,7 +76,7 @@ pub fn done_calls_law<O: Object>()
 /// - each call of its known log.
 ///
 /// Rules: Limits 1
-pub fn frames_law<O: Object>()
+pub fn sent_frames_fit_law<O: Object>()
     ensures frames { (group : Group) (events : List (Event O.Alloc)) → group.count ≤ 16 → AllByRecursion EventFits events →
         let w = run O.sequential (world_opening group) events in
         AllByRecursion (λ (f : Transmission O.Alloc). FrameFits f.frame) w.frames }
@@ -114,13 +114,13 @@ pub fn frames_law<O: Object>()
 pub fn event_growth_law<O: Object>()
     ensures frames { (group : Group) (events : List (Event O.Alloc)) (e : Event O.Alloc) → group.count ≤ 16 → AllByRecursion EventFits events →
         let w = run O.sequential (world_opening group) events in
-        length (happens O.sequential w e).frames ≤ length w.frames + 64 }
+        length (world_after_event O.sequential w e).frames ≤ length w.frames + 64 }
     ensures history { (group : Group) (events : List (Event O.Alloc)) (e : Event O.Alloc) → group.count ≤ 16 → AllByRecursion EventFits events →
         let w = run O.sequential (world_opening group) events in
-        length (happens O.sequential w e).history ≤ length w.history + 64 }
+        length (world_after_event O.sequential w e).history ≤ length w.history + 64 }
     ensures told { (group : Group) (events : List (Event O.Alloc)) (e : Event O.Alloc) → group.count ≤ 16 → AllByRecursion EventFits events →
         let w = run O.sequential (world_opening group) events in
-        length (happens O.sequential w e).told ≤ length w.told + 64 }
+        length (world_after_event O.sequential w e).told ≤ length w.told + 64 }
 {}
 
 /// States that the encoding of a frame that is within its limits has at most 7,321 bytes.

@@ -6,8 +6,8 @@ use Rattle.std.specs.Option.{option_map}
 use Rattle.ring_base.specs.Group.{Group, is_primary}
 use Rattle.ring_base.specs.declared.ring_id.RingId.{RingId}
 use Rattle.ring_payload.specs.declared.call.Call.{Call}
-use Rattle.ring_session.specs.Pendings.{pending_from}
-use Rattle.ring_session.specs.declared.answered.TicketAnswer.{TicketAnswer}
+use Rattle.ring_session.specs.TicketsState.{pending_from}
+use Rattle.ring_session.specs.declared.ticket_answer.TicketAnswer.{TicketAnswer}
 use Rattle.ring_core_spec.specs.Joining.{is_operational}
 use Rattle.ring_core_spec.specs.State.{OutgoingFrame}
 use Rattle.ring_node_spec.specs.Nodes.{Node, node_opening, node_known_log, node_length, node_trimmed}
@@ -66,7 +66,7 @@ has_brought Ignored n sends answers restored committed installed = false
 
 -- what a node with a clock adds to the end of an input's output: nothing before the first time
 abbrev pub timed_end_of : {A : Type 0} → RecordNodeView A → Bool → Option TimedEnd
-timed_end_of r brought = option_map (λ (next : ℕ). record { has_brought = brought; next_time = next }) (next_time_of r.clock)
+timed_end_of r brought = option_map (λ (next : ℕ). record { has_progressed = brought; next_time = next }) (next_time_of r.clock)
 
 -- the end of an input's output: the node's state, the token's outcome, and whether the token brought anything
 abbrev pub end_text : {A : Type 0} → RecordNodeView A → TokenOutcome → Bool → List ℕ

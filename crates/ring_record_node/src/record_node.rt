@@ -14,7 +14,7 @@ ghost use Rattle.ring_clock.specs.StepOutcomes.{installs};
 ghost use Rattle.ring_records.specs.NodeRecords.{answers_text, restored_text, all_committed_text, ticket_record, refusal_record};
 ghost use Rattle.ring_records.specs.declared.token_outcome.TokenOutcome.TheVariants.{NoToken};
 ghost use Rattle.ring_record_node.specs.NodeOutputs.{record_node_opening, sends_text, is_idle, has_brought, end_text, timed_end_of, told_membership, members_text, status_text, gauges_of, counts_text};
-ghost use Rattle.ring_records.specs.declared.request.RecordRequest.{RecordRequest};
+ghost use Rattle.ring_records.specs.declared.record_requests.RecordRequest.{RecordRequest};
 ghost use Rattle.ring_record_node.specs.RecordNodes.{IsStepNoted, IsSubmission, Steps, IsStoppedForMemory, IsReceived, IsSubmitted, TimesOut, IsTimeBrought};
 ghost use Rattle.ring_record_node.specs.RecordNodes.{IsRequestDone, IsRecordTaken, IsNoRequest, IsOpeningRefused, HasWrittenUnlessFailed, HasWritten};
 
@@ -404,7 +404,7 @@ impl<O: Object> RecordNode<O> {
     {
         let next_time = self.clock.next_time()?;
         Some(TimedEnd {
-            has_brought,
+            has_progressed: has_brought,
             next_time,
         })
     }

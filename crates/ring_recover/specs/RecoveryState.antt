@@ -60,9 +60,9 @@ pub record IsPlanKept {A : Type 0} (r : RecoveryState A) (old : RingId) (transit
 -- What the code reads from the old ring's window
 
 -- There is a message, and it is a user message.
-abbrev pub is_users : {A : Type 0} → Option (Message A) → Bool
-is_users None = false
-is_users (Some x) = is_user x.payload
+abbrev pub is_user_message : {A : Type 0} → Option (Message A) → Bool
+is_user_message None = false
+is_user_message (Some x) = is_user x.payload
 
 -- There is a message, and one of `senders` sent it.
 abbrev pub is_sent_by_any : {A : Type 0} → ℕ → Option (Message A) → Bool

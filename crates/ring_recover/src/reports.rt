@@ -41,7 +41,7 @@ pub(crate) fn greatest_mark(reports: &[CommitEntry]) -> u64
 }
 
 /// Returns whether every reported front is at least `safe`. It is true if there is no report.
-pub(crate) fn none_behind(safe: u64, reports: &[CommitEntry]) -> bool
+pub(crate) fn all_fronts_reach(safe: u64, reports: &[CommitEntry]) -> bool
     ensures { result ≡ none_behind safe reports.now }
 {
     reports.iter().all(|report| safe <= report.front)
@@ -108,7 +108,8 @@ fn reports_offset(safe: u64, offset: usize, report: &CommitEntry) -> bool
 {
     let ahead = report.front.saturating_sub(safe);
     let offset = offset as u64;
-    offset < ahead || (offset - ahead < WINDOW_SIZE && report.is_held((offset - ahead) as usize))
+    offset < ahead
+        || (offset - ahead < WINDOW_SIZE && report.is_held_bit((offset - ahead) as usize))
 }
 
 /// Returns the members whose entry names the ring `old`.

@@ -16,7 +16,7 @@ use Rattle.ring_log.specs.Exchanges.{Exchange, exchange_opening, wanted_from_own
 use Rattle.ring_log.specs.Heads.{chosen_head, least_committed}
 use Rattle.ring_log.specs.Logs.{Log}
 use Rattle.ring_log.specs.Epochs.{Epoch, epochs_with_message}
-use Rattle.ring_log.specs.EpochHistories.{after_all}
+use Rattle.ring_log.specs.EpochHistories.{exchange_after_messages}
 use Rattle.ring_log.specs.KnownLog.{KnownLog, known_log_of, retained_log}
 use Rattle.ring_replication.specs.NodeSpec.{has_all_heads, parts_due, snaps_due, is_snapshot_kept, places_due, owner_due, due_when_heads_complete, epochs_after_event}
 use Rattle.ring_replication.specs.Replications.{StepContext, bytes_at, is_running, owner_due_sends, due_sends_when_complete, due_sends_on_message, due_sends_at, due_sends_by}
@@ -84,8 +84,8 @@ module _ {A : Type 0} (m : StepContext A) (bytes : List ℕ) (none : m.trimmed �
       → due_sends_on_message other runs epochs x after ≡ due_sends_on_message m runs epochs x after
   heard-first runs [] x after = refl
   heard-first runs (s ∷ older) x after =
-      let old : Exchange A = after_all (exchange_opening s.members) s.heard in
-      let new : Exchange A = after_all (exchange_opening s.members) (s.heard ++ x ∷ []) in
+      let old : Exchange A = exchange_after_messages (exchange_opening s.members) s.heard in
+      let new : Exchange A = exchange_after_messages (exchange_opening s.members) (s.heard ++ x ∷ []) in
       ap (λ l. if runs then (if is_primary m.group s.members then l ++ due_sends_when_complete m after old new else []) else [])
       (owner-due_sends (known_log_of m.group (s ∷ older)) old new)
 

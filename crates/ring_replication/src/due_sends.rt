@@ -13,7 +13,7 @@ use crate::held_log::HeldLog;
 use ring_base::Fault;
 use ring_log::{Log, Wanted, pieces_of};
 use ring_payload::{Call, MAX_SNAPSHOT, Payload};
-use ring_session::{Pending, contains_call, copy_of};
+use ring_session::{PendingTicket, contains_call, copy_of};
 use std::alloc::Allocator;
 
 /// Appends the owner's payloads to `due`, if the message was the last Head, the ring runs and this node is the owner.
@@ -120,7 +120,7 @@ fn add_parts<A: Allocator + Copy>(
 ///
 /// Rules: The replicated log 10
 pub(crate) fn add_pending_calls<A: Allocator + Copy + Drop>(
-    pending: &[Pending<A>],
+    pending: &[PendingTicket<A>],
     places: &[Call<A>],
     due: &mut Vec<Payload<A>, A>,
 ) -> Result<(), Fault>

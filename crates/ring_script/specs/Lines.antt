@@ -2,8 +2,8 @@
 -- Formats: Scripts
 use Rattle.std.specs.Prelude.{ℕ, ◌^◌, ◌-◌, ◌≤◌, Bool, false, ◌==◌, if◌then◌else◌, List, codes, Option, Some, None, IfSome}
 use Rattle.ring_base.specs.Group.{Group}
-use Rattle.ring_base.specs.declared.kind.Kind.{Kind}
-use Rattle.ring_base.specs.declared.kind.Kind.TheVariants as kinds
+use Rattle.ring_base.specs.declared.timeout_kind.Kind.{Kind}
+use Rattle.ring_base.specs.declared.timeout_kind.Kind.TheVariants as kinds
 use Rattle.ring_script.specs.declared.line.ScriptLine.{ScriptLine}
 use Rattle.ring_script.specs.declared.line.ScriptLine.TheVariants as lines
 use Rattle.ring_script.specs.Cuts.{cut_at}

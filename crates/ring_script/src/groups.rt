@@ -37,11 +37,11 @@ impl Groups {
     /// Returns the partition into two groups: only `node`, and all other processors from 1 to 16.
     ///
     /// Formats: The command line
-    pub fn isolation(node: Proc) -> Groups
+    pub fn isolating_one(node: Proc) -> Groups
         ensures { result ≡ isolation node }
     {
-        let own = ProcSet::only(node);
-        let others = ProcSet::from_bits(u16::MAX).less(own);
+        let own = ProcSet::singleton(node);
+        let others = ProcSet::from_bits(u16::MAX).without_members(own);
         let mut parse_group = [others; PROCESSORS];
         parse_group[usize::from(node.number()) - 1] = own;
         Groups { parse_group }
@@ -80,7 +80,7 @@ impl Groups {
             }
             count = count.saturating_add(1);
             placed = placed.union(group);
-            groups.place(group);
+            groups.set_group_of_members(group);
         }
         if count < 2 || placed != nodes.everybody() {
             return Err(Fault::BadScript);
@@ -89,7 +89,7 @@ impl Groups {
     }
 
     /// Sets `group` as the group of each of its members.
-    fn place(&mut self, group: ProcSet)
+    fn set_group_of_members(&mut self, group: ProcSet)
         ensures { self.new ≡ placed_from 1 group self.old }
     {
         for (i, kept) in self.parse_group.iter_mut().enumerate() {

@@ -4,7 +4,7 @@ use Rattle.std.specs.Prelude.{◌&&◌, IfSome, IfOk}
 use Rattle.std.proofs.lemmas.Bool.{cases_Bool}
 use Rattle.std.proofs.lemmas.List.{length-replicate, take-append-le, take_all}
 use Rattle.std.proofs.lemmas.Result.{IfOk-at_ok}
-use Rattle.ring_base.specs.Group.{Group, filled}
+use Rattle.ring_base.specs.Group.{Group, padded_votes}
 use Rattle.ring_base.proofs.TwoEqual.{ap-both}
 use Rattle.ring_script.specs.Lines.{LineRequest}
 use Rattle.ring_script.specs.Numbers.{word_at}
@@ -111,12 +111,12 @@ script_whole forms text schedule read = IfOk-at_ok (λ (s : Schedule). Whole s.n
 -- ---- the same nodes.
 
 -- Of places that are filled, the votes are the first.
-front_is : (n : ℕ) (votes : List ℕ) → length votes ≡ n → take n (filled votes) ≡ votes
+front_is : (n : ℕ) (votes : List ℕ) → length votes ≡ n → take n (padded_votes votes) ≡ votes
 front_is n votes long = take-append-le n votes _ (omega (arith, long)) ∙ take_all n votes (omega (arith, long))
 
 -- As many nodes, with the same votes.
 pub same_nodes : (one other : Group) → length one.votes ≡ one.count → other.count ≡ length other.votes → one.count ≡ other.count
-    → filled one.votes ≡ filled other.votes → one ≡ record { count = length other.votes; votes = other.votes }
+    → padded_votes one.votes ≡ padded_votes other.votes → one ≡ record { count = length other.votes; votes = other.votes }
 same_nodes one other whole long count same =
     let group : ℕ → List ℕ → Group = λ n votes. record { count = n; votes = votes } in
     let votes : one.votes ≡ other.votes =

@@ -14,8 +14,8 @@ ghost use Rattle.ring_session.specs.Table.{opening, session_of, table_answer, ta
 
 use crate::MAX_CLIENTS;
 use crate::answer::Answer;
-use crate::session::answer_unless_next;
-use crate::snapshots::{append_clients, parts_of, read_clients};
+use crate::last_call_bytes::answer_unless_next;
+use crate::snapshots::{append_clients, read_clients, split_sessions_snapshot};
 use ring_base::Fault;
 use ring_object::{Object, append_sized_snapshot, copy_by_snapshot};
 use ring_payload::Call;
@@ -90,7 +90,7 @@ impl<O: Object> Sessions<O> {
     {
         match self.sessions.get_mut(&call.client) {
             Some(last) => {
-                if last.is_next(call.number) {
+                if last.is_next_number(call.number) {
                     Ok(Answer::Done(last.apply(&mut self.object, call)?))
                 } else {
                     Ok(answer_unless_next(last, call))
@@ -99,7 +99,7 @@ impl<O: Object> Sessions<O> {
             // An unknown client's last number is 0.
             None => match call.number {
                 0 => Ok(Answer::refusal(Fault::Conflict)),
-                1 => self.admit(call),
+                1 => self.apply_first_call(call),
                 _ => Ok(Answer::refusal(Fault::NumberGap)),
             },
         }
@@ -123,7 +123,7 @@ impl<O: Object> Sessions<O> {
         ensures refused { IfErr result (λ fault. fault ≡ Memory) }
     {
         let start = out.len();
-        if let Err(fault) = self.append(out) {
+        if let Err(fault) = self.append_snapshot(out) {
             out.truncate(start);
             return Err(fault);
         }
@@ -134,7 +134,7 @@ impl<O: Object> Sessions<O> {
     ///
     /// Errors: `Memory` if an allocation fails; a prefix of the snapshot may then have been appended.
     #[tactic(auto, unfolding(ring_object::specs::Sized::sized))]
-    fn append(&self, out: &mut Vec<u8, O::Alloc>) -> Result<(), Fault>
+    fn append_snapshot(&self, out: &mut Vec<u8, O::Alloc>) -> Result<(), Fault>
         ensures content { OnOk result (O.is_content self.now.content) }
         ensures ok { OnOk result (out.new.items ≡ out.old.items ++ table_snapshot O.sequential.snapshot_of self.now) }
         ensures front { take (vec_len out.old) out.new.items ≡ out.old.items }
@@ -155,7 +155,7 @@ impl<O: Object> Sessions<O> {
         ensures ok { IfOk result (λ sessions. restored_table O.sequential.restored bytes.now ≡ Some sessions) }
         ensures refused { IfErr result (IsSnapshotRefusal (restored_table O.sequential.restored bytes.now)) }
     {
-        let Some((count, clients, object)) = parts_of(bytes) else {
+        let Some((count, clients, object)) = split_sessions_snapshot(bytes) else {
             return Err(Fault::BadSnapshot);
         };
         let object = O::restore(alloc, object)?;
@@ -190,7 +190,7 @@ impl<O: Object> Sessions<O> {
     /// It includes the calls before a snapshot from which the table was restored. It saturates at `u64::MAX`.
     ///
     /// Rules: Sessions 2
-    pub fn effects(&self) -> u64
+    pub fn effect_count(&self) -> u64
         ensures { result ≡ table_effects self.now }
     {
         sum_of_numbers(&self.sessions)
@@ -202,7 +202,7 @@ impl<O: Object> Sessions<O> {
     /// removed again if the object refuses.
     ///
     /// Errors: `Memory` if an allocation fails; the table is then unchanged.
-    fn admit(&mut self, call: &Call<O::Alloc>) -> Result<Answer, Fault>
+    fn apply_first_call(&mut self, call: &Call<O::Alloc>) -> Result<Answer, Fault>
         requires unknown { session_of self.old call.now.client ≡ None }
         requires first { call.now.number ≡ 1 }
         ensures answer { IfOk result (λ answer. answer ≡ table_answer O.sequential self.old call.now) }
@@ -217,7 +217,7 @@ impl<O: Object> Sessions<O> {
         let last = self
             .sessions
             .entry(call.client)?
-            .or_insert(LastCall::none(self.alloc));
+            .or_insert(LastCall::before_first_call(self.alloc));
         match last.apply(&mut self.object, call) {
             Ok(reply) => Ok(Answer::Done(reply)),
             Err(fault) => {

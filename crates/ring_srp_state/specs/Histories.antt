@@ -3,7 +3,7 @@ use Rattle.std.specs.Prelude.{ℕ, List, [], ◌∷◌}
 use Rattle.ring_wire.specs.declared.commit.CommitToken.{CommitToken}
 use Rattle.ring_wire.specs.declared.entries.CommitEntry.{CommitEntry}
 use Rattle.ring_base.specs.declared.ring_id.RingId.{RingId}
-use Rattle.ring_token.specs.Turns.{TokenVisit, Raise}
+use Rattle.ring_token.specs.TokenVisits.{TokenVisit, MarkRaise}
 use Rattle.ring_core_spec.specs.Commits.{Configuration}
 use Rattle.ring_core_spec.specs.State.{Core, Report}
 
@@ -12,7 +12,7 @@ pub record History (A : Type 0) : Type 0 where
   pub rings : List Configuration
   pub installs : List Configuration
   pub turns : List (TokenVisit A)
-  pub raises : List Raise
+  pub raises : List MarkRaise
   pub reports : List Report
   pub plans : List CommitToken
 

@@ -36,7 +36,7 @@ impl<A: Allocator + Copy> Model for CoreHistory<A> {
 /// Returns the lists of facts of processor `me` at the opening.
 ///
 /// Rules: Rings and states 5
-pub fn opened<A: Allocator + Copy>(fixed: Fixed, me: Proc) -> Ghost<CoreHistory<A>>
+pub fn opening_history<A: Allocator + Copy>(fixed: Fixed, me: Proc) -> Ghost<CoreHistory<A>>
     ensures { result.value ≡ history_of (opening fixed.count me) }
 {
     ghost_of(&(&fixed, &me))
@@ -54,7 +54,7 @@ pub fn formed_history<A: Allocator + Copy>(fixed: Fixed, me: Proc) -> Ghost<Core
 /// Returns the lists after the core takes part in the ring `running` and reports `own` about its old ring.
 ///
 /// Rules: Rings and states 7
-pub fn with_ring<A: Allocator + Copy>(
+pub fn history_with_ring<A: Allocator + Copy>(
     history: &Ghost<CoreHistory<A>>,
     running: Configuration,
     own: &CommitEntry,
@@ -106,14 +106,14 @@ pub fn history_with_install<A: Allocator + Copy>(
 }
 
 /// Returns the empty ghost list.
-pub fn none<M>() -> Ghost<[M; 0]>
+pub fn empty_ghost_list<M>() -> Ghost<[M; 0]>
     ensures { result.value ≡ [] }
 {
     ghost_of(&())
 }
 
 /// Returns the ghost list with an item added at its head.
-pub fn one_first<M>(items: &Ghost<[M; 0]>, item: &M) -> Ghost<[M; 0]>
+pub fn ghost_list_with_first<M>(items: &Ghost<[M; 0]>, item: &M) -> Ghost<[M; 0]>
     ensures { result.value ≡ item.now ∷ items.now.value }
 {
     ghost_of(&(items, item))

@@ -8,7 +8,7 @@ use Rattle.std.proofs.lemmas.List.Elements.{All-take, All-drop, All-cons, All-ni
 use Rattle.std.proofs.lemmas.Nat.{be_bytes_2, be_bytes_8}
 use Rattle.byteorder.specs.Endian.{big_bytes, big_number}
 use Rattle.byteorder.specs.Numbers.{big_number-reads_back, big_from-append, big_from-lt, length-bytes_high_first}
-use Rattle.ring_object.specs.Bytes.{AreBytes, bytes_everywhere}
+use Rattle.ring_object.specs.Bytes.{AreBytes, AreBytes-get_or}
 
 -- The bytes of the numbers.
 abbrev pub list_encoding : ℕ → List ℕ → List ℕ
@@ -25,7 +25,7 @@ AreNumbers width numbers = All (λ number. number < 256 ^ width) numbers
 
 -- A number decoded from bytes fits the width.
 pub big_number-lt : (width : ℕ) (bytes : List ℕ) → AreBytes bytes → big_number width bytes < 256 ^ width
-big_number-lt width bytes are = big_from-lt 0 width bytes (bytes_everywhere bytes are)
+big_number-lt width bytes are = big_from-lt 0 width bytes (AreBytes-get_or bytes are)
 
 -- Only the first `width` bytes matter for the number.
 pub big_number-take : (width : ℕ) (bytes : List ℕ) → width ≤ length bytes → big_number width bytes ≡ big_number width (take width bytes)
@@ -39,11 +39,11 @@ IsExact width = (bytes : List ℕ) → length bytes ≡ width → AreBytes bytes
 
 -- 8 bytes are an exact width.
 pub exact_8 : IsExact 8
-exact_8 bytes len are = be_bytes_8 bytes _ len (bytes_everywhere bytes are) (omega arith)
+exact_8 bytes len are = be_bytes_8 bytes _ len (AreBytes-get_or bytes are) (omega arith)
 
 -- 2 bytes are an exact width.
 pub exact_2 : IsExact 2
-exact_2 bytes len are = be_bytes_2 bytes _ len (bytes_everywhere bytes are) (omega arith)
+exact_2 bytes len are = be_bytes_2 bytes _ len (AreBytes-get_or bytes are) (omega arith)
 
 -- The number at the start of the bytes is encoded to their first `width` bytes.
 pub big_bytes-big_number : (width : ℕ) → IsExact width → (bytes : List ℕ) → width ≤ length bytes → AreBytes bytes
@@ -109,13 +109,13 @@ big_number-whole width number fits =
     ap (big_number width) (sym (append-nil (big_bytes width number))) ∙ big_number-reads_back width number [] fits
 
 -- An encoded number and the text after it are recovered from their concatenation.
-pub apart : (width number : ℕ) (text : List ℕ) → number < 256 ^ width →
+pub sized_text-split : (width number : ℕ) (text : List ℕ) → number < 256 ^ width →
     (big_number width (big_bytes width number ++ text) ≡ number) × (drop width (big_bytes width number ++ text) ≡ text)
-apart width number text fits =
+sized_text-split width number text fits =
     (big_number-reads_back width number text fits, drop_at (big_bytes width number) text width (length-bytes_high_first width number))
 
 -- A decoded number and the rest concatenate to the bytes.
-pub together : (width : ℕ) → IsExact width → (bytes : List ℕ) → width ≤ length bytes → AreBytes bytes → (number : ℕ) (text : List ℕ) →
+pub sized_text-join : (width : ℕ) → IsExact width → (bytes : List ℕ) → width ≤ length bytes → AreBytes bytes → (number : ℕ) (text : List ℕ) →
     number ≡ big_number width bytes → text ≡ drop width bytes → big_bytes width number ++ text ≡ bytes
-together width exact bytes long are number text is_number is_text =
+sized_text-join width exact bytes long are number text is_number is_text =
     rw (is_number, is_text) (big_bytes-big_number width exact bytes long are)

@@ -49,7 +49,7 @@ pub fn prefixed_bytes<const N: usize>(head: u8, text: &[u8]) -> ShortBytes<N>
     ensures { result ≡ head ∷ text.now }
 {
     let mut bytes = [head; N];
-    let places = &mut bytes[..];
-    places[1..=text.len()].copy_from_slice(text);
-    ShortBytes::from_slice(&places[..=text.len()])
+    let bytes_to_fill = &mut bytes[..];
+    bytes_to_fill[1..=text.len()].copy_from_slice(text);
+    ShortBytes::from_slice(&bytes_to_fill[..=text.len()])
 }

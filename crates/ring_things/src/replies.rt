@@ -39,7 +39,7 @@ impl Outcome {
     /// Decodes the byte of an outcome.
     ///
     /// Returns `None` for other bytes.
-    fn of(code: u8) -> Option<Outcome>
+    fn outcome_from_code(code: u8) -> Option<Outcome>
         ensures { result ≡ outcome_of code }
     {
         match code {
@@ -85,7 +85,7 @@ fn decode_reply(bytes: &[u8]) -> Option<ReplyParts>
     let [code, rest @ ..] = bytes else {
         return None;
     };
-    let outcome = Outcome::of(*code)?;
+    let outcome = Outcome::outcome_from_code(*code)?;
     let value = match rest.len() {
         0 => None,
         8 => Some(BigEndian::read_u64(rest)),
@@ -97,7 +97,7 @@ fn decode_reply(bytes: &[u8]) -> Option<ReplyParts>
 /// Returns the reply of one byte, which encodes `outcome`.
 ///
 /// Formats: Operations and replies
-pub fn reply(outcome: Outcome) -> Reply
+pub fn outcome_reply(outcome: Outcome) -> Reply
     ensures { result ≡ code_of outcome ∷ [] }
 {
     Reply::from_slice(&[outcome as u8])

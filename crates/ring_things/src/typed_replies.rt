@@ -5,7 +5,7 @@
 ghost use Rattle.std.specs.Prelude.{◌≡◌};
 ghost use Rattle.ring_things.specs.Typed.{replied, done, done_with, not_done_with};
 
-use crate::replies::{Outcome, ReplyParts, reply, outcome_reply_with};
+use crate::replies::{Outcome, ReplyParts, outcome_reply, outcome_reply_with};
 use ring_object::Reply;
 
 /// Returns the bytes of a decoded reply: the byte of the outcome, then the value in 8 bytes if there is one.
@@ -28,8 +28,8 @@ pub fn reply_of(answer: Option<ReplyParts>) -> Reply
                 outcome,
                 value: None,
             },
-        ) => reply(outcome),
-        None => reply(Outcome::Unreadable),
+        ) => outcome_reply(outcome),
+        None => outcome_reply(Outcome::Unreadable),
     }
 }
 

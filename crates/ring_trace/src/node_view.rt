@@ -51,7 +51,7 @@ impl NodeView {
         NodeView {
             state: State::Gather,
             ring: RingId { seq: 0, rep: node },
-            members: ProcSet::only(node),
+            members: ProcSet::singleton(node),
             committed: 0,
             trimmed: 0,
             log: 0,
@@ -169,7 +169,7 @@ impl NodeView {
     /// `is_sent` says whether the node has sent the call, or has it in its log if the node is alone in its ring.
     ///
     /// Formats: The command line
-    pub fn reason(&self, nodes: Fixed, is_sent: bool) -> WaitReason
+    pub fn wait_reason(&self, nodes: Fixed, is_sent: bool) -> WaitReason
         ensures { IsReason nodes self.now is_sent result }
     {
         let members = self.members;

@@ -16,7 +16,7 @@ struct LaneBox {
     /// The ring that the node installed at the beginning of the box, if any.
     ring: Option<(RingId, ProcSet)>,
     /// The first column.
-    from: u64,
+    first_column: u64,
 }
 
 /// The name of a ring that isn't written yet, since its maximum length depends on the next name of the lane.
@@ -43,7 +43,7 @@ pub(crate) fn write_lane<W: Write>(
     let mut last = LaneBox {
         colour: LaneColour::State(State::Gather),
         ring: None,
-        from: 0,
+        first_column: 0,
     };
     let mut label = None;
     for placed in placed {
@@ -53,7 +53,7 @@ pub(crate) fn write_lane<W: Write>(
                 last = LaneBox {
                     colour: *colour,
                     ring: None,
-                    from: placed.column,
+                    first_column: placed.column,
                 };
             }
             PictureMark::Ring {
@@ -77,13 +77,15 @@ fn write_last_box<W: Write>(
     label: &mut Option<RingLabel>,
 ) -> io::Result<()> {
     if last.colour == LaneColour::State(State::Stopped) {
-        if band.has(last.from) {
-            write_stop(out, canvas, lane, last.from)?;
+        if band.has_column(last.first_column) {
+            write_stop(out, canvas, lane, last.first_column)?;
         }
-        return write_label(out, canvas, lane, label, canvas.x(last.from));
+        return write_label(out, canvas, lane, label, canvas.x(last.first_column));
     }
     write_lane_box(out, canvas, band, lane, last, canvas.columns, label)?;
-    let end = canvas.x(band.begin).saturating_add(canvas.shown());
+    let end = canvas
+        .x(band.begin)
+        .saturating_add(canvas.band_view_width());
     write_label(out, canvas, lane, label, end)
 }
 
@@ -99,7 +101,7 @@ fn write_lane_box<W: Write>(
     to: u64,
     label: &mut Option<RingLabel>,
 ) -> io::Result<()> {
-    let from = lane_box.from.max(band.begin);
+    let from = lane_box.first_column.max(band.begin);
     let to = to.min(band.end);
     if from >= to {
         return Ok(());

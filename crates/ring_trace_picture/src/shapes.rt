@@ -2,7 +2,7 @@
 //!
 //! Formats: The command line
 
-use crate::arcs::{ArcEnd, CallArc};
+use crate::call_arcs::{ArcEnd, CallArc};
 use crate::canvas::{Band, Canvas};
 use crate::labels::LabelRow;
 use crate::mark::LaneColour;
@@ -52,8 +52,8 @@ pub(crate) fn write_head<W: Write>(out: &mut W, canvas: Canvas) -> io::Result<()
 pub(crate) fn write_band_head<W: Write>(out: &mut W, canvas: Canvas, band: Band) -> io::Result<()> {
     write_view(
         out,
-        (canvas.left(), canvas.top(band)),
-        (canvas.x(band.begin), canvas.shown()),
+        (canvas.bands_left_edge(), canvas.band_top(band)),
+        (canvas.x(band.begin), canvas.band_view_width()),
         canvas.bottom(),
     )
 }
@@ -132,7 +132,7 @@ pub(crate) fn write_name<W: Write>(
     band: Band,
     node: Proc,
 ) -> io::Result<()> {
-    let lane = canvas.top(band).saturating_add(canvas.y(node));
+    let lane = canvas.band_top(band).saturating_add(canvas.y(node));
     let y = lane.saturating_add(BASE);
     write_text(
         out,

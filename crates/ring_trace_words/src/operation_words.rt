@@ -24,7 +24,7 @@ impl fmt::Display for OperationWords<'_> {
                 let words = ArgumentWords {
                     arguments: form.arguments,
                     bytes: self.operation.get(form.first.len()..).unwrap_or(&[]),
-                    is_behind: true,
+                    has_leading_space: true,
                 };
                 return write!(f, "{}{words}", form.word);
             }

@@ -28,7 +28,7 @@ impl fmt::Display for ReplyWords<'_> {
                 let words = ArgumentWords {
                     arguments: form.arguments,
                     bytes: self.reply.get(form.first.len()..).unwrap_or(&[]),
-                    is_behind: !form.word.is_empty(),
+                    has_leading_space: !form.word.is_empty(),
                 };
                 return write!(f, "{}{words}", form.word);
             }

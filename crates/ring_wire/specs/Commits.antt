@@ -10,7 +10,7 @@ use Rattle.std.proofs.lemmas.List.{length-append}
 use Rattle.std.proofs.lemmas.List.Concat.{flat_map-cons}
 use Rattle.byteorder.specs.Endian.{big_bytes}
 use Rattle.ring_payload.specs.Base.{elements, size, smallest, nobody, size_le, RingId}
-use Rattle.ring_payload.specs.Codecs.{IsFormat, such_at, made_at, ◌⊕◌, Format, byte, u16_field, ◌&◌, followed, times, tested_fields_format, ring}
+use Rattle.ring_payload.specs.Codecs.{IsFormat, tested_at, mapped_at, ◌⊕◌, Format, byte_field, u16_field, ◌&◌, dependent_pair_format, repeated_format, tested_fields_format, ring}
 use Rattle.ring_payload.specs.Codecs.{ring_encoding, RingFits}
 use Rattle.ring_wire.specs.declared.entries.CommitEntry.{CommitEntry}
 use Rattle.ring_wire.specs.declared.commit.CommitToken.{CommitToken}
@@ -99,22 +99,22 @@ commit_test t =
     && (nat_le 1 t.hop && (nat_le t.hop (2 * size t.members) && are_reports_of_members t.ring (elements t.members) t.entries)))
 
 -- the fields of a commit token, in order
-abbrev Raw : Type 0
-Raw = RingId × (ℕ × (ℕ × List CommitEntry))
+abbrev CommitFields : Type 0
+CommitFields = RingId × (ℕ × (ℕ × List CommitEntry))
 
 -- the format of these fields
-abbrev commit_fields : Format Raw
-commit_fields = ring & followed u16_field (λ members. followed byte (λ hop. times (entries_at hop (size members)) entry))
+abbrev commit_fields : Format CommitFields
+commit_fields = ring & dependent_pair_format u16_field (λ members. dependent_pair_format byte_field (λ hop. repeated_format (entries_at hop (size members)) entry))
 
 -- the commit token with these fields
-abbrev from_fields : Raw → CommitToken
+abbrev from_fields : CommitFields → CommitToken
 from_fields p = record { ring = p.0; members = p.1.0; hop = p.1.1.0; entries = p.1.1.1 }
 
 -- reads a commit token from the front
 unfoldable pub commit_at : List ℕ → Option (CommitToken × List ℕ)
-commit_at bytes = such_at commit_test (made_at from_fields commit_fields.at) bytes
+commit_at bytes = tested_at commit_test (mapped_at from_fields commit_fields.at) bytes
 
-fits : (p : Raw) → commit_fields.Fits p → commit_test (from_fields p) ≡ true → CommitFits (from_fields p)
+fits : (p : CommitFields) → commit_fields.Fits p → commit_test (from_fields p) ≡ true → CommitFits (from_fields p)
 fits p f passed =
     let a = and_parts _ _ passed in
     let b = and_parts _ _ a.1 in

@@ -10,7 +10,7 @@ use Rattle.std.proofs.lemmas.Bool.{cases_lt, cases_Bool, leb-true, le-leb, ltb-f
 use Rattle.std.proofs.lemmas.Bool.{both_ways, and_right}
 use Rattle.byteorder.specs.Endian.{big_bytes}
 use Rattle.ring_payload.specs.Base.{max_number, window_size, has_bit, RingId}
-use Rattle.ring_payload.specs.Codecs.{IsFormat, such_at, made_at, ◌⊕◌, Format, u64_field, text, ◌&◌, tested_fields_format, ring, ring_encoding, RingFits}
+use Rattle.ring_payload.specs.Codecs.{IsFormat, tested_at, mapped_at, ◌⊕◌, Format, u64_field, text, ◌&◌, tested_fields_format, ring, ring_encoding, RingFits}
 use Rattle.ring_wire.specs.declared.entries.CommitEntry.{CommitEntry}
 
 -- ---- the held bits: bit j mod 8 of byte j div 8 stands for the number front + 1 + j
@@ -203,20 +203,20 @@ nothing_is e n = elim (cases_Bool (e.old.seq == 0)) [
 ]
 
 -- the fields of an entry, in order
-abbrev Raw : Type 0
-Raw = RingId × (ℕ × (ℕ × List ℕ))
+abbrev EntryFields : Type 0
+EntryFields = RingId × (ℕ × (ℕ × List ℕ))
 
 -- the format of these fields
-abbrev entry_fields : Format Raw
+abbrev entry_fields : Format EntryFields
 entry_fields = ring & u64_field & u64_field & text 32
 
 -- the entry with these fields
-abbrev from_fields : Raw → CommitEntry
+abbrev from_fields : EntryFields → CommitEntry
 from_fields p = record { old = p.0; front = p.1.0; mark = p.1.1.0; held = p.1.1.1 }
 
 -- reads an entry from the front
 unfoldable pub entry_at : List ℕ → Option (CommitEntry × List ℕ)
-entry_at bytes = such_at entry_test (made_at from_fields entry_fields.at) bytes
+entry_at bytes = tested_at entry_test (mapped_at from_fields entry_fields.at) bytes
 
 -- an entry is read exactly
 pub entry_format : IsFormat entry_encoding EntryFits entry_at

@@ -5,7 +5,7 @@ use Rattle.std.specs.Prelude.{nat_le, nat_lt, ◌&&◌}
 use Rattle.std.proofs.lemmas.Bool.{leb-true, le-leb, ltb-true, lt-ltb, and_parts}
 use Rattle.byteorder.specs.Endian.{big_bytes}
 use Rattle.ring_payload.specs.Base.{max_number, IsProc, RingId}
-use Rattle.ring_payload.specs.Codecs.{IsFormat, such_at, made_at, ◌⊕◌, Format, u64_field, ◌&◌, tested_fields_format, proc, proc_encoding, ring, ring_encoding}
+use Rattle.ring_payload.specs.Codecs.{IsFormat, tested_at, mapped_at, ◌⊕◌, Format, u64_field, ◌&◌, tested_fields_format, proc, proc_encoding, ring, ring_encoding}
 use Rattle.ring_payload.specs.Codecs.{RingFits}
 pub use Rattle.ring_payload.specs.declared.content.Payload.{Payload}
 use Rattle.ring_payload.specs.declared.content.Payload.TheVariants.{Call, Wrapped, End, Head, Part, Pack, Snap}
@@ -72,7 +72,7 @@ from_fields p = record { ring = p.0; number = p.1.0; sender = p.1.1.0; payload =
 
 -- reads a message from the front
 unfoldable pub message_at : {A : Type 0} → List ℕ → Option (Message A × List ℕ)
-message_at {A} bytes = such_at message_test (made_at from_fields (message_fields {A = A}).at) bytes
+message_at {A} bytes = tested_at message_test (mapped_at from_fields (message_fields {A = A}).at) bytes
 
 -- a message is read exactly
 pub message_format : {A : Type 0} → IsFormat {A = Message A} message_encoding MessageFits message_at

@@ -71,7 +71,7 @@ impl CommitToken {
     }
 
     /// Returns whether the fields are within the limits of their format.
-    fn is_valid(&self) -> bool
+    fn is_valid_commit_token(&self) -> bool
         ensures { result ≡ commit_test self.now }
     {
         self.ring.seq >= 1
@@ -87,15 +87,15 @@ impl Encode for CommitToken {
 
     ghost encoding = { commit_encoding };
 
-    ghost most = { 924 };
+    ghost max_encoded_len = { 924 };
 
-    ghost fits = { CommitFits };
+    ghost is_within_limits = { CommitFits };
 
-    ghost at = { commit_at };
+    ghost decoding_at_front = { commit_at };
 
-    ghost format = { commit_format };
+    ghost decoding_is_exact = { commit_format };
 
-    fn size(&self) -> usize {
+    fn encoded_len(&self) -> usize {
         12 + 57 * self.entries.as_slice().len()
     }
 
@@ -110,10 +110,11 @@ impl Encode for CommitToken {
 impl CommitToken {
     ghost use Rattle.ring_wire.specs.Commits.{commit_at};
 
-    /// Returns a commit token without entries, for [`read_into_self`](CommitToken::read_into_self) to overwrite.
+    /// Returns a commit token without entries, for [`decode_commit_token`](CommitToken::decode_commit_token) to
+    /// overwrite.
     ///
     /// It isn't within the limits of its format.
-    pub(crate) fn blank() -> CommitToken
+    pub(crate) fn blank_commit_token() -> CommitToken
         ensures { result.entries ≡ [] }
     {
         CommitToken {
@@ -136,7 +137,7 @@ impl CommitToken {
     ///
     /// Formats: Frames
     #[tactic(auto, unfolding(crate::specs::Commits::commit_at))]
-    pub(crate) fn read_into_self<A: Allocator + Copy>(
+    pub(crate) fn decode_commit_token<A: Allocator + Copy>(
         &mut self,
         alloc: A,
         from: &mut Reader<'_>,
@@ -148,8 +149,8 @@ impl CommitToken {
         self.members = Decode::read(alloc, from)?;
         self.hop = Decode::read(alloc, from)?;
         let count = (self.hop as usize).min(self.members.len() as usize);
-        self.entries.read_into_self(alloc, count, from)?;
-        if !self.is_valid() {
+        self.entries.decode_entries(alloc, count, from)?;
+        if !self.is_valid_commit_token() {
             return Err(Fault::BadFrame);
         }
         Ok(())
@@ -158,8 +159,8 @@ impl CommitToken {
 
 impl<A: Allocator + Copy> Decode<A> for CommitToken {
     fn read(alloc: A, from: &mut Reader<'_>) -> Result<CommitToken, Fault> {
-        let mut token = CommitToken::blank();
-        token.read_into_self(alloc, from)?;
+        let mut token = CommitToken::blank_commit_token();
+        token.decode_commit_token(alloc, from)?;
         Ok(token)
     }
 }

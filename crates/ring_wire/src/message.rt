@@ -5,7 +5,7 @@
 ghost use Rattle.std.specs.Prelude.{◌≡◌, ℕ, ◌+◌, ◌^◌, ◌<◌, ◌≤◌, List, [], ◌∷◌, ◌++◌, length};
 ghost use Rattle.ring_payload.specs.Codecs.{Appends, IsReadResult};
 
-use crate::valid::if_valid;
+use crate::checked_value::checked_value;
 use bytes::BytesMut;
 use ring_payload::{Decode, Encode, Fault, MAX, Payload, Proc, Reader, RingId};
 use std::alloc::{Allocator, Global};
@@ -45,7 +45,7 @@ impl<A: Allocator + Copy> Message<A> {
     }
 
     /// Returns whether the fields are within the limits of their format.
-    fn is_valid(&self) -> bool
+    fn is_valid_message(&self) -> bool
         ensures { result ≡ message_test self.now }
     {
         self.ring.seq >= 1 && self.number >= 1 && self.number <= MAX && self.is_wrapped_older()
@@ -57,16 +57,16 @@ impl<A: Allocator + Copy> Encode for Message<A> {
 
     ghost encoding = { message_encoding };
 
-    ghost most = { 7313 };
+    ghost max_encoded_len = { 7313 };
 
-    ghost fits = { MessageFits };
+    ghost is_within_limits = { MessageFits };
 
-    ghost at = { message_at };
+    ghost decoding_at_front = { message_at };
 
-    ghost format = { message_format };
+    ghost decoding_is_exact = { message_format };
 
-    fn size(&self) -> usize {
-        18 + self.payload.size()
+    fn encoded_len(&self) -> usize {
+        18 + self.payload.encoded_len()
     }
 
     fn write<B: Allocator + Copy>(&self, out: &mut BytesMut<B>) {
@@ -86,6 +86,6 @@ impl<A: Allocator + Copy> Decode<A> for Message<A> {
             sender: Decode::read(alloc, from)?,
             payload: Decode::read(alloc, from)?,
         };
-        if_valid(message.is_valid(), message)
+        checked_value(message.is_valid_message(), message)
     }
 }

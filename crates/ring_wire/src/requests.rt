@@ -79,7 +79,7 @@ impl Requests {
     /// Replaces the numbers of the list by `numbers`, in order.
     ///
     /// They must be at most 32. Does not allocate.
-    pub(crate) fn fill(&mut self, numbers: &EncodedNumbers<'_>)
+    pub(crate) fn replace_with(&mut self, numbers: &EncodedNumbers<'_>)
         requires { length numbers.now ≤ 32 }
         ensures { self.new ≡ numbers.now }
     {
@@ -92,7 +92,7 @@ impl Requests {
     /// Returns a copy of the list.
     ///
     /// Unlike `clone` it can't fail. Does not allocate.
-    pub fn copied(&self) -> Requests
+    pub fn copy_of_requests(&self) -> Requests
         ensures { result ≡ self.now }
     {
         let mut numbers = ArrayVec::new();
@@ -109,7 +109,7 @@ impl Clone for Requests {
     ghost is_infallible = { λ _. Unit {0} };
 
     fn clone(&self) -> Result<Requests, AllocError> {
-        Ok(self.copied())
+        Ok(self.copy_of_requests())
     }
 }
 
@@ -118,15 +118,15 @@ impl Encode for Requests {
 
     ghost encoding = { requests_encoding };
 
-    ghost most = { 257 };
+    ghost max_encoded_len = { 257 };
 
-    ghost fits = { RequestsFit };
+    ghost is_within_limits = { RequestsFit };
 
-    ghost at = { requests_at };
+    ghost decoding_at_front = { requests_at };
 
-    ghost format = { requests_format };
+    ghost decoding_is_exact = { requests_format };
 
-    fn size(&self) -> usize {
+    fn encoded_len(&self) -> usize {
         1 + 8 * self.as_slice().len()
     }
 
@@ -169,7 +169,7 @@ impl<A: Allocator + Copy> Decode<A> for Requests {
     fn read(alloc: A, from: &mut Reader<'_>) -> Result<Requests, Fault> {
         let numbers = Requests::read_borrowed_requests(alloc, from)?;
         let mut requests = Requests::new();
-        requests.fill(&numbers);
+        requests.replace_with(&numbers);
         Ok(requests)
     }
 }

@@ -4,14 +4,14 @@ use Rattle.std.specs.Prelude.{◌≡◌, ℕ, ◌≤◌, ◌==◌, ◌&&◌, Boo
 use Rattle.std.specs.Option.{option_or}
 use Rattle.std.specs.Str.{bytes_eq}
 use Rattle.ring_client.specs.Asking.{if_client_visible}
-use Rattle.ring_client.specs.declared.asked.Asked.{Asked}
+use Rattle.ring_client.specs.declared.last_request.Asked.{Asked}
 use Rattle.ring_object.specs.Operations.{Sequential}
 use Rattle.ring_payload.specs.declared.call.Call.{Call}
 use Rattle.ring_session.specs.declared.answer.Answer.{Answer as OneAnswer}
-use Rattle.ring_node_spec.specs.declared.told.Told.{Told}
-use Rattle.ring_node_spec.specs.declared.told.Told.TheVariants.{Answer, Refused}
+use Rattle.ring_node_spec.specs.declared.client_report.Told.{Told}
+use Rattle.ring_node_spec.specs.declared.client_report.Told.TheVariants.{Answer, Refused}
 use Rattle.ring_world.specs.WorldView.{WorldView, world_of, told_of_events}
-use Rattle.ring_world_port.specs.declared.answers.SubmittedCall.{SubmittedCall}
+use Rattle.ring_world_port.specs.declared.submitted_call.SubmittedCall.{SubmittedCall}
 
 -- whether this node's call is the submitted one: of this client and number, and with this operation
 abbrev pub is_submitted_call : {A : Type 0} → SubmittedCall → ℕ → Call A → Bool

@@ -7,8 +7,8 @@ use Rattle.ring_payload.specs.declared.call.Call.{Call}
 use Rattle.ring_session.specs.Tickets.{TicketCall}
 use Rattle.ring_node_spec.specs.Nodes.{node_committed, node_pending, node_snapshot, node_trimmed}
 use Rattle.ring_node_spec.specs.Worlds.{World, run, order}
-use Rattle.ring_node_spec.specs.declared.told.Told.{Told}
-use Rattle.ring_node_spec_examples.specs.Rows.{counter, shown, done_at, lot_of, after_lots, snapshot_of_seven}
+use Rattle.ring_node_spec.specs.declared.client_report.Told.{Told}
+use Rattle.ring_node_spec_examples.specs.ExampleRuns.{counter, lengths_of_nodes, done_at, batch_of_calls, after_lots, snapshot_of_seven}
 use Rattle.ring_node_spec_examples.proofs.example_dropped_places.Goals as goal
 
 -- after the fourth batch
@@ -22,7 +22,7 @@ record Fourth : Type 0 where
 
 abbrev fourth : World Global → Fourth
 fourth w = record {
-  lengths = shown w 1;
+  lengths = lengths_of_nodes w 1;
   trimmed = node_trimmed (w.nodes 1);
   committed = node_committed (w.nodes 1);
   snapshot = node_snapshot counter (w.nodes 1);
@@ -37,7 +37,7 @@ record Third : Type 0 where
   on : Fourth
 
 abbrev third : World Global → Third
-third w = record { lengths = shown w 1; trimmed = node_trimmed (w.nodes 1); on = fourth (run counter w (lot_of 3)) }
+third w = record { lengths = lengths_of_nodes w 1; trimmed = node_trimmed (w.nodes 1); on = fourth (run counter w (batch_of_calls 3)) }
 
 -- after the first batch
 record First : Type 0 where
@@ -45,7 +45,7 @@ record First : Type 0 where
   on : Third
 
 abbrev first : World Global → First
-first w = record { told = drop 63 w.told; on = third (run counter (run counter w (lot_of 1)) (lot_of 2)) }
+first w = record { told = drop 63 w.told; on = third (run counter (run counter w (batch_of_calls 1)) (batch_of_calls 2)) }
 
 computed : first (after_lots 1) ≡ record {
   told = done_at 1 64 ∷ [];

@@ -1,6 +1,6 @@
 use Rattle.std.proofs.Common.{◌++◌, length, refl, ap, ◌∙◌, add-one, append_assoc, take}
 use Rattle.std.proofs.lemmas.Option.{slice_get_read}
-use Rattle.ring_node_spec.specs.Worlds.{items_of as replies, reply_items}
+use Rattle.ring_node_spec.specs.Worlds.{reply_items_of as replies, reply_items}
 use Rattle.ring_session.specs.SessionAnswer.{decode_reply}
 use Rattle.ring_book_lines.proofs.Shown.{replies-take}
 use Rattle.ring_book_lines.proofs.histories.add_replies.Goals as goal

@@ -1,7 +1,7 @@
 use Rattle.std.proofs.Common.{◌≤◌, ◌+◌, max, ℕ, length, sym, subst, Option, ◌∙◌, arith}
 use Rattle.std.proofs.lemmas.Iterator.Adapters.{YieldsList-from_vec}
 use Rattle.std.proofs.lemmas.Iterator.Consumers.{YieldsList-turn, YieldsList-end}
-use Rattle.ring_explore.specs.declared.seed_totals.ExploreTotals.{ExploreTotals}
+use Rattle.ring_explore.specs.declared.explore_totals.ExploreTotals.{ExploreTotals}
 use Rattle.ring_failure.specs.Shares.{share_begin}
 use Rattle.ring_failure.proofs.Sharing.{found_of, one_longer, shares_end}
 use Rattle.ring_explore.specs.Explored.{AreTried, seeds_in}

@@ -14,7 +14,7 @@ returns-then-is_some-clause-ok g c =
     let many = seeds_in first plan.last in
     let shares = c.args.shares in
     let share = c.args.share in
-    let count = c.many-many.ensures in
+    let count = c.seed_count-many.ensures in
     let begin : c.share_begin-begin.result ≡ share_begin many shares share =
     c.share_begin-begin.ensures ∙ ap (λ (n : ℕ). share_begin n shares share) count in
     let end : c.share_begin-end.result ≡ share_begin many shares (share + 1) =
@@ -38,7 +38,7 @@ loop-place-preserved g c =
     let shares = c.args.shares in
     let share = c.args.share in
     let begin : c.share_begin-begin.result ≡ share_begin many shares share =
-    c.share_begin-begin.ensures ∙ ap (λ (n : ℕ). share_begin n shares share) c.many-many.ensures in
+    c.share_begin-begin.ensures ∙ ap (λ (n : ℕ). share_begin n shares share) c.seed_count-many.ensures in
     let place = c.loop-place.place in
     let passed = c.loop-place.auto.place in
     let behind = tried_next IsT first (share_begin many shares share) place c.loop-place.seed_totals.illegal c.in_ok-one.one.illegal
@@ -54,7 +54,7 @@ returns-clause-ok g c =
     let many = seeds_in first plan.last in
     let shares = c.args.shares in
     let share = c.args.share in
-    let count = c.many-many.ensures in
+    let count = c.seed_count-many.ensures in
     let begin : c.share_begin-begin.result ≡ share_begin many shares share =
     c.share_begin-begin.ensures ∙ ap (λ (n : ℕ). share_begin n shares share) count in
     let end : c.share_begin-end.result ≡ share_begin many shares (share + 1) =

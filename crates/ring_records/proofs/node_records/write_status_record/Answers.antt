@@ -12,7 +12,7 @@ returns-in-Some g c =
     let a = c.args in
     let call = c.write_record in
     let told = told_as call.result _ _ 81 _ _ (status_bytes a.state a.ring a.committed a.log a.trimmed) (membership_bytes c.in-Some.members)
-    c.encode_status-bytes.ensures c.bytes.ensures call.ensures in
+    c.encode_status-bytes.ensures c.encode_membership.ensures call.ensures in
     subst (λ (m : Option Membership). OnOk call.result (Appends (g.W.Write.contents a.out.now) (g.W.Write.contents call.new.out)
     (status_record a.state a.ring a.committed a.log a.trimmed m))) (sym c.in-Some.is) told
 

@@ -16,7 +16,7 @@ pub loop-i-preserved : goal.loop-i-preserved
 loop-i-preserved c =
     let l = c.loop-i in
     behind-more (option_map (λ (x : List (ℕ × LastCall) × List ℕ). x.1) (clients_at c.args.count 0 c.args.bytes.now)) c.args.count l._i l.low
-    c.above-low.result l.rest.now c.in-Some.behind.now c.in-Some.client_entry l.invariant c.loop-i-test.true (sym c.in-Some.ensures) c.above-low.ensures
+    c.next_client_low-low.result l.rest.now c.in-Some.rest_after_client.now c.in-Some.client_entry l.invariant c.loop-i-test.true (sym c.in-Some.ensures) c.next_client_low-low.ensures
 
 pub returns : goal.returns
 returns c =

@@ -18,8 +18,8 @@ loop-i-preserved g c =
     let first = c.unwrap-client_entry.result in
     let next = mapped_some _ c.split_off_client.result _ first c.split_off_client.ensures c.unwrap-client_entry.ensures in
     let put = rw (c.client.ensures, c.in_ok-last.ensures.ok) at c.in_ok-insert.ensures.entries in
-    AreRead-more (clients_in c.args.count c.args.bytes.now) c.args.count l._i l.low c.above-low.result l.rest.now first.1.now
-    l.sessions.entries c.insert.new.self.entries first.0 l.invariant c.loop-i-test.true next c.above-low.ensures put
+    AreRead-more (clients_in c.args.count c.args.bytes.now) c.args.count l._i l.low c.next_client_low-low.result l.rest.now first.1.now
+    l.sessions.entries c.insert.new.self.entries first.0 l.invariant c.loop-i-test.true next c.next_client_low-low.ensures put
 
 pub returns-clause-ok : goal.returns-clause-ok
 returns-clause-ok g c =

@@ -9,38 +9,38 @@ use Rattle.ring_srp_state.proofs.packing.take_from_nonempty.Goals as goal
 pub loop-init : goal.loop-init
 loop-init g c =
     record {
-      taken = taken-begun c.args.most c.in_ok-payloads.payloads.items c.args.queue.now.items c.in_ok-payloads.ensures.items;
+      taken = taken-begun c.args.max_messages c.in_ok-payloads.payloads.items c.args.queue.now.items c.in_ok-payloads.ensures.items;
       rest = left-whole c.args.queue.now.items;
-      left = left-begun c.args.most c.args.queue.now.items;
+      left = left-begun c.args.max_messages c.args.queue.now.items;
     }
 
 pub returns-in_default-clause-items : goal.returns-in_default-clause-items
 returns-in_default-clause-items g c =
     let none : [] ≡ packed_payloads 1 c.loop.queue.items = ap option_to_list (sym c.in_default.is) ∙ c.in_ok-payload.ensures.message in
-    taken-none (c.args.most - c.loop.counter) c.loop.payloads.items c.loop.queue.items _ none c.loop.invariant.taken
+    taken-none (c.args.max_messages - c.loop.counter) c.loop.payloads.items c.loop.queue.items _ none c.loop.invariant.taken
 
 pub returns-in_default-clause-queue : goal.returns-in_default-clause-queue
 returns-in_default-clause-queue g c =
     let none : [] ≡ packed_payloads 1 c.loop.queue.items = ap option_to_list (sym c.in_default.is) ∙ c.in_ok-payload.ensures.message in
-    left-all (c.args.most - c.loop.counter) c.loop.queue.items c.take_next_payload.new.queue.items _ none c.in_ok-payload.ensures.queue c.loop.invariant.left
+    left-all (c.args.max_messages - c.loop.counter) c.loop.queue.items c.take_next_payload.new.queue.items _ none c.in_ok-payload.ensures.queue c.loop.invariant.left
 
 pub loop-preserved : goal.loop-preserved
 loop-preserved g c =
     let first = ap option_to_list (sym c.in-Some.is) ∙ c.in_ok-payload.ensures.message in
     rw c.in_ok-push.ensures.items (record {
-      taken = taken-more c.args.most c.loop.counter c.loop.payloads.items c.loop.queue.items
+      taken = taken-more c.args.max_messages c.loop.counter c.loop.payloads.items c.loop.queue.items
           c.take_next_payload.new.queue.items _ c.in-Some.payload c.loop-test.true first c.in_ok-payload.ensures.queue
           c.loop.invariant.taken;
       rest = left-twice c.loop.invariant.rest (left-behind c.loop.queue.items _ c.in_ok-payload.ensures.queue);
-      left = left-more c.args.most c.loop.counter c.loop.queue.items c.take_next_payload.new.queue.items _ c.loop-test.true
+      left = left-more c.args.max_messages c.loop.counter c.loop.queue.items c.take_next_payload.new.queue.items _ c.loop-test.true
           c.in_ok-payload.ensures.queue c.loop.invariant.left;
     })
 
 pub returns-clause-items : goal.returns-clause-items
-returns-clause-items g c = taken-all c.args.most c.loop.counter c.loop.payloads.items c.loop.queue.items _ c.loop-test.false c.loop.invariant.taken
+returns-clause-items g c = taken-all c.args.max_messages c.loop.counter c.loop.payloads.items c.loop.queue.items _ c.loop-test.false c.loop.invariant.taken
 
 pub returns-clause-queue : goal.returns-clause-queue
-returns-clause-queue g c = left-end c.args.most c.loop.counter c.loop.queue.items _ c.loop-test.false c.loop.invariant.left
+returns-clause-queue g c = left-end c.args.max_messages c.loop.counter c.loop.queue.items _ c.loop-test.false c.loop.invariant.left
 
 pub returns-in_err-payload-clause-rest : goal.returns-in_err-payload-clause-rest
 returns-in_err-payload-clause-rest g c = on-err c.from_residual-in_err-payload.result _ (left-twice c.loop.invariant.rest c.in_err-payload.ensures.rest)

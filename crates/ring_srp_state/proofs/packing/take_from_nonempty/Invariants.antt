@@ -6,7 +6,7 @@ use Rattle.ring_srp_state.proofs.packing.take_from_nonempty.Given as goal
 
 abbrev pub invariant-loop : goal.invariant-loop
 invariant-loop g l = record {
-  taken : l.payloads.items ++ packed_payloads (l.most - l.counter) l.queue.items ≡ packed_payloads l.most l.fn.queue.items;
+  taken : l.payloads.items ++ packed_payloads (l.max_messages - l.counter) l.queue.items ≡ packed_payloads l.max_messages l.fn.queue.items;
   rest : IsLeftOf l.queue.items l.fn.queue.items;
-  left : unpacked_rest (l.most - l.counter) l.queue.items ≡ unpacked_rest l.most l.fn.queue.items;
+  left : unpacked_rest (l.max_messages - l.counter) l.queue.items ≡ unpacked_rest l.max_messages l.fn.queue.items;
 }

@@ -12,7 +12,7 @@ pub loop-i-preserved : goal.loop-i-preserved
 loop-i-preserved c =
     let next = names_of-next c.args.count c.loop-i._i c.loop-i.last c.loop-i.rest.now c.in-Some.name
     c.loop-i-test.true (sym c.next_name.ensures.value ∙ c.in-Some.is) in
-    rw c.behind-rest.ensures (c.loop-i.invariant ∙ ap is_some next ∙ is_some-option_map _ _)
+    rw c.bytes_after_name-rest.ensures (c.loop-i.invariant ∙ ap is_some next ∙ is_some-option_map _ _)
 
 pub returns : goal.returns
 returns c =

@@ -15,7 +15,7 @@ loop-i-preserved g c =
     (sym c.next_name.ensures.value ∙ c.unwrap-name.ensures) in
     let items : c.push.new.self.items ≡ old ++ name ∷ [] = rw c.unwrap.ensures at c.push.ensures.items in
     let len : vec_len c.push.new.self ≡ vec_len c.loop-i.names + 1 = rw c.unwrap.ensures at c.push.ensures.len in
-    rw (c.behind-rest.ensures, items) (record {
+    rw (c.bytes_after_name-rest.ensures, items) (record {
       read = c.loop-i.invariant.read ∙ ap (option_map (λ names. old ++ names)) next ∙ option_map-push old name _;
       more = sym (ap is_some next ∙ is_some-option_map _ _) ∙ c.loop-i.invariant.more;
       len = len ∙ ap (λ n. n + 1) c.loop-i.invariant.len;

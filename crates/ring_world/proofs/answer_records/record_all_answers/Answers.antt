@@ -5,8 +5,8 @@ use Rattle.std.proofs.lemmas.List.{map-id}
 use Rattle.std.proofs.lemmas.Iterator.Adapters.{YieldsList-from_vec}
 use Rattle.std.proofs.lemmas.Iterator.Consumers.{YieldsList-end, YieldsList-so_far, YieldsList-turn}
 use Rattle.std.proofs.lemmas.Option.{slice_get_read}
-use Rattle.ring_session.specs.declared.answered.TicketAnswer.{TicketAnswer}
-use Rattle.ring_node_spec.specs.Worlds.{items_of, told_by}
+use Rattle.ring_session.specs.declared.ticket_answer.TicketAnswer.{TicketAnswer}
+use Rattle.ring_node_spec.specs.Worlds.{reply_items_of, reports_of_answers}
 use Rattle.ring_world.specs.SpareCalls.{HasCopy, copies_after_answers}
 use Rattle.ring_world.proofs.Tellings.{none_told, one_told, none_taken, one_taken, left_at}
 use Rattle.ring_world.proofs.answer_records.record_all_answers.Goals as goal
@@ -81,7 +81,7 @@ returns-clause-told g c =
     let ended = YieldsList-end road c.loop-answered.yielded c.loop-answered.answered-iterator
     c.loop-answered.yielded_by c.next.result c.next.new.self c.in-None.is c.next.ensures.steps in
     let all : c.loop-answered.yielded ≡ c.args.answers.items = sym (map-id c.loop-answered.yielded) ∙ ended.0 in
-    c.loop-answered.invariant.0.told_is ∙ ap (λ (xs : List (TicketAnswer g.row.A.Denot)). c.args.told.now.items ++ told_by c.args.node xs) all
+    c.loop-answered.invariant.0.told_is ∙ ap (λ (xs : List (TicketAnswer g.row.A.Denot)). c.args.told.now.items ++ reports_of_answers c.args.node xs) all
 
 pub returns-clause-history : goal.returns-clause-history
 returns-clause-history g c =
@@ -90,7 +90,7 @@ returns-clause-history g c =
     let ended = YieldsList-end road c.loop-answered.yielded c.loop-answered.answered-iterator
     c.loop-answered.yielded_by c.next.result c.next.new.self c.in-None.is c.next.ensures.steps in
     let all : c.loop-answered.yielded ≡ c.args.answers.items = sym (map-id c.loop-answered.yielded) ∙ ended.0 in
-    c.loop-answered.invariant.0.history_is ∙ ap (λ (xs : List (TicketAnswer g.row.A.Denot)). c.args.history.now.items ++ items_of xs) all
+    c.loop-answered.invariant.0.history_is ∙ ap (λ (xs : List (TicketAnswer g.row.A.Denot)). c.args.history.now.items ++ reply_items_of xs) all
 
 pub returns-clause-spares : goal.returns-clause-spares
 returns-clause-spares g c =

@@ -29,7 +29,7 @@ invariant_of-self g c =
     let i = c.number.result - 1 in
     let own = own_end c.self.invariant c.cell.invariant c.number.ensures.value c.index_mut-end.ensures.value in
     book_looks (node_machine g.O.Object.sequential g.K.BookName.name.group)
-    g.K.BookName.name c.self.inside.lines.items c.self.inside.reserved c.self.inside.ends.items _ _ _ _ _ _ i
+    g.K.BookName.name c.self.inside.lines.items c.self.inside.reserved c.self.inside.journal_ends.items _ _ _ _ _ _ i
     c.index_mut-end.result.now c.slots_beside.new.self c.self.invariant own.1 c.slots_beside.ensures.looked.0
     c.slots_beside.ensures.looked.1 c.self.invariant.text
 
@@ -37,7 +37,7 @@ pub invariant_of-cell : goal.invariant_of-cell
 invariant_of-cell g c =
     let l = c.slots_beside.ensures.producer in
     cell_looks (node_machine g.O.Object.sequential g.K.BookName.name.group) g.K.BookName.name c.cell.inside.me
-    c.cell.inside.ahead c.cell.inside.node c.cell.inside.journal c.slots_beside.new.producer _ c.cell.invariant l.0
+    c.cell.inside.is_step_unentered c.cell.inside.node c.cell.inside.journal c.slots_beside.new.producer _ c.cell.invariant l.0
     l.1 l.2
 
 pub returns-then-slots_beside-eq0 : goal.returns-then-slots_beside-eq0
@@ -62,7 +62,7 @@ invariant_of-self-then-not-is_deliverable g c =
     let i = c.number.result - 1 in
     let own = own_end c.self.invariant c.cell.invariant c.number.ensures.value c.index_mut-end.ensures.value in
     book_looks (node_machine g.O.Object.sequential g.K.BookName.name.group)
-    g.K.BookName.name c.self.inside.lines.items c.self.inside.reserved c.self.inside.ends.items _ _ _ _ _ _ i
+    g.K.BookName.name c.self.inside.lines.items c.self.inside.reserved c.self.inside.journal_ends.items _ _ _ _ _ _ i
     c.index_mut-end.result.now c.slots_beside.new.self c.self.invariant own.1 c.slots_beside.ensures.looked.0
     c.slots_beside.ensures.looked.1 c.is_deliverable.ensures.room
 
@@ -70,7 +70,7 @@ pub invariant_of-cell-then-not-is_deliverable : goal.invariant_of-cell-then-not-
 invariant_of-cell-then-not-is_deliverable g c =
     let l = c.slots_beside.ensures.producer in
     cell_looks (node_machine g.O.Object.sequential g.K.BookName.name.group) g.K.BookName.name c.cell.inside.me
-    c.cell.inside.ahead c.cell.inside.node c.cell.inside.journal c.slots_beside.new.producer _ c.cell.invariant l.0
+    c.cell.inside.is_step_unentered c.cell.inside.node c.cell.inside.journal c.slots_beside.new.producer _ c.cell.invariant l.0
     l.1 l.2
 
 pub returns-then-not-is_deliverable : goal.returns-then-not-is_deliverable
@@ -129,8 +129,8 @@ invariant_of-self-2 g c =
     (c.self.inside.lines.items ++ y ∷ []) c.push_reserved.new.self.items
     (c.self.inside.reserved - 1) _ _ _ _ _ _ _ _ _
     (book_enters (node_machine g.O.Object.sequential g.K.BookName.name.group)
-    g.K.BookName.name c.self.inside.lines.items c.self.inside.reserved c.self.inside.ends.items
-    c.self.inside.answer_indexes.items _ _ _ _ _ i c.cell.inside.me c.cell.inside.ahead c.cell.inside.node
+    g.K.BookName.name c.self.inside.lines.items c.self.inside.reserved c.self.inside.journal_ends.items
+    c.self.inside.answer_indexes.items _ _ _ _ _ i c.cell.inside.me c.cell.inside.is_step_unentered c.cell.inside.node
     c.cell.inside.journal c.slots_beside.new.producer c.index_mut-end.result.now c.slots_beside.new.self
     c.slots_beside-number.new.consumer x
     c.index_mut.result.now c.add_answers.new.self _ own.0 c.self.invariant c.cell.invariant own.1 there c.add_answers.ensures.answers
@@ -158,7 +158,7 @@ invariant_of-cell-2 g c =
     c.index_mut-end.result.now c.slots_beside.new.self c.slots_beside-number.new.consumer x
     c.slots_beside-number.result look next.alone pop m.looked.0 m.looked.1 m.value m.all_free c.cell.invariant.room in
     cell_enters (node_machine g.O.Object.sequential g.K.BookName.name.group) g.K.BookName.name c.cell.inside.me
-    c.cell.inside.ahead c.cell.inside.node c.cell.inside.journal c.slots_beside-number.new.self _ c.cell.invariant
+    c.cell.inside.is_step_unentered c.cell.inside.node c.cell.inside.journal c.slots_beside-number.new.self _ c.cell.invariant
     (writers c.cell.inside.journal c.slots_beside.new.producer c.slots_beside-number.new.self l.producer.0
     m.looked.0) (m.looked.1 ∙ l.producer.1) free
 

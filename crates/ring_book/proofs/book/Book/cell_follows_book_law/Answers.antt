@@ -7,7 +7,7 @@ use Rattle.ring_book_lines.specs.Events.{events_of}
 use Rattle.ring_book_lines.specs.Lines.{steps_of}
 use Rattle.ring_book_lines.specs.Logs.{committed_calls_of}
 use Rattle.ring_book_lines.specs.Machines.{node_machine}
-use Rattle.ring_book_lines.specs.Runs.{Leads}
+use Rattle.ring_book_lines.specs.Runs.{LeadsToState}
 use Rattle.ring_book_lines.specs.Steps.{StepView}
 use Rattle.ring_book.proofs.book.Book.cell_follows_book_law.Goals as goal
 
@@ -17,7 +17,7 @@ returns-clause-node g c = rw (← c.self.view_is, ← c.cell.view_is) (λ entere
     let m = node_machine g.O.Object.sequential group in
     c.book_run_law.ensures.nodes group c.self.inside.lines.items c.cell.inside.me c.cell.inside.node c.self.invariant.few
     c.cell.invariant.counted c.cell.invariant.in_book c.self.invariant.run
-    (subst (λ (xs : List (StepView g.row.O-Alloc.Denot)). Leads m (m.opening c.cell.inside.me) xs c.cell.inside.node) entered c.cell.invariant.leads))
+    (subst (λ (xs : List (StepView g.row.O-Alloc.Denot)). LeadsToState m (m.opening c.cell.inside.me) xs c.cell.inside.node) entered c.cell.invariant.leads))
 
 pub returns-clause-member : goal.returns-clause-member
 returns-clause-member g c = rw (← c.cell.view_is) (c.cell.invariant.counted, c.cell.invariant.in_book)
@@ -49,6 +49,6 @@ returns-clause-follows g c = rw (← c.self.view_is, ← c.cell.view_is) (λ ent
     (done.committed me c.cell.invariant.counted c.cell.invariant.in_book) law in
     let is_node = c.book_run_law.ensures.nodes group lines me c.cell.inside.node c.self.invariant.few
     c.cell.invariant.counted c.cell.invariant.in_book c.self.invariant.run
-    (subst (λ (xs : List (StepView g.row.O-Alloc.Denot)). Leads m (m.opening me) xs c.cell.inside.node) entered c.cell.invariant.leads) in
+    (subst (λ (xs : List (StepView g.row.O-Alloc.Denot)). LeadsToState m (m.opening me) xs c.cell.inside.node) entered c.cell.invariant.leads) in
     subst (λ node. HasCommittedPlaces object node (committed_calls_of me lines) × FollowsOrder object node (committed_calls_of me lines) (order w))
     (sym is_node) by_lines)

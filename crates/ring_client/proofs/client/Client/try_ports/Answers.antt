@@ -6,7 +6,7 @@ use Rattle.ring_base.specs.declared.fault.Fault.TheVariants.{NotMember, PendingF
 use Rattle.ring_base.specs.declared.fault.Fault.TheVariants.{NumberGap, SessionsFull, Stopped, BookFull, Stranger}
 use Rattle.ring_base.specs.declared.fault.Fault.TheVariants.{Memory, BadFrame, BadScript, NoAnswer, BadSnapshot}
 use Rattle.ring_session.specs.SessionAnswer.{refusal}
-use Rattle.ring_client.specs.declared.asked.Asked.{Asked}
+use Rattle.ring_client.specs.declared.last_request.Asked.{Asked}
 use Rattle.ring_client.specs.Asking.{just_submitted, IsClientVisible}
 use Rattle.ring_client.specs.Calling.{ClientOf, AskingRefused}
 use Rattle.ring_client.specs.Outcomes.{HasAnswer}

@@ -16,6 +16,6 @@ returns-then-contains g c = elim c.if-eq.branch [
       let e : same_ring x.ring c.args.configuration.now.ring ≡ true = sym c.eq.ensures ∙ w.if-eq.true in
       let h : has c.args.configuration.now.members x.sender ≡ true = sym w.contains.ensures.value ∙ sym w.value-is ∙ c.if-contains.true in
       let r = ring_same x.ring c.args.configuration.now.ring e ∙ c.requires in
-      rw (e, h) (c.is_new.ensures ∙ new_by _ _ _ _ x.number c.part-part.ensures.taken ∙ ap (λ q. takes_number c.args.self.now q x.number) (sym r)))
+      rw (e, h) (c.is_new.ensures ∙ new_by _ _ _ _ x.number c.part_in_use-part.ensures.taken ∙ ap (λ q. takes_number c.args.self.now q x.number) (sym r)))
   | else-eq w ↦ absurd (true≢false (sym c.if-contains.true ∙ w.value-is ∙ w.if-eq.false))
 ]

@@ -3,7 +3,7 @@ use Rattle.std.proofs.Common.{◌≡◌, ◌≤◌, ◌+◌, length, subst, ap, 
 use Rattle.std.specs.List.Sorted.{IsStrictlyIncreasing}
 use Rattle.std.proofs.lemmas.Result.{on_ok_weaker}
 use Rattle.ring_base.specs.Numbers.{max_number}
-use Rattle.ring_token.specs.Visits.{room}
+use Rattle.ring_token.specs.Visits.{max_new_messages}
 use Rattle.ring_core_spec.specs.State.{Core}
 use Rattle.ring_core_spec.specs.Views.{mark}
 use Rattle.ring_core_spec.specs.Visiting.{accepts, to_next}
@@ -19,7 +19,7 @@ send_new_messages-requires g c =
     let e = c.in_ok-payloads.ensures.core in
     let passes = ap (λ (x : Core g.row.A.Denot). accepts x t) e ∙ c.requires.allowed.passes in
     let runs = ap (λ (x : Core g.row.A.Denot). is_running x.state) e ∙ c.requires.allowed.runs in
-    let count = subst (λ (x : Core g.row.A.Denot). length items ≤ room (mark x t.ring) t.seq) (sym e)
+    let count = subst (λ (x : Core g.row.A.Denot). length items ≤ max_new_messages (mark x t.ring) t.seq) (sym e)
     (payloads_few c.args.self.now t items c.in_ok-payloads.ensures.items) in
     (omega arith, (passes, (runs, count)))
 

@@ -2,7 +2,7 @@ use Rattle.std.proofs.Common.{◌≡◌, ◌∙◌, ◌==◌, not, List, ◌++�
 use Rattle.std.specs.Prelude.{is_some}
 use Rattle.ring_base.specs.Prefixes.{IsListPrefix}
 use Rattle.ring_base.proofs.Results.{on-err}
-use Rattle.ring_trace_words.specs.declared.change.Change.TheVariants as change
+use Rattle.ring_trace_words.specs.declared.node_change.Change.TheVariants as change
 use Rattle.ring_trace.specs.NodeViews.{is_new_ring, is_new_state, ring_change, restored_change, change_if}
 use Rattle.ring_trace.proofs.node_view.NodeView.add_changes.Goals as goal
 
